@@ -1,0 +1,102 @@
+-- What the code's words have to do with the definitions of specs/Groups.antt. Group g is the digit of 2^g, and two words are equal
+-- exactly where no digit differs: `differ-from`, the one induction. Each of the three laws says which two words to compare.
+-- Assumes nothing.
+use mathlib.Core.Path.{_≡_, refl, sym, ap, _∙_}
+use mathlib.Core.Bool.{Bool, true, false, not, _&&_, _||_, Bool·not-not}
+use Prim.Native.Nat.{ℕ, zero, suc, _/_, _%_, _^_, _<_, min}
+use native.Mathlib.Nat.{div-one, zero-div, two-pow-succ}
+use native.Mathlib.Numerals.{add-one}
+use native.Mathlib.Omega.{arith}
+use lib.Bits.{bitAnd, and-shr, and-step, and-le-l}
+use lib.Dec.{eqb}
+use lib.Pow.{shr-shr}
+use borrow.Author.Tests.{eq-eqb, ne-eqb, eqb-true, eqb-false}
+use Rattle.groups.specs.Groups.{has, someFrom, someGroup, shares, empty, within}
+use Rattle.groups.proofs.Groups.{from-same}
+
+-- The digit of x that stands for group g.
+abbrev digit : ℕ → ℕ → ℕ
+digit x g = x / 2 ^ g % 2
+
+-- The words x and y differ at group g.
+abbrev differ : ℕ → ℕ → ℕ → Bool
+differ x y g = not (eqb (digit x g) (digit y g))
+
+-- What holds of 0 and of 1 holds of every digit.
+two : (P : ℕ → Type 0) → P 0 → P 1 → (n : ℕ) → P (n % 2)
+two P h0 h1 n = go (n % 2) (omega arith)
+  where
+    go : (d : ℕ) → d < 2 → P d
+    go zero h = h0
+    go (suc zero) h = h1
+    go (suc (suc d)) h = absurd (omega arith)
+
+-- The same for two digits.
+four : (P : ℕ → ℕ → Type 0) → P 0 0 → P 0 1 → P 1 0 → P 1 1 → (m n : ℕ) → P (m % 2) (n % 2)
+four P h00 h01 h10 h11 m n = two (λ u. P u (n % 2)) (two (P 0) h00 h01 n) (two (P 1) h10 h11 n) m
+
+-- Two numbers differ exactly where their lowest digits or their halves do.
+halves : (x y : ℕ) (s t : Bool) → eqb (x % 2) (y % 2) ≡ s → eqb (x / 2) (y / 2) ≡ t → (not s || not t) ≡ not (eqb x y)
+halves x y true true p q =
+    let d = eqb-true (x % 2) (y % 2) p in
+    let r = eqb-true (x / 2) (y / 2) q in
+    let z : x ≡ y = omega arith in
+    rw (eq-eqb x y z)
+halves x y true false p q = rw (ne-eqb x y (λ e. eqb-false (x / 2) (y / 2) q (ap (λ k. k / 2) e)))
+halves x y false t p q = rw (ne-eqb x y (λ e. eqb-false (x % 2) (y % 2) p (ap (λ k. k % 2) e)))
+
+-- The digits from the next group on.
+shifted : (n g : ℕ) → n / 2 ^ suc g ≡ n / 2 ^ g / 2
+shifted n g = rw (← add-one g) (sym (shr-shr n g 1))
+
+-- Words of k digits from group g on differ exactly where they differ at one of these groups.
+differ-from : (k g x y : ℕ) → x / 2 ^ g < 2 ^ k → y / 2 ^ g < 2 ^ k → someFrom k g (differ x y) ≡ not (eqb (x / 2 ^ g) (y / 2 ^ g))
+unfolding someFrom
+differ-from zero g x y h l =
+    let z : x / 2 ^ g ≡ y / 2 ^ g = omega arith in
+    rw (eq-eqb _ _ z)
+differ-from (suc k) g x y h l =
+    let p = two-pow-succ k in
+    let sx = shifted x g in
+    let sy = shifted y g in
+    rw (differ-from k (suc g) x y (omega arith) (omega arith), sx, sy) (halves (x / 2 ^ g) (y / 2 ^ g) _ _ refl refl)
+
+-- Where a test passes the groups at which two words differ, some group passes it exactly where the words differ.
+some-differ : (p : ℕ → Bool) (x y : ℕ) → x < 2 ^ 64 → y < 2 ^ 64 → ((g : ℕ) → p g ≡ differ x y g) → someGroup p ≡ not (eqb x y)
+some-differ p x y h l s = from-same 64 0 p (differ x y) s ∙ (simp div-one at (differ-from 64 0 x y (simp div-one h) (simp div-one l)))
+
+-- A group is in `a & b` exactly where it is in both.
+and-digit : (a b g : ℕ) → digit (bitAnd a b) g ≡ min (digit a g) (digit b g)
+and-digit a b g = rw and-shr (omega (arith, and-step (a / 2 ^ g) (b / 2 ^ g)))
+
+-- No group is in the word 0.
+no-digit : (g : ℕ) → digit 0 g ≡ 0
+no-digit g = rw (zero-div (2 ^ g))
+
+-- Two sets share a group exactly where `a & b` is not 0.
+pub shares-word : (a b : ℕ) → a < 2 ^ 64 → shares a b ≡ not (eqb (bitAnd a b) 0)
+unfolding shares
+shares-word a b h = some-differ _ (bitAnd a b) 0 (omega (arith, and-le-l a b)) (omega arith) at-group
+  where
+    at-group : (g : ℕ) → (has a g && has b g) ≡ differ (bitAnd a b) 0 g
+    at-group g =
+        rw (and-digit, no-digit)
+        (four (λ u v. (eqb u 1 && eqb v 1) ≡ not (eqb (min u v) 0)) refl refl refl refl (a / 2 ^ g) (b / 2 ^ g))
+
+-- A set is empty exactly where its word is 0.
+pub empty-word : (a : ℕ) → a < 2 ^ 64 → empty a ≡ eqb a 0
+unfolding empty
+empty-word a h = ap not (some-differ _ a 0 h (omega arith) at-group) ∙ Bool·not-not _
+  where
+    at-group : (g : ℕ) → has a g ≡ differ a 0 g
+    at-group g = rw no-digit (two (λ u. eqb u 1 ≡ not (eqb u 0)) refl refl (a / 2 ^ g))
+
+-- A set a is within b exactly where `a & b` is a.
+pub within-word : (a b : ℕ) → a < 2 ^ 64 → within a b ≡ eqb (bitAnd a b) a
+unfolding within
+within-word a b h = ap not (some-differ _ (bitAnd a b) a (omega (arith, and-le-l a b)) h at-group) ∙ Bool·not-not _
+  where
+    at-group : (g : ℕ) → (has a g && not (has b g)) ≡ differ (bitAnd a b) a g
+    at-group g =
+        rw and-digit
+        (four (λ u v. (eqb u 1 && not (eqb v 1)) ≡ not (eqb (min u v) u)) refl refl refl refl (a / 2 ^ g) (b / 2 ^ g))

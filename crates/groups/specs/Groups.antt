@@ -1,0 +1,30 @@
+-- Sets of groups. Document 01: "Groups are numbered 0 to 63; a set of groups is a 64-bit number, group g standing for 2^g."
+-- What is said here is said of the groups 0 to 63, one by one; that the code may work on all bits at once is proved.
+use mathlib.Core.Bool.{Bool, false, not, _&&_, _||_}
+use Prim.Native.Nat.{ℕ, zero, suc, _/_, _%_, _^_}
+use lib.Dec.{eqb}
+
+-- Group g is in the set s.
+abbrev pub has : ℕ → ℕ → Bool
+has s g = eqb (s / 2 ^ g % 2) 1
+
+-- One of the k groups from g on passes p.
+unfoldable pub someFrom : ℕ → ℕ → (ℕ → Bool) → Bool
+someFrom zero g p = false
+someFrom (suc k) g p = p g || someFrom k (suc g) p
+
+-- One of the groups 0 to 63 passes p.
+abbrev pub someGroup : (ℕ → Bool) → Bool
+someGroup p = someFrom 64 0 p
+
+-- "share a group": some group is in both.
+unfoldable pub shares : ℕ → ℕ → Bool
+shares a b = someGroup (λ g. has a g && has b g)
+
+-- "no group in" the set.
+unfoldable pub empty : ℕ → Bool
+empty a = not (someGroup (λ g. has a g))
+
+-- No group of a is "outside" b.
+unfoldable pub within : ℕ → ℕ → Bool
+within a b = not (someGroup (λ g. has a g && not (has b g)))

@@ -1,0 +1,25 @@
+// Sets of groups as 64-bit words: each question is answered for all 64 groups at once.
+// What is asked is defined in specs/Groups.antt; proofs/Groups.antt has its laws, and proofs/Words.antt what joins it to words.
+ghost use mathlib.Core.Path.{_≡_};
+ghost use Rattle.groups.specs.Groups.{shares, empty, within};
+
+// Whether two sets have a group in common. Cost: one instruction on 64 bits.
+pub fn shares(a: u64, b: u64) -> bool
+    ensures { λ r. ⌜ r ≡ shares a b ⌝ }
+{
+    a & b != 0
+}
+
+// Whether no group is in a set. Cost: one comparison.
+pub fn empty(a: u64) -> bool
+    ensures { λ r. ⌜ r ≡ empty a ⌝ }
+{
+    a == 0
+}
+
+// Whether every group of `a` is in `b`. Cost: one instruction on 64 bits and a comparison.
+pub fn within(a: u64, b: u64) -> bool
+    ensures { λ r. ⌜ r ≡ within a b ⌝ }
+{
+    a & b == a
+}

@@ -1,0 +1,99 @@
+-- Pending claims and ledger entries, side by side: pairwise relation, and what packing, granting and removing do to it.
+use mathlib.Core.Path.{_≡_, refl, sym, _∙_, ap, subst}
+use mathlib.Core.Logic.{_⊎_, inl, inr}
+use mathlib.Core.Bool.{Bool, true, false, cond}
+use mathlib.Core.List.{List, [], _∷_, _++_, map, List·Memᴰ·head, List·Memᴰ·tail, List·Memᴰ·cases-cons}
+use Prim.Native.Nat.{ℕ}
+use native.Mathlib.Omega.{arith}
+use lib.Dec.{eqb}
+use lib.ListN.{length}
+use borrow.Author.Tests.{eqb-true, eq-eqb}
+use Rattle.rules.specs.Lists.{_∈_, sum, any, keep}
+use Rattle.rules.proofs.Bools.{split, clash, or-l, or-r}
+use Rattle.rules.proofs.Lists.{here, there, none, any-some, keep-e, keep-i, map-e}
+
+module _ {A B : Type 0} where
+  -- Two lists of one length, with R between the elements at each place.
+  pub data Match (R : A → B → Type 0) : List A → List B → Type 0 where
+    m-nil : Match R [] []
+    m-cons : {x : A} {y : B} {k : List A} {l : List B} → R x y → Match R k l → Match R (x ∷ k) (y ∷ l)
+
+module _ {A A′ B B′ : Type 0} {R : A → B → Type 0} {S : A′ → B′ → Type 0} where
+  pub match-map : (f : A → A′) (g : B → B′) {k : List A} {l : List B} → ((x : A) (y : B) → x ∈ k → R x y → S (f x) (g y)) → Match R k l → Match S (map f k) (map g l)
+  match-map f g h m-nil = m-nil
+  match-map f g h (m-cons {x} {y} r m) = m-cons (h x y here r) (match-map f g (λ z w i. h z w (there i)) m)
+
+module _ {A A′ B : Type 0} {R : A → B → Type 0} {S : A′ → B → Type 0} where
+  pub match-left : (f : A → A′) {k : List A} {l : List B} → ((x : A) (y : B) → x ∈ k → R x y → S (f x) y) → Match R k l → Match S (map f k) l
+  match-left f h m-nil = m-nil
+  match-left f h (m-cons {x} {y} r m) = m-cons (h x y here r) (match-left f (λ z w i. h z w (there i)) m)
+
+module _ {A B : Type 0} {R S : A → B → Type 0} where
+  pub match-weaken : {k : List A} {l : List B} → ((x : A) (y : B) → R x y → S x y) → Match R k l → Match S k l
+  match-weaken h m-nil = m-nil
+  match-weaken h (m-cons {x} {y} r m) = m-cons (h x y r) (match-weaken h m)
+
+module _ {A B : Type 0} {R : A → B → Type 0} where
+  pub match-snoc : {k : List A} {l : List B} (x : A) (y : B) → Match R k l → R x y → Match R (k ++ (x ∷ [])) (l ++ (y ∷ []))
+  match-snoc x y m-nil r = m-cons r m-nil
+  match-snoc x y (m-cons q m) r = m-cons q (match-snoc x y m r)
+
+  -- Tests that agree on partners keep partners.
+  pub match-keep : (p : A → Bool) (q : B → Bool) {k : List A} {l : List B} → ((x : A) (y : B) → R x y → p x ≡ q y) → Match R k l → Match R (keep p k) (keep q l)
+  unfolding keep
+  match-keep p q h m-nil = m-nil
+  match-keep p q h (m-cons {x} {y} {k} {l} r m) = go (p x) (q y) (h x y r) (match-keep p q h m)
+    where
+      go : (a b : Bool) → a ≡ b → Match R (keep p k) (keep q l) → Match R (cond a (x ∷ keep p k) (keep p k)) (cond b (y ∷ keep q l) (keep q l))
+      go true true e n = m-cons r n
+      go false false e n = n
+      go true false e n = clash refl e
+      go false true e n = clash e refl
+
+  pub match-length : {k : List A} {l : List B} → Match R k l → length k ≡ length l
+  match-length m-nil = refl
+  match-length (m-cons r m) = omega (arith, match-length m)
+
+  pub match-sum : (f : A → ℕ) (g : B → ℕ) {k : List A} {l : List B} → ((x : A) (y : B) → R x y → f x ≡ g y) → Match R k l → sum f k ≡ sum g l
+  unfolding sum
+  match-sum f g h m-nil = refl
+  match-sum f g h (m-cons {x} {y} r m) = omega (arith, h x y r, match-sum f g h m)
+
+  -- The partner of an element.
+  pub partner : {k : List A} {l : List B} {y : B} → Match R k l → y ∈ l → (x : A) × x ∈ k × R x y
+  partner m-nil i = none i
+  partner {y = z} (m-cons {x} {y} {k} {l} r m) i = go (List·Memᴰ·cases-cons i) (partner m)
+    where
+      go : (z ≡ y) ⊎ (z ∈ l) → (z ∈ l → (w : A) × w ∈ k × R w z) → (w : A) × w ∈ (x ∷ k) × R w z
+      go (inl q) ih = (x, here, subst (R x) (sym q) r)
+      go (inr j) ih = let p = ih j in (p .0, there (p .1), p .2)
+
+  pub partner-of : {k : List A} {l : List B} {x : A} → Match R k l → x ∈ k → (y : B) × y ∈ l × R x y
+  partner-of m-nil i = none i
+  partner-of {x = z} (m-cons {x} {y} {k} {l} r m) i = go (List·Memᴰ·cases-cons i) (partner-of m)
+    where
+      go : (z ≡ x) ⊎ (z ∈ k) → (z ∈ k → (w : B) × w ∈ l × R z w) → (w : B) × w ∈ (y ∷ l) × R z w
+      go (inl q) ih = (y, here, subst (λ (u : A). R u y) (sym q) r)
+      go (inr j) ih = let p = ih j in (p .0, there (p .1), p .2)
+
+-- ── the tickets that an answer names ──
+module _ {A : Type 0} (ticket : A → ℕ) where
+  named-i : {x : A} {l : List A} → x ∈ l → any (λ k. eqb k (ticket x)) (map ticket l) ≡ true
+  unfolding any
+  named-i {x} (List·Memᴰ·head {x = y} {xs = l} e) = or-l (eqb (ticket y) (ticket x)) _ (eq-eqb _ _ (sym (ap ticket e)))
+  named-i {x} (List·Memᴰ·tail {x = y} {xs = l} m) = or-r (eqb (ticket y) (ticket x)) _ (named-i m)
+
+  -- An element's ticket is named among those of the kept elements exactly if it is kept.
+  pub named-keep : (p : A → Bool) (l : List A) → ((x y : A) → x ∈ l → y ∈ l → ticket x ≡ ticket y → x ≡ y) → (x : A) → x ∈ l
+      → any (λ k. eqb k (ticket x)) (map ticket (keep p l)) ≡ p x
+  named-keep p l u x m = go (split (p x)) (split (any (λ k. eqb k (ticket x)) (map ticket (keep p l))))
+    where
+      go : (p x ≡ true) ⊎ (p x ≡ false) → (any (λ k. eqb k (ticket x)) (map ticket (keep p l)) ≡ true) ⊎ (any (λ k. eqb k (ticket x)) (map ticket (keep p l)) ≡ false)
+          → any (λ k. eqb k (ticket x)) (map ticket (keep p l)) ≡ p x
+      go (inl e) q = named-i (keep-i p e m) ∙ sym e
+      go (inr e) (inr q) = q ∙ sym e
+      go (inr e) (inl q) =
+          let r = any-some (λ k. eqb k (ticket x)) (map ticket (keep p l)) q in
+          let s = map-e ticket (keep p l) (r .1) in
+          let k = keep-e p l (s .1) in
+          clash (ap p (u x (s .0) m (k .0) (sym (eqb-true _ _ (r .2)) ∙ s .2)) ∙ k .1) e

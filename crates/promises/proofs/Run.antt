@@ -1,0 +1,425 @@
+-- Demand 3 holds of every rig and every list of calls. The pending claims and the ledger are kept side by side, call by call.
+use mathlib.Core.Path.{_≡_, refl, sym, _∙_, ap, subst}
+use mathlib.Core.Logic.{_⊎_, inl, inr, _≢_}
+use mathlib.Core.Bool.{Bool, true, false, not, _&&_, cond}
+use mathlib.Core.List.{List, [], _∷_, map, List·Memᴰ·append-cases, List·Memᴰ·eq-of-singleton}
+use Prim.Native.Nat.{ℕ, suc, _+_, _-_, _≤_, _<_}
+use native.Mathlib.Omega.{arith}
+use lib.Dec.{eqb}
+use lib.ListN.{length}
+use borrow.Author.Tests.{eq-eqb, ne-eqb}
+use Rattle.groups.specs.Groups.{shares}
+use Rattle.rules.specs.declared.Claim.{Claim}
+use Rattle.rules.specs.declared.Phase.the-variants.{On}
+use Rattle.rules.specs.Lists.{_∈_, any}
+use Rattle.rules.specs.Claims.{Setting, on, at, withPhase, conflicts, heldUntil, endOf, remaining}
+use Rattle.rules.specs.Order.{rivals}
+use Rattle.rules.specs.Packing.{packedStart, moved, pack}
+use Rattle.rules.specs.Placing.{place, contention, startBound}
+use Rattle.rules.specs.Granting.{goes, granted, grant, grants}
+use Rattle.rules.specs.Calls.{Model, settingOf, Call, claim, release, withdraw, clock, timed, Answer, Step, named, unchanged, advance, finish, join, remove, fresh, admit, step, Waits, Holds, standing, standingOf, blank, new, after}
+use Rattle.rules.specs.Invariants.{Packed, IsSpaced, Invariant}
+use Rattle.rules.proofs.Bools.{split, clash, and-i}
+use Rattle.rules.proofs.Lists.{keep-e, map-e}
+use Rattle.rules.proofs.Claims.{end-on}
+use Rattle.rules.proofs.Order.{ascending-same}
+use Rattle.rules.proofs.Packing.{moved-cases, moved-at, moved-phase, moved-ticket, pack-no-later}
+use Rattle.rules.proofs.Bounding.{place-bound}
+use Rattle.rules.proofs.Granting.{granted-cases, granted-ticket, granted-at}
+use Rattle.rules.proofs.Invariants.{spaced-packs}
+use Rattle.rules.proofs.Calls.{OnTime, Admissible, advance-packed, finish-invariant, placed, join-spaced, Leaves, by-release, by-withdraw, by-clock, leaves-spaced, Idle, step-cases, blank-invariant, new-cases}
+use Rattle.rules.proofs.Prompt.{Prompt, prompt-no-later}
+use Rattle.rules.proofs.Lookup.{lookup-absent, lookup-found, lookup-waits}
+use Rattle.promises.specs.Ledger.{Turn, turns, Entry, promised, Ledger, acted, hold, marked, noted, notedAll, ledgerOf, NoOverrun, NoOverruns, Punctual, remainingOf, rivalsOf, boundOn}
+use Rattle.promises.specs.Demand3.{Now, Next, tells, Demand3}
+use Rattle.promises.proofs.Matching.{Match, m-nil, match-map, match-left, match-weaken, match-snoc, match-keep, match-length, match-sum, partner, partner-of, named-keep}
+
+-- A pending claim and its entry. P: no accepted call so far bore a clock past the promised end of a holder.
+record Tracks (P : Type 0) (c : Claim) (e : Entry) : Type 0 where
+  ticket : c .ticket ≡ e .ticket
+  groups : c .groups ≡ e .groups
+  length : c .length ≡ e .length
+  held : on c ≡ e .held
+  grant : on c ≡ true → at c ≡ e .grant
+  early : P → on c ≡ false → at c ≤ e .first
+
+record Story (P : Type 0) (l : Ledger) (m : Model) : Type 0 where
+  inv : Invariant m
+  clock : m .clock ≡ l .clock
+  match : Match (Tracks P) (m .pending) (l .claims)
+
+tracks-weaken : (P Q : Type 0) → (Q → P) → (c : Claim) (e : Entry) → Tracks P c e → Tracks Q c e
+tracks-weaken P Q f c e r =
+    record { ticket = r .ticket; groups = r .groups; length = r .length; held = r .held; grant = r .grant; early = λ q. r .early (f q) }
+
+-- ── after any number of calls ──
+now-of : (P : Type 0) (l : Ledger) (m : Model) → Story P l m → Now P l (tells m)
+now-of P l m s = record {
+  lookup-agrees = λ k. record {
+    held = λ e i q h.
+        let p = partner (s .match) i in
+        found k e i q ∙ ap (λ (b : Bool). cond b (Holds (at (p .0) + p .0 .length)) (Waits (at (p .0)))) (p .2 .held ∙ h)
+        ∙ ap Holds (omega (arith, p .2 .grant (p .2 .held ∙ h), p .2 .length));
+    waiting = λ e i q h.
+        let p = partner (s .match) i in
+        (at (p .0), found k e i q ∙ ap (λ (b : Bool). cond b (Holds (at (p .0) + p .0 .length)) (Waits (at (p .0)))) (p .2 .held ∙ h));
+    unknown = λ h. lookup-absent k (m .pending) (λ c i q. (let p = partner-of (s .match) i in h (p .0) (p .1) (sym (p .2 .ticket) ∙ q)));
+  };
+  holders-apart = λ e f i j n p q. apart e f i j n p q (split (shares (e .groups) (f .groups)));
+  no-wait-past = λ p e i o.
+      let r = partner (s .match) i in
+      let z : on (r .0) ≡ false = r .2 .held ∙ o in
+      omega (arith, s .inv .spaced .low (r .0) (r .1) z, r .2 .early p z, s .clock);
+}
+  where
+    found : (k : ℕ) (e : Entry) (i : e ∈ l .claims) → e .ticket ≡ k → standingOf k (m .pending) ≡ standing (partner (s .match) i .0)
+    found k e i q =
+        let p = partner (s .match) i in
+        ap (λ (x : ℕ). standingOf x (m .pending)) (sym q ∙ sym (p .2 .ticket)) ∙ lookup-found (m .pending) (s .inv .spaced .ascending) (p .0) (p .1)
+
+    apart : (e f : Entry) → e ∈ l .claims → f ∈ l .claims → e .ticket ≢ f .ticket → e .held ≡ true → f .held ≡ true
+        → (shares (e .groups) (f .groups) ≡ true) ⊎ (shares (e .groups) (f .groups) ≡ false) → shares (e .groups) (f .groups) ≡ false
+    apart e f i j n p q (inr h) = h
+    apart e f i j n p q (inl h) =
+        let a = partner (s .match) i in
+        let b = partner (s .match) j in
+        absurd
+        (s .inv .spaced .fit .holders .apart (a .0) (b .0) (a .1) (b .1) (λ z. n (sym (a .2 .ticket) ∙ z ∙ b .2 .ticket)) (cc (a .2 .groups, b .2 .groups))
+        (a .2 .held ∙ p) (b .2 .held ∙ q))
+
+-- ── the parts of a call, side by side with the ledger ──
+pack-tracks : (P : Type 0) (v : Setting) (ps : List Claim) (c : Claim) (e : Entry) → Tracks P c e → (P → on c ≡ false → packedStart v ps c ≤ at c) → Tracks P (moved (packedStart v ps) c) e
+pack-tracks P v ps c e r h =
+    moved-cases (λ (x : Claim). Tracks P x e) (packedStart v ps) c (λ o. r)
+    (λ o. record {
+      ticket = r .ticket;
+      groups = r .groups;
+      length = r .length;
+      held = sym o ∙ r .held;
+      grant = λ q. clash q refl;
+      early = λ p q. omega (arith, h p o, r .early p o);
+    })
+
+marked-cases : (Q : Entry → Type 0) (t : ℕ) (ks : List ℕ) (e : Entry) (b : Bool) → any (λ k. eqb k (e .ticket)) ks ≡ b → Q (cond b (hold e t) e) → Q (marked t ks e)
+unfolding marked
+marked-cases Q t ks e true h q = rw (h, marked) q
+marked-cases Q t ks e false h q = rw (h, marked) q
+
+grant-tracks : (P : Type 0) (v : Setting) (ps : List Claim) (ks : List ℕ) (c : Claim) (e : Entry) → Tracks P c e → any (λ k. eqb k (c .ticket)) ks ≡ goes ps c
+    → Tracks P (granted v ps c) (marked (v .clock) ks e)
+grant-tracks P v ps ks c e r h =
+    granted-cases (λ (x : Claim). Tracks P x (marked (v .clock) ks e)) v ps c
+    (λ g. marked-cases (Tracks P (withPhase c (On (v .clock)))) (v .clock) ks e true (same ∙ g) (record {
+      ticket = r .ticket;
+      groups = r .groups;
+      length = r .length;
+      held = refl;
+      grant = λ q. refl;
+      early = λ p q. clash refl q;
+    }))
+    (λ g. marked-cases (Tracks P c) (v .clock) ks e false (same ∙ g) r)
+  where
+    same : any (λ k. eqb k (e .ticket)) ks ≡ goes ps c
+    same = ap (λ (x : ℕ). any (λ k. eqb k x) ks) (sym (r .ticket)) ∙ h
+
+-- Setting the clock and packing: where no holder overruns, no start rises.
+advance-match : (P T : Type 0) (l : List Entry) (m : Model) (t : ℕ) → Invariant m → m .clock ≤ t → (T → Prompt t (m .pending)) → Match (Tracks P) (m .pending) l
+    → Match (Tracks (P × T)) (advance m t .pending) l
+unfolding advance pack
+advance-match P T l m t i h pr ma =
+    match-left (moved (packedStart (record { clock = t }) (m .pending)))
+    (λ c e ci r. pack-tracks (P × T) (record { clock = t }) (m .pending) c e (tracks-weaken P (P × T) (λ x. x .0) c e r)
+    (λ p o. prompt-no-later (m .issued) (settingOf m) (record { clock = t }) (m .pending) i (record { later = h }) (pr (p .1)) c ci o))
+    ma
+
+finish-clock : (m : Model) (k s n b : ℕ) → finish m k s n b .model .clock ≡ m .clock
+unfolding finish
+finish-clock m k s n b = refl
+
+finish-number : (m : Model) (k s n b : ℕ) → finish m k s n b .answer .number ≡ 0
+unfolding finish
+finish-number m k s n b = refl
+
+-- Packing again and granting: no start rises.
+finish-match : (P : Type 0) (l : List Entry) (m : Model) (k s n b : ℕ) → IsSpaced m → Match (Tracks P) (m .pending) l
+    → Match (Tracks P) (finish m k s n b .model .pending) (map (marked (m .clock) (finish m k s n b .answer .grants)) l)
+unfolding finish pack grant grants
+finish-match P l m k s n b i ma =
+    match-map (granted v ps) (marked (m .clock) (grants ps))
+    (λ c e j r. grant-tracks P v ps (grants ps) c e r (named-keep (λ (x : Claim). x .ticket) (goes ps) ps (ascending-same ps (spaced-packs (m .issued) v (m .pending) i .spaced .ascending)) c j))
+    (match-left (moved (packedStart v (m .pending))) (λ c e j r. pack-tracks P v (m .pending) c e r (λ _ o. pack-no-later v (m .pending) (i .fit) (i .low) c j o)) ma)
+  where
+    v : Setting
+    v = settingOf m
+
+    ps : List Claim
+    ps = pack (settingOf m) (m .pending)
+
+-- What release, withdraw and clock leave: of the claims that the first packing gave, and of the ledger.
+leaves-clock : {m : Model} {c : Call} {t k : ℕ} {q : Model} → Leaves m c t k q → q .clock ≡ t
+unfolding remove advance
+leaves-clock (by-release t k) = refl
+leaves-clock (by-withdraw t k) = refl
+leaves-clock (by-clock t) = refl
+
+leaves-old : {m : Model} {c : Call} {t k : ℕ} {q : Model} → Leaves m c t k q → (y : Claim) → y ∈ q .pending → y ∈ advance m t .pending
+unfolding remove
+leaves-old (by-release t k) y i = keep-e _ _ i .0
+leaves-old (by-withdraw t k) y i = keep-e _ _ i .0
+leaves-old (by-clock t) y i = i
+
+leaves-match : (P : Type 0) (l : List Entry) (a : Answer) {m : Model} {c : Call} {t k : ℕ} {q : Model} → Leaves m c t k q
+    → Match (Tracks P) (advance m t .pending) l → Match (Tracks P) (q .pending) (acted l c a)
+unfolding remove acted
+leaves-match P l a (by-release t k) ma = match-keep (λ c. not (named k c)) (λ e. not (eqb (e .ticket) k)) (λ c e r. ap (λ (x : ℕ). not (eqb x k)) (r .ticket)) ma
+leaves-match P l a (by-withdraw t k) ma = match-keep (λ c. not (named k c)) (λ e. not (eqb (e .ticket) k)) (λ c e r. ap (λ (x : ℕ). not (eqb x k)) (r .ticket)) ma
+leaves-match P l a (by-clock t) ma = ma
+
+-- The holders are prompt where the call's clock is past no promised end.
+prompt-of : (P : Type 0) (t : ℕ) (ps : List Claim) (l : List Entry) → Match (Tracks P) ps l → ((e : Entry) → e ∈ l → e .held ≡ true → t ≤ promised e) → Prompt t ps
+prompt-of P t ps l ma h c i o =
+    let r = partner-of ma i in
+    omega (arith, h (r .0) (r .1) (sym (r .2 .held) ∙ o), r .2 .grant o, r .2 .length)
+
+-- ── no start is raised ──
+abbrev NotRaised : List Claim → List Claim → Type 0
+NotRaised ps qs = (c d : Claim) → c ∈ ps → d ∈ qs → d .ticket ≡ c .ticket → on c ≡ false → at d ≤ at c
+
+-- Where a claim comes from, through packing and granting.
+finish-from : (m : Model) (k s n b : ℕ) → IsSpaced m → (d : Claim) → d ∈ finish m k s n b .model .pending
+    → (x : Claim) × x ∈ m .pending × (d .ticket ≡ x .ticket) × (on x ≡ false → at d ≤ at x)
+unfolding finish pack grant
+finish-from m k s n b i d di =
+    let f = packedStart v (m .pending) in
+    let a = map-e (granted v ps) ps di in
+    let c = map-e (moved f) (m .pending) (a .1) in (
+      c .0,
+      c .1,
+      ap (λ (x : Claim). x .ticket) (a .2) ∙ granted-ticket v ps (a .0) ∙ ap (λ (x : Claim). x .ticket) (c .2) ∙ moved-ticket f (c .0),
+      λ o.
+          omega (
+            arith,
+            ap at (a .2),
+            granted-at v ps (p .spaced .fit) (p .spaced .low) (p .tight) (λ x j. p .spaced .proper x j .sane) (p .spaced .ascending) (a .0) (a .1),
+            ap at (c .2),
+            moved-at f (c .0) o,
+            pack-no-later v (m .pending) (i .fit) (i .low) (c .0) (c .1) o,
+          ),
+    )
+  where
+    v : Setting
+    v = settingOf m
+
+    ps : List Claim
+    ps = pack (settingOf m) (m .pending)
+
+    p : Packed (m .issued) (settingOf m) (pack (settingOf m) (m .pending))
+    p = spaced-packs (m .issued) (settingOf m) (m .pending) i
+
+-- And through the first packing.
+advance-from : (m : Model) (t : ℕ) → Invariant m → m .clock ≤ t → Prompt t (m .pending) → (c d : Claim) → c ∈ m .pending → d ∈ advance m t .pending → d .ticket ≡ c .ticket
+    → on c ≡ false → (on d ≡ false) × (at d ≤ at c)
+unfolding advance pack
+advance-from m t i h pr c d ci di e o =
+    let f = packedStart (record { clock = t }) (m .pending) in
+    let b = map-e (moved f) (m .pending) di in
+    let same : b .0 ≡ c = ascending-same (m .pending) (i .spaced .ascending) (b .0) c (b .1) ci (sym (moved-ticket f (b .0)) ∙ sym (ap (λ (x : Claim). x .ticket) (b .2)) ∙ e) in
+    let q : d ≡ moved f c = b .2 ∙ ap (moved f) same in (
+      ap on q ∙ moved-phase f c ∙ o,
+      omega (arith, ap at q, moved-at f c o, prompt-no-later (m .issued) (settingOf m) (record { clock = t }) (m .pending) i (record { later = h }) pr c ci o),
+    )
+
+-- A call from m to `finish q`, where each claim of q that is not new is one of those that the first packing gave.
+finish-not-raised : (m q : Model) (t k s n b : ℕ) → Invariant m → m .clock ≤ t → Prompt t (m .pending) → IsSpaced q
+    → ((x : Claim) → x ∈ q .pending → (x ∈ advance m t .pending) ⊎ (m .issued < x .ticket)) → NotRaised (m .pending) (finish q k s n b .model .pending)
+finish-not-raised m q t k s n b i h pr sp old c d ci di e o =
+    let f = finish-from q k s n b sp d di in
+    go f (old (f .0) (f .1))
+  where
+    go : (f : (x : Claim) × x ∈ q .pending × (d .ticket ≡ x .ticket) × (on x ≡ false → at d ≤ at x)) → (f .0 ∈ advance m t .pending) ⊎ (m .issued < f .0 .ticket) → at d ≤ at c
+    go f (inl j) =
+        let r = advance-from m t i h pr c (f .0) ci j (sym (f .2) ∙ e) o in
+        omega (arith, f .3 (r .0), r .1)
+    go f (inr j) = absurd (omega (arith, f .2, i .spaced .proper c ci .issued))
+
+-- What that says of lookup and of the ledger.
+abbrev Unraised : List Claim → List Claim → List Entry → Type 0
+Unraised ps qs l = (k s : ℕ) → standingOf k ps ≡ Waits s → ((r : ℕ) → standingOf k qs ≡ Waits r → r ≤ s) × ((e : Entry) → e ∈ l → e .ticket ≡ k → e .held ≡ true → e .grant ≤ s)
+
+unraised : (P : Type 0) (ps qs : List Claim) (l : List Entry) → Match (Tracks P) qs l → NotRaised ps qs → Unraised ps qs l
+unraised P ps qs l ma nr k s w =
+    let c = lookup-waits k s ps w in (
+      λ r z.
+          let d = lookup-waits k r qs z in
+          omega (arith, nr (c .0) (d .0) (c .1) (d .1) (d .2 ∙ sym (c .2)) (c .3), c .4, d .4),
+      λ e i q h.
+          let d = partner ma i in
+          omega (arith, nr (c .0) (d .0) (c .1) (d .1) (d .2 .ticket ∙ q ∙ sym (c .2)) (c .3), c .4, d .2 .grant (d .2 .held ∙ h)),
+    )
+
+-- ── the bound ──
+remaining-is : (P : Type 0) (v : Setting) (c : Claim) (e : Entry) → Tracks P c e → remaining v c ≡ remainingOf v e
+unfolding remaining
+remaining-is P v c e r = go (on c) (e .held) refl (r .held)
+  where
+    go : (a b : Bool) → on c ≡ a → a ≡ b → cond a (endOf v c - v .clock) (c .length) ≡ cond b (heldUntil v (promised e) - v .clock) (e .length)
+    go true true o q = ap (λ (x : ℕ). x - v .clock) (end-on v c o ∙ ap (heldUntil v) (omega (arith, r .grant o, r .length)))
+    go false false o q = r .length
+    go true false o q = clash refl q
+    go false true o q = clash q refl
+
+bound-is : (P : Type 0) (v : Setting) (ps : List Claim) (l : List Entry) (w : Claim) → Match (Tracks P) ps l → startBound v ps w ≡ boundOn v l (w .groups) (w .length)
+unfolding startBound contention boundOn
+bound-is P v ps l w m =
+    let rs : Match (Tracks P) (rivals ps w) (rivalsOf l (w .groups)) = match-keep (λ c. conflicts c w) (λ e. shares (e .groups) (w .groups)) (λ c e r. ap (λ (g : ℕ). shares g (w .groups)) (r .groups)) m in
+    cc (match-sum (remaining v) (remainingOf v) (remaining-is P v) rs, match-length rs)
+
+-- ── one call ──
+abbrev Told : Type 0 → Ledger → Model → Call → Step → Type 0
+Told P l m c s =
+    let t : Turn = record { call = c; answer = s .answer } in
+    Next P l t (tells m) (tells (s .model)) × Story (P × NoOverrun l t) (noted l t) (s .model)
+
+module _ (P : Type 0) (l : Ledger) (m : Model) (s : Story P l m) where
+  idle-refused : (c : Call) (n : ℕ) → Idle c n → timed c && eqb n 0 ≡ false
+  idle-refused c n (inl e) = rw e
+  idle-refused c n (inr e) = rw (ne-eqb n 0 e) (go (timed c))
+    where
+      go : (b : Bool) → b && false ≡ false
+      go true = refl
+      go false = refl
+
+  told-idle : (c : Call) (n : ℕ) → Idle c n → Told P l m c (unchanged m n)
+  told-idle c n i =
+      let z = idle-refused c n i in (
+        record {
+          start-bounded = λ t g k q e. clash (and-i (timed c) (eqb n 0) (ap timed q) (eq-eqb n 0 e)) z;
+          never-raised = λ p h k x w. rw z (unraised P (m .pending) (m .pending) (l .claims) (s .match) same k x w);
+        },
+        record {
+          inv = s .inv;
+          clock = rw z (s .clock);
+          match = rw z (match-weaken (λ d e r. tracks-weaken P _ (λ q. q .0) d e r) (s .match));
+        },
+      )
+    where
+      same : NotRaised (m .pending) (m .pending)
+      same c d ci di e o = omega (arith, ap at (ascending-same (m .pending) (s .inv .spaced .ascending) d c di ci e))
+
+  prompt : (t : ℕ) → ((e : Entry) → e ∈ l .claims → e .held ≡ true → t ≤ promised e) → Prompt t (m .pending)
+  prompt t h = prompt-of P t (m .pending) (l .claims) (s .match) h
+
+  -- What the accepted timed calls have in common: q is what they leave before they pack again and grant, es the same of the ledger.
+  told-finish : (t k x n b : ℕ) (q : Model) (es : List Entry) (T : Type 0) → m .clock ≤ t → (T → (e : Entry) → e ∈ l .claims → e .held ≡ true → t ≤ promised e)
+      → IsSpaced q → q .clock ≡ t → ((y : Claim) → y ∈ q .pending → (y ∈ advance m t .pending) ⊎ (m .issued < y .ticket)) → Match (Tracks (P × T)) (q .pending) es
+      → (T → Unraised (m .pending) (finish q k x n b .model .pending) (map (marked t (finish q k x n b .answer .grants)) es))
+      × Story (P × T) (record { clock = t; claims = map (marked t (finish q k x n b .answer .grants)) es }) (finish q k x n b .model)
+  told-finish t k x n b q es T h tm sp cl old ma = (
+    λ z. unraised (P × T) (m .pending) (finish q k x n b .model .pending) (map (marked t (finish q k x n b .answer .grants)) es) done (finish-not-raised m q t k x n b (s .inv) h (prompt t (tm z)) sp old),
+    record { inv = finish-invariant q k x n b sp; clock = finish-clock q k x n b ∙ cl; match = done },
+  )
+    where
+      done : Match (Tracks (P × T)) (finish q k x n b .model .pending) (map (marked t (finish q k x n b .answer .grants)) es)
+      done = subst (λ (u : ℕ). Match (Tracks (P × T)) (finish q k x n b .model .pending) (map (marked u (finish q k x n b .answer .grants)) es)) cl (finish-match (P × T) es q k x n b sp ma)
+
+  told-claim : (t g n : ℕ) → Admissible m t g n → Told P l m (claim t g n) (admit (advance m t) g n)
+  unfolding admit finish join advance acted
+  told-claim t g n a =
+      let r = told-finish t (w .ticket) x (contention ps w) (startBound v ps w) q _ T (a .clocked .later) (λ z. z refl) spaced refl old (match-snoc _ _ first new) in (
+        record {
+          start-bounded = λ t′ g′ n′ e _.
+              let same : boundOn (record { clock = t }) (l .claims) g n ≡ boundOn (record { clock = t′ }) (l .claims) g′ n′ = cc in
+              omega (arith, place-bound v ps w, bound-is (P × T) v ps (l .claims) w first);
+          never-raised = λ _. r .0;
+        },
+        r .1,
+      )
+    where
+      v : Setting
+      v = record { clock = t }
+
+      ps : List Claim
+      ps = advance m t .pending
+
+      w : Claim
+      w = fresh (advance m t) g n
+
+      x : ℕ
+      x = place (record { clock = t }) (advance m t .pending) (fresh (advance m t) g n)
+
+      q : Model
+      q = join (advance m t) (placed (advance m t) g n)
+
+      T : Type 0
+      T = NoOverrun l (record { call = claim t g n; answer = admit (advance m t) g n .answer })
+
+      first : Match (Tracks (P × T)) (advance m t .pending) (l .claims)
+      first = advance-match P T (l .claims) m t (s .inv) (a .clocked .later) (λ z. prompt t (z refl)) (s .match)
+
+      spaced : IsSpaced (join (advance m t) (placed (advance m t) g n))
+      spaced = join-spaced (advance m t) g n (a .long) (a .spare) (advance-packed m t (s .inv) (a .clocked .later) .spaced)
+
+      old : (y : Claim) → y ∈ join (advance m t) (placed (advance m t) g n) .pending → (y ∈ advance m t .pending) ⊎ (m .issued < y .ticket)
+      old y i = go (List·Memᴰ·append-cases (advance m t .pending) i)
+        where
+          go : (y ∈ advance m t .pending) ⊎ (y ∈ (placed (advance m t) g n ∷ [])) → (y ∈ advance m t .pending) ⊎ (m .issued < y .ticket)
+          go (inl j) = inl j
+          go (inr j) = inr (omega (arith, ap (λ (z : Claim). z .ticket) (List·Memᴰ·eq-of-singleton j)))
+
+      new : Tracks (P × T) (placed (advance m t) g n) (record { ticket = suc (m .issued); groups = g; length = n; first = place (record { clock = t }) (advance m t .pending) (fresh (advance m t) g n); held = false; grant = 0 })
+      new = record { ticket = refl; groups = refl; length = refl; held = refl; grant = λ e. clash e refl; early = λ p o. omega arith }
+
+  -- Release, withdraw and clock.
+  left : {c : Call} {t k : ℕ} {q : Model} (a : Answer) (T : Type 0) → Leaves m c t k q → OnTime m t → (T → (e : Entry) → e ∈ l .claims → e .held ≡ true → t ≤ promised e)
+      → (T → Unraised (m .pending) (finish q k t 0 0 .model .pending) (map (marked t (finish q k t 0 0 .answer .grants)) (acted (l .claims) c a)))
+      × Story (P × T) (record { clock = t; claims = map (marked t (finish q k t 0 0 .answer .grants)) (acted (l .claims) c a) }) (finish q k t 0 0 .model)
+  left {c} {t} {k} {q} a T v o tm =
+      told-finish t k t 0 0 q (acted (l .claims) c a) T (o .later) tm (leaves-spaced v (advance-packed m t (s .inv) (o .later))) (leaves-clock v)
+      (λ y i. inl (leaves-old v y i))
+      (leaves-match (P × T) (l .claims) a v (advance-match P T (l .claims) m t (s .inv) (o .later) (λ z. prompt t (tm z)) (s .match)))
+
+  told-left : (c : Call) (t k : ℕ) (q : Model) → OnTime m t → Leaves m c t k q → Told P l m c (finish q k t 0 0)
+  unfolding finish
+  told-left c₀ t₀ k₀ q₀ o (by-release t k) =
+      let a : Answer = finish (remove (advance m t) k) k t 0 0 .answer in
+      let r = left a (NoOverrun l (record { call = release t k; answer = a })) (by-release t k) o (λ z. z refl) in
+      (record { start-bounded = λ u g n e _. (let z : _≡_ {A = ℕ} 0 1 = cc in absurd (omega arith)); never-raised = λ _. r .0 }, r .1)
+  told-left c₀ t₀ k₀ q₀ o (by-withdraw t k) =
+      let a : Answer = finish (remove (advance m t) k) k t 0 0 .answer in
+      let r = left a (NoOverrun l (record { call = withdraw t k; answer = a })) (by-withdraw t k) o (λ z. z refl) in
+      (record { start-bounded = λ u g n e _. (let z : _≡_ {A = ℕ} 0 1 = cc in absurd (omega arith)); never-raised = λ _. r .0 }, r .1)
+  told-left c₀ t₀ k₀ q₀ o (by-clock t) =
+      let a : Answer = finish (advance m t) 0 t 0 0 .answer in
+      let r = left a (NoOverrun l (record { call = clock t; answer = a })) (by-clock t) o (λ z. z refl) in
+      (record { start-bounded = λ u g n e _. (let z : _≡_ {A = ℕ} 0 1 = cc in absurd (omega arith)); never-raised = λ _. r .0 }, r .1)
+
+  told : (c : Call) → Told P l m c (step m c)
+  told = step-cases (Told P l m) m told-idle told-claim told-left
+
+-- ── the run ──
+story-weaken : (P Q : Type 0) (l : Ledger) (m : Model) → (Q → P) → Story P l m → Story Q l m
+story-weaken P Q l m f s = record { inv = s .inv; clock = s .clock; match = match-weaken (λ c e r. tracks-weaken P Q f c e r) (s .match) }
+
+story-after : (cs : List Call) (P : Type 0) (l : Ledger) (m : Model) → Story P l m → Story (P × NoOverruns l (turns m cs)) (notedAll l (turns m cs)) (after m cs)
+unfolding turns after notedAll
+story-after [] P l m s = story-weaken P (P × NoOverruns l []) l m (λ q. q .0) s
+story-after (c ∷ cs) P l m s =
+    let t : Turn = record { call = c; answer = step m c .answer } in
+    let r = story-after cs (P × NoOverrun l t) (noted l t) (step m c .model) (told P l m s c .1) in
+    story-weaken _ (P × (NoOverrun l t × NoOverruns (noted l t) (turns (step m c .model) cs))) _ _ (λ q. ((q .0, q .1 .0), q .1 .1)) r
+
+start : (g : ℕ) → Story (Unit {0}) (record { clock = 0; claims = [] }) (new g .model)
+start g = new-cases (λ (s : Step). Story (Unit {0}) (record { clock = 0; claims = [] }) (s .model)) g (λ e. blank-story 0) (λ e. blank-story g)
+  where
+    blank-story : (r : ℕ) → Story (Unit {0}) (record { clock = 0; claims = [] }) (blank r)
+    blank-story r = record { inv = blank-invariant r; clock = refl; match = m-nil }
+
+after-calls : (g : ℕ) (cs : List Call) → (let ts = turns (new g .model) cs in Story (Punctual ts) (ledgerOf ts) (after (new g .model) cs))
+after-calls g cs = story-weaken _ _ _ _ (λ q. (tt, q)) (story-after cs (Unit {0}) (record { clock = 0; claims = [] }) (new g .model) (start g))
+
+-- Demand 3, whole.
+pub demand-3 : (rig : ℕ) (calls : List Call) → Demand3 rig calls
+demand-3 rig calls = record {
+  at-any-time = λ before rest e. now-of _ _ _ (after-calls rig before);
+  at-any-call = λ before c rest e. told _ _ _ (after-calls rig before) c .0;
+}

@@ -1,0 +1,51 @@
+-- Demand 3: one statement about a list of calls, "any number, even zero, in any order, with any values, those turned down too". Its words
+-- go by the calls, their answers and lookup. proofs/Run has the theorem: it holds for every rig and every list.
+use mathlib.Core.Path.{_≡_}
+use mathlib.Core.Logic.{_≢_}
+use mathlib.Core.Bool.{true, false}
+use mathlib.Core.List.{List, _∷_, _++_}
+use Prim.Native.Nat.{ℕ, _≤_}
+use Rattle.groups.specs.Groups.{shares}
+use Rattle.rules.specs.Lists.{_∈_}
+use Rattle.rules.specs.Calls.{Model, Call, claim, Standing, NotPending, Waits, Holds, standingOf, step, new, after}
+use Rattle.promises.specs.Ledger.{Turn, turns, Entry, promised, Ledger, noted, ledgerOf, NoOverrun, Punctual, boundOn}
+
+-- "Look, asked after any call of the list, says the same: waiting, on with that promised end, or 8."
+pub record Agrees (l : List Entry) (k : ℕ) (told : Standing) : Type 0 where
+  pub held : (e : Entry) → e ∈ l → e .ticket ≡ k → e .held ≡ true → told ≡ Holds (promised e)
+  pub waiting : (e : Entry) → e ∈ l → e .ticket ≡ k → e .held ≡ false → (s : ℕ) × (told ≡ Waits s)
+  pub unknown : ((e : Entry) → e ∈ l → e .ticket ≢ k) → told ≡ NotPending
+
+-- After any number of the calls. P: so far no accepted call bore a clock past the promised end of a claim held when it came.
+pub record Now (P : Type 0) (l : Ledger) (told : ℕ → Standing) : Type 0 where
+  pub lookup-agrees : (k : ℕ) → Agrees (l .claims) k (told k)
+  -- Holders share no group.
+  pub holders-apart : (e f : Entry) → e ∈ l .claims → f ∈ l .claims → e .ticket ≢ f .ticket → e .held ≡ true → f .held ≡ true → shares (e .groups) (f .groups) ≡ false
+  -- Nobody waits past the first planned start.
+  pub no-wait-past : P → (e : Entry) → e ∈ l .claims → e .held ≡ false → l .clock ≤ e .first
+
+-- Of one call, with what lookup told before and tells after it.
+pub record Next (P : Type 0) (l : Ledger) (t : Turn) (before after : ℕ → Standing) : Type 0 where
+  -- A first planned start is within its bound.
+  pub start-bounded : (u g n : ℕ) → t .call ≡ claim u g n → t .answer .number ≡ 0 → t .answer .start ≤ boundOn (record { clock = u }) (l .claims) g n
+  -- No start is raised. "A call raises it if the claim waits before the call and after it waits with a greater start, or is on with a
+  -- grant greater than that start."
+  pub never-raised : P → NoOverrun l t → (k s : ℕ) → before k ≡ Waits s
+      → ((r : ℕ) → after k ≡ Waits r → r ≤ s)
+      × ((e : Entry) → e ∈ noted l t .claims → e .ticket ≡ k → e .held ≡ true → e .grant ≤ s)
+
+-- What lookup tells of each ticket.
+abbrev pub tells : Model → ℕ → Standing
+tells m k = standingOf k (m .pending)
+
+-- "The list begins with the table that the call for a new one gave, whatever the rig."
+pub record Demand3 (rig : ℕ) (calls : List Call) : Type 0 where
+  pub at-any-time : (before rest : List Call) → before ++ rest ≡ calls
+      → (let m = new rig .model in
+      let ts = turns m before in
+      Now (Punctual ts) (ledgerOf ts) (tells (after m before)))
+  pub at-any-call : (before : List Call) (c : Call) (rest : List Call) → before ++ (c ∷ rest) ≡ calls
+      → (let m = new rig .model in
+      let ts = turns m before in
+      let s = step (after m before) c in
+      Next (Punctual ts) (ledgerOf ts) (record { call = c; answer = s .answer }) (tells (after m before)) (tells (s .model)))

@@ -1,0 +1,88 @@
+-- The planned start of a new claim is at most its start bound: each number below the start is ruled out by a conflicting claim, and
+-- a claim rules out only so many. Proved once for intervals.
+use mathlib.Core.Path.{_≡_, refl}
+use mathlib.Core.Logic.{_⊎_, inl, inr}
+use mathlib.Core.Bool.{Bool, true, false, not, _&&_, _||_, cond}
+use mathlib.Core.List.{List}
+use Prim.Native.Nat.{ℕ, zero, suc, _+_, _-_, _≤_, _<_, min}
+use native.Mathlib.Omega.{arith}
+use lib.Dec.{leb}
+use borrow.Author.Tests.{leb-false, not-false}
+use Rattle.rules.specs.declared.Claim.{Claim}
+use Rattle.rules.specs.Lists.{_∈_, sum}
+use Rattle.rules.specs.Claims.{Setting, on, at, conflicts, endOf, remaining}
+use Rattle.rules.specs.Order.{rivals}
+use Rattle.rules.specs.Placing.{clear, fits, place, contention, startBound}
+use Rattle.rules.proofs.Bools.{split, or-fl, or-fr}
+use Rattle.rules.proofs.Lists.{sum-le, sum-gap, sum-add, all-not, keep-i}
+use Rattle.rules.proofs.Claims.{end-wait}
+use Rattle.rules.proofs.Placing.{fits-e, place-least}
+
+-- Where each x from a on, n of them, lies in a claim's interval, n is at most the sum of the intervals' parts below a + n.
+cover : (lo hi : Claim → ℕ) (l : List Claim) (a n : ℕ)
+    → ((x : ℕ) → a ≤ x → x < a + n → (c : Claim) × c ∈ l × (lo c ≤ x) × (x < hi c))
+    → n ≤ sum (λ c. min (hi c) (a + n) - lo c) l
+cover lo hi l a zero h = omega arith
+cover lo hi l a (suc n) h =
+    let ih = cover lo hi l a n (λ x p q. h x p (omega arith)) in
+    let r = h (a + n) (omega arith) (omega arith) in
+    omega
+    (arith, sum-gap (λ (c : Claim). min (hi c) (a + n) - lo c) (λ (c : Claim). min (hi c) (a + suc n) - lo c) 1 (r .1) (omega (arith, r .2, r .3)) (λ d m. omega arith))
+
+-- Where each x from a to below b lies in an interval, b − a is at most the sum of their lengths.
+covered : (lo hi : Claim → ℕ) (l : List Claim) (a b : ℕ)
+    → ((x : ℕ) → a ≤ x → x < b → (c : Claim) × c ∈ l × (lo c ≤ x) × (x < hi c))
+    → b ≤ a + sum (λ c. hi c - lo c) l
+covered lo hi l a b h =
+    let k = cover lo hi l a (b - a) (λ x p q. h x p (omega arith)) in
+    omega (arith, sum-le (λ (c : Claim). min (hi c) (a + (b - a)) - lo c) (λ (c : Claim). hi c - lo c) l (λ c m. omega arith))
+
+module _ (v : Setting) (ps : List Claim) (w : Claim) where
+  -- The first number that c rules out; the first behind them is its end.
+  from : Claim → ℕ
+  from c = cond (on c) (v .clock) (suc (at c) - w .length)
+
+  ruled-by : (x : ℕ) → v .clock ≤ x → (c : Claim) → clear v w x c ≡ false → (conflicts c w ≡ true) × (from c ≤ x) × (x < endOf v c)
+  unfolding clear from
+  ruled-by x h c e =
+      let s : conflicts c w ≡ true = not-false (conflicts c w) (or-fl (not (conflicts c w)) _ e) in
+      let r = or-fr (not (conflicts c w)) (leb (endOf v c) x || (not (on c) && leb (x + w .length) (at c))) e in
+      let p : x < endOf v c = leb-false (endOf v c) x (or-fl (leb (endOf v c) x) _ r) in
+      (s, go (on c) (or-fr (leb (endOf v c) x) (not (on c) && leb (x + w .length) (at c)) r), p)
+    where
+      go : (b : Bool) → (not b && leb (x + w .length) (at c)) ≡ false → cond b (v .clock) (suc (at c) - w .length) ≤ x
+      go true q = h
+      go false q = omega (arith, leb-false)
+
+  ruled-out : (x : ℕ) → v .clock ≤ x → fits v ps w x ≡ false → (c : Claim) × c ∈ rivals ps w × (from c ≤ x) × (x < endOf v c)
+  unfolding fits
+  ruled-out x h e =
+      let r = all-not (clear v w x) ps e in
+      let q = ruled-by x h (r .0) (r .2) in
+      (r .0, keep-i (λ c. conflicts c w) (q .0) (r .1), q .1, q .2)
+
+  -- So many it rules out.
+  count : (c : Claim) → endOf v c - from c ≤ remaining v c + (w .length - 1)
+  unfolding from remaining
+  count c = go (on c) refl
+    where
+      go : (b : Bool) → on c ≡ b → endOf v c - cond b (v .clock) (suc (at c) - w .length) ≤ cond b (endOf v c - v .clock) (c .length) + (w .length - 1)
+      go true e = omega arith
+      go false e = omega (arith, end-wait v c e)
+
+  pub place-bound : place v ps w ≤ startBound v ps w
+  unfolding startBound contention
+  place-bound =
+      omega (
+        arith,
+        covered from (endOf v) (rivals ps w) (v .clock) (place v ps w) below,
+        sum-le (λ c. endOf v c - from c) (λ c. remaining v c + (w .length - 1)) (rivals ps w) (λ c m. count c),
+        sum-add (remaining v) (w .length - 1) (rivals ps w),
+      )
+    where
+      below : (x : ℕ) → v .clock ≤ x → x < place v ps w → (c : Claim) × c ∈ rivals ps w × (from c ≤ x) × (x < endOf v c)
+      below x h k = go (split (fits v ps w x))
+        where
+          go : (fits v ps w x ≡ true) ⊎ (fits v ps w x ≡ false) → (c : Claim) × c ∈ rivals ps w × (from c ≤ x) × (x < endOf v c)
+          go (inl e) = absurd (omega (arith, place-least v ps w x h (fits-e v ps w x e)))
+          go (inr e) = ruled-out x h e

@@ -1,0 +1,207 @@
+-- The calls: what accepting one means, its cases, and that every call keeps the invariant.
+use mathlib.Core.Path.{_≡_, refl}
+use mathlib.Core.Logic.{_⊎_, inl, inr, _≢_}
+use mathlib.Core.Bool.{Bool, true, false, not, _||_, cond}
+use mathlib.Core.List.{List, [], _∷_, _++_}
+use Prim.Native.Nat.{ℕ, zero, suc, _≤_, _<_}
+use native.Mathlib.Omega.{arith}
+use lib.Dec.{ltb, leb, eqb}
+use lib.ListN.{length}
+use borrow.Author.Tests.{ltb-false, leb-false, eqb-false, not-false}
+use Rattle.groups.specs.Groups.{empty, within}
+use Rattle.rules.specs.declared.Claim.{Claim}
+use Rattle.rules.specs.declared.Phase.the-variants.{Waiting}
+use Rattle.rules.specs.Lists.{_∈_}
+use Rattle.rules.specs.Claims.{Setting, on, at, withPhase}
+use Rattle.rules.specs.Packing.{packedStart, pack, Packs}
+use Rattle.rules.specs.Placing.{place}
+use Rattle.rules.specs.Calls.{Model, settingOf, Call, claim, release, withdraw, clock, lookup, timed, Step, Test, test, firstOf, late, backward, tests, named, unchanged, advance, finish, join, remove, fresh, admit, act, unless, step, blank, new, after}
+use Rattle.rules.specs.Plans.{Fits, Sane}
+use Rattle.rules.specs.Invariants.{IsSpaced, IsPacked, Invariant}
+use Rattle.rules.proofs.Bools.{or-fl, or-fr}
+use Rattle.rules.proofs.Lists.{Each, none}
+use Rattle.rules.proofs.Packing.{separated-untied, pack-idle, pack-as-documented, pack-unique}
+use Rattle.rules.proofs.Placing.{place-low, place-fits, place-least}
+use Rattle.rules.proofs.Invariants.{packs, grant-settles, spaced-packable, spaced-packs, spaced-keep, spaced-snoc, earliest-snoc}
+
+-- ── the tests ──
+-- Where no test fails, the first does not, and none of the rest.
+pub passes : (b : Bool) (n : ℕ) (ts : List Test) → firstOf (test b (suc n) ∷ ts) ≡ 0 → (b ≡ false) × (firstOf ts ≡ 0)
+unfolding firstOf
+passes true n ts e = absurd (omega arith)
+passes false n ts e = (refl, e)
+
+-- The clock of an accepted timed call.
+pub record OnTime (m : Model) (t : ℕ) : Type 0 where
+  pub later : m .clock ≤ t
+  pub early : t ≤ 1000000000000
+
+pub on-time : (m : Model) (t : ℕ) (ts : List Test) → firstOf (late t ∷ backward m t ∷ ts) ≡ 0 → OnTime m t × (firstOf ts ≡ 0)
+on-time m t ts e =
+    let a = passes (ltb 1000000000000 t) 4 _ e in
+    let b = passes (ltb t (m .clock)) 3 ts (a .1) in
+    (record { later = ltb-false _ _ (b .0); early = ltb-false _ _ (a .0) }, b .1)
+
+-- What the tests of an accepted claim say.
+pub record Admissible (m : Model) (t g n : ℕ) : Type 0 where
+  pub clocked : OnTime m t
+  pub lit : empty g ≡ false
+  pub inside : within g (m .rig) ≡ true
+  pub long : 1 ≤ n
+  pub short : n ≤ 3600000
+  pub room : length (m .pending) < 64
+  pub spare : m .issued < 65535
+
+pub admissible : (m : Model) (t g n : ℕ) → firstOf (tests m (claim t g n)) ≡ 0 → Admissible m t g n
+unfolding tests
+admissible m t g n e =
+    let a = on-time m t _ e in
+    let b = passes (empty g) 0 _ (a .1) in
+    let c = passes (not (within g (m .rig))) 1 _ (b .1) in
+    let d = passes (eqb n 0 || ltb 3600000 n) 2 _ (c .1) in
+    let f = passes (leb 64 (length (m .pending))) 5 _ (d .1) in
+    let h = passes (leb 65535 (m .issued)) 6 [] (f .1) in
+    record {
+      clocked = a .0;
+      lit = b .0;
+      inside = not-false (within g (m .rig)) (c .0);
+      long = positive n (or-fl (eqb n 0) _ (d .0));
+      short = ltb-false 3600000 n (or-fr (eqb n 0) _ (d .0));
+      room = leb-false 64 _ (f .0);
+      spare = leb-false 65535 _ (h .0);
+    }
+  where
+    positive : (n : ℕ) → eqb n 0 ≡ false → 1 ≤ n
+    positive zero z = absurd (eqb-false 0 0 z refl)
+    positive (suc n) z = omega arith
+
+-- ── what the acts keep ──
+pub advance-packed : (m : Model) (t : ℕ) → Invariant m → m .clock ≤ t → IsPacked (advance m t)
+unfolding advance
+advance-packed m t i l =
+    packs (m .issued) (record { clock = t }) (m .pending) (spaced-packable (m .issued) (settingOf m) (record { clock = t }) (m .pending) (record { later = l }) (i .spaced))
+
+pub remove-spaced : (m : Model) (k : ℕ) → IsSpaced m → IsSpaced (remove m k)
+unfolding remove
+remove-spaced m k s = spaced-keep (m .issued) (settingOf m) (m .pending) (λ c. not (named k c)) s
+
+pub finish-invariant : (m : Model) (k s n b : ℕ) → IsSpaced m → Invariant (finish m k s n b .model)
+unfolding finish
+finish-invariant m k s n b i = grant-settles (m .issued) (settingOf m) (pack (settingOf m) (m .pending)) (spaced-packs (m .issued) (settingOf m) (m .pending) i)
+
+-- A new claim with its place.
+abbrev pub placed : Model → ℕ → ℕ → Claim
+placed m g n = withPhase (fresh m g n) (Waiting (place (settingOf m) (m .pending) (fresh m g n)))
+
+module _ (m : Model) (g n : ℕ) (long : 1 ≤ n) (spare : m .issued < 65535) where
+  placed-sane : Sane (placed m g n)
+  placed-sane = record { long = long; small = omega arith }
+
+  placed-fits : Fits (settingOf m) (m .pending) (placed m g n) (at (placed m g n))
+  placed-fits = record { room = place-fits (settingOf m) (m .pending) (fresh m g n) .room }
+
+  pub join-spaced : IsSpaced m → IsSpaced (join m (placed m g n))
+  unfolding join
+  join-spaced p = spaced-snoc (m .issued) (settingOf m) (m .pending) (placed m g n) placed-sane refl placed-fits p refl (place-low (settingOf m) (m .pending) (fresh m g n))
+
+  -- Packing again changes nothing behind a claim that was placed among packed claims.
+  pub join-idle : IsPacked m → pack (settingOf (join m (placed m g n))) (join m (placed m g n) .pending) ≡ join m (placed m g n) .pending
+  unfolding join
+  join-idle p =
+      let s = join-spaced (p .spaced) in
+      pack-idle (settingOf m) (m .pending ++ (placed m g n ∷ [])) (s .fit) (s .low)
+      (earliest-snoc (m .issued) (settingOf m) (m .pending) (placed m g n) placed-sane refl placed-fits (λ c i. p .spaced .proper c i .sane) (p .earliest)
+      (λ s l f. place-least (settingOf m) (m .pending) (fresh m g n) s l (record { room = f .room })))
+
+-- Nor where nothing came or left.
+pub packed-idle : (m : Model) → IsPacked m → pack (settingOf m) (m .pending) ≡ m .pending
+packed-idle m p = pack-idle (settingOf m) (m .pending) (p .spaced .fit) (p .spaced .low) (p .earliest)
+
+-- ── the cases of a call ──
+-- What a call that is accepted and no claim leaves pending, before it packs again and grants.
+pub data Leaves (m : Model) : Call → ℕ → ℕ → Model → Type 0 where
+  by-release : (t k : ℕ) → Leaves m (release t k) t k (remove (advance m t) k)
+  by-withdraw : (t k : ℕ) → Leaves m (withdraw t k) t k (remove (advance m t) k)
+  by-clock : (t : ℕ) → Leaves m (clock t) t 0 (advance m t)
+
+pub leaves-spaced : {m : Model} {c : Call} {t k : ℕ} {n : Model} → Leaves m c t k n → IsPacked (advance m t) → IsSpaced n
+leaves-spaced {m} (by-release t k) p = remove-spaced (advance m t) k (p .spaced)
+leaves-spaced {m} (by-withdraw t k) p = remove-spaced (advance m t) k (p .spaced)
+leaves-spaced (by-clock t) p = p .spaced
+
+-- A call that changes nothing: refused, or a lookup.
+abbrev pub Idle : Call → ℕ → Type 0
+Idle c n = (timed c ≡ false) ⊎ (n ≢ 0)
+
+by-tests : (P : Step → Type 0) (m : Model) (n : ℕ) (s : Step) → ((j : ℕ) → P (unchanged m (suc j))) → (n ≡ 0 → P s) → P (unless m n s)
+by-tests P m zero s h k = k refl
+by-tests P m (suc n) s h k = h n
+
+-- To show something of a call's step, show it of these three.
+pub step-cases : (P : Call → Step → Type 0) (m : Model)
+    → ((c : Call) (n : ℕ) → Idle c n → P c (unchanged m n))
+    → ((t g n : ℕ) → Admissible m t g n → P (claim t g n) (admit (advance m t) g n))
+    → ((c : Call) (t k : ℕ) (q : Model) → OnTime m t → Leaves m c t k q → P c (finish q k t 0 0))
+    → (c : Call) → P c (step m c)
+unfolding step act tests
+step-cases P m no! yes-claim yes-left c = by-tests (P c) m (firstOf (tests m c)) (act m c) (λ j. no! c (suc j) (inr (λ e. omega arith))) (accepted c)
+  where
+    accepted : (c : Call) → firstOf (tests m c) ≡ 0 → P c (act m c)
+    accepted (claim t g n) e = yes-claim t g n (admissible m t g n e)
+    accepted (release t k) e = yes-left (release t k) t k (remove (advance m t) k) (on-time m t _ e .0) (by-release t k)
+    accepted (withdraw t k) e = yes-left (withdraw t k) t k (remove (advance m t) k) (on-time m t _ e .0) (by-withdraw t k)
+    accepted (clock t) e = yes-left (clock t) t 0 (advance m t) (on-time m t _ e .0) (by-clock t)
+    accepted (lookup k) e = no! (lookup k) 0 (inl refl)
+
+-- ── every call keeps the invariant ──
+pub admit-invariant : (m : Model) (g n : ℕ) → 1 ≤ n → m .issued < 65535 → IsPacked m → Invariant (admit m g n .model)
+unfolding admit
+admit-invariant m g n l s p = finish-invariant (join m (placed m g n)) _ _ _ _ (join-spaced m g n l s (p .spaced))
+
+advance-spare : (m : Model) (t g n : ℕ) → Admissible m t g n → advance m t .issued < 65535
+unfolding advance
+advance-spare m t g n a = a .spare
+
+pub step-invariant : (m : Model) (c : Call) → Invariant m → Invariant (step m c .model)
+step-invariant m c i =
+    step-cases (λ d s. Invariant (s .model)) m (λ d n z. i)
+    (λ t g n a. admit-invariant (advance m t) g n (a .long) (advance-spare m t g n a) (advance-packed m t i (a .clocked .later)))
+    (λ d t k q o v. finish-invariant q k t 0 0 (leaves-spaced v (advance-packed m t i (o .later)))) c
+
+pub blank-invariant : (g : ℕ) → Invariant (blank g)
+blank-invariant g = record {
+  spaced =
+      record {
+        proper = λ c m. none m;
+        ascending = tt;
+        fit = record { holders = record { apart = λ c d m k. none m }; behind = λ c d m k. none m };
+        low = λ c m. none m;
+      };
+  blocked = λ c m. none m;
+}
+
+-- To show something of a new table, show it of a refused one and of the others.
+pub new-cases : (P : Step → Type 0) (g : ℕ) → (empty g ≡ true → P (unchanged (blank 0) 1)) → (empty g ≡ false → P (unchanged (blank g) 0)) → P (new g)
+unfolding new
+new-cases P g h k = go (empty g) refl
+  where
+    go : (b : Bool) → empty g ≡ b → P (cond b (unchanged (blank 0) 1) (unchanged (blank g) 0))
+    go true e = h e
+    go false e = k e
+
+pub new-invariant : (g : ℕ) → Invariant (new g .model)
+new-invariant g = new-cases (λ (s : Step). Invariant (s .model)) g (λ e. blank-invariant 0) (λ e. blank-invariant g)
+
+pub after-invariant : (m : Model) (cs : List Call) → Invariant m → Invariant (after m cs)
+unfolding after
+after-invariant m [] i = i
+after-invariant m (c ∷ cs) i = after-invariant (step m c .model) cs (step-invariant m c i)
+
+-- ── packing as document 01 has it, in every table that calls can make and at every clock ──
+pub packs-as-documented : (m : Model) → Invariant m → (v : Setting)
+    → Packs v (m .pending) (packedStart v (m .pending))
+    × ((f : Claim → ℕ) → Packs v (m .pending) f → (w : Claim) → w ∈ m .pending → on w ≡ false → f w ≡ packedStart v (m .pending) w)
+packs-as-documented m i v =
+    let sane : Each Sane (m .pending) = λ c k. i .spaced .proper c k .sane in
+    let untied = separated-untied (settingOf m) (m .pending) sane (i .spaced .fit) in
+    (pack-as-documented v (m .pending) sane (i .spaced .ascending) untied, pack-unique v (m .pending) sane (i .spaced .ascending) untied)

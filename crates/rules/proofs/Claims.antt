@@ -1,0 +1,52 @@
+-- Conflicts and ends: all that the other laws know of them.
+use mathlib.Core.Path.{_≡_, refl, _∙_, ap}
+use mathlib.Core.Bool.{true, false}
+use Prim.Native.Nat.{ℕ, _+_, _≤_}
+use native.Mathlib.Omega.{arith}
+use Rattle.groups.proofs.Groups.{shares-sym}
+use Rattle.rules.specs.declared.Claim.{Claim}
+use Rattle.rules.specs.declared.Phase.{Phase}
+use Rattle.rules.specs.declared.Phase.the-variants.{Waiting, On}
+use Rattle.rules.specs.Claims.{Setting, isOn, mark, on, at, withPhase, conflicts, heldUntil, endOf}
+use Rattle.rules.proofs.Bools.{clash}
+
+pub conflicts-sym : (c d : Claim) → conflicts c d ≡ true → conflicts d c ≡ true
+conflicts-sym c d h = shares-sym (d .groups) (c .groups) ∙ h
+
+-- A waiting claim is its start.
+pub waiting-is : (c : Claim) → on c ≡ false → withPhase c (Waiting (at c)) ≡ c
+waiting-is c o = ap (withPhase c) (go (c .phase) o)
+  where
+    go : (p : Phase) → isOn p ≡ false → Waiting (mark p) ≡ p
+    go (Waiting s) o = refl
+    go (On g) o = clash refl o
+
+held-prompt : (v : Setting) (p : ℕ) → v .clock ≤ p → heldUntil v p ≡ p
+unfolding heldUntil
+held-prompt v p h = omega arith
+
+held-ge : (v : Setting) (p : ℕ) → p ≤ heldUntil v p
+unfolding heldUntil
+held-ge v p = omega arith
+
+held-clock : (v : Setting) (p : ℕ) → v .clock ≤ heldUntil v p
+unfolding heldUntil
+held-clock v p = omega arith
+
+pub end-wait : (v : Setting) (c : Claim) → on c ≡ false → endOf v c ≡ at c + c .length
+unfolding endOf
+end-wait v c e = rw e
+
+pub end-on : (v : Setting) (c : Claim) → on c ≡ true → endOf v c ≡ heldUntil v (at c + c .length)
+unfolding endOf
+end-on v c e = rw e
+
+-- A holder ends at or after the clock, and at or after its promised end; at that, while the clock is not past it.
+pub end-clock : (v : Setting) (c : Claim) → on c ≡ true → v .clock ≤ endOf v c
+end-clock v c o = omega (arith, end-on v c o, held-clock v (at c + c .length))
+
+pub end-ge : (v : Setting) (c : Claim) → on c ≡ true → at c + c .length ≤ endOf v c
+end-ge v c o = omega (arith, end-on v c o, held-ge v (at c + c .length))
+
+pub end-prompt : (v : Setting) (c : Claim) → on c ≡ true → v .clock ≤ at c + c .length → endOf v c ≡ at c + c .length
+end-prompt v c o h = end-on v c o ∙ held-prompt v (at c + c .length) h

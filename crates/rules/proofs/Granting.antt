@@ -1,0 +1,146 @@
+-- Granting: holders stay apart, nothing else moves, and whoever still waits is held up by a claim whose end is its start.
+use mathlib.Core.Path.{_≡_, refl, sym, _∙_, subst}
+use mathlib.Core.Logic.{_⊎_, inl, inr, _≢_}
+use mathlib.Core.Bool.{true, false, not}
+use mathlib.Core.List.{List, map}
+use Prim.Native.Nat.{_≤_}
+use native.Mathlib.Omega.{arith}
+use borrow.Author.Tests.{not-true, not-false}
+use Rattle.rules.specs.declared.Claim.{Claim}
+use Rattle.rules.specs.declared.Phase.the-variants.{On}
+use Rattle.rules.specs.Lists.{_∈_, any}
+use Rattle.rules.specs.Claims.{Setting, on, at, withPhase, conflicts, endOf}
+use Rattle.rules.specs.Order.{before, precedes}
+use Rattle.rules.specs.Granting.{goes, granted, grant}
+use Rattle.rules.specs.Plans.{Ascending, Sane, Apart, Separated, StartsFrom, HeldUp, Tight, Blocked}
+use Rattle.rules.proofs.Bools.{split, clash, and-l, and-r, same?}
+use Rattle.rules.proofs.Lists.{Each, any-none, any-some, map-i, map-each, map-each2}
+use Rattle.rules.proofs.Claims.{conflicts-sym, end-wait, end-clock, end-prompt}
+use Rattle.rules.proofs.Order.{either-before, before-precedes, precedes-conflicts, precedes-on, precedes-before, ends-precedes, ascending-same}
+
+-- ── who goes on ──
+pub goes-wait : (ps : List Claim) (c : Claim) → goes ps c ≡ true → on c ≡ false
+unfolding goes
+goes-wait ps c e = not-true (on c) (and-l (not (on c)) _ e)
+
+pub goes-free : (ps : List Claim) (c : Claim) → goes ps c ≡ true → (d : Claim) → d ∈ ps → precedes d c ≡ false
+unfolding goes
+goes-free ps c e d m = any-none (λ x. precedes x c) (not-true (any (λ x. precedes x c) ps) (and-r (not (on c)) _ e)) m
+
+stays : (ps : List Claim) (c : Claim) → goes ps c ≡ false → on c ≡ false → (d : Claim) × d ∈ ps × (precedes d c ≡ true)
+unfolding goes
+stays ps c e o = any-some (λ x. precedes x c) ps (not-false (any (λ x. precedes x c) ps) (rw o at e))
+
+-- ── a claim as granted ──
+granted-go : (v : Setting) (ps : List Claim) (c : Claim) → goes ps c ≡ true → granted v ps c ≡ withPhase c (On (v .clock))
+unfolding granted
+granted-go v ps c e = rw (e, granted)
+
+granted-stay : (v : Setting) (ps : List Claim) (c : Claim) → goes ps c ≡ false → granted v ps c ≡ c
+unfolding granted
+granted-stay v ps c e = rw (e, granted)
+
+pub granted-cases : (P : Claim → Type 0) (v : Setting) (ps : List Claim) (c : Claim) → (goes ps c ≡ true → P (withPhase c (On (v .clock)))) → (goes ps c ≡ false → P c) → P (granted v ps c)
+granted-cases P v ps c f g = go (split (goes ps c))
+  where
+    go : (goes ps c ≡ true) ⊎ (goes ps c ≡ false) → P (granted v ps c)
+    go (inl e) = rw (granted-go v ps c e) (f e)
+    go (inr e) = rw (granted-stay v ps c e) (g e)
+
+pub granted-ticket : (v : Setting) (ps : List Claim) (c : Claim) → granted v ps c .ticket ≡ c .ticket
+granted-ticket v ps c = granted-cases (λ (x : Claim). x .ticket ≡ c .ticket) v ps c (λ p. refl) (λ p. refl)
+
+-- ── granting what is packed ──
+module _ (v : Setting) (ps : List Claim) (fit : Separated v ps) (low : StartsFrom (v .clock) ps) (tight : Tight v ps) (sane : Each Sane ps)
+    (ascending : Ascending ps) where
+  -- What goes on had the clock for its start.
+  pub goes-at : (c : Claim) → c ∈ ps → goes ps c ≡ true → at c ≡ v .clock
+  goes-at c m e = go (tight c m (goes-wait ps c e))
+    where
+      go : (at c ≡ v .clock) ⊎ HeldUp v ps c → at c ≡ v .clock
+      go (inl p) = p
+      go (inr h) = clash (ends-precedes v (h .0) c (sane (h .0) (h .1)) (h .2) (omega (arith, h .3))) (goes-free ps c e (h .0) (h .1))
+
+  -- What does not go on is held up.
+  pub stays-held : (w : Claim) → w ∈ ps → goes ps w ≡ false → on w ≡ false → HeldUp v ps w
+  stays-held w m g o = go (tight w m o)
+    where
+      at-clock : (d : Claim) → d ∈ ps → at w ≡ v .clock → precedes d w ≡ true → (on d ≡ true) ⊎ (on d ≡ false) → endOf v d ≡ at w
+      at-clock d k e p (inl q) = omega (arith, fit .behind d w k m o (precedes-before d w (sane d k) p) (precedes-conflicts d w p), end-clock v d q)
+      at-clock d k e p (inr q) =
+          absurd (omega (arith, fit .behind d w k m o (precedes-before d w (sane d k) p) (precedes-conflicts d w p), end-wait v d q, low d k q, sane d k .long))
+
+      go : (at w ≡ v .clock) ⊎ HeldUp v ps w → HeldUp v ps w
+      go (inl e) =
+          let r = stays ps w g o in
+          (r .0, r .1, precedes-conflicts (r .0) w (r .2), at-clock (r .0) (r .1) e (r .2) (split (on (r .0))))
+      go (inr h) = h
+
+  -- Its end is not changed by going on.
+  end-granted : (c : Claim) → c ∈ ps → goes ps c ≡ true → endOf v (withPhase c (On (v .clock))) ≡ endOf v c
+  end-granted c m e = omega (arith, end-prompt v (withPhase c (On (v .clock))) refl (omega arith), end-wait v c (goes-wait ps c e), goes-at c m e)
+
+  -- Of two conflicting waiting claims the one that goes on is before.
+  goes-first : (c d : Claim) → c ∈ ps → d ∈ ps → goes ps c ≡ true → on d ≡ false → c .ticket ≢ d .ticket → conflicts c d ≡ true → before c d ≡ true
+  goes-first c d m k g o n h = go (either-before c d (sane c m) (sane d k) n)
+    where
+      go : (before c d ≡ true) ⊎ (before d c ≡ true) → before c d ≡ true
+      go (inl b) = b
+      go (inr b) = clash (before-precedes v ps fit d c (sane d k) k m (goes-wait ps c g) b (conflicts-sym c d h)) (goes-free ps c g d k)
+
+  grant-apart : Apart (grant v ps)
+  unfolding grant
+  grant-apart = record {
+    apart =
+        map-each2 (λ (c d : Claim). c .ticket ≢ d .ticket → conflicts c d ≡ true → on c ≡ true → on d ≡ true → ⊥) (granted v ps) ps
+        (λ c d m k. granted-cases (λ (x : Claim). x .ticket ≢ granted v ps d .ticket → conflicts x (granted v ps d) ≡ true → on x ≡ true → on (granted v ps d) ≡ true → ⊥) v ps c
+        (λ p. granted-cases (λ (y : Claim). c .ticket ≢ y .ticket → conflicts c y ≡ true → true ≡ true → on y ≡ true → ⊥) v ps d
+        (λ q n h a b. clash (before-precedes v ps fit c d (sane c m) m k (goes-wait ps d q) (goes-first c d m k p (goes-wait ps d q) n h) h) (goes-free ps d q c m))
+        (λ q n h a b. clash (precedes-on d c (conflicts-sym c d h) b) (goes-free ps c p d k)))
+        (λ p. granted-cases (λ (y : Claim). c .ticket ≢ y .ticket → conflicts c y ≡ true → on c ≡ true → on y ≡ true → ⊥) v ps d
+        (λ q n h a b. clash (precedes-on c d h a) (goes-free ps d q c m))
+        (λ q. fit .holders .apart c d m k)));
+  }
+
+  pub grant-separates : Separated v (grant v ps)
+  unfolding grant
+  grant-separates = record {
+    holders = grant-apart;
+    behind = λ c w mc mw o b p.
+        map-each2 (λ (c w : Claim). on w ≡ false → before c w ≡ true → conflicts c w ≡ true → endOf v c ≤ at w) (granted v ps) ps
+        (λ c w m k. granted-cases (λ (y : Claim). on y ≡ false → before (granted v ps c) y ≡ true → conflicts (granted v ps c) y ≡ true → endOf v (granted v ps c) ≤ at y) v ps w
+        (λ p q. clash refl q)
+        (λ p q. granted-cases (λ (x : Claim). before x w ≡ true → conflicts x w ≡ true → endOf v x ≤ at w) v ps c
+        (λ a b e. rw (end-granted c m a) (more c w m k a p q e (same? (c .ticket) (w .ticket))))
+        (λ a b e. fit .behind c w m k q b e)))
+        c w mc mw o b p;
+  }
+    where
+      more : (c w : Claim) → c ∈ ps → w ∈ ps → goes ps c ≡ true → goes ps w ≡ false → on w ≡ false → conflicts c w ≡ true
+          → (c .ticket ≡ w .ticket) ⊎ (c .ticket ≢ w .ticket) → endOf v c ≤ at w
+      more c w m k a p q h (inl e) = clash (subst (λ (x : Claim). goes ps x ≡ true) (ascending-same ps ascending c w m k e) a) p
+      more c w m k a p q h (inr n) = fit .behind c w m k q (goes-first c w m k a q n h) h
+
+  pub grant-starts : StartsFrom (v .clock) (grant v ps)
+  unfolding grant
+  grant-starts =
+      map-each (λ (x : Claim). on x ≡ false → v .clock ≤ at x) (granted v ps) ps
+      (λ c m. granted-cases (λ (x : Claim). on x ≡ false → v .clock ≤ at x) v ps c (λ p q. clash refl q) (λ p q. low c m q))
+
+  pub grant-blocked : Blocked v (grant v ps)
+  unfolding grant
+  grant-blocked =
+      map-each (λ (x : Claim). on x ≡ false → HeldUp v (map (granted v ps) ps) x) (granted v ps) ps
+      (λ w m. granted-cases (λ (x : Claim). on x ≡ false → HeldUp v (map (granted v ps) ps) x) v ps w (λ p q. clash refl q) (λ p q. hold w (stays-held w m p q)))
+    where
+      hold : (w : Claim) → HeldUp v ps w → HeldUp v (map (granted v ps) ps) w
+      hold w h = (
+        granted v ps (h .0),
+        map-i (granted v ps) (h .1),
+        granted-cases (λ (x : Claim). conflicts x w ≡ true) v ps (h .0) (λ g. h .2) (λ g. h .2),
+        granted-cases (λ (x : Claim). endOf v x ≡ at w) v ps (h .0) (λ g. end-granted (h .0) (h .1) g ∙ h .3) (λ g. h .3),
+      )
+
+  -- Granting leaves the number beside a claim: what goes on had the clock for its start.
+  pub granted-at : (c : Claim) → c ∈ ps → at (granted v ps c) ≡ at c
+  granted-at c m = granted-cases (λ (x : Claim). at x ≡ at c) v ps c (λ g. sym (goes-at c m g)) (λ g. refl)

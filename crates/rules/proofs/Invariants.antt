@@ -1,0 +1,160 @@
+-- Packing, granting, one claim more, fewer claims and a later clock: each keeps its part of the invariant.
+use mathlib.Core.Path.{_≡_, refl, ap, subst}
+use mathlib.Core.Logic.{_⊎_, inl, inr, _≢_}
+use mathlib.Core.Bool.{Bool, true, false}
+use mathlib.Core.List.{List, [], _∷_, _++_, List·Memᴰ·append-cases, List·Memᴰ·eq-of-singleton, Memᴰ·append-left}
+use Prim.Native.Nat.{ℕ, suc, _≤_, _<_}
+use native.Mathlib.Omega.{arith}
+use Rattle.rules.specs.declared.Claim.{Claim}
+use Rattle.rules.specs.declared.Phase.the-variants.{Waiting, On}
+use Rattle.rules.specs.Lists.{_∈_, keep}
+use Rattle.rules.specs.Claims.{Setting, on, at, withPhase, conflicts, endOf}
+use Rattle.rules.specs.Order.{before}
+use Rattle.rules.specs.Packing.{packedStart, moved, pack}
+use Rattle.rules.specs.Granting.{granted, grant}
+use Rattle.rules.specs.Plans.{Sane, Behind, Earliest, Room, Fits}
+use Rattle.rules.specs.Invariants.{Proper, Packable, Spaced, Packed, Settled}
+use Rattle.rules.proofs.Bools.{split, clash, compare}
+use Rattle.rules.proofs.Lists.{Each, keep-e, keep-i, map-each, snoc-each, snoc-each2}
+use Rattle.rules.proofs.Claims.{conflicts-sym, end-wait}
+use Rattle.rules.proofs.Order.{before-on, before-key, before-lt, ascending-map, ascending-keep, ascending-snoc}
+use Rattle.rules.proofs.Packing.{moved-cases, moved-ticket, pack-starts, pack-tight, pack-separates, pack-earliest}
+use Rattle.rules.proofs.Granting.{granted-cases, granted-ticket, grant-separates, grant-starts, grant-blocked}
+
+pub packs : (k : ℕ) (v : Setting) (ps : List Claim) → Packable k v ps → Packed k v (pack v ps)
+unfolding pack
+packs k v ps f = record {
+  spaced =
+      record {
+        proper = map-each (Proper k v) (moved (packedStart v ps)) ps (λ c m. moved-cases (Proper k v) (packedStart v ps) c (λ p. f .proper c m) (λ p. more c (f .proper c m)));
+        ascending = ascending-map (moved (packedStart v ps)) ps (moved-ticket (packedStart v ps)) (f .ascending);
+        fit = pack-separates v ps sane (f .ascending) (f .holders);
+        low = pack-starts v ps;
+      };
+  tight = pack-tight v ps;
+  earliest = pack-earliest v ps sane;
+}
+  where
+    sane : Each Sane ps
+    sane c m = f .proper c m .sane
+
+    more : (c : Claim) → Proper k v c → Proper k v (withPhase c (Waiting (packedStart v ps c)))
+    more c p = record { sane = record { long = p .sane .long; small = p .sane .small }; numbered = p .numbered; issued = p .issued; aged = λ e. clash e refl }
+
+pub grant-settles : (k : ℕ) (v : Setting) (ps : List Claim) → Packed k v ps → Settled k v (grant v ps)
+unfolding grant
+grant-settles k v ps f =
+    let s = f .spaced in
+    let sane : Each Sane ps = λ c m. s .proper c m .sane in
+    record {
+      spaced =
+          record {
+            proper = map-each (Proper k v) (granted v ps) ps (λ c m. granted-cases (Proper k v) v ps c (λ p. gone c (s .proper c m)) (λ p. s .proper c m));
+            ascending = ascending-map (granted v ps) ps (granted-ticket v ps) (s .ascending);
+            fit = grant-separates v ps (s .fit) (s .low) (f .tight) sane (s .ascending);
+            low = grant-starts v ps (s .fit) (s .low) (f .tight) sane (s .ascending);
+          };
+      blocked = grant-blocked v ps (s .fit) (s .low) (f .tight) sane (s .ascending);
+    }
+  where
+    gone : (c : Claim) → Proper k v c → Proper k v (withPhase c (On (v .clock)))
+    gone c p = record { sane = record { long = p .sane .long; small = p .sane .small }; numbered = p .numbered; issued = p .issued; aged = λ e. omega arith }
+
+-- The same rules at a later clock, or the same.
+pub record Later (v u : Setting) : Type 0 where
+  pub later : v .clock ≤ u .clock
+
+pub spaced-packable : (k : ℕ) (v u : Setting) (ps : List Claim) → Later v u → Spaced k v ps → Packable k u ps
+spaced-packable k v u ps l g = record {
+  proper = λ c m. older (g .proper c m);
+  ascending = g .ascending;
+  holders = record { apart = g .fit .holders .apart };
+}
+  where
+    older : {c : Claim} → Proper k v c → Proper k u c
+    older p = record { sane = p .sane; numbered = p .numbered; issued = p .issued; aged = λ e. omega (arith, p .aged e) }
+
+pub spaced-packs : (k : ℕ) (v : Setting) (ps : List Claim) → Spaced k v ps → Packed k v (pack v ps)
+spaced-packs k v ps s = packs k v ps (spaced-packable k v v ps (record { later = omega arith }) s)
+
+-- Some of the claims.
+pub spaced-keep : (k : ℕ) (v : Setting) (ps : List Claim) (p : Claim → Bool) → Spaced k v ps → Spaced k v (keep p ps)
+spaced-keep k v ps p f = record {
+  proper = λ c m. f .proper c (old m);
+  ascending = ascending-keep p ps (f .ascending);
+  fit = record {
+    holders = record { apart = λ c d m n. f .fit .holders .apart c d (old m) (old n) };
+    behind = λ c w m n. f .fit .behind c w (old m) (old n);
+  };
+  low = λ c m. f .low c (old m);
+}
+  where
+    old : {c : Claim} → c ∈ keep p ps → c ∈ ps
+    old m = keep-e p ps m .0
+
+-- ── one claim more, where it fits ──
+module _ (k : ℕ) (v : Setting) (ps : List Claim) (w : Claim) (sane : Sane w) (waits : on w ≡ false) (fit : Fits v ps w (at w)) where
+  pub spaced-snoc : Spaced k v ps → w .ticket ≡ suc k → v .clock ≤ at w → Spaced (suc k) v (ps ++ (w ∷ []))
+  spaced-snoc p e low = record {
+    proper =
+        snoc-each (Proper (suc k) v) ps w
+        (λ c m. record { sane = p .proper c m .sane; numbered = p .proper c m .numbered; issued = omega (arith, p .proper c m .issued); aged = p .proper c m .aged })
+        (record { sane = sane; numbered = omega arith; issued = omega arith; aged = λ q. clash q waits });
+    ascending = ascending-snoc ps w (p .ascending) (λ c m. omega (arith, p .proper c m .issued));
+    fit = record {
+      holders = record {
+        apart =
+            snoc-each2 (λ (c d : Claim). c .ticket ≢ d .ticket → conflicts c d ≡ true → on c ≡ true → on d ≡ true → ⊥) ps w
+            (p .fit .holders .apart) (λ c m a b q r. clash r waits) (λ c m a b q r. clash q waits) (λ a b q r. clash q waits);
+      };
+      behind =
+          snoc-each2 (λ (c d : Claim). on d ≡ false → before c d ≡ true → conflicts c d ≡ true → endOf v c ≤ at d) ps w
+          (p .fit .behind) (λ c m q b h. fore c m b (split (on c)) (fit .room c m h)) (λ c m q b h. aft c m q b (fit .room c m (conflicts-sym w c h)))
+          (λ q b h. absurd (omega (arith, before-lt w w b waits)));
+    };
+    low = snoc-each (λ (x : Claim). on x ≡ false → v .clock ≤ at x) ps w (p .low) (λ q. low);
+  }
+    where
+      -- The room that c leaves, where c is before w and where it is after.
+      fore : (c : Claim) → c ∈ ps → before c w ≡ true → (on c ≡ true) ⊎ (on c ≡ false) → Room v w (at w) c → endOf v c ≤ at w
+      fore c m b q (inl r) = r
+      fore c m b (inl q) (inr r) = clash q (r .0)
+      fore c m b (inr q) (inr r) = absurd (omega (arith, before-lt c w b q, r .1, sane .long, sane .small))
+
+      aft : (c : Claim) → c ∈ ps → on c ≡ false → before w c ≡ true → Room v w (at w) c → endOf v w ≤ at c
+      aft c m q b (inl r) = absurd (omega (arith, before-lt w c b waits, end-wait v c q, p .proper c m .sane .long, p .proper c m .sane .small))
+      aft c m q b (inr r) = omega (arith, end-wait v w waits, r .1)
+
+  -- Where none of the others could start sooner, and w has the least start that fits, none of them all could.
+  pub earliest-snoc : Each Sane ps → Earliest v ps → ((s : ℕ) → v .clock ≤ s → Fits v ps w s → at w ≤ s) → Earliest v (ps ++ (w ∷ []))
+  earliest-snoc sanes old least x i o s l b = go (List·Memᴰ·append-cases ps i)
+    where
+      -- Behind more claims a start is no easier.
+      few : Behind v (keep (λ c. before c x) ps) x s
+      few = record {
+        after = λ c m p.
+            let r = keep-e (λ c. before c x) ps m in
+            b .after c (keep-i (λ c. before c x) (r .1) (Memᴰ·append-left (w ∷ []) (r .0))) p;
+      }
+
+      -- A start sooner than its own, behind those before it, would fit w.
+      sooner : s ≤ at w → Behind v (keep (λ c. before c w) ps) w s → Fits v ps w s
+      sooner l k = record { room = λ c m h. room c m h (fit .room c m h) }
+        where
+          first : (c : Claim) → c ∈ ps → endOf v c ≤ at w → (on c ≡ true) ⊎ (on c ≡ false) → before c w ≡ true
+          first c m e (inl o) = before-on c w o
+          first c m e (inr o) = before-key c w (omega (arith, end-wait v c o, sanes c m .long, sanes c m .small))
+
+          room : (c : Claim) → c ∈ ps → conflicts c w ≡ true → Room v w (at w) c → Room v w s c
+          room c m h (inl r) = inl (k .after c (keep-i (λ c. before c w) (first c m r (split (on c))) m) h)
+          room c m h (inr r) = inr (r .0, omega (arith, r .1))
+
+      last : (at w ≤ s) ⊎ (s < at w) → x ≡ w → at x ≤ s
+      last (inl q) e = omega (arith, ap at e)
+      last (inr q) e =
+          let k = subst (λ (y : Claim). Behind v (keep (λ c. before c y) ps) y s) e few in
+          omega (arith, ap at e, least s l (sooner (omega arith) k))
+
+      go : (x ∈ ps) ⊎ (x ∈ (w ∷ [])) → at x ≤ s
+      go (inl q) = old x q o s l few
+      go (inr q) = last (compare (at w) s) (List·Memᴰ·eq-of-singleton q)

@@ -1,0 +1,13 @@
+pub mod AllScenarios
+pub mod Bools
+pub mod Lists
+pub mod Claims
+pub mod Order
+pub mod Packing
+pub mod Placing
+pub mod Bounding
+pub mod Granting
+pub mod Invariants
+pub mod Calls
+pub mod Prompt
+pub mod Lookup

@@ -1,0 +1,215 @@
+-- Laws of the functions of specs/Lists, by membership.
+use mathlib.Core.Path.{_≡_, refl, sym, _∙_, ap, subst}
+use mathlib.Core.Logic.{_⊎_, inl, inr}
+use mathlib.Core.Bool.{Bool, true, false, _&&_, cond, true≢false, false≢true}
+use mathlib.Core.List.{List, [], _∷_, _++_, map, List·Memᴰ·head, List·Memᴰ·tail, List·Memᴰ·not-nil, List·Memᴰ·cases-cons, List·Memᴰ·append-cases, List·Memᴰ·eq-of-singleton}
+use Prim.Native.Nat.{ℕ, _+_, _*_, _≤_, _<_, min, max}
+use native.Mathlib.Omega.{arith}
+use native.Mathlib.Nat.{min-eq-left, min-eq-right, le-of-lt}
+use lib.ListN.{length}
+use Rattle.rules.specs.Lists.{_∈_, greatest, least, sum, all, any, keep}
+use Rattle.rules.proofs.Bools.{and-l, and-r, and-i, or-e, or-fl, or-fr, compare}
+
+-- Every element has P; every two have R.
+abbrev pub Each : {A : Type 0} → (A → Type 0) → List A → Type 0
+Each {A} P l = (x : A) → x ∈ l → P x
+
+abbrev pub Each2 : {A : Type 0} → (A → A → Type 0) → List A → Type 0
+Each2 {A} R l = (x y : A) → x ∈ l → y ∈ l → R x y
+
+module _ {A : Type 0} where
+  pub here : {x : A} {l : List A} → x ∈ (x ∷ l)
+  here = List·Memᴰ·head refl
+
+  pub there : {x y : A} {l : List A} → x ∈ l → x ∈ (y ∷ l)
+  there m = List·Memᴰ·tail m
+
+  pub none : {B : Type 0} {x : A} → x ∈ [] → B
+  none m = absurd (List·Memᴰ·not-nil m)
+
+  -- ── greatest ──
+  pub greatest-base : (f : A → ℕ) (b : ℕ) (l : List A) → b ≤ greatest f b l
+  unfolding greatest
+  greatest-base f b [] = omega arith
+  greatest-base f b (x ∷ l) = omega (arith, greatest-base f b l)
+
+  pub greatest-ge : (f : A → ℕ) (b : ℕ) {x : A} {l : List A} → x ∈ l → f x ≤ greatest f b l
+  unfolding greatest
+  greatest-ge f b (List·Memᴰ·head {x = y} {xs = l} e) = rw e (omega arith)
+  greatest-ge f b (List·Memᴰ·tail {x = y} {xs = l} m) = omega (arith, greatest-ge f b m)
+
+  pub greatest-le : (f : A → ℕ) (b : ℕ) (l : List A) (n : ℕ) → b ≤ n → Each (λ x. f x ≤ n) l → greatest f b l ≤ n
+  unfolding greatest
+  greatest-le f b [] n p h = p
+  greatest-le f b (x ∷ l) n p h = omega (arith, greatest-le f b l n p (λ y m. h y (there m)), h x here)
+
+  pub greatest-is : (f : A → ℕ) (b : ℕ) (l : List A) → (greatest f b l ≡ b) ⊎ ((x : A) × x ∈ l × (f x ≡ greatest f b l))
+  unfolding greatest
+  greatest-is f b [] = inl refl
+  greatest-is f b (x ∷ l) = go (compare (f x) (greatest f b l)) (greatest-is f b l)
+    where
+      go : (f x ≤ greatest f b l) ⊎ (greatest f b l < f x) → (greatest f b l ≡ b) ⊎ ((y : A) × y ∈ l × (f y ≡ greatest f b l))
+          → (max (f x) (greatest f b l) ≡ b) ⊎ ((y : A) × y ∈ (x ∷ l) × (f y ≡ max (f x) (greatest f b l)))
+      go (inl h) (inl e) = inl (omega arith)
+      go (inl h) (inr r) = inr (r .0, there (r .1), omega (arith, r .2))
+      go (inr h) r = inr (x, here, omega arith)
+
+  -- ── sums ──
+  pub sum-le : (f g : A → ℕ) (l : List A) → Each (λ x. f x ≤ g x) l → sum f l ≤ sum g l
+  unfolding sum
+  sum-le f g [] h = omega arith
+  sum-le f g (x ∷ l) h = omega (arith, sum-le f g l (λ y m. h y (there m)), h x here)
+
+  -- Where one of the numbers grows by n and none falls, the sum grows by n.
+  pub sum-gap : (f g : A → ℕ) (n : ℕ) {x : A} {l : List A} → x ∈ l → f x + n ≤ g x → Each (λ y. f y ≤ g y) l → sum f l + n ≤ sum g l
+  unfolding sum
+  sum-gap f g n (List·Memᴰ·head {x = y} {xs = l} e) p h =
+      let q : f y + n ≤ g y = subst (λ (z : A). f z + n ≤ g z) e p in
+      omega (arith, sum-le f g l (λ z m. h z (there m)))
+  sum-gap f g n (List·Memᴰ·tail {x = y} {xs = l} m) p h = omega (arith, sum-gap f g n m p (λ z k. h z (there k)), h y here)
+
+  pub sum-add : (f : A → ℕ) (k : ℕ) (l : List A) → sum (λ x. f x + k) l ≡ sum f l + length l * k
+  unfolding sum
+  sum-add f k [] = omega arith
+  sum-add f k (x ∷ l) = omega (arith, sum-add f k l)
+
+  -- ── all, any ──
+  pub all-e : (p : A → Bool) {x : A} {l : List A} → all p l ≡ true → x ∈ l → p x ≡ true
+  unfolding all
+  all-e p h (List·Memᴰ·head {x = y} {xs = l} e) = ap p e ∙ and-l (p y) (all p l) h
+  all-e p h (List·Memᴰ·tail {x = y} {xs = l} m) = all-e p (and-r (p y) (all p l) h) m
+
+  pub all-i : (p : A → Bool) (l : List A) → Each (λ x. p x ≡ true) l → all p l ≡ true
+  unfolding all
+  all-i p [] h = refl
+  all-i p (x ∷ l) h = and-i (p x) (all p l) (h x here) (all-i p l (λ y m. h y (there m)))
+
+  pub all-not : (p : A → Bool) (l : List A) → all p l ≡ false → (x : A) × x ∈ l × (p x ≡ false)
+  unfolding all
+  all-not p [] h = absurd (true≢false h)
+  all-not p (x ∷ l) h = go (p x) refl (all-not p l) h
+    where
+      go : (b : Bool) → p x ≡ b → (all p l ≡ false → (y : A) × y ∈ l × (p y ≡ false)) → b && all p l ≡ false
+          → (y : A) × y ∈ (x ∷ l) × (p y ≡ false)
+      go true e ih k = let r = ih k in (r .0, there (r .1), r .2)
+      go false e ih k = (x, here, e)
+
+  pub any-none : (p : A → Bool) {x : A} {l : List A} → any p l ≡ false → x ∈ l → p x ≡ false
+  unfolding any
+  any-none p h (List·Memᴰ·head {x = y} {xs = l} e) = ap p e ∙ or-fl (p y) (any p l) h
+  any-none p h (List·Memᴰ·tail {x = y} {xs = l} m) = any-none p (or-fr (p y) (any p l) h) m
+
+  pub any-some : (p : A → Bool) (l : List A) → any p l ≡ true → (x : A) × x ∈ l × (p x ≡ true)
+  unfolding any
+  any-some p [] h = absurd (false≢true h)
+  any-some p (x ∷ l) h = go (any-some p l) (or-e (p x) (any p l) h)
+    where
+      go : (any p l ≡ true → (y : A) × y ∈ l × (p y ≡ true)) → (p x ≡ true) ⊎ (any p l ≡ true) → (y : A) × y ∈ (x ∷ l) × (p y ≡ true)
+      go ih (inl e) = (x, here, e)
+      go ih (inr e) = let r = ih e in (r .0, there (r .1), r .2)
+
+  -- ── keep ──
+  pub keep-e : (p : A → Bool) (l : List A) {y : A} → y ∈ keep p l → y ∈ l × (p y ≡ true)
+  unfolding keep
+  keep-e p [] m = none m
+  keep-e p (x ∷ l) {y} m = go (p x) refl (keep-e p l) m
+    where
+      go : (b : Bool) → p x ≡ b → (y ∈ keep p l → y ∈ l × (p y ≡ true)) → y ∈ cond b (x ∷ keep p l) (keep p l) → y ∈ (x ∷ l) × (p y ≡ true)
+      go true q ih k = more (List·Memᴰ·cases-cons k)
+        where
+          more : (y ≡ x) ⊎ (y ∈ keep p l) → y ∈ (x ∷ l) × (p y ≡ true)
+          more (inl e) = (List·Memᴰ·head e, ap p e ∙ q)
+          more (inr j) = let r = ih j in (there (r .0), r .1)
+      go false q ih k = let r = ih k in (there (r .0), r .1)
+
+  pub keep-i : (p : A → Bool) {x : A} {l : List A} → p x ≡ true → x ∈ l → x ∈ keep p l
+  unfolding keep
+  keep-i p {x} h (List·Memᴰ·head {x = y} {xs = l} e) =
+      let q : p y ≡ true = sym (ap p e) ∙ h in
+      rw q (List·Memᴰ·head e)
+  keep-i p {x} h (List·Memᴰ·tail {x = y} {xs = l} m) = go (p y) (keep-i p h m)
+    where
+      go : (b : Bool) → x ∈ keep p l → x ∈ cond b (y ∷ keep p l) (keep p l)
+      go true k = there k
+      go false k = k
+
+  -- Tests that agree on the list keep the same.
+  pub keep-cong : (p q : A → Bool) (l : List A) → Each (λ x. p x ≡ q x) l → keep p l ≡ keep q l
+  unfolding keep
+  keep-cong p q [] h = refl
+  keep-cong p q (x ∷ l) h = rw (h x here, keep-cong p q l (λ y m. h y (there m)))
+
+  -- ── one element more ──
+  pub snoc-each : (P : A → Type 0) (l : List A) (w : A) → Each P l → P w → Each P (l ++ (w ∷ []))
+  snoc-each P l w h k x m = go (List·Memᴰ·append-cases l m)
+    where
+      go : (x ∈ l) ⊎ (x ∈ (w ∷ [])) → P x
+      go (inl i) = h x i
+      go (inr i) = subst P (sym (List·Memᴰ·eq-of-singleton i)) k
+
+  pub snoc-each2 : (R : A → A → Type 0) (l : List A) (w : A) → Each2 R l → Each (λ x. R x w) l → Each (λ x. R w x) l → R w w → Each2 R (l ++ (w ∷ []))
+  snoc-each2 R l w h f g k x y m n =
+      snoc-each (λ (z : A). R z y) l w
+      (λ z i. snoc-each (R z) l w (λ u j. h z u i j) (f z i) y n)
+      (snoc-each (R w) l w g k y n) x m
+
+  pub map-id : (f : A → A) (l : List A) → Each (λ x. f x ≡ x) l → map f l ≡ l
+  map-id f [] h = refl
+  map-id f (x ∷ l) h = cc (h x here, map-id f l (λ y m. h y (there m)))
+
+-- ── map ──
+module _ {A B : Type 0} where
+  pub map-e : (f : A → B) (l : List A) {y : B} → y ∈ map f l → (x : A) × x ∈ l × (y ≡ f x)
+  map-e f [] m = none m
+  map-e f (x ∷ l) {y} m = go (map-e f l) (List·Memᴰ·cases-cons m)
+    where
+      go : (y ∈ map f l → (z : A) × z ∈ l × (y ≡ f z)) → (y ≡ f x) ⊎ (y ∈ map f l) → (z : A) × z ∈ (x ∷ l) × (y ≡ f z)
+      go ih (inl e) = (x, here, e)
+      go ih (inr k) = let r = ih k in (r .0, there (r .1), r .2)
+
+  pub map-i : (f : A → B) {x : A} {l : List A} → x ∈ l → f x ∈ map f l
+  map-i f (List·Memᴰ·head e) = List·Memᴰ·head (ap f e)
+  map-i f (List·Memᴰ·tail m) = there (map-i f m)
+
+  -- What holds of f x for each x holds of each element of map f l; and for two.
+  pub map-each : (P : B → Type 0) (f : A → B) (l : List A) → Each (λ x. P (f x)) l → Each P (map f l)
+  map-each P f l h y m = let r = map-e f l m in subst P (sym (r .2)) (h (r .0) (r .1))
+
+  pub map-each2 : (R : B → B → Type 0) (f : A → B) (l : List A) → Each2 (λ x y. R (f x) (f y)) l → Each2 R (map f l)
+  map-each2 R f l h x y m k = map-each (λ (z : B). R z y) f l (λ a i. map-each (R (f a)) f l (λ b j. h a b i j) y k) x m
+
+  pub greatest-map : (g : B → ℕ) (f : A → B) (b : ℕ) (l : List A) → greatest g b (map f l) ≡ greatest (λ x. g (f x)) b l
+  unfolding greatest
+  greatest-map g f b [] = refl
+  greatest-map g f b (x ∷ l) = rw (greatest-map g f b l)
+
+-- ── the least that passes ──
+pub least-le : (p : ℕ → Bool) (d : ℕ) {n : ℕ} {l : List ℕ} → n ∈ l → p n ≡ true → least p d l ≤ n
+unfolding least
+least-le p d {n} (List·Memᴰ·head {x} {xs = l} e) h =
+    let q : p x ≡ true = rw e at h in
+    rw (e, q) (omega arith)
+least-le p d {n} (List·Memᴰ·tail {x} {xs = l} m) h = go (p x) (least-le p d m h)
+  where
+    go : (b : Bool) → least p d l ≤ n → cond b (min x (least p d l)) (least p d l) ≤ n
+    go true k = omega arith
+    go false k = k
+
+pub least-passes : (p : ℕ → Bool) (d : ℕ) (l : List ℕ) → p d ≡ true → p (least p d l) ≡ true
+unfolding least
+least-passes p d [] h = h
+least-passes p d (n ∷ l) h = go (p n) refl (compare n (least p d l)) (least-passes p d l h)
+  where
+    go : (b : Bool) → p n ≡ b → (n ≤ least p d l) ⊎ (least p d l < n) → p (least p d l) ≡ true → p (cond b (min n (least p d l)) (least p d l)) ≡ true
+    go true e (inl k) ih = rw (min-eq-left k) e
+    go true e (inr k) ih = rw (min-eq-right (le-of-lt k)) ih
+    go false e k ih = ih
+
+pub least-low : (p : ℕ → Bool) (d b : ℕ) (l : List ℕ) → b ≤ d → Each (λ n. b ≤ n) l → b ≤ least p d l
+unfolding least
+least-low p d b [] h k = h
+least-low p d b (n ∷ l) h k = go (p n) (least-low p d b l h (λ m i. k m (there i))) (k n here)
+  where
+    go : (t : Bool) → b ≤ least p d l → b ≤ n → b ≤ cond t (min n (least p d l)) (least p d l)
+    go true x y = omega arith
+    go false x y = x

@@ -1,0 +1,133 @@
+-- Which claim comes before which; tickets; induction in the order of packing.
+use mathlib.Core.Path.{_≡_, sym, _∙_, ap}
+use mathlib.Core.Logic.{_⊎_, inl, inr, _≢_}
+use mathlib.Core.Bool.{Bool, true, false, cond}
+use mathlib.Core.List.{List, [], _∷_, _++_, map, List·Memᴰ·cases-cons}
+use Prim.Native.Nat.{ℕ, zero, suc, _≤_, _<_}
+use native.Mathlib.Omega.{arith}
+use lib.Dec.{ltb}
+use borrow.Author.Tests.{ltb-true, ltb-false, lt-ltb}
+use Rattle.rules.specs.declared.Claim.{Claim}
+use Rattle.rules.specs.Lists.{_∈_, keep}
+use Rattle.rules.specs.Claims.{Setting, on, at, conflicts, endOf}
+use Rattle.rules.specs.Order.{key, before, precedes}
+use Rattle.rules.specs.Plans.{Ascending, Sane, Separated}
+use Rattle.rules.proofs.Bools.{and-l, and-r, and-i, or-e, or-l, or-r, or-fl, or-fr, clash, split}
+use Rattle.rules.proofs.Lists.{Each, here, there, none, map-each, snoc-each, keep-e}
+use Rattle.rules.proofs.Claims.{end-wait}
+
+-- ── before ──
+pub before-on : (c w : Claim) → on c ≡ true → before c w ≡ true
+unfolding before
+before-on c w o = or-l (on c) _ o
+
+pub before-key : (c w : Claim) → key c < key w → before c w ≡ true
+unfolding before
+before-key c w l = or-r (on c) _ (lt-ltb (key c) (key w) l)
+
+pub before-lt : (c w : Claim) → before c w ≡ true → on c ≡ false → key c < key w
+unfolding before
+before-lt c w e o = go (or-e (on c) _ e)
+  where
+    go : (on c ≡ true) ⊎ (ltb (key c) (key w) ≡ true) → key c < key w
+    go (inl p) = clash p o
+    go (inr p) = ltb-true (key c) (key w) p
+
+pub before-not : (c w : Claim) → before c w ≡ false → (on c ≡ false) × (key w ≤ key c)
+unfolding before
+before-not c w e = (or-fl (on c) _ e, ltb-false (key c) (key w) (or-fr (on c) _ e))
+
+pub keys-differ : (c d : Claim) → Sane c → Sane d → c .ticket ≢ d .ticket → key c ≢ key d
+keys-differ c d s r n = λ e. n (omega (arith, s .small, r .small))
+
+-- Of two claims, the second waiting, one is before the other.
+pub either-before : (c d : Claim) → Sane c → Sane d → c .ticket ≢ d .ticket → (before c d ≡ true) ⊎ (before d c ≡ true)
+either-before c d s r n = go (split (before c d))
+  where
+    go : (before c d ≡ true) ⊎ (before c d ≡ false) → (before c d ≡ true) ⊎ (before d c ≡ true)
+    go (inl b) = inl b
+    go (inr b) =
+        let y = before-not c d b .1 in
+        let z = keys-differ c d s r n in
+        inr (before-key d c (omega arith))
+
+-- Strong induction in the order of packing.
+pub by-key : (P : Claim → Type 0) (ps : List Claim)
+    → ((w : Claim) → w ∈ ps → on w ≡ false → ((c : Claim) → c ∈ ps → on c ≡ false → before c w ≡ true → P c) → P w)
+    → (w : Claim) → w ∈ ps → on w ≡ false → P w
+by-key P ps h w m o = go (suc (key w)) w m o (omega arith)
+  where
+    go : (j : ℕ) (w : Claim) → w ∈ ps → on w ≡ false → key w < j → P w
+    go zero w m o l = absurd (omega arith)
+    go (suc j) w m o l = h w m o (λ c k q b. let z = before-lt c w b q in go j c k q (omega arith))
+
+-- ── precedes ──
+pub precedes-conflicts : (c w : Claim) → precedes c w ≡ true → conflicts c w ≡ true
+unfolding precedes
+precedes-conflicts c w e = and-l (conflicts c w) _ e
+
+pub precedes-e : (c w : Claim) → precedes c w ≡ true → (on c ≡ true) ⊎ (at c < at w)
+unfolding precedes
+precedes-e c w e = go (or-e (on c) _ (and-r (conflicts c w) _ e))
+  where
+    go : (on c ≡ true) ⊎ (ltb (at c) (at w) ≡ true) → (on c ≡ true) ⊎ (at c < at w)
+    go (inl p) = inl p
+    go (inr p) = inr (ltb-true (at c) (at w) p)
+
+pub precedes-on : (c w : Claim) → conflicts c w ≡ true → on c ≡ true → precedes c w ≡ true
+unfolding precedes
+precedes-on c w h o = and-i (conflicts c w) _ h (or-l (on c) _ o)
+
+pub precedes-lt : (c w : Claim) → conflicts c w ≡ true → at c < at w → precedes c w ≡ true
+unfolding precedes
+precedes-lt c w h l = and-i (conflicts c w) _ h (or-r (on c) _ (lt-ltb (at c) (at w) l))
+
+pub precedes-before : (c w : Claim) → Sane c → precedes c w ≡ true → before c w ≡ true
+precedes-before c w s e = go (precedes-e c w e)
+  where
+    go : (on c ≡ true) ⊎ (at c < at w) → before c w ≡ true
+    go (inl o) = before-on c w o
+    go (inr l) = before-key c w (omega (arith, s .small))
+
+-- What ends as w starts, or sooner, precedes it.
+pub ends-precedes : (v : Setting) (c w : Claim) → Sane c → conflicts c w ≡ true → endOf v c ≤ at w → precedes c w ≡ true
+ends-precedes v c w s h l = go (split (on c))
+  where
+    go : (on c ≡ true) ⊎ (on c ≡ false) → precedes c w ≡ true
+    go (inl o) = precedes-on c w h o
+    go (inr o) = precedes-lt c w h (omega (arith, end-wait v c o, s .long))
+
+-- Where nobody overlaps, a conflicting claim before w precedes it.
+pub before-precedes : (v : Setting) (ps : List Claim) → Separated v ps → (c w : Claim) → Sane c → c ∈ ps → w ∈ ps → on w ≡ false → before c w ≡ true
+    → conflicts c w ≡ true → precedes c w ≡ true
+before-precedes v ps f c w s m k o b h = ends-precedes v c w s h (f .behind c w m k o b h)
+
+-- ── tickets ──
+pub ascending-same : (l : List Claim) → Ascending l → (c d : Claim) → c ∈ l → d ∈ l → c .ticket ≡ d .ticket → c ≡ d
+ascending-same [] h c d m k e = none m
+ascending-same (x ∷ l) h c d m k e = go (List·Memᴰ·cases-cons m) (List·Memᴰ·cases-cons k) (ascending-same l (h .1))
+  where
+    go : (c ≡ x) ⊎ (c ∈ l) → (d ≡ x) ⊎ (d ∈ l) → ((c d : Claim) → c ∈ l → d ∈ l → c .ticket ≡ d .ticket → c ≡ d) → c ≡ d
+    go (inl p) (inl q) ih = p ∙ sym q
+    go (inl p) (inr q) ih = absurd (omega (arith, h .0 d q, ap (λ (y : Claim). y .ticket) p))
+    go (inr p) (inl q) ih = absurd (omega (arith, h .0 c p, ap (λ (y : Claim). y .ticket) q))
+    go (inr p) (inr q) ih = ih c d p q e
+
+pub ascending-map : (f : Claim → Claim) (l : List Claim) → ((c : Claim) → f c .ticket ≡ c .ticket) → Ascending l → Ascending (map f l)
+ascending-map f [] h u = tt
+ascending-map f (c ∷ l) h u =
+    (map-each (λ (d : Claim). f c .ticket < d .ticket) f l (λ d m. omega (arith, u .0 d m, h c, h d)), ascending-map f l h (u .1))
+
+pub ascending-keep : (p : Claim → Bool) (l : List Claim) → Ascending l → Ascending (keep p l)
+unfolding keep
+ascending-keep p [] u = tt
+ascending-keep p (c ∷ l) u = go (p c) (ascending-keep p l (u .1))
+  where
+    go : (b : Bool) → Ascending (keep p l) → Ascending (cond b (c ∷ keep p l) (keep p l))
+    go true ih = (λ d m. u .0 d (keep-e p l m .0), ih)
+    go false ih = ih
+
+pub ascending-snoc : (l : List Claim) (w : Claim) → Ascending l → Each (λ c. c .ticket < w .ticket) l → Ascending (l ++ (w ∷ []))
+ascending-snoc [] w u h = (λ d m. none m, tt)
+ascending-snoc (c ∷ l) w u h =
+    (snoc-each (λ (d : Claim). c .ticket < d .ticket) l w (u .0) (h c here), ascending-snoc l w (u .1) (λ d m. h d (there m)))

@@ -1,0 +1,168 @@
+-- Placing: the start fits, is the least of all numbers that do, and is the clock or the end of a conflicting claim.
+use mathlib.Core.Path.{_≡_, refl, sym, subst}
+use mathlib.Core.Logic.{_⊎_, inl, inr}
+use mathlib.Core.Bool.{Bool, true, false, not, _&&_, _||_, cond}
+use mathlib.Core.List.{List, List·Memᴰ·head, List·Memᴰ·tail}
+use Prim.Native.Nat.{ℕ, _+_, _≤_, max}
+use native.Mathlib.Omega.{arith}
+use lib.Dec.{leb}
+use borrow.Author.Tests.{leb-true, le-leb, not-true}
+use Rattle.rules.specs.declared.Claim.{Claim}
+use Rattle.rules.specs.Lists.{_∈_, greatest}
+use Rattle.rules.specs.Claims.{Setting, on, at, conflicts, endOf}
+use Rattle.rules.specs.Placing.{clear, fits, candidates, seek, place}
+use Rattle.rules.specs.Plans.{Room, Fits}
+use Rattle.rules.proofs.Bools.{split, clash, and-l, and-r, or-e, or-r}
+use Rattle.rules.proofs.Lists.{Each, here, there, greatest-base, greatest-ge, greatest-le, greatest-is, all-e, all-i, map-i, map-each, least-le, least-passes, least-low}
+
+-- ── the anchor of a start: the greatest of the clock and the ends, up to it, of the claims that matter ──
+endUpTo : Setting → (Claim → Bool) → ℕ → Claim → ℕ
+endUpTo v matters s c = cond (matters c && leb (endOf v c) s) (endOf v c) 0
+
+anchor : Setting → (Claim → Bool) → List Claim → ℕ → ℕ
+anchor v matters ps s = greatest (endUpTo v matters s) (v .clock) ps
+
+endUpTo-le : (v : Setting) (matters : Claim → Bool) (s : ℕ) (c : Claim) → endUpTo v matters s c ≤ s
+unfolding endUpTo
+endUpTo-le v matters s c = go (matters c) (leb (endOf v c) s) refl
+  where
+    go : (a b : Bool) → leb (endOf v c) s ≡ b → cond (a && b) (endOf v c) 0 ≤ s
+    go true true e = leb-true _ _ e
+    go true false e = omega arith
+    go false b e = omega arith
+
+module _ (v : Setting) (matters : Claim → Bool) (ps : List Claim) where
+  anchor-le : (s : ℕ) → v .clock ≤ s → anchor v matters ps s ≤ s
+  unfolding anchor
+  anchor-le s h = greatest-le (endUpTo v matters s) (v .clock) ps s h (λ c m. endUpTo-le v matters s c)
+
+  anchor-low : (s : ℕ) → v .clock ≤ anchor v matters ps s
+  unfolding anchor
+  anchor-low s = greatest-base (endUpTo v matters s) (v .clock) ps
+
+  anchor-ge : (s : ℕ) (c : Claim) → c ∈ ps → matters c ≡ true → endOf v c ≤ s → endOf v c ≤ anchor v matters ps s
+  unfolding anchor endUpTo
+  anchor-ge s c m e p = simp (e, le-leb (endOf v c) s p) at (greatest-ge (endUpTo v matters s) (v .clock) m)
+
+  anchor-is : (s : ℕ) → (anchor v matters ps s ≡ v .clock) ⊎ ((c : Claim) × c ∈ ps × (matters c ≡ true) × (endOf v c ≡ anchor v matters ps s))
+  unfolding anchor endUpTo
+  anchor-is s = go (greatest-is (endUpTo v matters s) (v .clock) ps)
+    where
+      pick : (c : Claim) → c ∈ ps → (a b : Bool) → matters c ≡ a → cond (a && b) (endOf v c) 0 ≡ greatest (endUpTo v matters s) (v .clock) ps
+          → (greatest (endUpTo v matters s) (v .clock) ps ≡ v .clock) ⊎ ((c : Claim) × c ∈ ps × (matters c ≡ true) × (endOf v c ≡ greatest (endUpTo v matters s) (v .clock) ps))
+      pick c m true true e q = inr (c, m, e, q)
+      pick c m true false e q = inl (omega (arith, greatest-base (endUpTo v matters s) (v .clock) ps))
+      pick c m false b e q = inl (omega (arith, greatest-base (endUpTo v matters s) (v .clock) ps))
+
+      go : (greatest (endUpTo v matters s) (v .clock) ps ≡ v .clock) ⊎ ((c : Claim) × c ∈ ps × (endUpTo v matters s c ≡ greatest (endUpTo v matters s) (v .clock) ps))
+          → (greatest (endUpTo v matters s) (v .clock) ps ≡ v .clock) ⊎ ((c : Claim) × c ∈ ps × (matters c ≡ true) × (endOf v c ≡ greatest (endUpTo v matters s) (v .clock) ps))
+      go (inl e) = inl e
+      go (inr r) = pick (r .0) (r .1) (matters (r .0)) (leb (endOf v (r .0)) s) refl (r .2)
+
+-- ── seeking, for any test that passes behind all ends, and at the anchor of each start where it passes ──
+module _ (v : Setting) (matters : Claim → Bool) (ps : List Claim) (p : ℕ → Bool) (last : p (greatest (endOf v) (v .clock) ps) ≡ true)
+    (down : (s : ℕ) → v .clock ≤ s → p s ≡ true → p (anchor v matters ps s) ≡ true) where
+  seek-low : v .clock ≤ seek v p ps
+  unfolding seek
+  seek-low = least-low p (greatest (endOf v) (v .clock) ps) (v .clock) (candidates v ps) (greatest-base (endOf v) (v .clock) ps) low
+    where
+      low : Each (λ n. v .clock ≤ n) (candidates v ps)
+      low n (List·Memᴰ·head e) = rw e (omega arith)
+      low n (List·Memᴰ·tail m) = map-each (λ (n : ℕ). v .clock ≤ n) (λ c. max (v .clock) (endOf v c)) ps (λ c i. omega arith) n m
+
+  seek-passes : p (seek v p ps) ≡ true
+  unfolding seek
+  seek-passes = least-passes p (greatest (endOf v) (v .clock) ps) (candidates v ps) last
+
+  seek-least : (s : ℕ) → v .clock ≤ s → p s ≡ true → seek v p ps ≤ s
+  unfolding seek
+  seek-least s h f = go (anchor-is v matters ps s)
+    where
+      ok : p (anchor v matters ps s) ≡ true
+      ok = down s h f
+
+      go : (anchor v matters ps s ≡ v .clock) ⊎ ((c : Claim) × c ∈ ps × (matters c ≡ true) × (endOf v c ≡ anchor v matters ps s))
+          → seek v p ps ≤ s
+      go (inl a) = omega (arith, least-le p (greatest (endOf v) (v .clock) ps) {l = candidates v ps} here (subst (λ (x : ℕ). p x ≡ true) a ok))
+      go (inr r) =
+          let q : max (v .clock) (endOf v (r .0)) ≡ anchor v matters ps s = omega (arith, anchor-low v matters ps s, r .3) in
+          let k = least-le p (greatest (endOf v) (v .clock) ps) {l = candidates v ps} (there (map-i (λ c. max (v .clock) (endOf v c)) (r .1))) (subst (λ (x : ℕ). p x ≡ true) (sym q) ok) in
+          omega (arith, anchor-le v matters ps s h)
+
+  -- It is the clock, or the end of a claim that matters.
+  seek-is : (seek v p ps ≡ v .clock) ⊎ ((c : Claim) × c ∈ ps × (matters c ≡ true) × (endOf v c ≡ seek v p ps))
+  seek-is = subst (λ (x : ℕ). (x ≡ v .clock) ⊎ ((c : Claim) × c ∈ ps × (matters c ≡ true) × (endOf v c ≡ x))) same (anchor-is v matters ps (seek v p ps))
+    where
+      same : anchor v matters ps (seek v p ps) ≡ seek v p ps
+      same =
+          omega (
+            arith,
+            anchor-le v matters ps (seek v p ps) seek-low,
+            seek-least (anchor v matters ps (seek v p ps)) (anchor-low v matters ps (seek v p ps)) (down (seek v p ps) seek-low seek-passes),
+          )
+
+-- ── what fits ──
+clear-e : (v : Setting) (w : Claim) (s : ℕ) (c : Claim) → clear v w s c ≡ true → conflicts c w ≡ true → Room v w s c
+unfolding clear
+clear-e v w s c e h = go (or-e (not (conflicts c w)) _ e)
+  where
+    more : (leb (endOf v c) s ≡ true) ⊎ ((not (on c) && leb (s + w .length) (at c)) ≡ true) → Room v w s c
+    more (inl p) = inl (leb-true _ _ p)
+    more (inr p) = inr (not-true (on c) (and-l (not (on c)) _ p), leb-true _ _ (and-r (not (on c)) _ p))
+
+    go : (not (conflicts c w) ≡ true) ⊎ ((leb (endOf v c) s || (not (on c) && leb (s + w .length) (at c))) ≡ true) → Room v w s c
+    go (inl p) = clash h (not-true (conflicts c w) p)
+    go (inr p) = more (or-e (leb (endOf v c) s) _ p)
+
+clear-i : (v : Setting) (w : Claim) (s : ℕ) (c : Claim) → (conflicts c w ≡ true → Room v w s c) → clear v w s c ≡ true
+unfolding clear
+clear-i v w s c h = go (split (conflicts c w))
+  where
+    more : Room v w s c → (leb (endOf v c) s || (not (on c) && leb (s + w .length) (at c))) ≡ true
+    more (inl p) = rw (le-leb (endOf v c) s p)
+    more (inr p) = rw (p .0, le-leb (s + w .length) (at c) (p .1)) (or-r (leb (endOf v c) s) true refl)
+
+    go : (conflicts c w ≡ true) ⊎ (conflicts c w ≡ false) → not (conflicts c w) || (leb (endOf v c) s || (not (on c) && leb (s + w .length) (at c))) ≡ true
+    go (inl e) = rw e (more (h e))
+    go (inr e) = rw e
+
+pub fits-e : (v : Setting) (ps : List Claim) (w : Claim) (s : ℕ) → fits v ps w s ≡ true → Fits v ps w s
+unfolding fits
+fits-e v ps w s e = record { room = λ c m. clear-e v w s c (all-e (clear v w s) e m) }
+
+pub fits-i : (v : Setting) (ps : List Claim) (w : Claim) (s : ℕ) → Fits v ps w s → fits v ps w s ≡ true
+unfolding fits
+fits-i v ps w s h = all-i (clear v w s) ps (λ c m. clear-i v w s c (h .room c m))
+
+-- ── the planned start ──
+module _ (v : Setting) (ps : List Claim) (w : Claim) where
+  rival : Claim → Bool
+  rival c = conflicts c w
+
+  last : fits v ps w (greatest (endOf v) (v .clock) ps) ≡ true
+  last = fits-i v ps w _ (record { room = λ c m e. inl (greatest-ge (endOf v) (v .clock) m) })
+
+  down : (s : ℕ) → v .clock ≤ s → fits v ps w s ≡ true → fits v ps w (anchor v rival ps s) ≡ true
+  unfolding rival
+  down s h e = fits-i v ps w _ (record { room = λ c m q. go c m q (fits-e v ps w s e .room c m q) })
+    where
+      go : (c : Claim) → c ∈ ps → conflicts c w ≡ true → Room v w s c → Room v w (anchor v rival ps s) c
+      go c m q (inl r) = inl (anchor-ge v rival ps s c m q r)
+      go c m q (inr r) = inr (r .0, omega (arith, r .1, anchor-le v rival ps s h))
+
+  pub place-low : v .clock ≤ place v ps w
+  unfolding place
+  place-low = seek-low v rival ps (fits v ps w) last down
+
+  pub place-fits : Fits v ps w (place v ps w)
+  unfolding place
+  place-fits = fits-e v ps w _ (seek-passes v rival ps (fits v ps w) last down)
+
+  -- The least of all numbers not below the clock that fit.
+  pub place-least : (s : ℕ) → v .clock ≤ s → Fits v ps w s → place v ps w ≤ s
+  unfolding place
+  place-least s h f = seek-least v rival ps (fits v ps w) last down s h (fits-i v ps w s f)
+
+  pub place-is : (place v ps w ≡ v .clock) ⊎ ((c : Claim) × c ∈ ps × (conflicts c w ≡ true) × (endOf v c ≡ place v ps w))
+  unfolding place rival
+  place-is = seek-is v rival ps (fits v ps w) last down

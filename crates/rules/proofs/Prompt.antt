@@ -1,0 +1,53 @@
+-- While no holder is past its promised end, a later clock raises no planned start.
+use mathlib.Core.Path.{_≡_, sym, _∙_}
+use mathlib.Core.Logic.{_⊎_, inl, inr}
+use mathlib.Core.Bool.{true, false}
+use mathlib.Core.List.{List}
+use Prim.Native.Nat.{ℕ, zero, suc, _+_, _≤_, _<_}
+use native.Mathlib.Omega.{arith}
+use Rattle.rules.specs.declared.Claim.{Claim}
+use Rattle.rules.specs.Lists.{_∈_}
+use Rattle.rules.specs.Claims.{Setting, on, at, endOf}
+use Rattle.rules.specs.Packing.{packedStart}
+use Rattle.rules.specs.Plans.{Separated}
+use Rattle.rules.specs.Invariants.{Settled}
+use Rattle.rules.proofs.Bools.{split}
+use Rattle.rules.proofs.Claims.{end-wait, end-ge, end-prompt}
+use Rattle.rules.proofs.Packing.{pack-no-later}
+use Rattle.rules.proofs.Invariants.{Later}
+
+-- No holder's promised end is below t.
+abbrev pub Prompt : ℕ → List Claim → Type 0
+Prompt t ps = (c : Claim) → c ∈ ps → on c ≡ true → t ≤ at c + c .length
+
+module _ (k : ℕ) (v u : Setting) (ps : List Claim) (settled : Settled k v ps) (later : Later v u) (prompt : Prompt (u .clock) ps) where
+  end-same : (c : Claim) → c ∈ ps → endOf u c ≡ endOf v c
+  end-same c m = go (split (on c))
+    where
+      go : (on c ≡ true) ⊎ (on c ≡ false) → endOf u c ≡ endOf v c
+      go (inl o) = end-prompt u c o (prompt c m o) ∙ sym (end-prompt v c o (omega (arith, prompt c m o, later .later)))
+      go (inr o) = omega (arith, end-wait u c o, end-wait v c o)
+
+  prompt-separated : Separated u ps
+  prompt-separated = record {
+    holders = record { apart = settled .spaced .fit .holders .apart };
+    behind = λ c w m n o b p. rw (end-same c m) (settled .spaced .fit .behind c w m n o b p);
+  }
+
+  -- A waiting start is the end of a claim: of a holder, which is prompt, or of a waiting claim, which starts sooner.
+  start-ge : (j : ℕ) (w : Claim) → w ∈ ps → on w ≡ false → at w < j → u .clock ≤ at w
+  start-ge zero w m o l = absurd (omega arith)
+  start-ge (suc j) w m o l =
+      let h = settled .blocked w m o in
+      go (h .0) (h .1) (h .3) (split (on (h .0))) (start-ge j (h .0) (h .1))
+    where
+      go : (c : Claim) → c ∈ ps → endOf v c ≡ at w → (on c ≡ true) ⊎ (on c ≡ false) → (on c ≡ false → at c < j → u .clock ≤ at c) → u .clock ≤ at w
+      go c i e (inl q) ih = omega (arith, end-ge v c q, prompt c i q)
+      go c i e (inr q) ih =
+          let z = end-wait v c q in
+          let y = settled .spaced .proper c i .sane .long in
+          let x = ih q (omega arith) in
+          omega arith
+
+  pub prompt-no-later : (w : Claim) → w ∈ ps → on w ≡ false → packedStart u ps w ≤ at w
+  prompt-no-later = pack-no-later u ps prompt-separated (λ w m o. start-ge (suc (at w)) w m o (omega arith))

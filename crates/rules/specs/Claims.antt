@@ -1,0 +1,46 @@
+-- A claim, its phase and its end. Quotations are from document 01.
+use mathlib.Core.Bool.{Bool, true, false, cond}
+use Prim.Native.Nat.{ℕ, _+_, _-_, max}
+use Rattle.groups.specs.Groups.{shares}
+use Rattle.rules.specs.declared.Claim.{Claim}
+use Rattle.rules.specs.declared.Phase.{Phase}
+use Rattle.rules.specs.declared.Phase.the-variants.{Waiting, On}
+
+-- What the rules of one call go by: its clock.
+pub record Setting : Type 0 where
+  pub clock : ℕ
+
+abbrev pub isOn : Phase → Bool
+isOn (Waiting s) = false
+isOn (On g) = true
+
+abbrev pub mark : Phase → ℕ
+mark (Waiting s) = s
+mark (On g) = g
+
+-- "either waiting .. or on"
+abbrev pub on : Claim → Bool
+on c = isOn (c .phase)
+
+-- The planned start of a waiting claim; the grant of an on claim.
+abbrev pub at : Claim → ℕ
+at c = mark (c .phase)
+
+abbrev pub withPhase : Claim → Phase → Claim
+withPhase c p = record { groups = c .groups; phase = p; length = c .length; ticket = c .ticket }
+
+-- "Two claims conflict if they share a group."
+abbrev pub conflicts : Claim → Claim → Bool
+conflicts c d = shares (c .groups) (d .groups)
+
+-- The end of an on claim with promised end p: "the greater of promised end and the table's clock".
+unfoldable pub heldUntil : Setting → ℕ → ℕ
+heldUntil v p = max p (v .clock)
+
+-- "The end of a waiting claim is planned start + length. The promised end of an on claim is grant + length; its end is the greater .."
+unfoldable pub endOf : Setting → Claim → ℕ
+endOf v c = cond (on c) (heldUntil v (at c + c .length)) (at c + c .length)
+
+-- Remaining time: "end − clock if on, length if waiting".
+unfoldable pub remaining : Setting → Claim → ℕ
+remaining v c = cond (on c) (endOf v c - v .clock) (c .length)

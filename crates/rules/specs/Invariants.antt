@@ -1,0 +1,51 @@
+-- What holds of a table before, during and after a call. k is the count of tickets issued.
+use mathlib.Core.Path.{_≡_}
+use mathlib.Core.Bool.{true}
+use mathlib.Core.List.{List}
+use Prim.Native.Nat.{ℕ, _≤_}
+use Rattle.rules.specs.declared.Claim.{Claim}
+use Rattle.rules.specs.Lists.{_∈_}
+use Rattle.rules.specs.Claims.{Setting, on, at}
+use Rattle.rules.specs.Calls.{Model, settingOf}
+use Rattle.rules.specs.Plans.{Ascending, Sane, Apart, Separated, StartsFrom, Tight, Blocked, Earliest}
+
+-- A claim as it may stand in a table.
+pub record Proper (k : ℕ) (v : Setting) (c : Claim) : Type 0 where
+  pub sane : Sane c
+  pub numbered : 1 ≤ c .ticket
+  pub issued : c .ticket ≤ k
+  pub aged : on c ≡ true → at c ≤ v .clock
+
+-- What packing needs.
+pub record Packable (k : ℕ) (v : Setting) (ps : List Claim) : Type 0 where
+  pub proper : (c : Claim) → c ∈ ps → Proper k v c
+  pub ascending : Ascending ps
+  pub holders : Apart ps
+
+-- Nobody overlaps, and no start is below the clock.
+pub record Spaced (k : ℕ) (v : Setting) (ps : List Claim) : Type 0 where
+  pub proper : (c : Claim) → c ∈ ps → Proper k v c
+  pub ascending : Ascending ps
+  pub fit : Separated v ps
+  pub low : StartsFrom (v .clock) ps
+
+-- What packing gives.
+pub record Packed (k : ℕ) (v : Setting) (ps : List Claim) : Type 0 where
+  pub spaced : Spaced k v ps
+  pub tight : Tight v ps
+  pub earliest : Earliest v ps
+
+-- What granting gives.
+pub record Settled (k : ℕ) (v : Setting) (ps : List Claim) : Type 0 where
+  pub spaced : Spaced k v ps
+  pub blocked : Blocked v ps
+
+-- The same of a model. The last is the invariant: it holds of a new table and after every call.
+abbrev pub IsSpaced : Model → Type 0
+IsSpaced m = Spaced (m .issued) (settingOf m) (m .pending)
+
+abbrev pub IsPacked : Model → Type 0
+IsPacked m = Packed (m .issued) (settingOf m) (m .pending)
+
+abbrev pub Invariant : Model → Type 0
+Invariant m = Settled (m .issued) (settingOf m) (m .pending)

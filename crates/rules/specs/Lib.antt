@@ -1,0 +1,11 @@
+pub mod Lists
+pub mod Claims
+pub mod Order
+pub mod Packing
+pub mod Placing
+pub mod Granting
+pub mod Calls
+pub mod Plans
+pub mod Invariants
+pub mod Tables
+pub mod Scenarios

@@ -1,0 +1,60 @@
+-- What the laws say of a plan, the list of pending claims with their starts and grants. Two claims are claims of different tickets.
+use mathlib.Core.Path.{_≡_}
+use mathlib.Core.Logic.{_⊎_, _≢_}
+use mathlib.Core.Bool.{true, false}
+use mathlib.Core.List.{List, [], _∷_}
+use Prim.Native.Nat.{ℕ, _+_, _≤_, _<_}
+use Rattle.rules.specs.declared.Claim.{Claim}
+use Rattle.rules.specs.Lists.{_∈_, keep}
+use Rattle.rules.specs.Claims.{Setting, on, at, conflicts, endOf}
+use Rattle.rules.specs.Order.{before}
+
+-- Tickets ascend, so no ticket stands twice.
+abbrev pub Ascending : List Claim → Type 0
+Ascending [] = Unit {0}
+Ascending (c ∷ l) = ((d : Claim) → d ∈ l → c .ticket < d .ticket) × Ascending l
+
+-- A claim's numbers are in range.
+pub record Sane (c : Claim) : Type 0 where
+  pub long : 1 ≤ c .length
+  pub small : c .ticket < 65536
+
+-- No two holders share a group.
+pub record Apart (ps : List Claim) : Type 0 where
+  pub apart : (c d : Claim) → c ∈ ps → d ∈ ps → c .ticket ≢ d .ticket → conflicts c d ≡ true → on c ≡ true → on d ≡ true → ⊥
+
+-- Nobody overlaps: holders are apart, and a waiting claim starts at or after the end of each conflicting claim before it.
+pub record Separated (v : Setting) (ps : List Claim) : Type 0 where
+  pub holders : Apart ps
+  pub behind : (c w : Claim) → c ∈ ps → w ∈ ps → on w ≡ false → before c w ≡ true → conflicts c w ≡ true → endOf v c ≤ at w
+
+-- No planned start is below t.
+abbrev pub StartsFrom : ℕ → List Claim → Type 0
+StartsFrom t ps = (w : Claim) → w ∈ ps → on w ≡ false → t ≤ at w
+
+-- A conflicting claim ends as w starts.
+abbrev pub HeldUp : Setting → List Claim → Claim → Type 0
+HeldUp v ps w = (c : Claim) × c ∈ ps × (conflicts c w ≡ true) × (endOf v c ≡ at w)
+
+-- Each planned start is the clock or such an end.
+abbrev pub Tight : Setting → List Claim → Type 0
+Tight v ps = (w : Claim) → w ∈ ps → on w ≡ false → (at w ≡ v .clock) ⊎ HeldUp v ps w
+
+-- Each planned start is such an end.
+abbrev pub Blocked : Setting → List Claim → Type 0
+Blocked v ps = (w : Claim) → w ∈ ps → on w ≡ false → HeldUp v ps w
+
+-- w may start at s behind the claims qs.
+pub record Behind (v : Setting) (qs : List Claim) (w : Claim) (s : ℕ) : Type 0 where
+  pub after : (c : Claim) → c ∈ qs → conflicts c w ≡ true → endOf v c ≤ s
+
+-- No waiting claim could start sooner behind the claims before it.
+abbrev pub Earliest : Setting → List Claim → Type 0
+Earliest v ps = (w : Claim) → w ∈ ps → on w ≡ false → (s : ℕ) → v .clock ≤ s → Behind v (keep (λ c. before c w) ps) w s → at w ≤ s
+
+-- The claim c leaves room for w at s, and all do.
+abbrev pub Room : Setting → Claim → ℕ → Claim → Type 0
+Room v w s c = (endOf v c ≤ s) ⊎ ((on c ≡ false) × (s + w .length ≤ at c))
+
+pub record Fits (v : Setting) (ps : List Claim) (w : Claim) (s : ℕ) : Type 0 where
+  pub room : (c : Claim) → c ∈ ps → conflicts c w ≡ true → Room v w s c

@@ -1,0 +1,25 @@
+// The claims table as data: a pending claim, and the table that the calls take and give back.
+
+// "A pending claim is either waiting, with a planned start, or on, with the clock of its grant."
+pub enum Phase {
+    Waiting(u64),
+    On(u64),
+}
+
+// A claim: its set of groups (2^g for group g), its phase, its declared length in ticks, its ticket.
+// Fields in this order make it 32 bytes.
+pub struct Claim {
+    pub groups: u64,
+    pub phase: Phase,
+    pub length: u32,
+    pub ticket: u16,
+}
+
+// The table. The first `count` places hold the pending claims in ascending order of ticket; the others are vacant.
+pub struct Table {
+    pub rig: u64,
+    pub clock: u64,
+    pub issued: u16,
+    pub count: usize,
+    pub claims: [Claim; 64],
+}
