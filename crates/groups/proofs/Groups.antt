@@ -1,12 +1,12 @@
--- Laws of specs/Groups.antt for callers: `shares`, `empty` and `within`, each as a statement of the groups 0 to 63.
--- They rest on three inductions over the groups: `from-elim`, `from-intro` and `from-same`. Assumes nothing.
+-- Laws of specs/Groups.antt for callers: `shares`, `empty` and `within`, each as a statement of the groups 0 to 63, and what a union
+-- shares. They rest on four inductions over the groups: `from-elim`, `from-intro`, `from-same` and `from-or`. Assumes nothing.
 use mathlib.Core.Path.{_≡_, refl, sym, _∙_}
-use mathlib.Core.Bool.{Bool, true, false, not, _&&_, _||_, and-comm, and-eq-true-iff, or-true, false≢true}
+use mathlib.Core.Bool.{Bool, true, false, not, _&&_, _||_, and-comm, and-eq-true-iff, and-or-distrib-right, or-true, false≢true}
 use Prim.Native.Nat.{ℕ, zero, suc, _+_, _<_}
 use native.Mathlib.Nat.{add-zero, zero-add}
 use native.Mathlib.Omega.{arith}
 use borrow.Author.Tests.{not-true, not-false}
-use Rattle.groups.specs.Groups.{has, someFrom, someGroup, shares, empty, within}
+use Rattle.groups.specs.Groups.{has, someFrom, someGroup, shares, empty, within, Union}
 
 -- Group j + 1 from g on is group j from the next one on.
 next : (g j : ℕ) → g + suc j ≡ suc g + j
@@ -30,11 +30,22 @@ from-intro zero g p j h e = absurd (omega arith)
 from-intro (suc k) g p zero h e = rw (rw add-zero at e)
 from-intro (suc k) g p (suc j) h e = rw (from-intro k (suc g) p j (omega arith) (rw next at e)) (or-true (p g))
 
--- Tests that agree at each group give the same answer.
-pub from-same : (k g : ℕ) (p q : ℕ → Bool) → ((h : ℕ) → p h ≡ q h) → someFrom k g p ≡ someFrom k g q
+-- Tests that agree at each of the k groups give the same answer.
+pub from-same : (k g : ℕ) (p q : ℕ → Bool) → ((h : ℕ) → h < g + k → p h ≡ q h) → someFrom k g p ≡ someFrom k g q
 unfolding someFrom
 from-same zero g p q s = refl
-from-same (suc k) g p q s = rw (s g, from-same k (suc g) p q s)
+from-same (suc k) g p q s = rw (s g (omega arith), from-same k (suc g) p q (λ h l. s h (omega arith)))
+
+-- Of two tests some group passes either exactly where one passes the first or one passes the second.
+from-or : (k g : ℕ) (p q : ℕ → Bool) → someFrom k g (λ h. p h || q h) ≡ (someFrom k g p || someFrom k g q)
+unfolding someFrom
+from-or zero g p q = refl
+from-or (suc k) g p q = rw (from-or k (suc g) p q) (go (p g) (q g) (someFrom k (suc g) p))
+  where
+    go : (a b c : Bool) → (a || b || (c || someFrom k (suc g) q)) ≡ (a || c || (b || someFrom k (suc g) q))
+    go true b c = refl
+    go false true c = sym (or-true c)
+    go false false c = refl
 
 -- Where some group passes p, there is such a group.
 pub some-elim : (p : ℕ → Bool) → someGroup p ≡ true → (g : ℕ) × (g < 64) × (p g ≡ true)
@@ -63,7 +74,7 @@ none-intro p f = go (someGroup p) refl
 -- Sharing a group does not depend on the order.
 pub shares-sym : (a b : ℕ) → shares a b ≡ shares b a
 unfolding shares
-shares-sym a b = from-same _ 0 _ _ (λ g. and-comm (has a g) (has b g))
+shares-sym a b = from-same _ 0 _ _ (λ g h. and-comm (has a g) (has b g))
 
 -- Two sets that share a group have a group in both.
 pub shares-elim : (a b : ℕ) → shares a b ≡ true → (g : ℕ) × (g < 64) × (has a g ≡ true) × (has b g ≡ true)
@@ -77,6 +88,14 @@ shares-elim a b e =
 pub shares-intro : (a b g : ℕ) → g < 64 → has a g ≡ true → has b g ≡ true → shares a b ≡ true
 unfolding shares
 shares-intro a b g h p q = some-intro _ g h (rw (p, q))
+
+-- A union shares a group with x exactly where one of its two sets does.
+pub union-shares : (a b r x : ℕ) → Union a b r → shares r x ≡ (shares a x || shares b x)
+unfolding shares
+union-shares a b r x u = from-same _ 0 _ _ at-group ∙ from-or _ 0 _ _
+  where
+    at-group : (g : ℕ) → g < 64 → (has r g && has x g) ≡ (has a g && has x g || has b g && has x g)
+    at-group g h = rw (u .has-either g h) (and-or-distrib-right (has a g) (has b g) (has x g))
 
 -- Each group is missing from an empty set.
 pub empty-elim : (a : ℕ) → empty a ≡ true → (g : ℕ) → g < 64 → has a g ≡ false

@@ -1,17 +1,17 @@
 -- What the code's words have to do with the definitions of specs/Groups.antt. Group g is the digit of 2^g, and two words are equal
--- exactly where no digit differs: `differ-from`, the one induction. Each of the three laws says which two words to compare.
--- Assumes nothing.
+-- exactly where no digit differs: `differ-from`, the one induction. Three of the laws say which two words to compare; that of a union
+-- needs no more than a digit of `a | b`. Assumes nothing.
 use mathlib.Core.Path.{_≡_, refl, sym, ap, _∙_}
 use mathlib.Core.Bool.{Bool, true, false, not, _&&_, _||_, Bool·not-not}
-use Prim.Native.Nat.{ℕ, zero, suc, _/_, _%_, _^_, _<_, min}
+use Prim.Native.Nat.{ℕ, zero, suc, _/_, _%_, _^_, _<_, min, max}
 use native.Mathlib.Nat.{div-one, zero-div, two-pow-succ}
 use native.Mathlib.Numerals.{add-one}
 use native.Mathlib.Omega.{arith}
-use lib.Bits.{bitAnd, and-shr, and-step, and-le-l}
+use lib.Bits.{bitAnd, bitOr, and-shr, and-step, and-le-l, or-shr, or-step}
 use lib.Dec.{eqb}
 use lib.Pow.{shr-shr}
 use borrow.Author.Tests.{eq-eqb, ne-eqb, eqb-true, eqb-false}
-use Rattle.groups.specs.Groups.{has, someFrom, someGroup, shares, empty, within}
+use Rattle.groups.specs.Groups.{has, someFrom, someGroup, shares, empty, within, Union}
 use Rattle.groups.proofs.Groups.{from-same}
 
 -- The digit of x that stands for group g.
@@ -63,7 +63,7 @@ differ-from (suc k) g x y h l =
 
 -- Where a test passes the groups at which two words differ, some group passes it exactly where the words differ.
 some-differ : (p : ℕ → Bool) (x y : ℕ) → x < 2 ^ 64 → y < 2 ^ 64 → ((g : ℕ) → p g ≡ differ x y g) → someGroup p ≡ not (eqb x y)
-some-differ p x y h l s = from-same 64 0 p (differ x y) s ∙ (simp div-one at (differ-from 64 0 x y (simp div-one h) (simp div-one l)))
+some-differ p x y h l s = from-same 64 0 p (differ x y) (λ g k. s g) ∙ (simp div-one at (differ-from 64 0 x y (simp div-one h) (simp div-one l)))
 
 -- A group is in `a & b` exactly where it is in both.
 and-digit : (a b g : ℕ) → digit (bitAnd a b) g ≡ min (digit a g) (digit b g)
@@ -83,6 +83,10 @@ shares-word a b h = some-differ _ (bitAnd a b) 0 (omega (arith, and-le-l a b)) (
         rw (and-digit, no-digit)
         (four (λ u v. (eqb u 1 && eqb v 1) ≡ not (eqb (min u v) 0)) refl refl refl refl (a / 2 ^ g) (b / 2 ^ g))
 
+-- The word 0 shares no group.
+pub zero-shares : (b : ℕ) → shares 0 b ≡ false
+zero-shares b = shares-word 0 b (omega arith)
+
 -- A set is empty exactly where its word is 0.
 pub empty-word : (a : ℕ) → a < 2 ^ 64 → empty a ≡ eqb a 0
 unfolding empty
@@ -100,3 +104,15 @@ within-word a b h = ap not (some-differ _ (bitAnd a b) a (omega (arith, and-le-l
     at-group g =
         rw and-digit
         (four (λ u v. (eqb u 1 && not (eqb v 1)) ≡ not (eqb (min u v) u)) refl refl refl refl (a / 2 ^ g) (b / 2 ^ g))
+
+-- A group is in `a | b` exactly where it is in one of the two.
+or-digit : (a b g : ℕ) → digit (bitOr a b) g ≡ max (digit a g) (digit b g)
+or-digit a b g = rw or-shr (omega (arith, or-step (a / 2 ^ g) (b / 2 ^ g)))
+
+-- `a | b` has the groups of either.
+pub union-word : (a b : ℕ) → Union a b (bitOr a b)
+union-word a b = record {
+  has-either = λ g h.
+      rw or-digit
+      (four (λ u v. eqb (max u v) 1 ≡ (eqb u 1 || eqb v 1)) refl refl refl refl (a / 2 ^ g) (b / 2 ^ g));
+}

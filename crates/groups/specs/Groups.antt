@@ -1,7 +1,8 @@
 -- Sets of groups. Document 01: "Groups are numbered 0 to 63; a set of groups is a 64-bit number, group g standing for 2^g."
 -- What is said here is said of the groups 0 to 63, one by one; that the code may work on all bits at once is proved.
+use mathlib.Core.Path.{_≡_}
 use mathlib.Core.Bool.{Bool, false, not, _&&_, _||_}
-use Prim.Native.Nat.{ℕ, zero, suc, _/_, _%_, _^_}
+use Prim.Native.Nat.{ℕ, zero, suc, _/_, _%_, _^_, _<_}
 use lib.Dec.{eqb}
 
 -- Group g is in the set s.
@@ -28,3 +29,7 @@ empty a = not (someGroup (λ g. has a g))
 -- No group of a is "outside" b.
 unfoldable pub within : ℕ → ℕ → Bool
 within a b = not (someGroup (λ g. has a g && not (has b g)))
+
+-- r has the groups of either set.
+pub record Union (a b r : ℕ) : Type 0 where
+  pub has-either : (g : ℕ) → g < 64 → has r g ≡ (has a g || has b g)

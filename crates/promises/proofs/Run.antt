@@ -2,7 +2,7 @@
 use mathlib.Core.Path.{_≡_, refl, sym, _∙_, ap, subst}
 use mathlib.Core.Logic.{_⊎_, inl, inr, _≢_}
 use mathlib.Core.Bool.{Bool, true, false, not, _&&_, cond}
-use mathlib.Core.List.{List, [], _∷_, map, List·Memᴰ·append-cases, List·Memᴰ·eq-of-singleton}
+use mathlib.Core.List.{List, [], _∷_, map, List·Memᴰ·cases-cons, List·Memᴰ·append-cases, List·Memᴰ·eq-of-singleton}
 use Prim.Native.Nat.{ℕ, suc, _+_, _-_, _≤_, _<_}
 use native.Mathlib.Omega.{arith}
 use lib.Dec.{eqb}
@@ -18,9 +18,10 @@ use Rattle.rules.specs.Packing.{packedStart, moved, pack}
 use Rattle.rules.specs.Placing.{place, contention, startBound}
 use Rattle.rules.specs.Granting.{goes, granted, grant, grants}
 use Rattle.rules.specs.Calls.{Model, settingOf, Call, claim, release, withdraw, clock, timed, Answer, Step, named, unchanged, advance, finish, join, remove, fresh, admit, step, Waits, Holds, standing, standingOf, blank, new, after}
+use Rattle.rules.specs.Plans.{Ascending}
 use Rattle.rules.specs.Invariants.{Packed, IsSpaced, Invariant}
 use Rattle.rules.proofs.Bools.{split, clash, and-i}
-use Rattle.rules.proofs.Lists.{keep-e, map-e}
+use Rattle.rules.proofs.Lists.{none, keep-e, map-e}
 use Rattle.rules.proofs.Claims.{end-on}
 use Rattle.rules.proofs.Order.{ascending-same}
 use Rattle.rules.proofs.Packing.{moved-cases, moved-at, moved-phase, moved-ticket, pack-no-later}
@@ -32,7 +33,7 @@ use Rattle.rules.proofs.Prompt.{Prompt, prompt-no-later}
 use Rattle.rules.proofs.Lookup.{lookup-absent, lookup-found, lookup-waits}
 use Rattle.promises.specs.Ledger.{Turn, turns, Entry, promised, Ledger, acted, hold, marked, noted, notedAll, ledgerOf, NoOverrun, NoOverruns, Punctual, remainingOf, rivalsOf, boundOn}
 use Rattle.promises.specs.Demand3.{Now, Next, tells, Demand3}
-use Rattle.promises.proofs.Matching.{Match, m-nil, match-map, match-left, match-weaken, match-snoc, match-keep, match-length, match-sum, partner, partner-of, named-keep}
+use Rattle.promises.proofs.Matching.{Match, m-nil, m-cons, match-map, match-left, match-weaken, match-snoc, match-keep, match-length, match-sum, partner, partner-of, named-keep}
 
 -- A pending claim and its entry. P: no accepted call so far bore a clock past the promised end of a holder.
 record Tracks (P : Type 0) (c : Claim) (e : Entry) : Type 0 where
@@ -53,8 +54,22 @@ tracks-weaken P Q f c e r =
     record { ticket = r .ticket; groups = r .groups; length = r .length; held = r .held; grant = r .grant; early = λ q. r .early (f q) }
 
 -- ── after any number of calls ──
+entries-differ : (P : Type 0) {ps : List Claim} {l : List Entry} → Match (Tracks P) ps l → Ascending ps → (e f : Entry) → e ∈ l → f ∈ l → e .ticket ≡ f .ticket → e ≡ f
+entries-differ P m-nil a e f i j q = none i
+entries-differ P (m-cons {x = c} {y} {k = ps} {l} r m) a e f i j q = go (List·Memᴰ·cases-cons i) (List·Memᴰ·cases-cons j) (entries-differ P m (a .1) e f)
+  where
+    later : (z : Entry) → z ∈ l → y .ticket < z .ticket
+    later z n = let p = partner m n in omega (arith, a .0 (p .0) (p .1), p .2 .ticket, r .ticket)
+
+    go : (e ≡ y) ⊎ (e ∈ l) → (f ≡ y) ⊎ (f ∈ l) → (e ∈ l → f ∈ l → e .ticket ≡ f .ticket → e ≡ f) → e ≡ f
+    go (inl p) (inl n) ih = p ∙ sym n
+    go (inl p) (inr n) ih = absurd (omega (arith, later f n, ap (λ (z : Entry). z .ticket) p))
+    go (inr p) (inl n) ih = absurd (omega (arith, later e p, ap (λ (z : Entry). z .ticket) n))
+    go (inr p) (inr n) ih = ih p n q
+
 now-of : (P : Type 0) (l : Ledger) (m : Model) → Story P l m → Now P l (tells m)
 now-of P l m s = record {
+  tickets-differ = entries-differ P (s .match) (s .inv .spaced .ascending);
   lookup-agrees = λ k. record {
     held = λ e i q h.
         let p = partner (s .match) i in
@@ -84,7 +99,7 @@ now-of P l m s = record {
         let a = partner (s .match) i in
         let b = partner (s .match) j in
         absurd
-        (s .inv .spaced .fit .holders .apart (a .0) (b .0) (a .1) (b .1) (λ z. n (sym (a .2 .ticket) ∙ z ∙ b .2 .ticket)) (cc (a .2 .groups, b .2 .groups))
+        (s .inv .spaced .holders .apart (a .0) (b .0) (a .1) (b .1) (λ z. n (sym (a .2 .ticket) ∙ z ∙ b .2 .ticket)) (cc (a .2 .groups, b .2 .groups))
         (a .2 .held ∙ p) (b .2 .held ∙ q))
 
 -- ── the parts of a call, side by side with the ledger ──
@@ -200,7 +215,7 @@ finish-from m k s n b i d di =
           omega (
             arith,
             ap at (a .2),
-            granted-at v ps (p .spaced .fit) (p .spaced .low) (p .tight) (λ x j. p .spaced .proper x j .sane) (p .spaced .ascending) (a .0) (a .1),
+            granted-at v ps (p .spaced .holders) (p .spaced .fit) (p .spaced .low) (p .tight) (λ x j. p .spaced .proper x j .sane) (p .spaced .ascending) (a .0) (a .1),
             ap at (c .2),
             moved-at f (c .0) o,
             pack-no-later v (m .pending) (i .fit) (i .low) (c .0) (c .1) o,

@@ -18,6 +18,8 @@ pub record Agrees (l : List Entry) (k : ℕ) (told : Standing) : Type 0 where
 
 -- After any number of the calls. P: so far no accepted call bore a clock past the promised end of a claim held when it came.
 pub record Now (P : Type 0) (l : Ledger) (told : ℕ → Standing) : Type 0 where
+  -- A ticket stands for one claim.
+  pub tickets-differ : (e f : Entry) → e ∈ l .claims → f ∈ l .claims → e .ticket ≡ f .ticket → e ≡ f
   pub lookup-agrees : (k : ℕ) → Agrees (l .claims) k (told k)
   -- Holders share no group.
   pub holders-apart : (e f : Entry) → e ∈ l .claims → f ∈ l .claims → e .ticket ≢ f .ticket → e .held ≡ true → f .held ≡ true → shares (e .groups) (f .groups) ≡ false

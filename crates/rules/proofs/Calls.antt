@@ -2,7 +2,7 @@
 use mathlib.Core.Path.{_≡_, refl}
 use mathlib.Core.Logic.{_⊎_, inl, inr, _≢_}
 use mathlib.Core.Bool.{Bool, true, false, not, _||_, cond}
-use mathlib.Core.List.{List, [], _∷_, _++_}
+use mathlib.Core.List.{List, [], _∷_}
 use Prim.Native.Nat.{ℕ, zero, suc, _≤_, _<_}
 use native.Mathlib.Omega.{arith}
 use lib.Dec.{ltb, leb, eqb}
@@ -20,9 +20,9 @@ use Rattle.rules.specs.Plans.{Fits, Sane}
 use Rattle.rules.specs.Invariants.{IsSpaced, IsPacked, Invariant}
 use Rattle.rules.proofs.Bools.{or-fl, or-fr}
 use Rattle.rules.proofs.Lists.{Each, none}
-use Rattle.rules.proofs.Packing.{separated-untied, pack-idle, pack-as-documented, pack-unique}
-use Rattle.rules.proofs.Placing.{place-low, place-fits, place-least}
-use Rattle.rules.proofs.Invariants.{packs, grant-settles, spaced-packable, spaced-packs, spaced-keep, spaced-snoc, earliest-snoc}
+use Rattle.rules.proofs.Packing.{separated-untied, pack-as-documented, pack-unique}
+use Rattle.rules.proofs.Placing.{place-low, place-fits}
+use Rattle.rules.proofs.Invariants.{packs, grant-settles, spaced-packable, spaced-packs, spaced-keep, spaced-snoc}
 
 -- ── the tests ──
 -- Where no test fails, the first does not, and none of the rest.
@@ -94,28 +94,15 @@ abbrev pub placed : Model → ℕ → ℕ → Claim
 placed m g n = withPhase (fresh m g n) (Waiting (place (settingOf m) (m .pending) (fresh m g n)))
 
 module _ (m : Model) (g n : ℕ) (long : 1 ≤ n) (spare : m .issued < 65535) where
-  placed-sane : Sane (placed m g n)
+  pub placed-sane : Sane (placed m g n)
   placed-sane = record { long = long; small = omega arith }
 
-  placed-fits : Fits (settingOf m) (m .pending) (placed m g n) (at (placed m g n))
+  pub placed-fits : Fits (settingOf m) (m .pending) (placed m g n) (at (placed m g n))
   placed-fits = record { room = place-fits (settingOf m) (m .pending) (fresh m g n) .room }
 
   pub join-spaced : IsSpaced m → IsSpaced (join m (placed m g n))
   unfolding join
   join-spaced p = spaced-snoc (m .issued) (settingOf m) (m .pending) (placed m g n) placed-sane refl placed-fits p refl (place-low (settingOf m) (m .pending) (fresh m g n))
-
-  -- Packing again changes nothing behind a claim that was placed among packed claims.
-  pub join-idle : IsPacked m → pack (settingOf (join m (placed m g n))) (join m (placed m g n) .pending) ≡ join m (placed m g n) .pending
-  unfolding join
-  join-idle p =
-      let s = join-spaced (p .spaced) in
-      pack-idle (settingOf m) (m .pending ++ (placed m g n ∷ [])) (s .fit) (s .low)
-      (earliest-snoc (m .issued) (settingOf m) (m .pending) (placed m g n) placed-sane refl placed-fits (λ c i. p .spaced .proper c i .sane) (p .earliest)
-      (λ s l f. place-least (settingOf m) (m .pending) (fresh m g n) s l (record { room = f .room })))
-
--- Nor where nothing came or left.
-pub packed-idle : (m : Model) → IsPacked m → pack (settingOf m) (m .pending) ≡ m .pending
-packed-idle m p = pack-idle (settingOf m) (m .pending) (p .spaced .fit) (p .spaced .low) (p .earliest)
 
 -- ── the cases of a call ──
 -- What a call that is accepted and no claim leaves pending, before it packs again and grants.
@@ -174,7 +161,8 @@ blank-invariant g = record {
       record {
         proper = λ c m. none m;
         ascending = tt;
-        fit = record { holders = record { apart = λ c d m k. none m }; behind = λ c d m k. none m };
+        holders = record { apart = λ c d m k. none m };
+        fit = record { behind = λ c d m k. none m };
         low = λ c m. none m;
       };
   blocked = λ c m. none m;

@@ -1,14 +1,15 @@
 -- Conflicts and ends: all that the other laws know of them.
 use mathlib.Core.Path.{_≡_, refl, _∙_, ap}
-use mathlib.Core.Bool.{true, false}
-use Prim.Native.Nat.{ℕ, _+_, _≤_}
+use mathlib.Core.Logic.{_⊎_, inl, inr}
+use mathlib.Core.Bool.{Bool, true, false, cond}
+use Prim.Native.Nat.{ℕ, _+_, _-_, _≤_}
 use native.Mathlib.Omega.{arith}
 use Rattle.groups.proofs.Groups.{shares-sym}
 use Rattle.rules.specs.declared.Claim.{Claim}
 use Rattle.rules.specs.declared.Phase.{Phase}
 use Rattle.rules.specs.declared.Phase.the-variants.{Waiting, On}
-use Rattle.rules.specs.Claims.{Setting, isOn, mark, on, at, withPhase, conflicts, heldUntil, endOf}
-use Rattle.rules.proofs.Bools.{clash}
+use Rattle.rules.specs.Claims.{Setting, isOn, mark, on, at, withPhase, conflicts, heldUntil, endOf, remaining}
+use Rattle.rules.proofs.Bools.{split, clash}
 
 pub conflicts-sym : (c d : Claim) → conflicts c d ≡ true → conflicts d c ≡ true
 conflicts-sym c d h = shares-sym (d .groups) (c .groups) ∙ h
@@ -33,6 +34,10 @@ held-clock : (v : Setting) (p : ℕ) → v .clock ≤ heldUntil v p
 unfolding heldUntil
 held-clock v p = omega arith
 
+held-le : (v : Setting) (p b : ℕ) → p ≤ b → v .clock ≤ b → heldUntil v p ≤ b
+unfolding heldUntil
+held-le v p b h k = omega arith
+
 pub end-wait : (v : Setting) (c : Claim) → on c ≡ false → endOf v c ≡ at c + c .length
 unfolding endOf
 end-wait v c e = rw e
@@ -50,3 +55,20 @@ end-ge v c o = omega (arith, end-on v c o, held-ge v (at c + c .length))
 
 pub end-prompt : (v : Setting) (c : Claim) → on c ≡ true → v .clock ≤ at c + c .length → endOf v c ≡ at c + c .length
 end-prompt v c o h = end-on v c o ∙ held-prompt v (at c + c .length) h
+
+-- An end is bounded by what bounds the clock and start or grant + length.
+pub end-le : (v : Setting) (c : Claim) (b : ℕ) → at c + c .length ≤ b → v .clock ≤ b → endOf v c ≤ b
+end-le v c b h k = go (split (on c))
+  where
+    go : (on c ≡ true) ⊎ (on c ≡ false) → endOf v c ≤ b
+    go (inl o) = omega (arith, end-on v c o, held-le v (at c + c .length) b h k)
+    go (inr o) = omega (arith, end-wait v c o)
+
+-- A claim has no more time left than its length, if it was not granted in the future.
+pub remaining-le : (v : Setting) (c : Claim) → (on c ≡ true → at c ≤ v .clock) → remaining v c ≤ c .length
+unfolding remaining
+remaining-le v c h = go (on c) refl
+  where
+    go : (b : Bool) → on c ≡ b → cond b (endOf v c - v .clock) (c .length) ≤ c .length
+    go true o = omega (arith, h o, end-le v c (v .clock + c .length) (omega (arith, h o)) (omega arith))
+    go false o = omega arith

@@ -1,11 +1,12 @@
 -- Granting: holders stay apart, nothing else moves, and whoever still waits is held up by a claim whose end is its start.
 use mathlib.Core.Path.{_≡_, refl, sym, _∙_, subst}
 use mathlib.Core.Logic.{_⊎_, inl, inr, _≢_}
-use mathlib.Core.Bool.{true, false, not}
+use mathlib.Core.Bool.{true, false, not, _&&_}
 use mathlib.Core.List.{List, map}
-use Prim.Native.Nat.{_≤_}
+use Prim.Native.Nat.{_≤_, _<_}
 use native.Mathlib.Omega.{arith}
-use borrow.Author.Tests.{not-true, not-false}
+use lib.Dec.{eqb}
+use borrow.Author.Tests.{eqb-true, eq-eqb, not-true, not-false}
 use Rattle.rules.specs.declared.Claim.{Claim}
 use Rattle.rules.specs.declared.Phase.the-variants.{On}
 use Rattle.rules.specs.Lists.{_∈_, any}
@@ -13,10 +14,10 @@ use Rattle.rules.specs.Claims.{Setting, on, at, withPhase, conflicts, en
 use Rattle.rules.specs.Order.{before, precedes}
 use Rattle.rules.specs.Granting.{goes, granted, grant}
 use Rattle.rules.specs.Plans.{Ascending, Sane, Apart, Separated, StartsFrom, HeldUp, Tight, Blocked}
-use Rattle.rules.proofs.Bools.{split, clash, and-l, and-r, same?}
-use Rattle.rules.proofs.Lists.{Each, any-none, any-some, map-i, map-each, map-each2}
+use Rattle.rules.proofs.Bools.{split, clash, and-l, and-r, and-i, both-ways, same?}
+use Rattle.rules.proofs.Lists.{Each, any-none, any-false, any-some, map-i, map-each, map-each2}
 use Rattle.rules.proofs.Claims.{conflicts-sym, end-wait, end-clock, end-prompt}
-use Rattle.rules.proofs.Order.{either-before, before-precedes, precedes-conflicts, precedes-on, precedes-before, ends-precedes, ascending-same}
+use Rattle.rules.proofs.Order.{either-before, before-precedes, precedes-conflicts, precedes-e, precedes-on, precedes-before, ends-precedes, ascending-same}
 
 -- ── who goes on ──
 pub goes-wait : (ps : List Claim) (c : Claim) → goes ps c ≡ true → on c ≡ false
@@ -26,6 +27,10 @@ goes-wait ps c e = not-true (on c) (and-l (not (on c)) _ e)
 pub goes-free : (ps : List Claim) (c : Claim) → goes ps c ≡ true → (d : Claim) → d ∈ ps → precedes d c ≡ false
 unfolding goes
 goes-free ps c e d m = any-none (λ x. precedes x c) (not-true (any (λ x. precedes x c) ps) (and-r (not (on c)) _ e)) m
+
+goes-i : (ps : List Claim) (c : Claim) → on c ≡ false → Each (λ d. precedes d c ≡ false) ps → goes ps c ≡ true
+unfolding goes
+goes-i ps c o h = rw (o, any-false (λ d. precedes d c) ps h)
 
 stays : (ps : List Claim) (c : Claim) → goes ps c ≡ false → on c ≡ false → (d : Claim) × d ∈ ps × (precedes d c ≡ true)
 unfolding goes
@@ -50,9 +55,8 @@ granted-cases P v ps c f g = go (split (goes ps c))
 pub granted-ticket : (v : Setting) (ps : List Claim) (c : Claim) → granted v ps c .ticket ≡ c .ticket
 granted-ticket v ps c = granted-cases (λ (x : Claim). x .ticket ≡ c .ticket) v ps c (λ p. refl) (λ p. refl)
 
--- ── granting what is packed ──
-module _ (v : Setting) (ps : List Claim) (fit : Separated v ps) (low : StartsFrom (v .clock) ps) (tight : Tight v ps) (sane : Each Sane ps)
-    (ascending : Ascending ps) where
+-- ── who goes on in a packed plan ──
+module _ (v : Setting) (ps : List Claim) (low : StartsFrom (v .clock) ps) (tight : Tight v ps) (sane : Each Sane ps) where
   -- What goes on had the clock for its start.
   pub goes-at : (c : Claim) → c ∈ ps → goes ps c ≡ true → at c ≡ v .clock
   goes-at c m e = go (tight c m (goes-wait ps c e))
@@ -61,6 +65,47 @@ module _ (v : Setting) (ps : List Claim) (fit : Separated v ps) (low : StartsFro
       go (inl p) = p
       go (inr h) = clash (ends-precedes v (h .0) c (sane (h .0) (h .1)) (h .2) (omega (arith, h .3))) (goes-free ps c e (h .0) (h .1))
 
+  -- Who goes on: whose start is the clock, where no holder conflicts. So one pass over the holders tells it of all.
+  pub goes-quick : (c : Claim) → c ∈ ps → goes ps c ≡ (not (on c) && (eqb (at c) (v .clock) && not (any (λ d. on d && conflicts d c) ps)))
+  goes-quick c m = both-ways _ _ there′ back
+    where
+      free : goes ps c ≡ true → (d : Claim) → d ∈ ps → (on d && conflicts d c) ≡ false
+      free e d k = go (split (on d && conflicts d c))
+        where
+          go : ((on d && conflicts d c) ≡ true) ⊎ ((on d && conflicts d c) ≡ false) → (on d && conflicts d c) ≡ false
+          go (inr z) = z
+          go (inl z) = clash (precedes-on d c (and-r (on d) _ z) (and-l (on d) _ z)) (goes-free ps c e d k)
+
+      none-precedes : (d : Claim) → d ∈ ps → at c ≡ v .clock → (on d && conflicts d c) ≡ false → precedes d c ≡ false
+      none-precedes d k a n = go (split (precedes d c))
+        where
+          pick : precedes d c ≡ true → (on d ≡ true) ⊎ (on d ≡ false) → precedes d c ≡ false
+          pick p (inl q) = clash (and-i (on d) _ q (precedes-conflicts d c p)) n
+          pick p (inr q) = late (precedes-e d c p)
+            where
+              late : (on d ≡ true) ⊎ (at d < at c) → precedes d c ≡ false
+              late (inl z) = clash z q
+              late (inr z) = absurd (omega (arith, low d k q))
+
+          go : (precedes d c ≡ true) ⊎ (precedes d c ≡ false) → precedes d c ≡ false
+          go (inr z) = z
+          go (inl z) = pick z (split (on d))
+
+      there′ : goes ps c ≡ true → (not (on c) && (eqb (at c) (v .clock) && not (any (λ d. on d && conflicts d c) ps))) ≡ true
+      there′ e =
+          rw (goes-wait ps c e, eq-eqb (at c) (v .clock) (goes-at c m e), any-false (λ d. on d && conflicts d c) ps (free e))
+
+      back : (not (on c) && (eqb (at c) (v .clock) && not (any (λ d. on d && conflicts d c) ps))) ≡ true → goes ps c ≡ true
+      back e =
+          let o = not-true (on c) (and-l (not (on c)) _ e) in
+          let r = and-r (not (on c)) _ e in
+          let a = eqb-true (at c) (v .clock) (and-l (eqb (at c) (v .clock)) _ r) in
+          let n = not-true (any (λ d. on d && conflicts d c) ps) (and-r (eqb (at c) (v .clock)) _ r) in
+          goes-i ps c o (λ d k. none-precedes d k a (any-none (λ d. on d && conflicts d c) n k))
+
+-- ── granting what is packed ──
+module _ (v : Setting) (ps : List Claim) (holders : Apart ps) (fit : Separated v ps) (low : StartsFrom (v .clock) ps) (tight : Tight v ps) (sane : Each Sane ps)
+    (ascending : Ascending ps) where
   -- What does not go on is held up.
   pub stays-held : (w : Claim) → w ∈ ps → goes ps w ≡ false → on w ≡ false → HeldUp v ps w
   stays-held w m g o = go (tight w m o)
@@ -78,7 +123,7 @@ module _ (v : Setting) (ps : List Claim) (fit : Separated v ps) (low : StartsFro
 
   -- Its end is not changed by going on.
   end-granted : (c : Claim) → c ∈ ps → goes ps c ≡ true → endOf v (withPhase c (On (v .clock))) ≡ endOf v c
-  end-granted c m e = omega (arith, end-prompt v (withPhase c (On (v .clock))) refl (omega arith), end-wait v c (goes-wait ps c e), goes-at c m e)
+  end-granted c m e = omega (arith, end-prompt v (withPhase c (On (v .clock))) refl (omega arith), end-wait v c (goes-wait ps c e), goes-at v ps low tight sane c m e)
 
   -- Of two conflicting waiting claims the one that goes on is before.
   goes-first : (c d : Claim) → c ∈ ps → d ∈ ps → goes ps c ≡ true → on d ≡ false → c .ticket ≢ d .ticket → conflicts c d ≡ true → before c d ≡ true
@@ -88,7 +133,7 @@ module _ (v : Setting) (ps : List Claim) (fit : Separated v ps) (low : StartsFro
       go (inl b) = b
       go (inr b) = clash (before-precedes v ps fit d c (sane d k) k m (goes-wait ps c g) b (conflicts-sym c d h)) (goes-free ps c g d k)
 
-  grant-apart : Apart (grant v ps)
+  pub grant-apart : Apart (grant v ps)
   unfolding grant
   grant-apart = record {
     apart =
@@ -99,13 +144,12 @@ module _ (v : Setting) (ps : List Claim) (fit : Separated v ps) (low : StartsFro
         (λ q n h a b. clash (precedes-on d c (conflicts-sym c d h) b) (goes-free ps c p d k)))
         (λ p. granted-cases (λ (y : Claim). c .ticket ≢ y .ticket → conflicts c y ≡ true → on c ≡ true → on y ≡ true → ⊥) v ps d
         (λ q n h a b. clash (precedes-on c d h a) (goes-free ps d q c m))
-        (λ q. fit .holders .apart c d m k)));
+        (λ q. holders .apart c d m k)));
   }
 
   pub grant-separates : Separated v (grant v ps)
   unfolding grant
   grant-separates = record {
-    holders = grant-apart;
     behind = λ c w mc mw o b p.
         map-each2 (λ (c w : Claim). on w ≡ false → before c w ≡ true → conflicts c w ≡ true → endOf v c ≤ at w) (granted v ps) ps
         (λ c w m k. granted-cases (λ (y : Claim). on y ≡ false → before (granted v ps c) y ≡ true → conflicts (granted v ps c) y ≡ true → endOf v (granted v ps c) ≤ at y) v ps w
@@ -143,4 +187,4 @@ module _ (v : Setting) (ps : List Claim) (fit : Separated v ps) (low : StartsFro
 
   -- Granting leaves the number beside a claim: what goes on had the clock for its start.
   pub granted-at : (c : Claim) → c ∈ ps → at (granted v ps c) ≡ at c
-  granted-at c m = granted-cases (λ (x : Claim). at x ≡ at c) v ps c (λ g. sym (goes-at c m g)) (λ g. refl)
+  granted-at c m = granted-cases (λ (x : Claim). at x ≡ at c) v ps c (λ g. sym (goes-at v ps low tight sane c m g)) (λ g. refl)

@@ -12,14 +12,14 @@ use Rattle.rules.specs.Claims.{Setting, on, at, withPhase, conflicts, en
 use Rattle.rules.specs.Order.{before}
 use Rattle.rules.specs.Packing.{packedStart, moved, pack}
 use Rattle.rules.specs.Granting.{granted, grant}
-use Rattle.rules.specs.Plans.{Sane, Behind, Earliest, Room, Fits}
+use Rattle.rules.specs.Plans.{Sane, Separated, Behind, Earliest, Room, Fits}
 use Rattle.rules.specs.Invariants.{Proper, Packable, Spaced, Packed, Settled}
 use Rattle.rules.proofs.Bools.{split, clash, compare}
 use Rattle.rules.proofs.Lists.{Each, keep-e, keep-i, map-each, snoc-each, snoc-each2}
 use Rattle.rules.proofs.Claims.{conflicts-sym, end-wait}
 use Rattle.rules.proofs.Order.{before-on, before-key, before-lt, ascending-map, ascending-keep, ascending-snoc}
-use Rattle.rules.proofs.Packing.{moved-cases, moved-ticket, pack-starts, pack-tight, pack-separates, pack-earliest}
-use Rattle.rules.proofs.Granting.{granted-cases, granted-ticket, grant-separates, grant-starts, grant-blocked}
+use Rattle.rules.proofs.Packing.{moved-cases, moved-ticket, pack-starts, pack-tight, pack-apart, pack-separates, pack-earliest}
+use Rattle.rules.proofs.Granting.{granted-cases, granted-ticket, grant-apart, grant-separates, grant-starts, grant-blocked}
 
 pub packs : (k : ℕ) (v : Setting) (ps : List Claim) → Packable k v ps → Packed k v (pack v ps)
 unfolding pack
@@ -28,7 +28,8 @@ packs k v ps f = record {
       record {
         proper = map-each (Proper k v) (moved (packedStart v ps)) ps (λ c m. moved-cases (Proper k v) (packedStart v ps) c (λ p. f .proper c m) (λ p. more c (f .proper c m)));
         ascending = ascending-map (moved (packedStart v ps)) ps (moved-ticket (packedStart v ps)) (f .ascending);
-        fit = pack-separates v ps sane (f .ascending) (f .holders);
+        holders = pack-apart v ps (f .holders);
+        fit = pack-separates v ps sane (f .ascending);
         low = pack-starts v ps;
       };
   tight = pack-tight v ps;
@@ -51,10 +52,11 @@ grant-settles k v ps f =
           record {
             proper = map-each (Proper k v) (granted v ps) ps (λ c m. granted-cases (Proper k v) v ps c (λ p. gone c (s .proper c m)) (λ p. s .proper c m));
             ascending = ascending-map (granted v ps) ps (granted-ticket v ps) (s .ascending);
-            fit = grant-separates v ps (s .fit) (s .low) (f .tight) sane (s .ascending);
-            low = grant-starts v ps (s .fit) (s .low) (f .tight) sane (s .ascending);
+            holders = grant-apart v ps (s .holders) (s .fit) (s .low) (f .tight) sane (s .ascending);
+            fit = grant-separates v ps (s .holders) (s .fit) (s .low) (f .tight) sane (s .ascending);
+            low = grant-starts v ps (s .holders) (s .fit) (s .low) (f .tight) sane (s .ascending);
           };
-      blocked = grant-blocked v ps (s .fit) (s .low) (f .tight) sane (s .ascending);
+      blocked = grant-blocked v ps (s .holders) (s .fit) (s .low) (f .tight) sane (s .ascending);
     }
   where
     gone : (c : Claim) → Proper k v c → Proper k v (withPhase c (On (v .clock)))
@@ -68,7 +70,7 @@ pub spaced-packable : (k : ℕ) (v u : Setting) (ps : List Claim) → Later v u 
 spaced-packable k v u ps l g = record {
   proper = λ c m. older (g .proper c m);
   ascending = g .ascending;
-  holders = record { apart = g .fit .holders .apart };
+  holders = g .holders;
 }
   where
     older : {c : Claim} → Proper k v c → Proper k u c
@@ -82,10 +84,8 @@ pub spaced-keep : (k : ℕ) (v : Setting) (ps : List Claim) (p : Claim → Bool)
 spaced-keep k v ps p f = record {
   proper = λ c m. f .proper c (old m);
   ascending = ascending-keep p ps (f .ascending);
-  fit = record {
-    holders = record { apart = λ c d m n. f .fit .holders .apart c d (old m) (old n) };
-    behind = λ c w m n. f .fit .behind c w (old m) (old n);
-  };
+  holders = record { apart = λ c d m n. f .holders .apart c d (old m) (old n) };
+  fit = record { behind = λ c w m n. f .fit .behind c w (old m) (old n) };
   low = λ c m. f .low c (old m);
 }
   where
@@ -94,25 +94,12 @@ spaced-keep k v ps p f = record {
 
 -- ── one claim more, where it fits ──
 module _ (k : ℕ) (v : Setting) (ps : List Claim) (w : Claim) (sane : Sane w) (waits : on w ≡ false) (fit : Fits v ps w (at w)) where
-  pub spaced-snoc : Spaced k v ps → w .ticket ≡ suc k → v .clock ≤ at w → Spaced (suc k) v (ps ++ (w ∷ []))
-  spaced-snoc p e low = record {
-    proper =
-        snoc-each (Proper (suc k) v) ps w
-        (λ c m. record { sane = p .proper c m .sane; numbered = p .proper c m .numbered; issued = omega (arith, p .proper c m .issued); aged = p .proper c m .aged })
-        (record { sane = sane; numbered = omega arith; issued = omega arith; aged = λ q. clash q waits });
-    ascending = ascending-snoc ps w (p .ascending) (λ c m. omega (arith, p .proper c m .issued));
-    fit = record {
-      holders = record {
-        apart =
-            snoc-each2 (λ (c d : Claim). c .ticket ≢ d .ticket → conflicts c d ≡ true → on c ≡ true → on d ≡ true → ⊥) ps w
-            (p .fit .holders .apart) (λ c m a b q r. clash r waits) (λ c m a b q r. clash q waits) (λ a b q r. clash q waits);
-      };
-      behind =
-          snoc-each2 (λ (c d : Claim). on d ≡ false → before c d ≡ true → conflicts c d ≡ true → endOf v c ≤ at d) ps w
-          (p .fit .behind) (λ c m q b h. fore c m b (split (on c)) (fit .room c m h)) (λ c m q b h. aft c m q b (fit .room c m (conflicts-sym w c h)))
-          (λ q b h. absurd (omega (arith, before-lt w w b waits)));
-    };
-    low = snoc-each (λ (x : Claim). on x ≡ false → v .clock ≤ at x) ps w (p .low) (λ q. low);
+  pub separated-snoc : Each Sane ps → Separated v ps → Separated v (ps ++ (w ∷ []))
+  separated-snoc sanes p = record {
+    behind =
+        snoc-each2 (λ (c d : Claim). on d ≡ false → before c d ≡ true → conflicts c d ≡ true → endOf v c ≤ at d) ps w
+        (p .behind) (λ c m q b h. fore c m b (split (on c)) (fit .room c m h)) (λ c m q b h. aft c m q b (fit .room c m (conflicts-sym w c h)))
+        (λ q b h. absurd (omega (arith, before-lt w w b waits)));
   }
     where
       -- The room that c leaves, where c is before w and where it is after.
@@ -122,8 +109,24 @@ module _ (k : ℕ) (v : Setting) (ps : List Claim) (w : Claim) (sane : Sane w) (
       fore c m b (inr q) (inr r) = absurd (omega (arith, before-lt c w b q, r .1, sane .long, sane .small))
 
       aft : (c : Claim) → c ∈ ps → on c ≡ false → before w c ≡ true → Room v w (at w) c → endOf v w ≤ at c
-      aft c m q b (inl r) = absurd (omega (arith, before-lt w c b waits, end-wait v c q, p .proper c m .sane .long, p .proper c m .sane .small))
+      aft c m q b (inl r) = absurd (omega (arith, before-lt w c b waits, end-wait v c q, sanes c m .long, sanes c m .small))
       aft c m q b (inr r) = omega (arith, end-wait v w waits, r .1)
+
+  pub spaced-snoc : Spaced k v ps → w .ticket ≡ suc k → v .clock ≤ at w → Spaced (suc k) v (ps ++ (w ∷ []))
+  spaced-snoc p e low = record {
+    proper =
+        snoc-each (Proper (suc k) v) ps w
+        (λ c m. record { sane = p .proper c m .sane; numbered = p .proper c m .numbered; issued = omega (arith, p .proper c m .issued); aged = p .proper c m .aged })
+        (record { sane = sane; numbered = omega arith; issued = omega arith; aged = λ q. clash q waits });
+    ascending = ascending-snoc ps w (p .ascending) (λ c m. omega (arith, p .proper c m .issued));
+    holders = record {
+      apart =
+          snoc-each2 (λ (c d : Claim). c .ticket ≢ d .ticket → conflicts c d ≡ true → on c ≡ true → on d ≡ true → ⊥) ps w
+          (p .holders .apart) (λ c m a b q r. clash r waits) (λ c m a b q r. clash q waits) (λ a b q r. clash q waits);
+    };
+    fit = separated-snoc (λ c m. p .proper c m .sane) (p .fit);
+    low = snoc-each (λ (x : Claim). on x ≡ false → v .clock ≤ at x) ps w (p .low) (λ q. low);
+  }
 
   -- Where none of the others could start sooner, and w has the least start that fits, none of them all could.
   pub earliest-snoc : Each Sane ps → Earliest v ps → ((s : ℕ) → v .clock ≤ s → Fits v ps w s → at w ≤ s) → Earliest v (ps ++ (w ∷ []))

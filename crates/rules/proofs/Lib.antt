@@ -4,10 +4,13 @@ pub mod Lists
 pub mod Claims
 pub mod Order
 pub mod Packing
+pub mod Repacking
+pub mod Sizes
 pub mod Placing
 pub mod Bounding
 pub mod Granting
 pub mod Invariants
 pub mod Calls
+pub mod Once
 pub mod Prompt
 pub mod Lookup

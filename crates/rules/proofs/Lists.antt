@@ -3,7 +3,7 @@ use mathlib.Core.Path.{_≡_, refl, sym, _∙_, ap, subst}
 use mathlib.Core.Logic.{_⊎_, inl, inr}
 use mathlib.Core.Bool.{Bool, true, false, _&&_, cond, true≢false, false≢true}
 use mathlib.Core.List.{List, [], _∷_, _++_, map, List·Memᴰ·head, List·Memᴰ·tail, List·Memᴰ·not-nil, List·Memᴰ·cases-cons, List·Memᴰ·append-cases, List·Memᴰ·eq-of-singleton}
-use Prim.Native.Nat.{ℕ, _+_, _*_, _≤_, _<_, min, max}
+use Prim.Native.Nat.{ℕ, suc, _+_, _*_, _≤_, _<_, min, max}
 use native.Mathlib.Omega.{arith}
 use native.Mathlib.Nat.{min-eq-left, min-eq-right, le-of-lt}
 use lib.ListN.{length}
@@ -60,6 +60,11 @@ module _ {A : Type 0} where
   sum-le f g [] h = omega arith
   sum-le f g (x ∷ l) h = omega (arith, sum-le f g l (λ y m. h y (there m)), h x here)
 
+  pub sum-le-each : (f : A → ℕ) (k : ℕ) (l : List A) → Each (λ x. f x ≤ k) l → sum f l ≤ length l * k
+  unfolding sum
+  sum-le-each f k [] h = omega arith
+  sum-le-each f k (x ∷ l) h = omega (arith, h x here, sum-le-each f k l (λ y m. h y (there m)))
+
   -- Where one of the numbers grows by n and none falls, the sum grows by n.
   pub sum-gap : (f g : A → ℕ) (n : ℕ) {x : A} {l : List A} → x ∈ l → f x + n ≤ g x → Each (λ y. f y ≤ g y) l → sum f l + n ≤ sum g l
   unfolding sum
@@ -99,6 +104,11 @@ module _ {A : Type 0} where
   any-none p h (List·Memᴰ·head {x = y} {xs = l} e) = ap p e ∙ or-fl (p y) (any p l) h
   any-none p h (List·Memᴰ·tail {x = y} {xs = l} m) = any-none p (or-fr (p y) (any p l) h) m
 
+  pub any-false : (p : A → Bool) (l : List A) → Each (λ x. p x ≡ false) l → any p l ≡ false
+  unfolding any
+  any-false p [] h = refl
+  any-false p (x ∷ l) h = rw (h x here) (any-false p l (λ y m. h y (there m)))
+
   pub any-some : (p : A → Bool) (l : List A) → any p l ≡ true → (x : A) × x ∈ l × (p x ≡ true)
   unfolding any
   any-some p [] h = absurd (false≢true h)
@@ -132,6 +142,15 @@ module _ {A : Type 0} where
       go : (b : Bool) → x ∈ keep p l → x ∈ cond b (y ∷ keep p l) (keep p l)
       go true k = there k
       go false k = k
+
+  pub keep-length : (p : A → Bool) (l : List A) → length (keep p l) ≤ length l
+  unfolding keep
+  keep-length p [] = omega arith
+  keep-length p (x ∷ l) = go (p x) (keep-length p l)
+    where
+      go : (b : Bool) → length (keep p l) ≤ length l → length (cond b (x ∷ keep p l) (keep p l)) ≤ suc (length l)
+      go true h = omega arith
+      go false h = omega arith
 
   -- Tests that agree on the list keep the same.
   pub keep-cong : (p q : A → Bool) (l : List A) → Each (λ x. p x ≡ q x) l → keep p l ≡ keep q l
@@ -177,6 +196,19 @@ module _ {A B : Type 0} where
 
   pub map-each2 : (R : B → B → Type 0) (f : A → B) (l : List A) → Each2 (λ x y. R (f x) (f y)) l → Each2 R (map f l)
   map-each2 R f l h x y m k = map-each (λ (z : B). R z y) f l (λ a i. map-each (R (f a)) f l (λ b j. h a b i j) y k) x m
+
+  pub map-cong : (f g : A → B) (l : List A) → Each (λ x. f x ≡ g x) l → map f l ≡ map g l
+  map-cong f g [] h = refl
+  map-cong f g (x ∷ l) h = cc (h x here, map-cong f g l (λ y m. h y (there m)))
+
+  pub keep-map : (p : B → Bool) (f : A → B) (l : List A) → keep p (map f l) ≡ map f (keep (λ x. p (f x)) l)
+  unfolding keep
+  keep-map p f [] = refl
+  keep-map p f (x ∷ l) = go (p (f x)) (keep-map p f l)
+    where
+      go : (b : Bool) → keep p (map f l) ≡ map f (keep (λ y. p (f y)) l) → cond b (f x ∷ keep p (map f l)) (keep p (map f l)) ≡ map f (cond b (x ∷ keep (λ y. p (f y)) l) (keep (λ y. p (f y)) l))
+      go true e = ap (λ (k : List B). f x ∷ k) e
+      go false e = e
 
   pub greatest-map : (g : B → ℕ) (f : A → B) (b : ℕ) (l : List A) → greatest g b (map f l) ≡ greatest (λ x. g (f x)) b l
   unfolding greatest

@@ -71,7 +71,7 @@ moved-at f c o = moved-cases (λ (x : Claim). at x ≡ f c) f c (λ q. clash q o
 pub moved-phase : (f : Claim → ℕ) (c : Claim) → on (moved f c) ≡ on c
 moved-phase f c = moved-cases (λ (x : Claim). on x ≡ on c) f c (λ q. refl) (λ q. sym q)
 
-moved-conflicts : (f : Claim → ℕ) (c w : Claim) → conflicts (moved f c) w ≡ conflicts c w
+pub moved-conflicts : (f : Claim → ℕ) (c w : Claim) → conflicts (moved f c) w ≡ conflicts c w
 moved-conflicts f c w = moved-cases (λ (x : Claim). conflicts x w ≡ conflicts c w) f c (λ q. refl) (λ q. refl)
 
 moved-cong : (f g : Claim → ℕ) (c : Claim) → (on c ≡ false → f c ≡ g c) → moved f c ≡ moved g c
@@ -236,7 +236,7 @@ module _ (v : Setting) (ps : List Claim) where
           let a = ahead-e (packedStart v ps) ps w (r .1) in
           inr (r .0, subst (λ (x : Claim). x ∈ map (moved (packedStart v ps)) ps) (sym (a .3)) (map-i (moved (packedStart v ps)) (a .1)), r .2, r .3)
 
-  pack-apart : Apart ps → Apart (pack v ps)
+  pub pack-apart : Apart ps → Apart (pack v ps)
   unfolding pack
   pack-apart h = record {
     apart =
@@ -246,10 +246,9 @@ module _ (v : Setting) (ps : List Claim) where
         (λ p a b e f. clash e refl));
   }
 
-  pub pack-separates : Each Sane ps → Ascending ps → Apart ps → Separated v (pack v ps)
+  pub pack-separates : Each Sane ps → Ascending ps → Separated v (pack v ps)
   unfolding pack new
-  pack-separates sane ascending h = record {
-    holders = pack-apart h;
+  pack-separates sane ascending = record {
     behind = λ c w mc mw o b p.
         map-each2 (λ (c w : Claim). on w ≡ false → before c w ≡ true → conflicts c w ≡ true → endOf v c ≤ at w) (moved (packedStart v ps)) ps
         (λ c w m k. moved-cases (λ (y : Claim). on y ≡ false → before (moved (packedStart v ps) c) y ≡ true → conflicts (moved (packedStart v ps) c) y ≡ true → endOf v (moved (packedStart v ps) c) ≤ at y) (packedStart v ps) w

@@ -30,7 +30,6 @@ module _ (k : ℕ) (v u : Setting) (ps : List Claim) (settled : Settled k v ps) 
 
   prompt-separated : Separated u ps
   prompt-separated = record {
-    holders = record { apart = settled .spaced .fit .holders .apart };
     behind = λ c w m n o b p. rw (end-same c m) (settled .spaced .fit .behind c w m n o b p);
   }
 

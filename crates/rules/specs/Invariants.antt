@@ -6,6 +6,7 @@ use Prim.Native.Nat.{ℕ, _≤_}
 use Rattle.rules.specs.declared.Claim.{Claim}
 use Rattle.rules.specs.Lists.{_∈_}
 use Rattle.rules.specs.Claims.{Setting, on, at}
+use Rattle.rules.specs.Packing.{pack}
 use Rattle.rules.specs.Calls.{Model, settingOf}
 use Rattle.rules.specs.Plans.{Ascending, Sane, Apart, Separated, StartsFrom, Tight, Blocked, Earliest}
 
@@ -26,6 +27,7 @@ pub record Packable (k : ℕ) (v : Setting) (ps : List Claim) : Type 0 where
 pub record Spaced (k : ℕ) (v : Setting) (ps : List Claim) : Type 0 where
   pub proper : (c : Claim) → c ∈ ps → Proper k v c
   pub ascending : Ascending ps
+  pub holders : Apart ps
   pub fit : Separated v ps
   pub low : StartsFrom (v .clock) ps
 
@@ -40,12 +42,16 @@ pub record Settled (k : ℕ) (v : Setting) (ps : List Claim) : Type 0 where
   pub spaced : Spaced k v ps
   pub blocked : Blocked v ps
 
--- The same of a model. The last is the invariant: it holds of a new table and after every call.
+-- The same of a model. `Invariant` holds of a new table and after every call.
 abbrev pub IsSpaced : Model → Type 0
 IsSpaced m = Spaced (m .issued) (settingOf m) (m .pending)
 
 abbrev pub IsPacked : Model → Type 0
 IsPacked m = Packed (m .issued) (settingOf m) (m .pending)
+
+-- Packing would change nothing.
+abbrev pub Still : Model → Type 0
+Still m = pack (settingOf m) (m .pending) ≡ m .pending
 
 abbrev pub Invariant : Model → Type 0
 Invariant m = Settled (m .issued) (settingOf m) (m .pending)

@@ -23,9 +23,8 @@ pub record Sane (c : Claim) : Type 0 where
 pub record Apart (ps : List Claim) : Type 0 where
   pub apart : (c d : Claim) → c ∈ ps → d ∈ ps → c .ticket ≢ d .ticket → conflicts c d ≡ true → on c ≡ true → on d ≡ true → ⊥
 
--- Nobody overlaps: holders are apart, and a waiting claim starts at or after the end of each conflicting claim before it.
+-- A waiting claim starts at or after the end of each conflicting claim before it.
 pub record Separated (v : Setting) (ps : List Claim) : Type 0 where
-  pub holders : Apart ps
   pub behind : (c w : Claim) → c ∈ ps → w ∈ ps → on w ≡ false → before c w ≡ true → conflicts c w ≡ true → endOf v c ≤ at w
 
 -- No planned start is below t.

@@ -1,0 +1,28 @@
+-- Rows of 64 places, of which the first hold claims: what code asks of them, and what it leaves in them.
+use mathlib.Core.Path.{_≡_}
+use mathlib.Core.Bool.{true, false}
+use mathlib.Core.List.{List, _++_}
+use Prim.Native.Nat.{ℕ, _≤_}
+use lib.ListN.{take, drop}
+use Rattle.rules.specs.declared.Claim.{Claim}
+use Rattle.rules.specs.Lists.{_∈_}
+use Rattle.rules.specs.Claims.{on, at}
+use Rattle.rules.specs.Plans.{Ascending, Sane}
+
+-- A claim whose numbers are in range at clock t. No sum of a start or grant and a length then wraps.
+pub record Sized (t : ℕ) (c : Claim) : Type 0 where
+  pub sane : Sane c
+  pub short : c .length ≤ 3600000
+  pub aged : on c ≡ true → at c ≤ t
+  pub planned : on c ≡ false → at c ≤ 2000000000000
+
+-- The first n places hold claims in ascending order of ticket, each in range.
+pub record Row (t : ℕ) (claims : List Claim) (n : ℕ) : Type 0 where
+  pub few : n ≤ 64
+  pub timely : t ≤ 1000000000000
+  pub ascending : Ascending (take n claims)
+  pub sized : (c : Claim) → c ∈ take n claims → Sized t c
+
+-- The row with other claims in its first n places.
+abbrev pub rewritten : (List Claim → List Claim) → List Claim → ℕ → List Claim
+rewritten f l n = f (take n l) ++ drop n l

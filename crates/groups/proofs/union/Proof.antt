@@ -1,0 +1,11 @@
+-- `groups::union` meets its contract by `union-word`: `a | b` has the groups of either.
+-- Assumes nothing.
+use Rattle.groups.proofs.Words.{union-word}
+use Rattle.groups.proofs.union.Statement.{statement}
+use Rattle.groups.proofs.union.Tie as tie
+
+returns : tie.Need-returns
+returns c = union-word (c .args .a) (c .args .b)
+
+pub union-spec : {M : Type 1} → statement M
+union-spec = tie.close (tie.spec returns)

@@ -1,0 +1,4 @@
+pub mod Clearing
+pub mod Searching
+pub mod Sizes
+pub mod Counting

@@ -1,0 +1,232 @@
+// Runs the plots of document 01, "Plots to try", on the table, and prints a line for each: for every call its answer (number, ticket,
+// start, crowd, ceiling, then "on" with the tickets granted), for every look what it tells.
+ghost use Rattle.table.specs.Valid.{Valid};
+use rules::Table;
+use table::Outcome;
+use table::Standing;
+
+fn number(n: u64) {
+    io::write_all(1, b" ");
+    io::print_decimal(1, n);
+}
+
+fn plot(n: u64) {
+    io::print_decimal(1, n);
+    io::write_all(1, b":");
+}
+
+fn grants(r: Outcome) {
+    let granted = r.granted;
+    if granted == 0 {
+        return;
+    }
+    io::write_all(1, b" on");
+    let mut i: usize = 0;
+    while i < 64 {
+        if granted <= i {
+            return;
+        }
+        number(r.grants[i] as u64);
+        i += 1;
+    }
+}
+
+fn answer(r: Outcome) {
+    number(r.number as u64);
+    number(r.ticket as u64);
+    number(r.start);
+    number(r.contention);
+    number(r.bound);
+    grants(r);
+    io::write_all(1, b";");
+}
+
+// ── calls that are shown ──
+
+fn claim(t: Table, clock: u64, groups: u64, length: u32) -> Table
+    requires { ⌜ Valid t ⌝ }
+    ensures { λ r. ⌜ Valid r ⌝ }
+{
+    let r = table::claim(t, clock, groups, length);
+    answer(r);
+    r.table
+}
+
+fn release(t: Table, clock: u64, ticket: u16) -> Table
+    requires { ⌜ Valid t ⌝ }
+    ensures { λ r. ⌜ Valid r ⌝ }
+{
+    let r = table::release(t, clock, ticket);
+    answer(r);
+    r.table
+}
+
+fn withdraw(t: Table, clock: u64, ticket: u16) -> Table
+    requires { ⌜ Valid t ⌝ }
+    ensures { λ r. ⌜ Valid r ⌝ }
+{
+    let r = table::withdraw(t, clock, ticket);
+    answer(r);
+    r.table
+}
+
+fn clock(t: Table, clock: u64) -> Table
+    requires { ⌜ Valid t ⌝ }
+    ensures { λ r. ⌜ Valid r ⌝ }
+{
+    let r = table::clock(t, clock);
+    answer(r);
+    r.table
+}
+
+fn look(t: Table, ticket: u16)
+    requires { ⌜ Valid t ⌝ }
+{
+    number(ticket as u64);
+    let s = table::lookup(t, ticket);
+    match s {
+        Standing::NotPending => {
+            io::write_all(1, b" 8;");
+        }
+        Standing::Waits(start) => {
+            io::write_all(1, b" waits");
+            number(start);
+            io::write_all(1, b";");
+        }
+        Standing::Holds(end) => {
+            io::write_all(1, b" on until");
+            number(end);
+            io::write_all(1, b";");
+        }
+    }
+}
+
+fn end() {
+    io::write_all(1, b"\n");
+}
+
+// ── calls that are not ──
+
+fn rig(groups: u64) -> Table
+    ensures { λ r. ⌜ Valid r ⌝ }
+{
+    let r = table::new(groups);
+    r.table
+}
+
+fn quiet(t: Table, groups: u64, length: u32) -> Table
+    requires { ⌜ Valid t ⌝ }
+    ensures { λ r. ⌜ Valid r ⌝ }
+{
+    let r = table::claim(t, 0, groups, length);
+    r.table
+}
+
+// "S is three claims at clock 0"
+fn three() -> Table
+    ensures { λ r. ⌜ Valid r ⌝ }
+{
+    let t = quiet(rig(0xF), 0x8, 10);
+    let u = quiet(t, 0xC, 10);
+    quiet(u, 0x6, 11)
+}
+
+// ── the plots ──
+
+fn plots_1_to_4() {
+    plot(1);
+    let t = claim(rig(0xF), 0, 0x8, 10);
+    end();
+    plot(2);
+    let u = claim(t, 0, 0xC, 10);
+    end();
+    plot(3);
+    claim(u, 0, 0x6, 11);
+    end();
+    plot(4);
+    claim(u, 0, 0x6, 10);
+    end();
+}
+
+fn plots_5_to_8() {
+    let s = three();
+    plot(5);
+    let t = claim(s, 0, 0x3, 20);
+    end();
+    plot(6);
+    claim(s, 0, 0x3, 21);
+    end();
+    plot(7);
+    let u = release(t, 4, 1);
+    look(u, 3);
+    end();
+    plot(8);
+    let v = release(s, 4, 1);
+    look(v, 3);
+    end();
+}
+
+fn plots_9_and_10() {
+    let s = three();
+    plot(9);
+    withdraw(s, 0, 2);
+    end();
+    plot(10);
+    let t = clock(s, 12);
+    look(t, 2);
+    look(t, 3);
+    let u = clock(t, 11);
+    clock(u, 12);
+    end();
+}
+
+fn plots_11_and_12() {
+    let t = rig(0xF);
+    plot(11);
+    let u = claim(t, 0, 0x10, 1);
+    let v = claim(u, 0, 0x1, 3_600_000);
+    let w = claim(v, 0, 0x1, 3_600_001);
+    claim(w, 0, 0x1, 0);
+    end();
+    let s = three();
+    plot(12);
+    release(s, 0, 2);
+    withdraw(s, 0, 1);
+    release(s, 0, 0);
+    withdraw(s, 0, 0);
+    end();
+}
+
+// 64 claims of one group, of which the first is on.
+fn full() -> Table
+    ensures { λ r. ⌜ Valid r ⌝ }
+{
+    let mut t = rig(0xF);
+    let mut i: usize = 0;
+    while i < 64 {
+        t = quiet(t, 0x1, 10);
+        i += 1;
+    }
+    t
+}
+
+fn plots_13_and_14() {
+    let t = full();
+    plot(13);
+    let u = claim(t, 0, 0x2, 5);
+    let v = release(u, 0, 1);
+    claim(v, 0, 0x2, 5);
+    end();
+    plot(14);
+    let w = clock(rig(0xF), 5);
+    claim(w, 4, 0, 1);
+    end();
+}
+
+fn main() {
+    plots_1_to_4();
+    plots_5_to_8();
+    plots_9_and_10();
+    plots_11_and_12();
+    plots_13_and_14();
+}

@@ -1,0 +1,5 @@
+pub mod Ranges
+pub mod Tests
+pub mod Scanning
+pub mod Steps
+pub mod Runs

@@ -1,0 +1,136 @@
+-- Numbers stay in range through every part of a call; and what a valid table gives to the code that works on its row.
+use mathlib.Core.Path.{_≡_, refl, sym, _∙_, ap, subst}
+use mathlib.Core.Bool.{Bool, false, not}
+use mathlib.Core.List.{List, [], _∷_}
+use Prim.Native.Nat.{ℕ, suc, _≤_, _<_}
+use native.Mathlib.Omega.{arith}
+use lib.ListN.{length, length-map, length-append}
+use Rattle.rules.specs.declared.Claim.{Claim}
+use Rattle.rules.specs.declared.Phase.the-variants.{Waiting, On}
+use Rattle.rules.specs.declared.Table.{Table}
+use Rattle.rules.specs.Lists.{_∈_}
+use Rattle.rules.specs.Claims.{Setting, on, withPhase}
+use Rattle.rules.specs.Packing.{packedStart, moved, pack}
+use Rattle.rules.specs.Granting.{granted, grant}
+use Rattle.rules.specs.Calls.{Model, settingOf, named, advance, join, remove, blank}
+use Rattle.rules.specs.Plans.{Sane}
+use Rattle.rules.specs.Tables.{encode, model, pad, vacant}
+use Rattle.rules.proofs.Bools.{clash}
+use Rattle.rules.proofs.Lists.{Each, none, keep-e, keep-length, map-each, snoc-each}
+use Rattle.rules.proofs.Order.{ascending-map, ascending-keep, ascending-snoc}
+use Rattle.rules.proofs.Packing.{moved-cases, moved-ticket}
+use Rattle.rules.proofs.Granting.{granted-cases, granted-ticket}
+use Rattle.rules.proofs.Once.{grantAll}
+use Rattle.claims.specs.Rows.{Sized, Row}
+use Rattle.claims.proofs.Sizes.{sized-later, start-small}
+use Rattle.claims.proofs.Rows.{pad-length, pad-take}
+use Rattle.table.specs.Valid.{Ranged, Valid}
+
+-- ── tables and models ──
+pub model-encode : (m : Model) → model (encode m) ≡ m
+model-encode m = ap (λ (l : List Claim). record { rig = m .rig; clock = m .clock; issued = m .issued; pending = l }) (pad-take vacant (m .pending))
+
+-- What a table that encodes a model means.
+pub model-is : (t : Table) (m : Model) → t ≡ encode m → model t ≡ m
+model-is t m e = ap model e ∙ model-encode m
+
+pub valid-is : (t : Table) (m : Model) → t ≡ encode m → Ranged m → Valid t
+valid-is t m e r = subst Valid (sym e) (record { ranged = subst Ranged (sym (model-encode m)) r; whole = ap encode (model-encode m) })
+
+module _ (t : Table) (v : Valid t) where
+  pub valid-count : length (model t .pending) ≡ t .count
+  valid-count = ap (λ (x : Table). x .count) (v .whole)
+
+  pub valid-claims : pad vacant (model t .pending) ≡ t .claims
+  valid-claims = ap (λ (x : Table). x .claims) (v .whole)
+
+  pub valid-few : t .count ≤ 64
+  valid-few = omega (arith, valid-count, v .ranged .few)
+
+  pub valid-length : length (t .claims) ≡ 64
+  valid-length = sym (ap length valid-claims) ∙ pad-length vacant (model t .pending) (v .ranged .few)
+
+  pub valid-sane : Each Sane (model t .pending)
+  valid-sane c m = v .ranged .sized c m .sane
+
+-- The row of a table, at its clock or a later one.
+pub valid-row : (t : Table) (u : ℕ) → Valid t → t .clock ≤ u → u ≤ 1000000000000 → Row u (t .claims) (t .count)
+valid-row t u v l k = record {
+  few = valid-few t v;
+  timely = k;
+  ascending = v .ranged .ascending;
+  sized = λ c m. sized-later (t .clock) u c l (v .ranged .sized c m);
+}
+
+-- ── new ──
+pub blank-ranged : (g : ℕ) → Ranged (blank g)
+blank-ranged g = record { few = omega arith; timely = omega arith; numbered = omega arith; ascending = tt; sized = λ c m. none m; issued = λ c m. none m }
+
+-- ── packing ──
+pub advance-ranged : (m : Model) (t : ℕ) → Ranged m → m .clock ≤ t → t ≤ 1000000000000 → Ranged (advance m t)
+unfolding advance pack
+advance-ranged m t r l k = record {
+  few = omega (arith, length-map (m .pending) (moved f), r .few);
+  timely = k;
+  numbered = r .numbered;
+  ascending = ascending-map (moved f) (m .pending) (moved-ticket f) (r .ascending);
+  sized = map-each (Sized t) (moved f) (m .pending) (λ c i. moved-cases (Sized t) f c (λ o. sized-later (m .clock) t c l (r .sized c i)) (λ o. at-start c i o));
+  issued = map-each (λ (c : Claim). c .ticket ≤ m .issued) (moved f) (m .pending) (λ c i. omega (arith, moved-ticket f c, r .issued c i));
+}
+  where
+    v : Setting
+    v = record { clock = t }
+
+    f : Claim → ℕ
+    f = packedStart (record { clock = t }) (m .pending)
+
+    at-start : (c : Claim) → c ∈ m .pending → on c ≡ false → Sized t (withPhase c (Waiting (packedStart (record { clock = t }) (m .pending) c)))
+    at-start c i o = record {
+      sane = record { long = r .sized c i .sane .long; small = r .sized c i .sane .small };
+      short = r .sized c i .short;
+      aged = λ q. clash q refl;
+      planned = λ q. omega (arith, start-small t (m .pending) k (r .few) (λ d j. sized-later (m .clock) t d l (r .sized d j)) c i o);
+    }
+
+-- ── fewer claims, one more, and granting ──
+pub remove-ranged : (m : Model) (k : ℕ) → Ranged m → Ranged (remove m k)
+unfolding remove
+remove-ranged m k r = record {
+  few = omega (arith, keep-length p (m .pending), r .few);
+  timely = r .timely;
+  numbered = r .numbered;
+  ascending = ascending-keep p (m .pending) (r .ascending);
+  sized = λ c i. r .sized c (keep-e p (m .pending) i .0);
+  issued = λ c i. r .issued c (keep-e p (m .pending) i .0);
+}
+  where
+    p : Claim → Bool
+    p c = not (named k c)
+
+pub join-ranged : (m : Model) (w : Claim) → Ranged m → length (m .pending) < 64 → m .issued < 65535 → Sized (m .clock) w → w .ticket ≡ suc (m .issued) → Ranged (join m w)
+unfolding join
+join-ranged m w r few spare s e = record {
+  few = omega (arith, length-append (m .pending) (w ∷ []));
+  timely = r .timely;
+  numbered = omega arith;
+  ascending = ascending-snoc (m .pending) w (r .ascending) (λ c i. omega (arith, r .issued c i));
+  sized = snoc-each (Sized (m .clock)) (m .pending) w (r .sized) s;
+  issued = snoc-each (λ (c : Claim). c .ticket ≤ suc (m .issued)) (m .pending) w (λ c i. omega (arith, r .issued c i)) (omega arith);
+}
+
+pub grant-ranged : (m : Model) (k s n b : ℕ) → Ranged m → Ranged (grantAll m k s n b .model)
+unfolding grant
+grant-ranged m k s n b r = record {
+  few = omega (arith, length-map (m .pending) (granted v (m .pending)), r .few);
+  timely = r .timely;
+  numbered = r .numbered;
+  ascending = ascending-map (granted v (m .pending)) (m .pending) (granted-ticket v (m .pending)) (r .ascending);
+  sized = map-each (Sized (m .clock)) (granted v (m .pending)) (m .pending) (λ c i. granted-cases (Sized (m .clock)) v (m .pending) c (λ g. held c (r .sized c i)) (λ g. r .sized c i));
+  issued = map-each (λ (c : Claim). c .ticket ≤ m .issued) (granted v (m .pending)) (m .pending) (λ c i. omega (arith, granted-ticket v (m .pending) c, r .issued c i));
+}
+  where
+    v : Setting
+    v = settingOf m
+
+    held : (c : Claim) → Sized (m .clock) c → Sized (m .clock) (withPhase c (On (m .clock)))
+    held c s = record { sane = record { long = s .sane .long; small = s .sane .small }; short = s .short; aged = λ o. omega arith; planned = λ o. clash refl o }

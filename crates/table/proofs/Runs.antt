@@ -1,0 +1,100 @@
+-- Demand 3 holds of the code: a run's answers and tables are those of the rules.
+use mathlib.Core.Path.{_≡_, refl, sym, _∙_, ap, subst}
+use mathlib.Core.List.{List, _∷_}
+use Prim.Native.Nat.{ℕ}
+use Rattle.rules.specs.declared.Table.{Table}
+use Rattle.rules.specs.Calls as rules
+use Rattle.rules.specs.Calls.{Model, Call, lookup, Answer, Step, step, unchanged, standingOf, new, after}
+use Rattle.rules.specs.Tables.{model}
+use Rattle.claims.proofs.Rows.{pad-take}
+use Rattle.promises.specs.Ledger.{Turn, turns, ledgerOf, Punctual}
+use Rattle.promises.specs.Demand3.{Now, Next}
+use Rattle.promises.specs.Demand3 as demand
+use Rattle.promises.proofs.Run.{demand-3}
+use Rattle.table.specs.declared.Outcome.{Outcome}
+use Rattle.table.specs.declared.Standing.{Standing}
+use Rattle.table.specs.Outcomes.{outcome, standingIn, numberOf}
+use Rattle.table.specs.Runs.{answered, looked, standingOut, Run, done, call, look, Looks, tells, CodeDemand3}
+use Rattle.table.proofs.Ranges.{model-is}
+use Rattle.table.proofs.Tests.{lookup-number, lookup-answer, lookup-idle}
+
+-- ── one answer ──
+answered-is : (s : Step) → answered (outcome s) ≡ s .answer
+answered-is s =
+    let a = s .answer in
+    ap (λ (g : List ℕ). record { number = a .number; ticket = a .ticket; start = a .start; contention = a .contention; bound = a .bound; grants = g }) (pad-take 0 (a .grants))
+
+answer-of : (r : Outcome) (s : Step) → r ≡ outcome s → answered r ≡ s .answer
+answer-of r s e = ap answered e ∙ answered-is s
+
+table-of : (r : Outcome) (s : Step) → r ≡ outcome s → model (r .table) ≡ s .model
+table-of r s e = model-is (r .table) (s .model) (ap (λ (x : Outcome). x .table) e)
+
+looked-is : (m : Model) (k : ℕ) (s : Standing) → s ≡ standingIn (standingOf k (m .pending)) → looked s ≡ step m (lookup k) .answer
+looked-is m k s e = ap (λ (n : ℕ). unchanged m n .answer) (ap numberOf e ∙ lookup-number m k) ∙ lookup-answer m k
+
+-- ── a run is the rules' run ──
+run-is : {t u : Table} {cs : List Call} {ts : List Turn} → Run t cs ts u → (ts ≡ turns (model t) cs) × (model u ≡ after (model t) cs)
+unfolding turns after
+run-is done = (refl, refl)
+run-is (call {t} {u} {cs} {ts} c r e p) =
+    let ih = run-is p in
+    let s = step (model t) c in
+    let m = table-of r s e in (
+      ap (λ (a : Answer). record { call = c; answer = a } ∷ ts) (answer-of r s e)
+          ∙ ap (λ (l : List Turn). record { call = c; answer = s .answer } ∷ l) (ih .0 ∙ ap (λ (x : Model). turns x cs) m),
+      ih .1 ∙ ap (λ (x : Model). after x cs) m,
+    )
+run-is (look {t} {u} {cs} {ts} k s e p) =
+    let ih = run-is p in
+    let a = looked-is (model t) k s e in
+    let m = lookup-idle (model t) k in (
+      ap (λ (a : Answer). record { call = lookup k; answer = a } ∷ ts) a
+          ∙ ap (λ (l : List Turn). record { call = lookup k; answer = step (model t) (lookup k) .answer } ∷ l) (ih .0 ∙ ap (λ (x : Model). turns x cs) (sym m)),
+      ih .1 ∙ ap (λ (x : Model). after x cs) (sym m),
+    )
+
+out-in : (s : rules.Standing) → standingOut (standingIn s) ≡ s
+out-in rules.NotPending = refl
+out-in (rules.Waits s) = refl
+out-in (rules.Holds e) = refl
+
+-- What lookup shows of a table is what the rules tell of its model.
+shows-is : (t : Table) (m : Model) (shows : ℕ → Standing) → model t ≡ m → Looks t shows → tells shows ≡ demand.tells m
+shows-is t m shows e h = λ i k. each k i
+  where
+    each : (k : ℕ) → standingOut (shows k) ≡ standingOf k (m .pending)
+    each k = ap standingOut (h k) ∙ out-in (standingOf k (model t .pending)) ∙ ap (λ (x : Model). standingOf k (x .pending)) e
+
+-- What holds of the rules' turns and standings holds of the code's.
+now-is : {ts us : List Turn} {f g : ℕ → rules.Standing} → ts ≡ us → f ≡ g → Now (Punctual us) (ledgerOf us) g → Now (Punctual ts) (ledgerOf ts) f
+now-is {us = us} {f = f} p q n = subst (λ (x : List Turn). Now (Punctual x) (ledgerOf x) f) (sym p) (subst (Now (Punctual us) (ledgerOf us)) (sym q) n)
+
+next-is : {ts us : List Turn} {c d : Turn} {f g f′ g′ : ℕ → rules.Standing} → ts ≡ us → c ≡ d → f ≡ f′ → g ≡ g′
+    → Next (Punctual us) (ledgerOf us) d f′ g′ → Next (Punctual ts) (ledgerOf ts) c f g
+next-is {us = us} {c = c} {d = d} {f = f} {g = g} {f′ = f′} {g′ = g′} p q r s n =
+    subst (λ (x : List Turn). Next (Punctual x) (ledgerOf x) c f g) (sym p)
+    (subst (λ (x : Turn). Next (Punctual us) (ledgerOf us) x f g) (sym q)
+    (subst (λ (x : ℕ → rules.Standing). Next (Punctual us) (ledgerOf us) d x g) (sym r) (subst (Next (Punctual us) (ledgerOf us) d f′) (sym s) n)))
+
+-- The turns and the table of a run from a new table.
+module _ (rig : ℕ) (before : List Call) (first : Outcome) (q : first ≡ outcome (new rig)) (ts : List Turn) (t : Table) (p : Run (first .table) before ts t) where
+  turns-are : ts ≡ turns (new rig .model) before
+  turns-are = run-is p .0 ∙ ap (λ (x : Model). turns x before) (table-of first (new rig) q)
+
+  table-is : model t ≡ after (new rig .model) before
+  table-is = run-is p .1 ∙ ap (λ (x : Model). after x before) (table-of first (new rig) q)
+
+pub code-demand-3 : (rig : ℕ) (calls : List Call) → CodeDemand3 rig calls
+code-demand-3 rig calls = record {
+  at-any-time = λ before rest e first q ts t p shows h.
+      now-is (turns-are rig before first q ts t p) (shows-is t _ shows (table-is rig before first q ts t p) h) (demand-3 rig calls .at-any-time before rest e);
+  at-any-call = λ before c rest e first q ts t p r f old new h k.
+      let m = table-is rig before first q ts t p in
+      let s = step (model t) c in
+      next-is (turns-are rig before first q ts t p)
+      (ap (λ (a : Answer). record { call = c; answer = a }) (answer-of r s f ∙ ap (λ (x : Model). step x c .answer) m))
+      (shows-is t _ old m h)
+      (shows-is (r .table) _ new (table-of r s f ∙ ap (λ (x : Model). step x c .model) m) k)
+      (demand-3 rig calls .at-any-call before c rest e);
+}

@@ -1,0 +1,71 @@
+use mathlib.Core.Path.{sym, _∙_}
+use native.Mathlib.Omega.{arith}
+use Rattle.rules.specs.Calls.{Call}
+use Rattle.rules.specs.Tables.{model}
+use Rattle.rules.proofs.Calls.{admissible}
+use Rattle.table.proofs.Ranges.{valid-count}
+use Rattle.table.proofs.Steps.{refused, advanced-counts, claim-is}
+use borrow.Author.Needs.{needs}
+use Rattle.table.proofs.claim.Statement.{statement}
+use Rattle.table.proofs.claim.Tie as tie
+use Rattle.table.proofs.claim.Reads as reads
+use Rattle.table.proofs.claim.Lts as lts
+use Rattle.table.proofs.admitted.Reads as admitted-reads
+use Rattle.table.proofs.advanced.Reads as advanced-reads
+use Rattle.table.proofs.claim_number.Reads as claim-number-reads
+use Rattle.table.proofs.refusal.Reads as refusal-reads
+
+-- src/lib.rt:337:9
+claim-number-requires : tie.Need-claim-number-requires
+claim-number-requires c κs = search needs
+
+-- src/lib.rt:339:9
+refusal-requires : tie.Need-refusal-requires
+refusal-requires c κs = search needs
+
+-- src/lib.rt:339:9
+returns : tie.Need-returns
+returns c =
+    let n = c .before .before in
+    let b = n .before in
+    let a = b .args in
+    refused (a .t) (Call.claim (a .clock) (a .groups) (a .length)) _ _ (b .pre) (c .refusal .ensures) (sym (n .claim-number .ensures)) (c .before .if1 .taken)
+
+-- src/lib.rt:341:9
+advanced-requires : tie.Need-advanced-requires
+advanced-requires c κs =
+    let n = c .before in
+    let b = n .before in
+    let a = b .args in
+    let h = admissible (model (a .t)) (a .clock) (a .groups) (a .length) (sym (n .claim-number .ensures) ∙ c .if1 .left) in
+    (b .pre, h .clocked .later, h .clocked .early)
+
+-- src/lib.rt:342:5
+admitted-requires : tie.Need-admitted-requires
+admitted-requires c κs =
+    let n = c .before .before in
+    let b = n .before in
+    let a = b .args in
+    let h = admissible (model (a .t)) (a .clock) (a .groups) (a .length) (sym (n .claim-number .ensures) ∙ c .before .if1 .left) in
+    let k = advanced-counts (a .t) (a .clock) _ (b .pre) (c .advanced .ensures .0) in
+    (c .advanced .ensures .1, c .advanced .ensures .2, omega (arith, k .0, h .room, valid-count (a .t) (b .pre)), omega (arith, k .1, h .spare), h .long, h .short)
+
+-- src/lib.rt:333:1
+returns-2 : tie.Need-returns-2
+returns-2 c =
+    let u = c .before in
+    let n = u .before .before in
+    let b = n .before in
+    let a = b .args in
+    (claim-is (a .t) (a .clock) (a .groups) (a .length) _ _ _ (n .claim-number .ensures) (u .before .if1 .left) (u .advanced .ensures .0) (c .admitted .ensures .0), c .admitted .ensures .1)
+
+pub claim-spec : {M : Type 1} → statement M
+claim-spec =
+    tie.close
+    (tie.spec
+    claim-number-requires
+    refusal-requires
+    returns
+    advanced-requires
+    admitted-requires
+    returns-2)

@@ -1,0 +1,122 @@
+use mathlib.Core.Path.{sym, _∙_}
+use native.Mathlib.Omega.{arith}
+use borrow.Author.Tests.{not-true, not-false}
+use Rattle.rules.specs.Tables.{model}
+use Rattle.table.proofs.Ranges.{valid-count}
+use Rattle.table.proofs.Tests.{claim-timed, claim-dark, claim-off-rig, claim-no-length, claim-too-long, claim-full, claim-ticketless, claim-passes}
+use borrow.Author.Needs.{needs}
+use Rattle.table.proofs.claim_number.Statement.{statement}
+use Rattle.table.proofs.claim_number.Tie as tie
+use Rattle.table.proofs.claim_number.Reads as reads
+use Rattle.table.proofs.claim_number.Lts as lts
+use Rattle.groups.proofs.empty.Reads as empty-reads
+use Rattle.groups.proofs.within.Reads as within-reads
+use Rattle.table.proofs.time_number.Reads as time-number-reads
+
+-- src/lib.rt:271:9
+time-number-requires : tie.Need-time-number-requires
+time-number-requires c κs = search needs
+
+-- src/lib.rt:273:9
+returns : tie.Need-returns
+returns c =
+    let n = c .before in
+    let a = n .before .args in
+    claim-timed (model (a .t)) (a .clock) (a .groups) (a .length) _ (n .time-number .ensures) (c .if1 .taken)
+
+-- src/lib.rt:275:8
+empty-requires : tie.Need-empty-requires
+empty-requires c κs = search needs
+
+-- src/lib.rt:276:9
+returns-2 : tie.Need-returns-2
+returns-2 c =
+    let m = c .before in
+    let n = m .before .before in
+    let a = n .before .args in
+    claim-dark (model (a .t)) (a .clock) (a .groups) (a .length) _ (n .time-number .ensures) (m .before .if1 .left) (sym (m .empty .ensures) ∙ c .if2 .taken)
+
+-- src/lib.rt:278:9
+within-requires : tie.Need-within-requires
+within-requires c κs = search needs
+
+-- src/lib.rt:279:9
+returns-3 : tie.Need-returns-3
+returns-3 c =
+    let i = c .before in
+    let m = i .before .before in
+    let n = m .before .before in
+    let a = n .before .args in
+    claim-off-rig (model (a .t)) (a .clock) (a .groups) (a .length) _ (n .time-number .ensures) (m .before .if1 .left) (sym (m .empty .ensures) ∙ i .before .if2 .left)
+    (sym (i .within .ensures) ∙ not-true _ (c .if3 .taken))
+
+-- src/lib.rt:282:9
+returns-4 : tie.Need-returns-4
+returns-4 c =
+    let b = c .before in
+    let i = b .before in
+    let m = i .before .before in
+    let n = m .before .before in
+    let a = n .before .args in
+    claim-no-length (model (a .t)) (a .clock) (a .groups) (a .length) _ (n .time-number .ensures) (m .before .if1 .left) (sym (m .empty .ensures) ∙ i .before .if2 .left)
+    (sym (i .within .ensures) ∙ not-false _ (b .if3 .left)) (c .if4 .taken)
+
+-- src/lib.rt:285:9
+returns-5 : tie.Need-returns-5
+returns-5 c =
+    let b = c .before .before in
+    let i = b .before in
+    let m = i .before .before in
+    let n = m .before .before in
+    let a = n .before .args in
+    claim-too-long (model (a .t)) (a .clock) (a .groups) (a .length) _ (n .time-number .ensures) (m .before .if1 .left) (sym (m .empty .ensures) ∙ i .before .if2 .left)
+    (sym (i .within .ensures) ∙ not-false _ (b .if3 .left)) (c .before .if4 .left) (c .if5 .taken)
+
+-- src/lib.rt:288:9
+returns-6 : tie.Need-returns-6
+returns-6 c =
+    let b = c .before .before .before .before in
+    let i = b .before in
+    let m = i .before .before in
+    let n = m .before .before in
+    let a = n .before .args in
+    claim-full (model (a .t)) (a .clock) (a .groups) (a .length) _ (n .time-number .ensures) (m .before .if1 .left) (sym (m .empty .ensures) ∙ i .before .if2 .left)
+    (sym (i .within .ensures) ∙ not-false _ (b .if3 .left)) (c .before .before .before .if4 .left) (c .before .before .if5 .left) (omega (arith, valid-count (a .t) (n .before .pre)))
+
+-- src/lib.rt:291:9
+returns-7 : tie.Need-returns-7
+returns-7 c =
+    let b = c .before .before .before .before .before .before in
+    let i = b .before in
+    let m = i .before .before in
+    let n = m .before .before in
+    let a = n .before .args in
+    claim-ticketless (model (a .t)) (a .clock) (a .groups) (a .length) _ (n .time-number .ensures) (m .before .if1 .left) (sym (m .empty .ensures) ∙ i .before .if2 .left)
+    (sym (i .within .ensures) ∙ not-false _ (b .if3 .left)) (c .before .before .before .before .before .if4 .left) (c .before .before .before .before .if5 .left) (omega (arith, valid-count (a .t) (n .before .pre))) (c .if7 .taken)
+
+-- src/lib.rt:267:1
+returns-8 : tie.Need-returns-8
+returns-8 c =
+    let b = c .before .before .before .before .before .before in
+    let i = b .before in
+    let m = i .before .before in
+    let n = m .before .before in
+    let a = n .before .args in
+    claim-passes (model (a .t)) (a .clock) (a .groups) (a .length) _ (n .time-number .ensures) (m .before .if1 .left) (sym (m .empty .ensures) ∙ i .before .if2 .left)
+    (sym (i .within .ensures) ∙ not-false _ (b .if3 .left)) (c .before .before .before .before .before .if4 .left) (c .before .before .before .before .if5 .left) (omega (arith, valid-count (a .t) (n .before .pre))) (omega arith)
+
+pub claim-number-spec : {M : Type 1} → statement M
+claim-number-spec =
+    tie.close
+    (tie.spec
+    time-number-requires
+    returns
+    empty-requires
+    returns-2
+    within-requires
+    returns-3
+    returns-4
+    returns-5
+    returns-6
+    returns-7
+    returns-8)

@@ -1,0 +1,61 @@
+use mathlib.Core.Path.{sym, _∙_}
+use Rattle.rules.specs.Calls.{Call}
+use Rattle.rules.specs.Tables.{model}
+use Rattle.table.proofs.Tests.{time-ok, clock-timed}
+use Rattle.table.proofs.Steps.{refused, clock-is}
+use borrow.Author.Needs.{needs}
+use Rattle.table.proofs.clock.Statement.{statement}
+use Rattle.table.proofs.clock.Tie as tie
+use Rattle.table.proofs.clock.Reads as reads
+use Rattle.table.proofs.clock.Lts as lts
+use Rattle.table.proofs.advanced.Reads as advanced-reads
+use Rattle.table.proofs.finished.Reads as finished-reads
+use Rattle.table.proofs.refusal.Reads as refusal-reads
+use Rattle.table.proofs.time_number.Reads as time-number-reads
+
+-- src/lib.rt:155:9
+time-number-requires : tie.Need-time-number-requires
+time-number-requires c κs = search needs
+
+-- src/lib.rt:157:9
+refusal-requires : tie.Need-refusal-requires
+refusal-requires c κs = search needs
+
+-- src/lib.rt:157:9
+returns : tie.Need-returns
+returns c =
+    let n = c .before .before in
+    let b = n .before in
+    let t = b .args .t in
+    refused t (Call.clock (b .args .clock)) _ _ (b .pre) (c .refusal .ensures) (clock-timed (model t) (b .args .clock) _ (n .time-number .ensures) (c .before .if1 .taken)) (c .before .if1 .taken)
+
+-- src/lib.rt:159:9
+advanced-requires : tie.Need-advanced-requires
+advanced-requires c κs =
+    let n = c .before in
+    let b = n .before in
+    let o = time-ok (b .args .t .clock) (b .args .clock) (sym (n .time-number .ensures) ∙ c .if1 .left) in
+    (b .pre, o .0, o .1)
+
+-- src/lib.rt:160:5
+finished-requires : tie.Need-finished-requires
+finished-requires c κs = search needs
+
+-- src/lib.rt:151:1
+returns-2 : tie.Need-returns-2
+returns-2 c =
+    let u = c .before in
+    let n = u .before .before in
+    let b = n .before in
+    (clock-is (b .args .t) (b .args .clock) _ _ _ (n .time-number .ensures) (u .before .if1 .left) (u .advanced .ensures .0) (c .finished .ensures .0), c .finished .ensures .1)
+
+pub clock-spec : {M : Type 1} → statement M
+clock-spec =
+    tie.close
+    (tie.spec
+    time-number-requires
+    refusal-requires
+    returns
+    advanced-requires
+    finished-requires
+    returns-2)

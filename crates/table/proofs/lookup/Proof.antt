@@ -1,0 +1,103 @@
+use mathlib.Core.Path.{_≡_, refl, _∙_, ap}
+use Prim.Native.Nat.{_-_, _≤_}
+use native.Mathlib.Omega.{arith}
+use lib.ListN.{take, drop, getD}
+use Rattle.rules.specs.Calls.{standingOf}
+use Rattle.rules.specs.Tables.{model, vacant}
+use Rattle.claims.proofs.Rows.{prefix-step, prefix-end, row-small}
+use Rattle.table.specs.Outcomes.{standingIn, numberOf}
+use Rattle.table.proofs.Ranges.{valid-few, valid-length, valid-row}
+use Rattle.table.proofs.Scanning.{found, passed-by}
+use Rattle.table.proofs.Tests.{lookup-number}
+use Rattle.table.proofs.lookup.Statement.{statement}
+use Rattle.table.proofs.lookup.Tie as tie
+use Rattle.table.proofs.lookup.Reads as reads
+use Rattle.table.proofs.lookup.Lts as lts
+use Rattle.table.proofs.shown.Reads as shown-reads
+
+abbrev Inv-loop : tie.InvT-loop
+Inv-loop ticket t count i₀ i = (i ≤ count) × (standingOf ticket (drop i (take count (t .claims))) ≡ standingOf ticket (take count (t .claims)))
+
+abbrev μ-loop : tie.MeasureT-loop
+μ-loop ticket t count i₀ i = count - i
+
+-- src/lib.rt:95:5
+loop-holds : tie.Need-loop-holds Inv-loop μ-loop
+loop-holds c = (omega arith, refl)
+
+-- src/lib.rt:96:17
+mul-c : tie.Need-mul-c Inv-loop μ-loop
+mul-c c =
+    let b = c .before .before in
+    omega (arith, valid-few (b .args .t1) (b .pre))
+
+-- src/lib.rt:96:17
+element-copy-out-c : tie.Need-element-copy-out-c Inv-loop μ-loop
+element-copy-out-c c =
+    let b = c .before .before in
+    omega (arith, valid-few (b .args .t1) (b .pre))
+
+-- src/lib.rt:98:13
+shown-requires : tie.Need-shown-requires Inv-loop μ-loop
+shown-requires c κs =
+    let z = c .before .before .before .before in
+    let b = z .before in
+    let t = b .args .t1 in
+    row-small (t .clock) (t .claims) (t .count) (z .loop .i) (valid-row t (t .clock) (b .pre) (omega arith) (b .pre .ranged .timely)) (valid-length t (b .pre)) (omega arith)
+
+-- src/lib.rt:98:13
+returns : tie.Need-returns Inv-loop μ-loop
+returns c =
+    let z = c .before .before .before .before .before in
+    let b = z .before in
+    let t = b .args .t1 in
+    let e = prefix-step vacant (t .claims) (t .count) (z .loop .i) (omega arith) (omega (arith, valid-length t (b .pre), valid-few t (b .pre))) in
+    let h = rw e at (z .loop .inv .1) in
+    let r = c .shown .ensures ∙ ap standingIn (found (b .args .ticket) (getD (t .claims) (z .loop .i) vacant) _ (c .before .if1 .taken) ∙ h) in
+    (r, ap numberOf r ∙ lookup-number (model t) (b .args .ticket))
+
+-- src/lib.rt:100:9
+add-i : tie.Need-add-i Inv-loop μ-loop
+add-i c =
+    let b = c .before .before .before .before .before in
+    omega (arith, valid-few (b .args .t1) (b .pre))
+
+-- src/lib.rt:95:5
+loop-less : tie.Need-loop-less Inv-loop μ-loop
+loop-less c = omega arith
+
+-- src/lib.rt:95:5
+loop-again : tie.Need-loop-again Inv-loop μ-loop
+loop-again c =
+    let z = c .before .before .before .before in
+    let b = z .before in
+    let t = b .args .t1 in
+    let e = prefix-step vacant (t .claims) (t .count) (z .loop .i) (omega arith) (omega (arith, valid-length t (b .pre), valid-few t (b .pre))) in
+    let h = rw e at (z .loop .inv .1) in
+    (omega arith, passed-by (b .args .ticket) (getD (t .claims) (z .loop .i) vacant) _ (c .if1 .left) ∙ h)
+
+-- src/lib.rt:89:1
+returns-2 : tie.Need-returns-2 Inv-loop μ-loop
+unfolding standingOf
+returns-2 c =
+    let z = c .before in
+    let b = z .before in
+    let t = b .args .t1 in
+    let r = ap standingIn (rw (prefix-end (t .claims) (t .count) (z .loop .i) (c .loop-test .left)) at (z .loop .inv .1)) in
+    (r, ap numberOf r ∙ lookup-number (model t) (b .args .ticket))
+
+pub lookup-spec : {M : Type 1} → statement M
+lookup-spec =
+    tie.close
+    (tie.spec
+    Inv-loop
+    μ-loop
+    loop-holds
+    mul-c
+    element-copy-out-c
+    shown-requires
+    returns
+    add-i
+    loop-less
+    loop-again
+    returns-2)

@@ -1,0 +1,76 @@
+-- What the calls hand back, by the rules.
+use mathlib.Core.Bool.{Bool, true, false, not, cond}
+use mathlib.Core.List.{List}
+use Prim.Native.Nat.{ℕ, zero, suc}
+use lib.Dec.{ltb}
+use lib.ListN.{length, replicate}
+use Rattle.rules.specs.declared.Claim.{Claim}
+use Rattle.rules.specs.declared.Table.{Table}
+use Rattle.rules.specs.Calls as rules
+use Rattle.rules.specs.Calls.{Call, release, withdraw, Step, named}
+use Rattle.rules.specs.Lists.{keep}
+use Rattle.rules.specs.Tables.{encode, pad, vacant}
+use Rattle.table.specs.declared.Outcome.{Outcome}
+use Rattle.table.specs.declared.Pending.{Pending}
+use Rattle.table.specs.declared.Standing.{Standing}
+use Rattle.table.specs.declared.Standing.the-variants.{NotPending, Waits, Holds}
+
+-- A step's table and answer; the grants in the first places, 0 behind them.
+abbrev pub outcome : Step → Outcome
+outcome s =
+    let a = s .answer in
+    record {
+      table = encode (s .model);
+      number = a .number;
+      ticket = a .ticket;
+      start = a .start;
+      contention = a .contention;
+      bound = a .bound;
+      granted = length (a .grants);
+      grants = pad 0 (a .grants);
+    }
+
+-- The table handed in, and a number.
+abbrev pub refusalOf : Table → ℕ → Outcome
+refusalOf t n = record { table = t; number = n; ticket = 0; start = 0; contention = 0; bound = 0; granted = 0; grants = replicate 64 0 }
+
+-- ── lookup ──
+abbrev pub standingIn : rules.Standing → Standing
+standingIn rules.NotPending = NotPending
+standingIn (rules.Waits s) = Waits s
+standingIn (rules.Holds e) = Holds e
+
+-- Document 01's number for each case of a lookup's answer; its value is the planned start or the promised end that the case holds.
+abbrev pub numberOf : Standing → ℕ
+numberOf NotPending = 8
+numberOf (Waits s) = 0
+numberOf (Holds e) = 0
+
+-- ── the tests 5 and 4, and those of a release and a withdrawal ──
+unfoldable pub timeNumber : ℕ → ℕ → ℕ
+timeNumber now t = cond (ltb 1000000000000 t) 5 (cond (ltb t now) 4 0)
+
+abbrev pub phaseNumber : Bool → Standing → ℕ
+phaseNumber b NotPending = 8
+phaseNumber true (Waits s) = 9
+phaseNumber false (Waits s) = 0
+phaseNumber true (Holds e) = 0
+phaseNumber false (Holds e) = 10
+
+-- A number that is not 0, or the next.
+abbrev pub orElse : ℕ → ℕ → ℕ
+orElse zero n = n
+orElse (suc k) n = suc k
+
+-- Release (true) or withdraw (false).
+abbrev pub leaving : Bool → ℕ → ℕ → Call
+leaving true t k = release t k
+leaving false t k = withdraw t k
+
+-- ── the pending claims as a row ──
+abbrev pub pendingOf : List Claim → Pending
+pendingOf ps = record { count = length ps; claims = pad vacant ps }
+
+-- The claims but that of ticket k.
+abbrev pub without : ℕ → List Claim → List Claim
+without k ps = keep (λ c. not (named k c)) ps

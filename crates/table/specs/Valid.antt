@@ -1,0 +1,25 @@
+-- A table that the calls make and take: ranges of numbers and the array's form. `new` gives it and every call keeps it.
+use mathlib.Core.Path.{_≡_}
+use Prim.Native.Nat.{_≤_}
+use lib.ListN.{length}
+use Rattle.rules.specs.declared.Claim.{Claim}
+use Rattle.rules.specs.declared.Table.{Table}
+use Rattle.rules.specs.Lists.{_∈_}
+use Rattle.rules.specs.Calls.{Model}
+use Rattle.rules.specs.Plans.{Ascending}
+use Rattle.rules.specs.Tables.{encode, model}
+use Rattle.claims.specs.Rows.{Sized}
+
+-- The limits of document 01, "A claim".
+pub record Ranged (m : Model) : Type 0 where
+  pub few : length (m .pending) ≤ 64
+  pub timely : m .clock ≤ 1000000000000
+  pub numbered : m .issued ≤ 65535
+  pub ascending : Ascending (m .pending)
+  pub sized : (c : Claim) → c ∈ m .pending → Sized (m .clock) c
+  pub issued : (c : Claim) → c ∈ m .pending → c .ticket ≤ m .issued
+
+pub record Valid (t : Table) : Type 0 where
+  pub ranged : Ranged (model t)
+  -- Every place behind the claims is vacant.
+  pub whole : encode (model t) ≡ t

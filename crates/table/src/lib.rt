@@ -1,0 +1,361 @@
+// The claims table: new, claim, release, withdraw, clock, lookup. Each call takes a table by value and hands one back with its answer;
+// each packs once. A call with n claims pending costs at most n²/2 tests of two words to pack, the search of a claim n² more.
+ghost use mathlib.Core.Path.{_≡_};
+ghost use Prim.Native.Nat.{_+_, _≤_, _<_};
+ghost use lib.ListN.{take};
+ghost use Rattle.rules.specs.Claims.{at};
+ghost use Rattle.rules.specs.Calls.{Call, step, firstOf, tests, advance, finish, remove, join, admit, new, standing, standingOf};
+ghost use Rattle.rules.specs.Tables.{encode, model};
+ghost use Rattle.rules.specs.Invariants.{Still};
+ghost use Rattle.claims.specs.Rows.{Sized};
+ghost use Rattle.table.specs.Valid.{Valid};
+ghost use Rattle.table.specs.Outcomes.{outcome, refusalOf, standingIn, numberOf, timeNumber, phaseNumber, leaving, pendingOf, without};
+use rules::Claim;
+use rules::Phase;
+use rules::Table;
+
+// What a call hands back. `number` is 0 or the refusal's; `contention` and `bound` are document 01's crowd and ceiling; the first
+// `granted` of `grants` are the tickets granted, in ascending order.
+pub struct Outcome {
+    pub table: Table,
+    pub number: u8,
+    pub ticket: u16,
+    pub start: u64,
+    pub contention: u64,
+    pub bound: u64,
+    pub granted: usize,
+    pub grants: [u16; 64],
+}
+
+// What a lookup tells: not pending (8), waiting with its planned start, or on with its promised end.
+pub enum Standing {
+    NotPending,
+    Waits(u64),
+    Holds(u64),
+}
+
+// The table handed in, and a number.
+fn refusal(t: Table, number: u8) -> Outcome
+    ensures { λ r. ⌜ r ≡ refusalOf t number ⌝ }
+{
+    Outcome {
+        table: t,
+        number: number,
+        ticket: 0,
+        start: 0,
+        contention: 0,
+        bound: 0,
+        granted: 0,
+        grants: [0u16; 64],
+    }
+}
+
+// A table with nothing pending, at clock 0. A rig without groups is refused (1).
+pub fn new(rig: u64) -> Outcome
+    ensures { λ r. ⌜ (r ≡ outcome (new rig)) × Valid (r .table) ⌝ }
+{
+    let vacant = Claim {
+        groups: 0,
+        phase: Phase::Waiting(0),
+        length: 0,
+        ticket: 0,
+    };
+    let t = Table {
+        rig: rig,
+        clock: 0,
+        issued: 0,
+        count: 0,
+        claims: [vacant; 64],
+    };
+    if groups::empty(rig) {
+        return refusal(t, 1);
+    }
+    refusal(t, 0)
+}
+
+// ── lookup ──
+
+fn shown(c: Claim) -> Standing
+    requires { ⌜ at c ≤ 1000000000000000000 ⌝ }
+    ensures { λ r. ⌜ r ≡ standingIn (standing c) ⌝ }
+{
+    let p = c.phase;
+    let n = claims::wide(c.length);
+    match p {
+        Phase::Waiting(s) => Standing::Waits(s),
+        Phase::On(g) => Standing::Holds(g + n),
+    }
+}
+
+// How the claim of a ticket stands. Cost: one pass at most.
+pub fn lookup(t: Table, ticket: u16) -> Standing
+    requires { ⌜ Valid t ⌝ }
+    ensures { λ r. ⌜ (r ≡ standingIn (standingOf ticket (model t .pending))) × (numberOf r ≡ step (model t) (Call.lookup ticket) .answer .number) ⌝ }
+{
+    let count = t.count;
+    let mut i: usize = 0;
+    while i < count {
+        let c = t.claims[i];
+        if c.ticket == ticket {
+            return shown(c);
+        }
+        i += 1;
+    }
+    Standing::NotPending
+}
+
+// ── the parts of a call ──
+
+// The first of the tests 5 and 4 that a clock fails, or 0.
+fn time_number(now: u64, clock: u64) -> u8
+    ensures { λ r. ⌜ r ≡ timeNumber now clock ⌝ }
+{
+    if 1_000_000_000_000 < clock {
+        return 5;
+    }
+    if clock < now {
+        return 4;
+    }
+    0
+}
+
+// Sets the clock and packs.
+fn advanced(t: Table, clock: u64) -> Table
+    requires { ⌜ Valid t × (t .clock ≤ clock) × (clock ≤ 1000000000000) ⌝ }
+    ensures { λ r. ⌜ (r ≡ encode (advance (model t) clock)) × Valid r × Still (model r) ⌝ }
+{
+    let count = t.count;
+    let old = t.claims;
+    let new = packing::pack(clock, old, count);
+    Table {
+        rig: t.rig,
+        clock: clock,
+        issued: t.issued,
+        count: count,
+        claims: new,
+    }
+}
+
+// Grants in a table where packing again would change nothing, and answers.
+fn finished(t: Table, ticket: u16, start: u64, contention: u64, bound: u64) -> Outcome
+    requires { ⌜ Valid t × Still (model t) ⌝ }
+    ensures { λ r. ⌜ (r ≡ outcome (finish (model t) ticket start contention bound)) × Valid (r .table) ⌝ }
+{
+    let count = t.count;
+    let clock = t.clock;
+    let old = t.claims;
+    let g = granting::grant(clock, old, count);
+    let new = g.claims;
+    let tickets = g.tickets;
+    let after = Table {
+        rig: t.rig,
+        clock: clock,
+        issued: t.issued,
+        count: count,
+        claims: new,
+    };
+    Outcome {
+        table: after,
+        number: 0,
+        ticket: ticket,
+        start: start,
+        contention: contention,
+        bound: bound,
+        granted: g.count,
+        grants: tickets,
+    }
+}
+
+// ── clock ──
+
+// Moves the clock. Refused: 5, 4.
+pub fn clock(t: Table, clock: u64) -> Outcome
+    requires { ⌜ Valid t ⌝ }
+    ensures { λ r. ⌜ (r ≡ outcome (step (model t) (Call.clock clock))) × Valid (r .table) ⌝ }
+{
+    let n = time_number(t.clock, clock);
+    if n != 0 {
+        return refusal(t, n);
+    }
+    let u = advanced(t, clock);
+    finished(u, 0, clock, 0, 0)
+}
+
+// ── release and withdraw ──
+
+// The first of the tests 8, 9 and 10 that a release or a withdrawal fails, or 0.
+fn phase_number(releasing: bool, s: Standing) -> u8
+    ensures { λ r. ⌜ r ≡ phaseNumber releasing s ⌝ }
+{
+    match s {
+        Standing::NotPending => 8,
+        Standing::Waits(_s) => { if releasing { 9 } else { 0 } }
+        Standing::Holds(_e) => { if releasing { 0 } else { 10 } }
+    }
+}
+
+// The pending claims in the first places of a row, vacant places behind them.
+pub struct Pending {
+    pub count: usize,
+    pub claims: [Claim; 64],
+}
+
+// The claims but that of a ticket. Cost: one pass.
+fn others(old: [Claim; 64], count: usize, ticket: u16) -> Pending
+    requires { ⌜ count ≤ 64 ⌝ }
+    ensures { λ r. ⌜ r ≡ pendingOf (without ticket (take count old)) ⌝ }
+{
+    let vacant = Claim {
+        groups: 0,
+        phase: Phase::Waiting(0),
+        length: 0,
+        ticket: 0,
+    };
+    let mut out = Pending {
+        count: 0,
+        claims: [vacant; 64],
+    };
+    let mut i: usize = 0;
+    while i < count {
+        let c = old[i];
+        if c.ticket != ticket {
+            let at = out.count;
+            out.claims[at] = c;
+            out.count = at + 1;
+        }
+        i += 1;
+    }
+    out
+}
+
+fn removed(t: Table, ticket: u16) -> Table
+    requires { ⌜ Valid t ⌝ }
+    ensures { λ r. ⌜ (r ≡ encode (remove (model t) ticket)) × Valid r ⌝ }
+{
+    let old = t.claims;
+    let rest = others(old, t.count, ticket);
+    let claims = rest.claims;
+    Table {
+        rig: t.rig,
+        clock: t.clock,
+        issued: t.issued,
+        count: rest.count,
+        claims: claims,
+    }
+}
+
+fn leave(t: Table, releasing: bool, clock: u64, ticket: u16) -> Outcome
+    requires { ⌜ Valid t ⌝ }
+    ensures { λ r. ⌜ (r ≡ outcome (step (model t) (leaving releasing clock ticket))) × Valid (r .table) ⌝ }
+{
+    let late = time_number(t.clock, clock);
+    if late != 0 {
+        return refusal(t, late);
+    }
+    let s = lookup(t, ticket);
+    let wrong = phase_number(releasing, s);
+    if wrong != 0 {
+        return refusal(t, wrong);
+    }
+    let rest = removed(t, ticket);
+    let u = advanced(rest, clock);
+    finished(u, ticket, clock, 0, 0)
+}
+
+// Takes away a claim that is on. Refused: 5, 4, 8, 9.
+pub fn release(t: Table, clock: u64, ticket: u16) -> Outcome
+    requires { ⌜ Valid t ⌝ }
+    ensures { λ r. ⌜ (r ≡ outcome (step (model t) (Call.release clock ticket))) × Valid (r .table) ⌝ }
+{
+    leave(t, true, clock, ticket)
+}
+
+// Takes away a claim that waits. Refused: 5, 4, 8, 10.
+pub fn withdraw(t: Table, clock: u64, ticket: u16) -> Outcome
+    requires { ⌜ Valid t ⌝ }
+    ensures { λ r. ⌜ (r ≡ outcome (step (model t) (Call.withdraw clock ticket))) × Valid (r .table) ⌝ }
+{
+    leave(t, false, clock, ticket)
+}
+
+// ── claim ──
+
+// The first of its tests that a claim fails, or 0.
+fn claim_number(t: Table, clock: u64, groups: u64, length: u32) -> u8
+    requires { ⌜ Valid t ⌝ }
+    ensures { λ r. ⌜ r ≡ firstOf (tests (model t) (Call.claim clock groups length)) ⌝ }
+{
+    let timing = time_number(t.clock, clock);
+    if timing != 0 {
+        return timing;
+    }
+    if groups::empty(groups) {
+        return 1;
+    }
+    if !groups::within(groups, t.rig) {
+        return 2;
+    }
+    if length == 0 {
+        return 3;
+    }
+    if 3_600_000 < length {
+        return 3;
+    }
+    if 64 <= t.count {
+        return 6;
+    }
+    if 65_535 <= t.issued {
+        return 7;
+    }
+    0
+}
+
+// The table with one claim more.
+fn joined(t: Table, w: Claim) -> Table
+    requires { ⌜ Valid t × (t .count < 64) × (t .issued < 65535) × Sized (t .clock) w × (w .ticket ≡ t .issued + 1) ⌝ }
+    ensures { λ r. ⌜ (r ≡ encode (join (model t) w)) × Valid r ⌝ }
+{
+    let count = t.count;
+    let mut claims = t.claims;
+    claims[count] = w;
+    Table {
+        rig: t.rig,
+        clock: t.clock,
+        issued: t.issued + 1,
+        count: count + 1,
+        claims: claims,
+    }
+}
+
+// A claim that no test refuses, in a table that is packed.
+fn admitted(t: Table, groups: u64, length: u32) -> Outcome
+    requires { ⌜ Valid t × Still (model t) × (t .count < 64) × (t .issued < 65535) × (1 ≤ length) × (length ≤ 3600000) ⌝ }
+    ensures { λ r. ⌜ (r ≡ outcome (admit (model t) groups length)) × Valid (r .table) ⌝ }
+{
+    let clock = t.clock;
+    let ticket = t.issued + 1;
+    let w = Claim {
+        groups: groups,
+        phase: Phase::Waiting(clock),
+        length: length,
+        ticket: ticket,
+    };
+    let row = t.claims;
+    let s = placing::place(clock, row, t.count, w);
+    let k = placing::contention_of(clock, row, t.count, w);
+    let u = joined(t, claims::waiting_from(w, s));
+    finished(u, ticket, s, k.count, k.bound)
+}
+
+// Claims groups for a length of time. Refused: 5, 4, 1, 2, 3, 6, 7.
+pub fn claim(t: Table, clock: u64, groups: u64, length: u32) -> Outcome
+    requires { ⌜ Valid t ⌝ }
+    ensures { λ r. ⌜ (r ≡ outcome (step (model t) (Call.claim clock groups length))) × Valid (r .table) ⌝ }
+{
+    let number = claim_number(t, clock, groups, length);
+    if number != 0 {
+        return refusal(t, number);
+    }
+    let u = advanced(t, clock);
+    admitted(u, groups, length)
+}
