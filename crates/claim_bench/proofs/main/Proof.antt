@@ -1,0 +1,85 @@
+use Prim.Native.Nat.{_-_, _≤_}
+use borrow.Author.Needs.{needs}
+use Rattle.table.specs.Valid.{Valid}
+use Rattle.claim_bench.proofs.main.Statement.{statement}
+use Rattle.claim_bench.proofs.main.Tie as tie
+use Rattle.claim_bench.proofs.main.Reads as reads
+use Rattle.claim_bench.proofs.main.Lts as lts
+use Rattle.claim_bench.proofs.hundred.Reads as hundred-reads
+use Rattle.claim_bench.proofs.pending.Reads as pending-reads
+use Rattle.io.proofs.print_decimal.Reads as print-decimal-reads
+use Rattle.io.proofs.read_full.Reads as read-full-reads
+use Rattle.io.proofs.write_all.Reads as write-all-reads
+
+abbrev Inv-loop : tie.InvT-loop
+Inv-loop bytes t sum₀ i₀ t6 sum i = (i ≤ bytes) × Valid t
+
+abbrev μ-loop : tie.MeasureT-loop
+μ-loop bytes t sum₀ i₀ t6 sum i = bytes - i
+
+-- src/main.rt:41:34
+slice-aggregate-read-full : tie.Need-slice-aggregate-read-full Inv-loop μ-loop
+slice-aggregate-read-full c = search needs
+
+-- src/main.rt:41:9
+read-full-requires : tie.Need-read-full-requires Inv-loop μ-loop
+read-full-requires c κs = search needs
+
+-- src/main.rt:42:9
+pending-requires : tie.Need-pending-requires Inv-loop μ-loop
+pending-requires c κs = search needs
+
+-- src/main.rt:45:5
+loop-holds : tie.Need-loop-holds Inv-loop μ-loop
+loop-holds c = search needs
+
+-- src/main.rt:46:9
+hundred-requires : tie.Need-hundred-requires Inv-loop μ-loop
+hundred-requires c κs = search needs
+
+-- src/main.rt:47:9
+add-i : tie.Need-add-i Inv-loop μ-loop
+add-i c = search needs
+
+-- src/main.rt:45:5
+loop-less : tie.Need-loop-less Inv-loop μ-loop
+loop-less c = search needs
+
+-- src/main.rt:45:5
+loop-again : tie.Need-loop-again Inv-loop μ-loop
+loop-again c = search needs
+
+-- src/main.rt:49:5
+print-decimal-requires : tie.Need-print-decimal-requires Inv-loop μ-loop
+print-decimal-requires c κs = search needs
+
+-- src/main.rt:50:22
+slice-aggregate-write-all : tie.Need-slice-aggregate-write-all Inv-loop μ-loop
+slice-aggregate-write-all c = search needs
+
+-- src/main.rt:50:5
+write-all-requires : tie.Need-write-all-requires Inv-loop μ-loop
+write-all-requires c κs = search needs
+
+-- src/main.rt:39:1
+returns : tie.Need-returns Inv-loop μ-loop
+returns c = search needs
+
+pub main-spec : {M : Type 1} → statement M
+main-spec =
+    tie.close
+    (tie.spec
+    Inv-loop
+    μ-loop
+    slice-aggregate-read-full
+    read-full-requires
+    pending-requires
+    loop-holds
+    hundred-requires
+    add-i
+    loop-less
+    loop-again
+    print-decimal-requires
+    slice-aggregate-write-all
+    write-all-requires
+    returns)

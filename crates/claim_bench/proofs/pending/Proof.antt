@@ -1,0 +1,88 @@
+use Prim.Native.Nat.{_-_, _≤_}
+use borrow.Author.Needs.{needs}
+use Rattle.table.specs.Valid.{Valid}
+use Rattle.claim_bench.proofs.pending.Statement.{statement}
+use Rattle.claim_bench.proofs.pending.Tie as tie
+use Rattle.claim_bench.proofs.pending.Reads as reads
+use Rattle.claim_bench.proofs.pending.Lts as lts
+use Rattle.claim_bench.proofs.pair.Reads as pair-reads
+use Rattle.table.proofs.claim.Reads as claim-reads
+use Rattle.table.proofs.new.Reads as new-reads
+
+abbrev Inv-loop : tie.InvT-loop
+Inv-loop t₀ i₀ t i = (i ≤ 63) × Valid t
+
+abbrev μ-loop : tie.MeasureT-loop
+μ-loop t₀ i₀ t i = 63 - i
+
+-- src/main.rt:14:9
+new-requires : tie.Need-new-requires Inv-loop μ-loop
+new-requires c κs = search needs
+
+-- src/main.rt:17:5
+loop-holds : tie.Need-loop-holds Inv-loop μ-loop
+loop-holds c = search needs
+
+-- src/main.rt:18:17
+cast-k : tie.Need-cast-k Inv-loop μ-loop
+cast-k c = search needs
+
+-- src/main.rt:19:44
+mul-pair : tie.Need-mul-pair Inv-loop μ-loop
+mul-pair c = search needs
+
+-- src/main.rt:19:44
+add-pair : tie.Need-add-pair Inv-loop μ-loop
+add-pair c = search needs
+
+-- src/main.rt:19:36
+pair-requires : tie.Need-pair-requires Inv-loop μ-loop
+pair-requires c κs = search needs
+
+-- src/main.rt:19:62
+mul-claim : tie.Need-mul-claim Inv-loop μ-loop
+mul-claim c = search needs
+
+-- src/main.rt:19:56
+add-claim : tie.Need-add-claim Inv-loop μ-loop
+add-claim c = search needs
+
+-- src/main.rt:19:13
+claim-requires : tie.Need-claim-requires Inv-loop μ-loop
+claim-requires c κs = search needs
+
+-- src/main.rt:21:9
+add-i : tie.Need-add-i Inv-loop μ-loop
+add-i c = search needs
+
+-- src/main.rt:17:5
+loop-less : tie.Need-loop-less Inv-loop μ-loop
+loop-less c = search needs
+
+-- src/main.rt:17:5
+loop-again : tie.Need-loop-again Inv-loop μ-loop
+loop-again c = search needs
+
+-- src/main.rt:11:1
+returns : tie.Need-returns Inv-loop μ-loop
+returns c = search needs
+
+pub pending-spec : {M : Type 1} → statement M
+pending-spec =
+    tie.close
+    (tie.spec
+    Inv-loop
+    μ-loop
+    new-requires
+    loop-holds
+    cast-k
+    mul-pair
+    add-pair
+    pair-requires
+    mul-claim
+    add-claim
+    claim-requires
+    add-i
+    loop-less
+    loop-again
+    returns)
