@@ -1,5 +1,6 @@
 // Places a claim in a nearly full table again and again, for counting instructions: 63 claims pending, each of two groups of 16; every
-// byte on standard input stands for 100 claims. Prints the sum of the starts.
+// byte on standard input stands for 100 claims, made at clock 0, or, where the first byte is 'o', at a clock past the holders' promised
+// ends. Prints the sum of the starts.
 ghost use Rattle.table.specs.Valid.{Valid};
 use rules::Table;
 
@@ -23,13 +24,13 @@ fn pending() -> Table
     t
 }
 
-fn hundred(t: Table, from: u64) -> u64
+fn hundred(t: Table, clock: u64, from: u64) -> u64
     requires { ⌜ Valid t ⌝ }
 {
     let mut sum = from;
     let mut i: u64 = 0;
     while i < 100 {
-        let r = table::claim(t, 0, pair(i, i * 5 + 1), 40);
+        let r = table::claim(t, clock, pair(i, i * 5 + 1), 40);
         sum = std::num::wrapping_add_u64(sum, r.start);
         i += 1;
     }
@@ -40,10 +41,14 @@ fn main() {
     let mut input = [0u8; 4096];
     let bytes = io::read_full(0, &mut input);
     let t = pending();
+    let mut clock: u64 = 0;
+    if input[0] == b'o' {
+        clock = 200;
+    }
     let mut sum: u64 = 0;
     let mut i: usize = 0;
     while i < bytes {
-        sum = hundred(t, sum);
+        sum = hundred(t, clock, sum);
         i += 1;
     }
     io::print_decimal(1, sum);

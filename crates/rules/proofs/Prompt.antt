@@ -8,12 +8,15 @@ use native.Mathlib.Omega.{arith}
 use Rattle.rules.specs.declared.Claim.{Claim}
 use Rattle.rules.specs.Lists.{_∈_}
 use Rattle.rules.specs.Claims.{Setting, on, at, endOf}
-use Rattle.rules.specs.Packing.{packedStart}
-use Rattle.rules.specs.Plans.{Separated}
+use Rattle.rules.specs.Order.{before}
+use Rattle.rules.specs.Packing.{packedStart, pack}
+use Rattle.rules.specs.Plans.{Separated, StartsFrom, Earliest}
 use Rattle.rules.specs.Invariants.{Settled}
 use Rattle.rules.proofs.Bools.{split}
+use Rattle.rules.proofs.Lists.{keep-i}
 use Rattle.rules.proofs.Claims.{end-wait, end-ge, end-prompt}
-use Rattle.rules.proofs.Packing.{pack-no-later}
+use Rattle.rules.proofs.Order.{before-on, before-key}
+use Rattle.rules.proofs.Packing.{pack-no-later, pack-idle}
 use Rattle.rules.proofs.Invariants.{Later}
 
 -- No holder's promised end is below t.
@@ -48,5 +51,22 @@ module _ (k : ℕ) (v u : Setting) (ps : List Claim) (settled : Settled k v ps) 
           let x = ih q (omega arith) in
           omega arith
 
+  prompt-starts : StartsFrom (u .clock) ps
+  prompt-starts w m o = start-ge (suc (at w)) w m o (omega arith)
+
+  -- What holds w up ends as w starts, at the later clock too, and is before it.
+  prompt-earliest : Earliest u ps
+  prompt-earliest w m o s l k =
+      let h = settled .blocked w m o in
+      omega (arith, h .3, end-same (h .0) (h .1), k .after (h .0) (keep-i (λ c. before c w) (first (h .0) (h .1) (h .3) (split (on (h .0)))) (h .1)) (h .2))
+    where
+      first : (c : Claim) → c ∈ ps → endOf v c ≡ at w → (on c ≡ true) ⊎ (on c ≡ false) → before c w ≡ true
+      first c i e (inl q) = before-on c w q
+      first c i e (inr q) = before-key c w (omega (arith, end-wait v c q, settled .spaced .proper c i .sane .long, settled .spaced .proper c i .sane .small))
+
+  -- Then packing at the later clock changes nothing.
+  pub prompt-still : pack u ps ≡ ps
+  prompt-still = pack-idle u ps prompt-separated prompt-starts prompt-earliest
+
   pub prompt-no-later : (w : Claim) → w ∈ ps → on w ≡ false → packedStart u ps w ≤ at w
-  prompt-no-later = pack-no-later u ps prompt-separated (λ w m o. start-ge (suc (at w)) w m o (omega arith))
+  prompt-no-later = pack-no-later u ps prompt-separated prompt-starts

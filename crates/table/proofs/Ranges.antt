@@ -24,7 +24,7 @@ use Rattle.rules.proofs.Once.{grantAll}
 use Rattle.claims.specs.Rows.{Sized, Row}
 use Rattle.claims.proofs.Sizes.{sized-later, start-small}
 use Rattle.claims.proofs.Rows.{pad-length, pad-take}
-use Rattle.table.specs.Valid.{Ranged, Valid}
+use Rattle.table.specs.Valid.{Ranged, Formed}
 
 -- ── tables and models ──
 pub model-encode : (m : Model) → model (encode m) ≡ m
@@ -34,29 +34,29 @@ model-encode m = ap (λ (l : List Claim). record { rig = m .rig; clock = m .cloc
 pub model-is : (t : Table) (m : Model) → t ≡ encode m → model t ≡ m
 model-is t m e = ap model e ∙ model-encode m
 
-pub valid-is : (t : Table) (m : Model) → t ≡ encode m → Ranged m → Valid t
-valid-is t m e r = subst Valid (sym e) (record { ranged = subst Ranged (sym (model-encode m)) r; whole = ap encode (model-encode m) })
+pub formed-is : (t : Table) (m : Model) → t ≡ encode m → Ranged m → Formed t
+formed-is t m e r = subst Formed (sym e) (record { ranged = subst Ranged (sym (model-encode m)) r; whole = ap encode (model-encode m) })
 
-module _ (t : Table) (v : Valid t) where
-  pub valid-count : length (model t .pending) ≡ t .count
-  valid-count = ap (λ (x : Table). x .count) (v .whole)
+module _ (t : Table) (v : Formed t) where
+  pub formed-count : length (model t .pending) ≡ t .count
+  formed-count = ap (λ (x : Table). x .count) (v .whole)
 
-  pub valid-claims : pad vacant (model t .pending) ≡ t .claims
-  valid-claims = ap (λ (x : Table). x .claims) (v .whole)
+  pub formed-claims : pad vacant (model t .pending) ≡ t .claims
+  formed-claims = ap (λ (x : Table). x .claims) (v .whole)
 
-  pub valid-few : t .count ≤ 64
-  valid-few = omega (arith, valid-count, v .ranged .few)
+  pub formed-few : t .count ≤ 64
+  formed-few = omega (arith, formed-count, v .ranged .few)
 
-  pub valid-length : length (t .claims) ≡ 64
-  valid-length = sym (ap length valid-claims) ∙ pad-length vacant (model t .pending) (v .ranged .few)
+  pub formed-length : length (t .claims) ≡ 64
+  formed-length = sym (ap length formed-claims) ∙ pad-length vacant (model t .pending) (v .ranged .few)
 
-  pub valid-sane : Each Sane (model t .pending)
-  valid-sane c m = v .ranged .sized c m .sane
+  pub formed-sane : Each Sane (model t .pending)
+  formed-sane c m = v .ranged .sized c m .sane
 
 -- The row of a table, at its clock or a later one.
-pub valid-row : (t : Table) (u : ℕ) → Valid t → t .clock ≤ u → u ≤ 1000000000000 → Row u (t .claims) (t .count)
-valid-row t u v l k = record {
-  few = valid-few t v;
+pub formed-row : (t : Table) (u : ℕ) → Formed t → t .clock ≤ u → u ≤ 1000000000000 → Row u (t .claims) (t .count)
+formed-row t u v l k = record {
+  few = formed-few t v;
   timely = k;
   ascending = v .ranged .ascending;
   sized = λ c m. sized-later (t .clock) u c l (v .ranged .sized c m);

@@ -1,27 +1,31 @@
 -- From the parts of a call to its outcome by the rules.
 use mathlib.Core.Path.{_≡_, refl, sym, _∙_, ap, subst}
 use mathlib.Core.Logic.{_≢_}
-use mathlib.Core.Bool.{Bool, true, false}
+use mathlib.Core.Bool.{Bool, true, false, _&&_}
 use mathlib.Core.List.{List, [], _∷_, _++_}
 use Prim.Native.Nat.{ℕ, suc, _+_, _^_, _≤_, _<_}
 use native.Mathlib.Omega.{arith}
 use native.Mathlib.Numerals.{add-one}
 use lib.ListN.{length, take, drop, set, replicate, length-map, length-append}
-use borrow.Author.Tests.{eqb-true}
+use lib.Dec.{ltb}
+use borrow.Author.Tests.{ltb-false, eqb-true}
 use Rattle.groups.specs.Groups.{empty}
 use Rattle.groups.proofs.Words.{empty-word}
 use Rattle.rules.specs.declared.Claim.{Claim}
 use Rattle.rules.specs.declared.Table.{Table}
 use Rattle.rules.specs.declared.Phase.the-variants.{Waiting}
-use Rattle.rules.specs.Claims.{Setting, withPhase}
+use Rattle.rules.specs.Lists.{any}
+use Rattle.rules.specs.Claims.{Setting, on, at, withPhase}
 use Rattle.rules.specs.Packing.{moved, packedStart, pack}
 use Rattle.rules.specs.Placing.{place}
 use Rattle.rules.specs.Granting.{granted, grant, grants}
 use Rattle.rules.specs.Calls.{Model, settingOf, Call, claim, clock, Step, unchanged, advance, finish, join, remove, fresh, admit, act, step, firstOf, tests, blank, new}
 use Rattle.rules.specs.Tables.{encode, model, pad, vacant}
-use Rattle.rules.specs.Invariants.{Still}
+use Rattle.rules.specs.Invariants.{Still, Invariant}
 use Rattle.rules.proofs.Bools.{clash}
-use Rattle.rules.proofs.Calls.{placed, new-cases}
+use Rattle.rules.proofs.Lists.{any-none}
+use Rattle.rules.proofs.Calls.{placed, new-cases, blank-invariant, step-invariant}
+use Rattle.rules.proofs.Prompt.{Prompt, prompt-still}
 use Rattle.rules.proofs.Once.{advance-still, join-still, leave-once, grantAll, finish-still}
 use Rattle.claims.specs.Rows.{Sized, rewritten}
 use Rattle.claims.proofs.Rows.{pad-over, pad-more}
@@ -32,20 +36,27 @@ use Rattle.granting.specs.declared.Granted.{Granted}
 use Rattle.granting.specs.Rows.{grantedRow}
 use Rattle.table.specs.declared.Outcome.{Outcome}
 use Rattle.table.specs.declared.Pending.{Pending}
-use Rattle.table.specs.Valid.{Valid}
-use Rattle.table.specs.Outcomes.{outcome, refusalOf, timeNumber, leaving, pendingOf, without}
-use Rattle.table.proofs.Ranges.{model-is, valid-row, valid-is, valid-count, valid-claims, valid-sane, blank-ranged, advance-ranged, remove-ranged, join-ranged, grant-ranged}
+use Rattle.table.specs.Valid.{Formed, Valid}
+use Rattle.table.specs.Outcomes.{outcome, refusalOf, timeNumber, pastEnd, leaving, pendingOf, without}
+use Rattle.table.proofs.Ranges.{model-is, formed-row, formed-is, formed-count, formed-claims, formed-sane, blank-ranged, advance-ranged, remove-ranged, join-ranged, grant-ranged}
 use Rattle.table.proofs.Tests.{timed-passes, step-refused, step-accepted}
 
 -- ── refusals ──
-pub refusal-is : (t : Table) (n : ℕ) → Valid t → refusalOf t n ≡ outcome (unchanged (model t) n)
+pub refusal-is : (t : Table) (n : ℕ) → Formed t → refusalOf t n ≡ outcome (unchanged (model t) n)
 unfolding pad
 refusal-is t n v = ap (λ (x : Table). refusalOf x n) (sym (v .whole))
 
 -- A call that the rules refuse with n.
 pub refused : (t : Table) (c : Call) (n : ℕ) (r : Outcome) → Valid t → r ≡ refusalOf t n → firstOf (tests (model t) c) ≡ n → n ≢ 0 → (r ≡ outcome (step (model t) c)) × Valid (r .table)
 refused t c n r v e f z =
-    (e ∙ refusal-is t n v ∙ ap outcome (sym (step-refused (model t) c n f z)), subst Valid (sym (ap (λ (x : Outcome). x .table) e)) v)
+    (e ∙ refusal-is t n (v .formed) ∙ ap outcome (sym (step-refused (model t) c n f z)), subst Valid (sym (ap (λ (x : Outcome). x .table) e)) v)
+
+-- A call keeps tables valid.
+pub kept-valid : (t : Table) (c : Call) (r : Outcome) → Valid t → r ≡ outcome (step (model t) c) → Formed (r .table) → Valid (r .table)
+kept-valid t c r v e f = record {
+  formed = f;
+  settled = subst Invariant (sym (model-is (r .table) (step (model t) c .model) (ap (λ (x : Outcome). x .table) e))) (step-invariant (model t) c (v .settled));
+}
 
 -- ── new ──
 -- The table that the code makes for a rig.
@@ -55,8 +66,11 @@ emptyTable g = record { rig = g; clock = 0; issued = 0; count = 0; claims = repl
 opened : (g n : ℕ) (r : Outcome) → r ≡ refusalOf (emptyTable g) n → (r ≡ outcome (unchanged (blank g) n)) × Valid (r .table)
 unfolding pad
 opened g n r e =
-    let v = valid-is (emptyTable g) (blank g) refl (blank-ranged g) in
-    (e ∙ refusal-is (emptyTable g) n v ∙ ap (λ (m : Model). outcome (unchanged m n)) (model-is (emptyTable g) (blank g) refl), subst Valid (sym (ap (λ (x : Outcome). x .table) e)) v)
+    let f = formed-is (emptyTable g) (blank g) refl (blank-ranged g) in
+    let m = model-is (emptyTable g) (blank g) refl in (
+      e ∙ refusal-is (emptyTable g) n f ∙ ap (λ (m : Model). outcome (unchanged m n)) m,
+      subst Valid (sym (ap (λ (x : Outcome). x .table) e)) (record { formed = f; settled = subst Invariant (sym m) (blank-invariant g) }),
+    )
 
 -- A rig of 64 bits without groups is 0.
 pub new-dark : (g : ℕ) (r : Outcome) → g < 2 ^ 64 → true ≡ empty g → r ≡ refusalOf (emptyTable g) 1 → (r ≡ outcome (new g)) × Valid (r .table)
@@ -74,20 +88,20 @@ unfolding pack
 pack-length v ps = length-map ps (moved (packedStart v ps))
 
 -- A table with other claims in its row, as many as before.
-rewritten-is : (t : Table) → Valid t → (f : List Claim → List Claim) → length (f (model t .pending)) ≡ length (model t .pending) → rewritten f (t .claims) (t .count) ≡ pad vacant (f (model t .pending))
+rewritten-is : (t : Table) → Formed t → (f : List Claim → List Claim) → length (f (model t .pending)) ≡ length (model t .pending) → rewritten f (t .claims) (t .count) ≡ pad vacant (f (model t .pending))
 rewritten-is t v f e =
-    ap (λ (l : List Claim). f (model t .pending) ++ drop (t .count) l) (sym (valid-claims t v))
-    ∙ ap (λ (n : ℕ). f (model t .pending) ++ drop n (pad vacant (model t .pending))) (sym (valid-count t v))
+    ap (λ (l : List Claim). f (model t .pending) ++ drop (t .count) l) (sym (formed-claims t v))
+    ∙ ap (λ (n : ℕ). f (model t .pending) ++ drop n (pad vacant (model t .pending))) (sym (formed-count t v))
     ∙ pad-over vacant (model t .pending) (f (model t .pending)) e
 
-pub advanced-is : (t : Table) (u : ℕ) (l : List Claim) → Valid t → t .clock ≤ u → u ≤ 1000000000000 → l ≡ rewritten (pack (record { clock = u })) (t .claims) (t .count)
+pub advanced-is : (t : Table) (u : ℕ) (l : List Claim) → Formed t → t .clock ≤ u → u ≤ 1000000000000 → l ≡ rewritten (pack (record { clock = u })) (t .claims) (t .count)
     → (r : Table) → r ≡ record { rig = t .rig; clock = u; issued = t .issued; count = t .count; claims = l }
-    → (r ≡ encode (advance (model t) u)) × Valid r × Still (model r)
+    → (r ≡ encode (advance (model t) u)) × Formed r × Still (model r)
 unfolding advance
 advanced-is t u l v a b e r q = (
   is,
-  valid-is r (advance (model t) u) is (advance-ranged (model t) u (v .ranged) a b),
-  subst Still (sym (model-is r (advance (model t) u) is)) (advance-still (model t) u (valid-sane t v) (v .ranged .ascending)),
+  formed-is r (advance (model t) u) is (advance-ranged (model t) u (v .ranged) a b),
+  subst Still (sym (model-is r (advance (model t) u) is)) (advance-still (model t) u (formed-sane t v) (v .ranged .ascending)),
 )
   where
     ps : List Claim
@@ -98,13 +112,30 @@ advanced-is t u l v a b e r q = (
         q ∙ ap (λ (x : List Claim). record { rig = t .rig; clock = u; issued = t .issued; count = t .count; claims = x })
         (e ∙ rewritten-is t v (pack (record { clock = u })) (pack-length (record { clock = u }) (model t .pending)))
         ∙ ap (λ (n : ℕ). record { rig = t .rig; clock = u; issued = t .issued; count = n; claims = pad vacant (pack (record { clock = u }) (model t .pending)) })
-        (sym (valid-count t v) ∙ sym (pack-length (record { clock = u }) (model t .pending)))
+        (sym (formed-count t v) ∙ sym (pack-length (record { clock = u }) (model t .pending)))
+
+-- While nobody overruns, setting the clock is all there is to do.
+pub prompt-is : (t : Table) (u : ℕ) → Valid t → t .clock ≤ u → u ≤ 1000000000000 → any (pastEnd u) (take (t .count) (t .claims)) ≡ false
+    → (r : Table) → r ≡ record { rig = t .rig; clock = u; issued = t .issued; count = t .count; claims = t .claims }
+    → (r ≡ encode (advance (model t) u)) × Formed r × Still (model r)
+prompt-is t u v a b none r q =
+    advanced-is t u (t .claims) (v .formed) a b
+    (sym (rewritten-is t (v .formed) (pack (record { clock = u })) (pack-length (record { clock = u }) (model t .pending)) ∙ ap (pad vacant) still ∙ formed-claims t (v .formed))) r q
+  where
+    prompt : Prompt u (model t .pending)
+    prompt c m o = ltb-false (at c + c .length) u (after-on c o (any-none (pastEnd u) none m))
+      where
+        after-on : (c : Claim) → on c ≡ true → (on c && ltb (at c + c .length) u) ≡ false → ltb (at c + c .length) u ≡ false
+        after-on c o e = rw o at e
+
+    still : pack (record { clock = u }) (model t .pending) ≡ model t .pending
+    still = prompt-still (t .issued) (settingOf (model t)) (record { clock = u }) (model t .pending) (v .settled) (record { later = a }) prompt
 
 -- As many claims, and as many tickets.
-pub advanced-counts : (t : Table) (u : ℕ) (r : Table) → Valid t → r ≡ encode (advance (model t) u) → (r .count ≡ t .count) × (r .issued ≡ t .issued)
+pub advanced-counts : (t : Table) (u : ℕ) (r : Table) → Formed t → r ≡ encode (advance (model t) u) → (r .count ≡ t .count) × (r .issued ≡ t .issued)
 unfolding advance
 advanced-counts t u r v e =
-    (ap (λ (x : Table). x .count) e ∙ pack-length (record { clock = u }) (model t .pending) ∙ valid-count t v, ap (λ (x : Table). x .issued) e)
+    (ap (λ (x : Table). x .count) e ∙ pack-length (record { clock = u }) (model t .pending) ∙ formed-count t v, ap (λ (x : Table). x .issued) e)
 
 -- ── granting ──
 grant-length : (v : Setting) (ps : List Claim) → length (grant v ps) ≡ length ps
@@ -125,9 +156,9 @@ finishedWith t g k s n b =
       grants = g .tickets;
     }
 
-pub finished-is : (t : Table) (g : Granted) (k s n b : ℕ) (r : Outcome) → Valid t → Still (model t) → g ≡ grantedRow (t .clock) (t .claims) (t .count) → r ≡ finishedWith t g k s n b
-    → (r ≡ outcome (finish (model t) k s n b)) × Valid (r .table)
-finished-is t g k s n b r v st e q = (is, valid-is (r .table) (grantAll (model t) k s n b .model) (ap (λ (x : Outcome). x .table) is′) (grant-ranged (model t) k s n b (v .ranged)))
+pub finished-is : (t : Table) (g : Granted) (k s n b : ℕ) (r : Outcome) → Formed t → Still (model t) → g ≡ grantedRow (t .clock) (t .claims) (t .count) → r ≡ finishedWith t g k s n b
+    → (r ≡ outcome (finish (model t) k s n b)) × Formed (r .table)
+finished-is t g k s n b r v st e q = (is, formed-is (r .table) (grantAll (model t) k s n b .model) (ap (λ (x : Outcome). x .table) is′) (grant-ranged (model t) k s n b (v .ranged)))
   where
     ps : List Claim
     ps = grant (settingOf (model t)) (model t .pending)
@@ -149,17 +180,17 @@ finished-is t g k s n b r v st e q = (is, valid-is (r .table) (grantAll (model t
     is′ =
         q ∙ ap (λ (x : Granted). finishedWith t x k s n b) e
         ∙ ap (λ (l : List Claim). put l (t .count)) (rewritten-is t v (grant (settingOf (model t))) (grant-length (settingOf (model t)) (model t .pending)))
-        ∙ ap (λ (c : ℕ). put (pad vacant (grant (settingOf (model t)) (model t .pending))) c) (sym (valid-count t v) ∙ sym (grant-length (settingOf (model t)) (model t .pending)))
+        ∙ ap (λ (c : ℕ). put (pad vacant (grant (settingOf (model t)) (model t .pending))) c) (sym (formed-count t v) ∙ sym (grant-length (settingOf (model t)) (model t .pending)))
 
     is : r ≡ outcome (finish (model t) k s n b)
     is = is′ ∙ ap outcome (sym (finish-still (model t) k s n b st))
 
 -- ── fewer claims, and one more ──
-pub removed-is : (t : Table) (k : ℕ) (p : Pending) (r : Table) → Valid t → p ≡ pendingOf (without k (take (t .count) (t .claims)))
+pub removed-is : (t : Table) (k : ℕ) (p : Pending) (r : Table) → Formed t → p ≡ pendingOf (without k (take (t .count) (t .claims)))
     → r ≡ record { rig = t .rig; clock = t .clock; issued = t .issued; count = p .count; claims = p .claims }
-    → (r ≡ encode (remove (model t) k)) × Valid r
+    → (r ≡ encode (remove (model t) k)) × Formed r
 unfolding remove
-removed-is t k p r v e q = (is, valid-is r (remove (model t) k) is (remove-ranged (model t) k (v .ranged)))
+removed-is t k p r v e q = (is, formed-is r (remove (model t) k) is (remove-ranged (model t) k (v .ranged)))
   where
     is : r ≡ encode (remove (model t) k)
     is = q ∙ ap (λ (x : Pending). record { rig = t .rig; clock = t .clock; issued = t .issued; count = x .count; claims = x .claims }) e
@@ -168,25 +199,25 @@ pub removed-clock : (t : Table) (k u : ℕ) (r : Table) → r ≡ encode (remove
 unfolding remove
 removed-clock t k u r e h = omega (arith, ap (λ (x : Table). x .clock) e)
 
-pub joined-is : (t : Table) (w : Claim) (r : Table) → Valid t → t .count < 64 → t .issued < 65535 → Sized (t .clock) w → w .ticket ≡ t .issued + 1
+pub joined-is : (t : Table) (w : Claim) (r : Table) → Formed t → t .count < 64 → t .issued < 65535 → Sized (t .clock) w → w .ticket ≡ t .issued + 1
     → r ≡ record { rig = t .rig; clock = t .clock; issued = t .issued + 1; count = t .count + 1; claims = set (t .claims) (t .count) w }
-    → (r ≡ encode (join (model t) w)) × Valid r
+    → (r ≡ encode (join (model t) w)) × Formed r
 unfolding join
-joined-is t w r v c i s e q = (is, valid-is r (join (model t) w) is (join-ranged (model t) w (v .ranged) (omega (arith, valid-count t v)) i s (e ∙ add-one (t .issued))))
+joined-is t w r v c i s e q = (is, formed-is r (join (model t) w) is (join-ranged (model t) w (v .ranged) (omega (arith, formed-count t v)) i s (e ∙ add-one (t .issued))))
   where
     put : ℕ → ℕ → List Claim → Table
     put i c l = record { rig = t .rig; clock = t .clock; issued = i; count = c; claims = l }
 
     more : set (t .claims) (t .count) w ≡ pad vacant (model t .pending ++ (w ∷ []))
     more =
-        ap (λ (l : List Claim). set l (t .count) w) (sym (valid-claims t v)) ∙ ap (λ (n : ℕ). set (pad vacant (model t .pending)) n w) (sym (valid-count t v))
-        ∙ pad-more vacant (model t .pending) w (omega (arith, valid-count t v))
+        ap (λ (l : List Claim). set l (t .count) w) (sym (formed-claims t v)) ∙ ap (λ (n : ℕ). set (pad vacant (model t .pending)) n w) (sym (formed-count t v))
+        ∙ pad-more vacant (model t .pending) w (omega (arith, formed-count t v))
 
     is : r ≡ encode (join (model t) w)
     is =
         q ∙ ap (put (t .issued + 1) (t .count + 1)) more
         ∙ ap (λ (n : ℕ). put n (t .count + 1) (pad vacant (model t .pending ++ (w ∷ [])))) (add-one (t .issued))
-        ∙ ap (λ (n : ℕ). put (suc (t .issued)) n (pad vacant (model t .pending ++ (w ∷ [])))) (omega (arith, valid-count t v, length-append (model t .pending) (w ∷ [])))
+        ∙ ap (λ (n : ℕ). put (suc (t .issued)) n (pad vacant (model t .pending ++ (w ∷ [])))) (omega (arith, formed-count t v, length-append (model t .pending) (w ∷ [])))
 
 -- ── the calls, accepted ──
 claim-act : (m : Model) (t g n : ℕ) → admit (advance m t) g n ≡ act m (claim t g n)
@@ -208,11 +239,11 @@ unfolding tests act firstOf
 clock-is t x n u r e z q f =
     finish-of u (advance (model t) x) 0 x 0 0 r q f ∙ ap outcome (sym (step-accepted (model t) (clock x) (timed-passes (model t) x n [] e z)))
 
-pub leave-is : (t : Table) (b : Bool) (x k : ℕ) (rest u : Table) (r : Outcome) → Valid t → firstOf (tests (model t) (leaving b x k)) ≡ 0 → rest ≡ encode (remove (model t) k) → u ≡ encode (advance (model rest) x)
+pub leave-is : (t : Table) (b : Bool) (x k : ℕ) (rest u : Table) (r : Outcome) → Formed t → firstOf (tests (model t) (leaving b x k)) ≡ 0 → rest ≡ encode (remove (model t) k) → u ≡ encode (advance (model rest) x)
     → r ≡ outcome (finish (model u) k x 0 0) → r ≡ outcome (step (model t) (leaving b x k))
 leave-is t b x k rest u r v z p q f =
     finish-of u (advance (remove (model t) k) x) k x 0 0 r (q ∙ ap (λ (m : Model). encode (advance m x)) (model-is rest (remove (model t) k) p)) f
-    ∙ ap outcome (sym (leave-once (model t) x k k x 0 0 (valid-sane t v) (v .ranged .ascending)) ∙ leave-act (model t) b x k ∙ sym (step-accepted (model t) (leaving b x k) z))
+    ∙ ap outcome (sym (leave-once (model t) x k k x 0 0 (formed-sane t v) (v .ranged .ascending)) ∙ leave-act (model t) b x k ∙ sym (step-accepted (model t) (leaving b x k) z))
 
 -- A new claim with its ticket as the code counts it.
 abbrev pub asked : Table → ℕ → ℕ → Claim
@@ -225,17 +256,17 @@ pub asked-sized : (t : Table) (g n : ℕ) → t .issued < 65535 → 1 ≤ n → 
 asked-sized t g n i l h k = record { sane = record { long = l; small = omega arith }; short = h; aged = λ o. clash o refl; planned = λ o. omega arith }
 
 -- At its planned start it is in range still.
-pub placed-sized : (t : Table) (g n s : ℕ) → Valid t → t .issued < 65535 → 1 ≤ n → n ≤ 3600000 → s ≡ place (settingOf (model t)) (model t .pending) (asked t g n) → Sized (t .clock) (withPhase (asked t g n) (Waiting s))
+pub placed-sized : (t : Table) (g n s : ℕ) → Formed t → t .issued < 65535 → 1 ≤ n → n ≤ 3600000 → s ≡ place (settingOf (model t)) (model t .pending) (asked t g n) → Sized (t .clock) (withPhase (asked t g n) (Waiting s))
 placed-sized t g n s v i l h e =
-    record { sane = record { long = l; small = omega arith }; short = h; aged = λ o. clash o refl; planned = λ o. omega (arith, place-small (t .clock) (t .claims) (t .count) (asked t g n) (valid-row t (t .clock) v (omega arith) (v .ranged .timely)) (asked-sized t g n i l h (v .ranged .timely))) }
+    record { sane = record { long = l; small = omega arith }; short = h; aged = λ o. clash o refl; planned = λ o. omega (arith, place-small (t .clock) (t .claims) (t .count) (asked t g n) (formed-row t (t .clock) v (omega arith) (v .ranged .timely)) (asked-sized t g n i l h (v .ranged .timely))) }
 
 placed-is : (t : Table) (g n s : ℕ) → s ≡ place (settingOf (model t)) (model t .pending) (asked t g n) → withPhase (asked t g n) (Waiting s) ≡ placed (model t) g n
 placed-is t g n s e = cc (e, asked-is t g n)
 
-pub placed-still : (t : Table) (g n s : ℕ) (u : Table) → Valid t → Still (model t) → t .issued < 65535 → 1 ≤ n → s ≡ place (settingOf (model t)) (model t .pending) (asked t g n)
+pub placed-still : (t : Table) (g n s : ℕ) (u : Table) → Formed t → Still (model t) → t .issued < 65535 → 1 ≤ n → s ≡ place (settingOf (model t)) (model t .pending) (asked t g n)
     → u ≡ encode (join (model t) (withPhase (asked t g n) (Waiting s))) → Still (model u)
 placed-still t g n s u v st i l e q =
-    subst Still (sym (model-is u _ q ∙ ap (join (model t)) (placed-is t g n s e))) (join-still (model t) g n l i (valid-sane t v) (v .ranged .ascending) st)
+    subst Still (sym (model-is u _ q ∙ ap (join (model t)) (placed-is t g n s e))) (join-still (model t) g n l i (formed-sane t v) (v .ranged .ascending) st)
 
 pub admitted-is : (t : Table) (g n s : ℕ) (k : Contention) (u : Table) (r : Outcome) → s ≡ place (settingOf (model t)) (model t .pending) (asked t g n)
     → k ≡ contentionOf (settingOf (model t)) (model t .pending) (asked t g n) → u ≡ encode (join (model t) (withPhase (asked t g n) (Waiting s)))

@@ -1,7 +1,7 @@
 -- What the calls hand back, by the rules.
-use mathlib.Core.Bool.{Bool, true, false, not, cond}
+use mathlib.Core.Bool.{Bool, true, false, not, _&&_, cond}
 use mathlib.Core.List.{List}
-use Prim.Native.Nat.{ℕ, zero, suc}
+use Prim.Native.Nat.{ℕ, zero, suc, _+_}
 use lib.Dec.{ltb}
 use lib.ListN.{length, replicate}
 use Rattle.rules.specs.declared.Claim.{Claim}
@@ -9,6 +9,7 @@ use Rattle.rules.specs.declared.Table.{Table}
 use Rattle.rules.specs.Calls as rules
 use Rattle.rules.specs.Calls.{Call, release, withdraw, Step, named}
 use Rattle.rules.specs.Lists.{keep}
+use Rattle.rules.specs.Claims.{on, at}
 use Rattle.rules.specs.Tables.{encode, pad, vacant}
 use Rattle.table.specs.declared.Outcome.{Outcome}
 use Rattle.table.specs.declared.Pending.{Pending}
@@ -49,6 +50,10 @@ numberOf (Holds e) = 0
 -- ── the tests 5 and 4, and those of a release and a withdrawal ──
 unfoldable pub timeNumber : ℕ → ℕ → ℕ
 timeNumber now t = cond (ltb 1000000000000 t) 5 (cond (ltb t now) 4 0)
+
+-- c is on, and its promised end is below the clock t.
+abbrev pub pastEnd : ℕ → Claim → Bool
+pastEnd t c = on c && ltb (at c + c .length) t
 
 abbrev pub phaseNumber : Bool → Standing → ℕ
 phaseNumber b NotPending = 8

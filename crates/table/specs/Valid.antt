@@ -1,4 +1,4 @@
--- A table that the calls make and take: ranges of numbers and the array's form. `new` gives it and every call keeps it.
+-- A table that the calls make and take. `new` gives a valid one and every call keeps it so.
 use mathlib.Core.Path.{_≡_}
 use Prim.Native.Nat.{_≤_}
 use lib.ListN.{length}
@@ -7,6 +7,7 @@ use Rattle.rules.specs.declared.Table.{Table}
 use Rattle.rules.specs.Lists.{_∈_}
 use Rattle.rules.specs.Calls.{Model}
 use Rattle.rules.specs.Plans.{Ascending}
+use Rattle.rules.specs.Invariants.{Invariant}
 use Rattle.rules.specs.Tables.{encode, model}
 use Rattle.claims.specs.Rows.{Sized}
 
@@ -19,7 +20,12 @@ pub record Ranged (m : Model) : Type 0 where
   pub sized : (c : Claim) → c ∈ m .pending → Sized (m .clock) c
   pub issued : (c : Claim) → c ∈ m .pending → c .ticket ≤ m .issued
 
-pub record Valid (t : Table) : Type 0 where
+-- A table as it stands inside a call: in range, and every place behind the claims vacant.
+pub record Formed (t : Table) : Type 0 where
   pub ranged : Ranged (model t)
-  -- Every place behind the claims is vacant.
   pub whole : encode (model t) ≡ t
+
+-- A table between calls: what rules/specs/Invariants says of it holds too.
+pub record Valid (t : Table) : Type 0 where
+  pub formed : Formed t
+  pub settled : Invariant (model t)

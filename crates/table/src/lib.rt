@@ -1,5 +1,6 @@
 // The claims table: new, claim, release, withdraw, clock, lookup. Each call takes a table by value and hands one back with its answer;
-// each packs once. A call with n claims pending costs at most n²/2 tests of two words to pack, the search of a claim n² more.
+// each packs once at most: a claim and a clock call only where a holder overruns. Packing n claims costs at most n² tests of two words,
+// the search for a claim's start n² more, and everything else a few passes.
 ghost use mathlib.Core.Path.{_≡_};
 ghost use Prim.Native.Nat.{_+_, _≤_, _<_};
 ghost use lib.ListN.{take};
@@ -7,9 +8,10 @@ ghost use Rattle.rules.specs.Claims.{at};
 ghost use Rattle.rules.specs.Calls.{Call, step, firstOf, tests, advance, finish, remove, join, admit, new, standing, standingOf};
 ghost use Rattle.rules.specs.Tables.{encode, model};
 ghost use Rattle.rules.specs.Invariants.{Still};
-ghost use Rattle.claims.specs.Rows.{Sized};
-ghost use Rattle.table.specs.Valid.{Valid};
-ghost use Rattle.table.specs.Outcomes.{outcome, refusalOf, standingIn, numberOf, timeNumber, phaseNumber, leaving, pendingOf, without};
+ghost use Rattle.rules.specs.Lists.{any};
+ghost use Rattle.claims.specs.Rows.{Sized, Row};
+ghost use Rattle.table.specs.Valid.{Formed, Valid};
+ghost use Rattle.table.specs.Outcomes.{outcome, refusalOf, standingIn, numberOf, timeNumber, pastEnd, phaseNumber, leaving, pendingOf, without};
 use rules::Claim;
 use rules::Phase;
 use rules::Table;
@@ -121,8 +123,8 @@ fn time_number(now: u64, clock: u64) -> u8
 
 // Sets the clock and packs.
 fn advanced(t: Table, clock: u64) -> Table
-    requires { ⌜ Valid t × (t .clock ≤ clock) × (clock ≤ 1000000000000) ⌝ }
-    ensures { λ r. ⌜ (r ≡ encode (advance (model t) clock)) × Valid r × Still (model r) ⌝ }
+    requires { ⌜ Formed t × (t .clock ≤ clock) × (clock ≤ 1000000000000) ⌝ }
+    ensures { λ r. ⌜ (r ≡ encode (advance (model t) clock)) × Formed r × Still (model r) ⌝ }
 {
     let count = t.count;
     let old = t.claims;
@@ -136,10 +138,56 @@ fn advanced(t: Table, clock: u64) -> Table
     }
 }
 
+// Whether a claim is on with its promised end below the clock.
+fn overruns(clock: u64, c: Claim) -> bool
+    requires { ⌜ at c ≤ 1000000000000000000 ⌝ }
+    ensures { λ r. ⌜ r ≡ pastEnd clock c ⌝ }
+{
+    if claims::is_on(c) {
+        let n = claims::wide(c.length);
+        return claims::start_or_grant(c) + n < clock;
+    }
+    false
+}
+
+// Whether any of the claims overruns at the clock. Cost: one pass at most.
+fn any_overrun(row: [Claim; 64], count: usize, clock: u64) -> bool
+    requires { ⌜ Row clock row count ⌝ }
+    ensures { λ r. ⌜ r ≡ any (pastEnd clock) (take count row) ⌝ }
+{
+    let mut i: usize = 0;
+    while i < count {
+        let c = row[i];
+        if overruns(clock, c) {
+            return true;
+        }
+        i += 1;
+    }
+    false
+}
+
+// Sets the clock of a table between calls. While nobody overruns, packing would change nothing.
+fn at_clock(t: Table, clock: u64) -> Table
+    requires { ⌜ Valid t × (t .clock ≤ clock) × (clock ≤ 1000000000000) ⌝ }
+    ensures { λ r. ⌜ (r ≡ encode (advance (model t) clock)) × Formed r × Still (model r) ⌝ }
+{
+    let row = t.claims;
+    if any_overrun(row, t.count, clock) {
+        return advanced(t, clock);
+    }
+    Table {
+        rig: t.rig,
+        clock: clock,
+        issued: t.issued,
+        count: t.count,
+        claims: row,
+    }
+}
+
 // Grants in a table where packing again would change nothing, and answers.
 fn finished(t: Table, ticket: u16, start: u64, contention: u64, bound: u64) -> Outcome
-    requires { ⌜ Valid t × Still (model t) ⌝ }
-    ensures { λ r. ⌜ (r ≡ outcome (finish (model t) ticket start contention bound)) × Valid (r .table) ⌝ }
+    requires { ⌜ Formed t × Still (model t) ⌝ }
+    ensures { λ r. ⌜ (r ≡ outcome (finish (model t) ticket start contention bound)) × Formed (r .table) ⌝ }
 {
     let count = t.count;
     let clock = t.clock;
@@ -177,7 +225,7 @@ pub fn clock(t: Table, clock: u64) -> Outcome
     if n != 0 {
         return refusal(t, n);
     }
-    let u = advanced(t, clock);
+    let u = at_clock(t, clock);
     finished(u, 0, clock, 0, 0)
 }
 
@@ -229,8 +277,8 @@ fn others(old: [Claim; 64], count: usize, ticket: u16) -> Pending
 }
 
 fn removed(t: Table, ticket: u16) -> Table
-    requires { ⌜ Valid t ⌝ }
-    ensures { λ r. ⌜ (r ≡ encode (remove (model t) ticket)) × Valid r ⌝ }
+    requires { ⌜ Formed t ⌝ }
+    ensures { λ r. ⌜ (r ≡ encode (remove (model t) ticket)) × Formed r ⌝ }
 {
     let old = t.claims;
     let rest = others(old, t.count, ticket);
@@ -282,7 +330,7 @@ pub fn withdraw(t: Table, clock: u64, ticket: u16) -> Outcome
 
 // The first of its tests that a claim fails, or 0.
 fn claim_number(t: Table, clock: u64, groups: u64, length: u32) -> u8
-    requires { ⌜ Valid t ⌝ }
+    requires { ⌜ Formed t ⌝ }
     ensures { λ r. ⌜ r ≡ firstOf (tests (model t) (Call.claim clock groups length)) ⌝ }
 {
     let timing = time_number(t.clock, clock);
@@ -312,8 +360,8 @@ fn claim_number(t: Table, clock: u64, groups: u64, length: u32) -> u8
 
 // The table with one claim more.
 fn joined(t: Table, w: Claim) -> Table
-    requires { ⌜ Valid t × (t .count < 64) × (t .issued < 65535) × Sized (t .clock) w × (w .ticket ≡ t .issued + 1) ⌝ }
-    ensures { λ r. ⌜ (r ≡ encode (join (model t) w)) × Valid r ⌝ }
+    requires { ⌜ Formed t × (t .count < 64) × (t .issued < 65535) × Sized (t .clock) w × (w .ticket ≡ t .issued + 1) ⌝ }
+    ensures { λ r. ⌜ (r ≡ encode (join (model t) w)) × Formed r ⌝ }
 {
     let count = t.count;
     let mut claims = t.claims;
@@ -329,8 +377,8 @@ fn joined(t: Table, w: Claim) -> Table
 
 // A claim that no test refuses, in a table that is packed.
 fn admitted(t: Table, groups: u64, length: u32) -> Outcome
-    requires { ⌜ Valid t × Still (model t) × (t .count < 64) × (t .issued < 65535) × (1 ≤ length) × (length ≤ 3600000) ⌝ }
-    ensures { λ r. ⌜ (r ≡ outcome (admit (model t) groups length)) × Valid (r .table) ⌝ }
+    requires { ⌜ Formed t × Still (model t) × (t .count < 64) × (t .issued < 65535) × (1 ≤ length) × (length ≤ 3600000) ⌝ }
+    ensures { λ r. ⌜ (r ≡ outcome (admit (model t) groups length)) × Formed (r .table) ⌝ }
 {
     let clock = t.clock;
     let ticket = t.issued + 1;
@@ -356,6 +404,6 @@ pub fn claim(t: Table, clock: u64, groups: u64, length: u32) -> Outcome
     if number != 0 {
         return refusal(t, number);
     }
-    let u = advanced(t, clock);
+    let u = at_clock(t, clock);
     admitted(u, groups, length)
 }

@@ -1,5 +1,5 @@
 use mathlib.Core.Path.{refl}
-use Rattle.table.proofs.Ranges.{valid-row}
+use Rattle.table.proofs.Ranges.{formed-row}
 use Rattle.table.proofs.Steps.{advanced-is}
 use Rattle.table.proofs.advanced.Statement.{statement}
 use Rattle.table.proofs.advanced.Tie as tie
@@ -10,7 +10,7 @@ use Rattle.packing.proofs.pack.Reads as pack-reads
 pack-requires : tie.Need-pack-requires
 pack-requires c κs =
     let b = c .before in
-    valid-row (b .args .t) (b .args .clock) (b .pre .0) (b .pre .1) (b .pre .2)
+    formed-row (b .args .t) (b .args .clock) (b .pre .0) (b .pre .1) (b .pre .2)
 
 returns : tie.Need-returns
 returns c =

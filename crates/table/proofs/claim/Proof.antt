@@ -3,15 +3,15 @@ use native.Mathlib.Omega.{arith}
 use Rattle.rules.specs.Calls.{Call}
 use Rattle.rules.specs.Tables.{model}
 use Rattle.rules.proofs.Calls.{admissible}
-use Rattle.table.proofs.Ranges.{valid-count}
-use Rattle.table.proofs.Steps.{refused, advanced-counts, claim-is}
+use Rattle.table.proofs.Ranges.{formed-count}
+use Rattle.table.proofs.Steps.{refused, kept-valid, advanced-counts, claim-is}
 use borrow.Author.Needs.{needs}
 use Rattle.table.proofs.claim.Statement.{statement}
 use Rattle.table.proofs.claim.Tie as tie
 use Rattle.table.proofs.claim.Reads as reads
 use Rattle.table.proofs.claim.Lts as lts
 use Rattle.table.proofs.admitted.Reads as admitted-reads
-use Rattle.table.proofs.advanced.Reads as advanced-reads
+use Rattle.table.proofs.at_clock.Reads as at-clock-reads
 use Rattle.table.proofs.claim_number.Reads as claim-number-reads
 use Rattle.table.proofs.refusal.Reads as refusal-reads
 
@@ -32,8 +32,8 @@ returns c =
     refused (a .t) (Call.claim (a .clock) (a .groups) (a .length)) _ _ (b .pre) (c .refusal .ensures) (sym (n .claim-number .ensures)) (c .before .if1 .taken)
 
 -- src/lib.rt:341:9
-advanced-requires : tie.Need-advanced-requires
-advanced-requires c κs =
+at-clock-requires : tie.Need-at-clock-requires
+at-clock-requires c κs =
     let n = c .before in
     let b = n .before in
     let a = b .args in
@@ -47,8 +47,8 @@ admitted-requires c κs =
     let b = n .before in
     let a = b .args in
     let h = admissible (model (a .t)) (a .clock) (a .groups) (a .length) (sym (n .claim-number .ensures) ∙ c .before .if1 .left) in
-    let k = advanced-counts (a .t) (a .clock) _ (b .pre) (c .advanced .ensures .0) in
-    (c .advanced .ensures .1, c .advanced .ensures .2, omega (arith, k .0, h .room, valid-count (a .t) (b .pre)), omega (arith, k .1, h .spare), h .long, h .short)
+    let k = advanced-counts (a .t) (a .clock) _ (b .pre .formed) (c .at-clock .ensures .0) in
+    (c .at-clock .ensures .1, c .at-clock .ensures .2, omega (arith, k .0, h .room, formed-count (a .t) (b .pre .formed)), omega (arith, k .1, h .spare), h .long, h .short)
 
 -- src/lib.rt:333:1
 returns-2 : tie.Need-returns-2
@@ -57,7 +57,8 @@ returns-2 c =
     let n = u .before .before in
     let b = n .before in
     let a = b .args in
-    (claim-is (a .t) (a .clock) (a .groups) (a .length) _ _ _ (n .claim-number .ensures) (u .before .if1 .left) (u .advanced .ensures .0) (c .admitted .ensures .0), c .admitted .ensures .1)
+    let e = claim-is (a .t) (a .clock) (a .groups) (a .length) _ _ _ (n .claim-number .ensures) (u .before .if1 .left) (u .at-clock .ensures .0) (c .admitted .ensures .0) in
+    (e, kept-valid (a .t) (Call.claim (a .clock) (a .groups) (a .length)) _ (b .pre) e (c .admitted .ensures .1))
 
 pub claim-spec : {M : Type 1} → statement M
 claim-spec =
@@ -66,6 +67,6 @@ claim-spec =
     claim-number-requires
     refusal-requires
     returns
-    advanced-requires
+    at-clock-requires
     admitted-requires
     returns-2)

@@ -2,7 +2,7 @@ use mathlib.Core.Path.{sym, _∙_}
 use native.Mathlib.Omega.{arith}
 use borrow.Author.Tests.{not-true, not-false}
 use Rattle.rules.specs.Tables.{model}
-use Rattle.table.proofs.Ranges.{valid-count}
+use Rattle.table.proofs.Ranges.{formed-count}
 use Rattle.table.proofs.Tests.{claim-timed, claim-dark, claim-off-rig, claim-no-length, claim-too-long, claim-full, claim-ticketless, claim-passes}
 use borrow.Author.Needs.{needs}
 use Rattle.table.proofs.claim_number.Statement.{statement}
@@ -81,7 +81,7 @@ returns-6 c =
     let n = m .before .before in
     let a = n .before .args in
     claim-full (model (a .t)) (a .clock) (a .groups) (a .length) _ (n .time-number .ensures) (m .before .if1 .left) (sym (m .empty .ensures) ∙ i .before .if2 .left)
-    (sym (i .within .ensures) ∙ not-false _ (b .if3 .left)) (c .before .before .before .if4 .left) (c .before .before .if5 .left) (omega (arith, valid-count (a .t) (n .before .pre)))
+    (sym (i .within .ensures) ∙ not-false _ (b .if3 .left)) (c .before .before .before .if4 .left) (c .before .before .if5 .left) (omega (arith, formed-count (a .t) (n .before .pre)))
 
 -- src/lib.rt:291:9
 returns-7 : tie.Need-returns-7
@@ -92,7 +92,7 @@ returns-7 c =
     let n = m .before .before in
     let a = n .before .args in
     claim-ticketless (model (a .t)) (a .clock) (a .groups) (a .length) _ (n .time-number .ensures) (m .before .if1 .left) (sym (m .empty .ensures) ∙ i .before .if2 .left)
-    (sym (i .within .ensures) ∙ not-false _ (b .if3 .left)) (c .before .before .before .before .before .if4 .left) (c .before .before .before .before .if5 .left) (omega (arith, valid-count (a .t) (n .before .pre))) (c .if7 .taken)
+    (sym (i .within .ensures) ∙ not-false _ (b .if3 .left)) (c .before .before .before .before .before .if4 .left) (c .before .before .before .before .if5 .left) (omega (arith, formed-count (a .t) (n .before .pre))) (c .if7 .taken)
 
 -- src/lib.rt:267:1
 returns-8 : tie.Need-returns-8
@@ -103,7 +103,7 @@ returns-8 c =
     let n = m .before .before in
     let a = n .before .args in
     claim-passes (model (a .t)) (a .clock) (a .groups) (a .length) _ (n .time-number .ensures) (m .before .if1 .left) (sym (m .empty .ensures) ∙ i .before .if2 .left)
-    (sym (i .within .ensures) ∙ not-false _ (b .if3 .left)) (c .before .before .before .before .before .if4 .left) (c .before .before .before .before .if5 .left) (omega (arith, valid-count (a .t) (n .before .pre))) (omega arith)
+    (sym (i .within .ensures) ∙ not-false _ (b .if3 .left)) (c .before .before .before .before .before .if4 .left) (c .before .before .before .before .if5 .left) (omega (arith, formed-count (a .t) (n .before .pre))) (omega arith)
 
 pub claim-number-spec : {M : Type 1} → statement M
 claim-number-spec =

@@ -2,13 +2,13 @@ use mathlib.Core.Path.{sym, _∙_}
 use Rattle.rules.specs.Calls.{Call}
 use Rattle.rules.specs.Tables.{model}
 use Rattle.table.proofs.Tests.{time-ok, clock-timed}
-use Rattle.table.proofs.Steps.{refused, clock-is}
+use Rattle.table.proofs.Steps.{refused, kept-valid, clock-is}
 use borrow.Author.Needs.{needs}
 use Rattle.table.proofs.clock.Statement.{statement}
 use Rattle.table.proofs.clock.Tie as tie
 use Rattle.table.proofs.clock.Reads as reads
 use Rattle.table.proofs.clock.Lts as lts
-use Rattle.table.proofs.advanced.Reads as advanced-reads
+use Rattle.table.proofs.at_clock.Reads as at-clock-reads
 use Rattle.table.proofs.finished.Reads as finished-reads
 use Rattle.table.proofs.refusal.Reads as refusal-reads
 use Rattle.table.proofs.time_number.Reads as time-number-reads
@@ -30,8 +30,8 @@ returns c =
     refused t (Call.clock (b .args .clock)) _ _ (b .pre) (c .refusal .ensures) (clock-timed (model t) (b .args .clock) _ (n .time-number .ensures) (c .before .if1 .taken)) (c .before .if1 .taken)
 
 -- src/lib.rt:159:9
-advanced-requires : tie.Need-advanced-requires
-advanced-requires c κs =
+at-clock-requires : tie.Need-at-clock-requires
+at-clock-requires c κs =
     let n = c .before in
     let b = n .before in
     let o = time-ok (b .args .t .clock) (b .args .clock) (sym (n .time-number .ensures) ∙ c .if1 .left) in
@@ -47,7 +47,8 @@ returns-2 c =
     let u = c .before in
     let n = u .before .before in
     let b = n .before in
-    (clock-is (b .args .t) (b .args .clock) _ _ _ (n .time-number .ensures) (u .before .if1 .left) (u .advanced .ensures .0) (c .finished .ensures .0), c .finished .ensures .1)
+    let e = clock-is (b .args .t) (b .args .clock) _ _ _ (n .time-number .ensures) (u .before .if1 .left) (u .at-clock .ensures .0) (c .finished .ensures .0) in
+    (e, kept-valid (b .args .t) (Call.clock (b .args .clock)) _ (b .pre) e (c .finished .ensures .1))
 
 pub clock-spec : {M : Type 1} → statement M
 clock-spec =
@@ -56,6 +57,6 @@ clock-spec =
     time-number-requires
     refusal-requires
     returns
-    advanced-requires
+    at-clock-requires
     finished-requires
     returns-2)

@@ -2,7 +2,7 @@ use mathlib.Core.Path.{refl}
 use native.Mathlib.Omega.{arith}
 use Rattle.rules.specs.Tables.{model}
 use Rattle.rules.proofs.Once.{still-starts, still-tight}
-use Rattle.table.proofs.Ranges.{valid-row}
+use Rattle.table.proofs.Ranges.{formed-row}
 use Rattle.table.proofs.Steps.{finished-is}
 use Rattle.table.proofs.finished.Statement.{statement}
 use Rattle.table.proofs.finished.Tie as tie
@@ -16,7 +16,7 @@ grant-requires c κs =
     let b = c .before in
     let t = b .args .t in
     let v = b .pre .0 in
-    (valid-row t (t .clock) v (omega arith) (v .ranged .timely), record { low = still-starts (model t) (b .pre .1); tight = still-tight (model t) (b .pre .1) })
+    (formed-row t (t .clock) v (omega arith) (v .ranged .timely), record { low = still-starts (model t) (b .pre .1); tight = still-tight (model t) (b .pre .1) })
 
 -- src/lib.rt:138:1
 returns : tie.Need-returns

@@ -2,7 +2,7 @@ use mathlib.Core.Path.{sym, _∙_, ap}
 use Rattle.rules.specs.Tables.{model}
 use Rattle.table.specs.Outcomes.{phaseNumber, leaving}
 use Rattle.table.proofs.Tests.{time-ok, leave-tests, leave-timed}
-use Rattle.table.proofs.Steps.{refused, removed-clock, leave-is}
+use Rattle.table.proofs.Steps.{refused, kept-valid, removed-clock, leave-is}
 use borrow.Author.Needs.{needs}
 use Rattle.table.proofs.leave.Statement.{statement}
 use Rattle.table.proofs.leave.Tie as tie
@@ -54,7 +54,7 @@ returns-2 c =
     let b = n .before in
     let a = b .args in
     refused (a .t) (leaving (a .releasing) (a .clock) (a .ticket)) _ _ (b .pre) (c .refusal2 .ensures)
-    (leave-tests (model (a .t)) (a .releasing) (a .clock) (a .ticket) _ (b .pre .ranged .ascending) (n .time-number .ensures) (l .before .if1 .left)
+    (leave-tests (model (a .t)) (a .releasing) (a .clock) (a .ticket) _ (b .pre .formed .ranged .ascending) (n .time-number .ensures) (l .before .if1 .left)
     ∙ sym (p .phase-number .ensures ∙ ap (phaseNumber (a .releasing)) (l .lookup .ensures .0))) (c .before .if2 .taken)
 
 -- src/lib.rt:262:9
@@ -82,13 +82,13 @@ returns-3 c =
     let l = p .before in
     let n = l .before .before in
     let b = n .before in
-    let a = b .args in (
-      leave-is (a .t) (a .releasing) (a .clock) (a .ticket) _ _ _ (b .pre)
-          (leave-tests (model (a .t)) (a .releasing) (a .clock) (a .ticket) _ (b .pre .ranged .ascending) (n .time-number .ensures) (l .before .if1 .left)
-          ∙ sym (p .phase-number .ensures ∙ ap (phaseNumber (a .releasing)) (l .lookup .ensures .0)) ∙ r .before .if2 .left)
-          (r .removed .ensures .0) (u .advanced .ensures .0) (c .finished .ensures .0),
-      c .finished .ensures .1,
-    )
+    let a = b .args in
+    let e =
+    leave-is (a .t) (a .releasing) (a .clock) (a .ticket) _ _ _ (b .pre .formed)
+    (leave-tests (model (a .t)) (a .releasing) (a .clock) (a .ticket) _ (b .pre .formed .ranged .ascending) (n .time-number .ensures) (l .before .if1 .left)
+    ∙ sym (p .phase-number .ensures ∙ ap (phaseNumber (a .releasing)) (l .lookup .ensures .0)) ∙ r .before .if2 .left)
+    (r .removed .ensures .0) (u .advanced .ensures .0) (c .finished .ensures .0) in
+    (e, kept-valid (a .t) (leaving (a .releasing) (a .clock) (a .ticket)) _ (b .pre) e (c .finished .ensures .1))
 
 pub leave-spec : {M : Type 1} → statement M
 leave-spec =

@@ -6,7 +6,7 @@ use Rattle.rules.specs.Calls.{standingOf}
 use Rattle.rules.specs.Tables.{model, vacant}
 use Rattle.claims.proofs.Rows.{prefix-step, prefix-end, row-small}
 use Rattle.table.specs.Outcomes.{standingIn, numberOf}
-use Rattle.table.proofs.Ranges.{valid-few, valid-length, valid-row}
+use Rattle.table.proofs.Ranges.{formed-few, formed-length, formed-row}
 use Rattle.table.proofs.Scanning.{found, passed-by}
 use Rattle.table.proofs.Tests.{lookup-number}
 use Rattle.table.proofs.lookup.Statement.{statement}
@@ -29,13 +29,13 @@ loop-holds c = (omega arith, refl)
 mul-c : tie.Need-mul-c Inv-loop μ-loop
 mul-c c =
     let b = c .before .before in
-    omega (arith, valid-few (b .args .t1) (b .pre))
+    omega (arith, formed-few (b .args .t1) (b .pre .formed))
 
 -- src/lib.rt:96:17
 element-copy-out-c : tie.Need-element-copy-out-c Inv-loop μ-loop
 element-copy-out-c c =
     let b = c .before .before in
-    omega (arith, valid-few (b .args .t1) (b .pre))
+    omega (arith, formed-few (b .args .t1) (b .pre .formed))
 
 -- src/lib.rt:98:13
 shown-requires : tie.Need-shown-requires Inv-loop μ-loop
@@ -43,7 +43,7 @@ shown-requires c κs =
     let z = c .before .before .before .before in
     let b = z .before in
     let t = b .args .t1 in
-    row-small (t .clock) (t .claims) (t .count) (z .loop .i) (valid-row t (t .clock) (b .pre) (omega arith) (b .pre .ranged .timely)) (valid-length t (b .pre)) (omega arith)
+    row-small (t .clock) (t .claims) (t .count) (z .loop .i) (formed-row t (t .clock) (b .pre .formed) (omega arith) (b .pre .formed .ranged .timely)) (formed-length t (b .pre .formed)) (omega arith)
 
 -- src/lib.rt:98:13
 returns : tie.Need-returns Inv-loop μ-loop
@@ -51,7 +51,7 @@ returns c =
     let z = c .before .before .before .before .before in
     let b = z .before in
     let t = b .args .t1 in
-    let e = prefix-step vacant (t .claims) (t .count) (z .loop .i) (omega arith) (omega (arith, valid-length t (b .pre), valid-few t (b .pre))) in
+    let e = prefix-step vacant (t .claims) (t .count) (z .loop .i) (omega arith) (omega (arith, formed-length t (b .pre .formed), formed-few t (b .pre .formed))) in
     let h = rw e at (z .loop .inv .1) in
     let r = c .shown .ensures ∙ ap standingIn (found (b .args .ticket) (getD (t .claims) (z .loop .i) vacant) _ (c .before .if1 .taken) ∙ h) in
     (r, ap numberOf r ∙ lookup-number (model t) (b .args .ticket))
@@ -60,7 +60,7 @@ returns c =
 add-i : tie.Need-add-i Inv-loop μ-loop
 add-i c =
     let b = c .before .before .before .before .before in
-    omega (arith, valid-few (b .args .t1) (b .pre))
+    omega (arith, formed-few (b .args .t1) (b .pre .formed))
 
 -- src/lib.rt:95:5
 loop-less : tie.Need-loop-less Inv-loop μ-loop
@@ -72,7 +72,7 @@ loop-again c =
     let z = c .before .before .before .before in
     let b = z .before in
     let t = b .args .t1 in
-    let e = prefix-step vacant (t .claims) (t .count) (z .loop .i) (omega arith) (omega (arith, valid-length t (b .pre), valid-few t (b .pre))) in
+    let e = prefix-step vacant (t .claims) (t .count) (z .loop .i) (omega arith) (omega (arith, formed-length t (b .pre .formed), formed-few t (b .pre .formed))) in
     let h = rw e at (z .loop .inv .1) in
     (omega arith, passed-by (b .args .ticket) (getD (t .claims) (z .loop .i) vacant) _ (c .if1 .left) ∙ h)
 

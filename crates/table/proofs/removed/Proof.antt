@@ -1,5 +1,5 @@
 use mathlib.Core.Path.{refl}
-use Rattle.table.proofs.Ranges.{valid-few}
+use Rattle.table.proofs.Ranges.{formed-few}
 use Rattle.table.proofs.Steps.{removed-is}
 use Rattle.table.proofs.removed.Statement.{statement}
 use Rattle.table.proofs.removed.Tie as tie
@@ -11,7 +11,7 @@ use Rattle.table.proofs.others.Reads as others-reads
 others-requires : tie.Need-others-requires
 others-requires c κs =
     let b = c .before in
-    valid-few (b .args .t) (b .pre)
+    formed-few (b .args .t) (b .pre)
 
 -- src/lib.rt:233:1
 returns : tie.Need-returns
