@@ -1,0 +1,85 @@
+-- Fields written at their widths and read at them, and the lengths of records and loads.
+use Prim.Native.Nat.{ℕ, _+_, _^_, _≤_, _<_}
+use mathlib.Core.List.{List, [], _∷_, _++_, append-assoc, append-nil}
+use mathlib.Core.Path.{_≡_, refl, sym, ap, _∙_}
+use native.Mathlib.Omega.{arith}
+use lib.ListN.{length, take, drop, getD, length-append, length-drop}
+use lib.Seq.{take-at, drop-at, take-add, getD-drop}
+use Rattle.numerals.specs.Digits.{digits}
+use Rattle.numerals.proofs.BigEndian.{digits-length, numeral-digits, digits-numeral, numeral-below}
+use Rattle.load.specs.declared.Call.{Call}
+use Rattle.load.specs.Calls.{widths, total, lengthOf, kindOf, valuesOf}
+use Rattle.load.specs.Bytes.{big, fieldBytes, fieldValues, recordBytes, recordsBytes, loadBytes}
+use Rattle.load.specs.Reading.{editionOf}
+use Rattle.load.specs.RoundTrip.{Bytes}
+use Rattle.load.proofs.Calls.{length-total}
+
+-- ── fields ──
+-- Each value goes into its width.
+pub data Fit : List ℕ → List ℕ → Type 0 where
+  none : Fit [] []
+  one : {w v : ℕ} {ws vs : List ℕ} → v < 256 ^ w → Fit ws vs → Fit (w ∷ ws) (v ∷ vs)
+
+pub bytes-drop : (s : List ℕ) (n : ℕ) → Bytes s → Bytes (drop n s)
+bytes-drop s n b i = rw (getD-drop n s i 0) (b (n + i))
+
+field-bytes-length : (ws vs : List ℕ) → length (fieldBytes ws vs) ≡ total ws
+unfolding fieldBytes total
+field-bytes-length [] vs = refl
+field-bytes-length (w ∷ ws) vs = length-append (big w (getD vs 0 0)) (fieldBytes ws (drop 1 vs)) ∙ rw (digits-length 256 0 w (getD vs 0 0), field-bytes-length ws (drop 1 vs))
+
+pub values-of-bytes : {ws vs : List ℕ} → Fit ws vs → (rest : List ℕ) → fieldValues ws (fieldBytes ws vs ++ rest) ≡ vs
+unfolding fieldValues fieldBytes
+values-of-bytes Fit.none rest = refl
+values-of-bytes (Fit.one {w} {v} {ws} {vs} h f) rest =
+    let a = append-assoc (big w v) (fieldBytes ws vs) rest in
+    let t = take-at (big w v) (fieldBytes ws vs ++ rest) w (digits-length 256 0 w v) in
+    let d = drop-at (big w v) (fieldBytes ws vs ++ rest) w (digits-length 256 0 w v) in
+    rw (a, t, d, numeral-digits w v h, values-of-bytes f rest)
+
+pub bytes-of-values : (ws bs : List ℕ) → total ws ≤ length bs → Bytes bs → fieldBytes ws (fieldValues ws bs) ≡ take (total ws) bs
+unfolding fieldValues fieldBytes total
+bytes-of-values [] bs h s = refl
+bytes-of-values (w ∷ ws) bs h s =
+    let l = length-drop w bs in
+    let i = bytes-of-values ws (drop w bs) (omega arith) (bytes-drop bs w s) in
+    rw (digits-numeral w bs (omega arith) s, i) (sym (take-add w (total ws) bs))
+
+pub values-fit : (ws bs : List ℕ) → total ws ≤ length bs → Bytes bs → Fit ws (fieldValues ws bs)
+unfolding total fieldValues
+values-fit [] bs h s = Fit.none
+values-fit (w ∷ ws) bs h s =
+    let l = length-drop w bs in
+    Fit.one (numeral-below w bs (omega arith) s) (values-fit ws (drop w bs) (omega arith) (bytes-drop bs w s))
+
+-- ── records ──
+pub record-length : (e : ℕ) (c : Call) → 0 < lengthOf e (kindOf c) → length (recordBytes e c) ≡ 2 + lengthOf e (kindOf c)
+unfolding recordBytes
+record-length e c h = let t = length-total e (kindOf c) h in simp (length-append, digits-length, field-bytes-length) (omega arith)
+
+-- Length, kind and fields of a record, whatever stands behind it.
+pub record-front : (e : ℕ) (c : Call) (rest : List ℕ)
+    → (take 2 (recordBytes e c ++ rest) ≡ big 2 (lengthOf e (kindOf c)))
+    × (getD (recordBytes e c ++ rest) 2 0 ≡ kindOf c)
+    × (drop 3 (recordBytes e c ++ rest) ≡ fieldBytes (widths e (kindOf c)) (valuesOf e c) ++ rest)
+unfolding recordBytes digits
+record-front e c rest = (refl, refl, refl)
+
+-- ── loads ──
+records-append : (e : ℕ) (cs ds : List Call) → recordsBytes e (cs ++ ds) ≡ recordsBytes e cs ++ recordsBytes e ds
+unfolding recordsBytes
+records-append e [] ds = refl
+records-append e (c ∷ cs) ds = ap (λ r. recordBytes e c ++ r) (records-append e cs ds) ∙ sym (append-assoc (recordBytes e c) (recordsBytes e cs) (recordsBytes e ds))
+
+-- One call more is one record more.
+pub load-append : (e : ℕ) (cs : List Call) (c : Call) → loadBytes e (cs ++ (c ∷ [])) ≡ loadBytes e cs ++ recordBytes e c
+unfolding loadBytes recordsBytes
+load-append e cs c = ap (λ r. e ∷ r) (records-append e cs (c ∷ []) ∙ ap (λ r. recordsBytes e cs ++ r) (append-nil (recordBytes e c)))
+
+pub load-longer : (e : ℕ) (cs ds : List Call) → length (loadBytes e cs) ≤ length (loadBytes e (cs ++ ds))
+unfolding loadBytes
+load-longer e cs ds = omega (arith, ap length (records-append e cs ds), length-append (recordsBytes e cs) (recordsBytes e ds))
+
+pub load-edition : (e : ℕ) (cs : List Call) → editionOf (loadBytes e cs) ≡ e
+unfolding loadBytes
+load-edition e cs = refl

@@ -1,0 +1,183 @@
+-- Laws of the reader: what stands at a position, by cases; a walk without its count of items; what the tests of a load say.
+use Prim.Native.Nat.{ℕ, zero, suc, _+_, _≤_, _<_}
+use mathlib.Core.Bool.{Bool, true, false, not, _||_, cond, true≢false}
+use mathlib.Core.List.{List, [], _∷_}
+use mathlib.Core.Path.{_≡_, refl, ap}
+use native.Mathlib.Omega.{arith}
+use lib.Dec.{ltb, eqb}
+use borrow.Author.Tests.{ltb-false, eqb-true, eqb-false, le-ltb, eq-eqb, ne-eqb}
+use lib.ListN.{length, drop, length-drop, drop-of-length-le}
+use Rattle.load.specs.declared.Call.{Call}
+use Rattle.load.specs.declared.Item.{Item}
+use Rattle.load.specs.declared.Item.the-variants.{Record, End, Refused}
+use Rattle.load.specs.Calls.{known, widths, lengthOf, callOf}
+use Rattle.load.specs.Bytes.{fieldValues, loadBytes}
+use Rattle.load.specs.Reading.{inPlace, lengthField, kindField, short, misfit, readAt, editionOf, itemAt, openNumber, ended, onto, follow, walkIn, walk, orElse, loadNumber}
+
+-- ── what stands at a position ──
+-- The call that bytes say, where they are a record.
+abbrev pub callIn : ℕ → List ℕ → Call
+callIn e bs = callOf e (kindField bs) (fieldValues (widths e (kindField bs)) (drop 3 bs))
+
+read-cases : (P : Item → Type 0) (e at : ℕ) (bs : List ℕ)
+    → (length bs ≡ 0 → P End)
+    → P (Refused 12)
+    → P (Refused 13)
+    → (2 + lengthField bs ≤ length bs → misfit e at (lengthField bs) (kindField bs) ≡ false → P (Record (callIn e bs) (at + (2 + lengthField bs))))
+    → P (readAt e at bs)
+unfolding readAt
+read-cases P e at bs end cut bad good = go (eqb (length bs) 0) (short bs) (misfit e at (lengthField bs) (kindField bs)) refl refl refl
+  where
+    go : (a b m : Bool) → eqb (length bs) 0 ≡ a → short bs ≡ b → misfit e at (lengthField bs) (kindField bs) ≡ m
+        → P (cond a End (cond b (Refused 12) (cond m (Refused 13) (Record (callIn e bs) (at + (2 + lengthField bs))))))
+    go true b m p q r = end (eqb-true (length bs) 0 p)
+    go false true m p q r = cut
+    go false false true p q r = bad
+    go false false false p q r = good (ltb-false (length bs) (2 + lengthField bs) q) r
+
+read-end : (e at : ℕ) (bs : List ℕ) → length bs ≡ 0 → readAt e at bs ≡ End
+unfolding readAt
+read-end e at bs h = rw (h)
+
+pub read-record : (e at : ℕ) (bs : List ℕ) → 2 + lengthField bs ≤ length bs → misfit e at (lengthField bs) (kindField bs) ≡ false
+    → readAt e at bs ≡ Record (callIn e bs) (at + (2 + lengthField bs))
+unfolding readAt
+read-record e at bs h m =
+    let z : eqb (length bs) 0 ≡ false = ne-eqb (length bs) 0 (λ e. omega arith) in
+    rw (z, le-ltb (length bs) (2 + lengthField bs) h, m)
+
+-- A record stands at a position.
+pub record Stands (s : List ℕ) (at : ℕ) (c : Call) (next : ℕ) : Type 0 where
+  pub whole : 2 + lengthField (drop at s) ≤ length (drop at s)
+  pub fits : misfit (editionOf s) at (lengthField (drop at s)) (kindField (drop at s)) ≡ false
+  pub call : callIn (editionOf s) (drop at s) ≡ c
+  pub behind : at + (2 + lengthField (drop at s)) ≡ next
+
+pub stands : (s : List ℕ) (at : ℕ) (c : Call) (next : ℕ) → itemAt s at ≡ Record c next → Stands s at c next
+unfolding itemAt
+stands s at c next h =
+    read-cases (λ x. x ≡ Record c next → Stands s at c next) (editionOf s) at (drop at s)
+    (λ p q. let z : _≡_ {A = ℕ} 0 1 = cc in absurd (omega arith))
+    (λ q. let z : _≡_ {A = ℕ} 0 1 = cc in absurd (omega arith))
+    (λ q. let z : _≡_ {A = ℕ} 0 1 = cc in absurd (omega arith))
+    (λ p r q. record { whole = p; fits = r; call = cc; behind = cc })
+    h
+
+-- A record is behind its position and inside the load.
+pub step-next : (s : List ℕ) (at : ℕ) (c : Call) (next : ℕ) → itemAt s at ≡ Record c next → (at < next) × (next ≤ length s)
+step-next s at c next h =
+    let r = stands s at c next h in
+    let l = length-drop at s in
+    (omega (arith, r .whole, r .behind), omega (arith, r .whole, r .behind))
+
+-- A refusal is no end.
+pub step-refused : (s : List ℕ) (at n : ℕ) → itemAt s at ≡ Refused n → 0 < n
+unfolding itemAt
+step-refused s at n h =
+    read-cases (λ x. x ≡ Refused n → 0 < n) (editionOf s) at (drop at s)
+    (λ p q. let z : _≡_ {A = ℕ} 0 1 = cc in absurd (omega arith))
+    (λ q. let z : 12 ≡ n = cc in omega arith)
+    (λ q. let z : 13 ≡ n = cc in omega arith)
+    (λ p m q. let z : _≡_ {A = ℕ} 0 1 = cc in absurd (omega arith))
+    h
+
+-- At the end nothing is left.
+pub step-end : (s : List ℕ) (at : ℕ) → itemAt s at ≡ End → drop at s ≡ []
+unfolding itemAt
+step-end s at h =
+    nothing (drop at s)
+    (read-cases (λ x. x ≡ End → length (drop at s) ≡ 0) (editionOf s) at (drop at s)
+    (λ p q. p)
+    (λ q. let z : _≡_ {A = ℕ} 0 1 = cc in absurd (omega arith))
+    (λ q. let z : _≡_ {A = ℕ} 0 1 = cc in absurd (omega arith))
+    (λ p m q. let z : _≡_ {A = ℕ} 0 1 = cc in absurd (omega arith))
+    h)
+  where
+    nothing : (bs : List ℕ) → length bs ≡ 0 → bs ≡ []
+    nothing [] h = refl
+    nothing (b ∷ bs) h = absurd (omega arith)
+
+pub step-past : (s : List ℕ) (at : ℕ) → length s ≤ at → itemAt s at ≡ End
+unfolding itemAt
+step-past s at h = read-end (editionOf s) at (drop at s) (ap length (drop-of-length-le s {i = at} h))
+
+-- A record that fits has the length of its kind, and is in its place.
+pub misfit-not : (e at n k : ℕ) → misfit e at n k ≡ false → (0 < n) × (n ≡ lengthOf e k) × (inPlace k at ≡ true)
+unfolding misfit
+misfit-not e at n k h = go (eqb n 0) (eqb n (lengthOf e k)) (inPlace k at) refl refl refl h
+  where
+    go : (a b c : Bool) → eqb n 0 ≡ a → eqb n (lengthOf e k) ≡ b → inPlace k at ≡ c
+        → (a || (not b || not c)) ≡ false → (0 < n) × (n ≡ lengthOf e k) × (inPlace k at ≡ true)
+    go true b c p q r h = absurd (true≢false h)
+    go false false c p q r h = absurd (true≢false h)
+    go false true false p q r h = absurd (true≢false h)
+    go false true true p q r h = let z = eqb-false n 0 p in (omega (arith, z), eqb-true n (lengthOf e k) q, r)
+
+pub misfit-none : (e at k : ℕ) → 0 < lengthOf e k → inPlace k at ≡ true → misfit e at (lengthOf e k) k ≡ false
+unfolding misfit
+misfit-none e at k h q =
+    let z : eqb (lengthOf e k) 0 ≡ false = ne-eqb (lengthOf e k) 0 (λ e. omega arith) in
+    rw (z, eq-eqb (lengthOf e k) (lengthOf e k) refl, q)
+
+-- ── walks ──
+walk-in-same : (k j : ℕ) (s : List ℕ) (at : ℕ) → length s < at + k → length s < at + j → walkIn k s at ≡ walkIn j s at
+unfolding walkIn
+walk-in-same zero zero s at h g = refl
+walk-in-same zero (suc j) s at h g = rw (step-past s at (omega arith))
+walk-in-same (suc k) zero s at h g = rw (step-past s at (omega arith))
+walk-in-same (suc k) (suc j) s at h g = go (λ n. walk-in-same k j s n) (itemAt s at) refl
+  where
+    go : ((n : ℕ) → length s < n + k → length s < n + j → walkIn k s n ≡ walkIn j s n)
+        → (x : Item) → itemAt s at ≡ x → follow (λ n. walkIn k s n) x ≡ follow (λ n. walkIn j s n) x
+    go ih (Record c n) e = let q = step-next s at c n e in ap (onto c) (ih n (omega (arith, q .0)) (omega (arith, q .0)))
+    go ih End e = refl
+    go ih (Refused n) e = refl
+
+-- Three laws: nobody else counts the items.
+pub walk-record : (s : List ℕ) (at : ℕ) (c : Call) (next : ℕ) → itemAt s at ≡ Record c next → walk s at ≡ onto c (walk s next)
+unfolding walk walkIn
+walk-record s at c next e =
+    let q = step-next s at c next e in
+    rw e (ap (onto c) (walk-in-same (length s) (suc (length s)) s next (omega (arith, q .0)) (omega (arith, q .0))))
+
+pub walk-end : (s : List ℕ) (at : ℕ) → itemAt s at ≡ End → walk s at ≡ ended 0
+unfolding walk walkIn
+walk-end s at e = rw e
+
+pub walk-refused : (s : List ℕ) (at n : ℕ) → itemAt s at ≡ Refused n → walk s at ≡ ended n
+unfolding walk walkIn
+walk-refused s at n e = rw e
+
+-- ── the tests of a load ──
+pub or-else : (k n : ℕ) → orElse k n ≡ 0 → (k ≡ 0) × (n ≡ 0)
+or-else zero n h = (refl, h)
+or-else (suc k) n h = absurd (omega arith)
+
+-- The first number stands where it is not 0.
+pub or-first : (k m n : ℕ) → n ≡ k → (n ≡ 0 → ⊥) → n ≡ orElse k m
+or-first zero m n p q = absurd (q p)
+or-first (suc k) m n p q = p
+
+pub load-parts : (s : List ℕ) → loadNumber s ≡ 0 → (openNumber s ≡ 0) × (walk s 1 .stop ≡ 0)
+unfolding loadNumber
+load-parts s h = or-else (openNumber s) (walk s 1 .stop) h
+
+-- A load that opens has an edition, and is within its bound.
+pub open-known : (s : List ℕ) → openNumber s ≡ 0 → (0 < length s) × (editionOf s ≡ 1) × (length s ≤ 65536)
+unfolding openNumber
+open-known s h = go (ltb 65536 (length s)) (eqb (length s) 0) (known (editionOf s)) refl refl refl h
+  where
+    go : (a b k : Bool) → ltb 65536 (length s) ≡ a → eqb (length s) 0 ≡ b → known (editionOf s) ≡ k
+        → cond {A = ℕ} a 14 (cond b 12 (cond k 0 11)) ≡ 0 → (0 < length s) × (editionOf s ≡ 1) × (length s ≤ 65536)
+    go true b k p q r h = absurd (omega arith)
+    go false true k p q r h = absurd (omega arith)
+    go false false false p q r h = absurd (omega arith)
+    go false false true p q r h = let z = eqb-false (length s) 0 q in (omega (arith, z), eqb-true (editionOf s) 1 r, ltb-false 65536 (length s) p)
+
+pub load-known : (s : List ℕ) → loadNumber s ≡ 0 → (0 < length s) × (editionOf s ≡ 1) × (length s ≤ 65536)
+load-known s h = open-known s (load-parts s h .0)
+
+-- And the load of calls opens.
+pub opens : (e : ℕ) (cs : List Call) → known e ≡ true → length (loadBytes e cs) ≤ 65536 → openNumber (loadBytes e cs) ≡ 0
+unfolding loadBytes openNumber
+opens e cs k h = rw (le-ltb 65536 (length (loadBytes e cs)) h, ne-eqb (length (loadBytes e cs)) 0 (λ z. omega arith), k)

@@ -1,0 +1,46 @@
+-- `load::append` meets its contract: the tests come first; then the load and the record are laid one behind the other.
+use native.Mathlib.Omega.{arith}
+use mathlib.Core.Path.{sym, _∙_}
+use Rattle.numerals.proofs.Laying.{put-then}
+use Rattle.load.proofs.Writing.{append-refused, append-written, append-known}
+use borrow.Author.Needs.{needs}
+use Rattle.load.proofs.append.Statement.{statement}
+use Rattle.load.proofs.append.Tie as tie
+
+append-number-requires : tie.Need-append-number-requires
+append-number-requires c κs = search needs
+
+returns : tie.Need-returns
+returns c = append-refused _ _ _ _ (c .before .append-number .ensures) (c .if1 .taken)
+
+put-bytes-requires : tie.Need-put-bytes-requires
+put-bytes-requires c κs = search needs
+
+put-record-requires : tie.Need-put-record-requires
+put-record-requires c κs =
+    let p = c .before .before .before in
+    let o = p .before .before in
+    let k = append-known _ _ _ (sym (o .before .append-number .ensures) ∙ o .if1 .left) in
+    omega (arith, k .1, p .put-bytes .ensures .next)
+
+same-length : tie.Need-same-length
+same-length c = search needs
+
+returns-2 : tie.Need-returns-2
+returns-2 c =
+    let r = c .before .before in
+    let p = r .before .before .before .before in
+    let o = p .before .before in
+    append-written _ _ _ _ _ (sym (o .before .append-number .ensures) ∙ o .if1 .left)
+    (put-then _ _ _ _ _ _ _ _ (p .put-bytes .ensures) (r .put-record .ensures))
+
+pub append-spec : {M : Type 1} → statement M
+append-spec =
+    tie.close
+    (tie.spec
+    append-number-requires
+    returns
+    put-bytes-requires
+    put-record-requires
+    same-length
+    returns-2)

@@ -1,0 +1,56 @@
+-- `load::kind_of` meets its contract: one case for each kind.
+use mathlib.Core.Path.{sym, ap}
+use Rattle.load.specs.Calls.{kindOf}
+use borrow.Author.Needs.{needs}
+use Rattle.load.proofs.kind_of.Statement.{statement}
+use Rattle.load.proofs.kind_of.Tie as tie
+
+enum-known-call : tie.Need-enum-known-call
+enum-known-call c = search needs
+
+enum-known-call-2 : tie.Need-enum-known-call-2
+enum-known-call-2 c = search needs
+
+enum-known-call-3 : tie.Need-enum-known-call-3
+enum-known-call-3 c = search needs
+
+enum-known-call-4 : tie.Need-enum-known-call-4
+enum-known-call-4 c = search needs
+
+enum-known-call-5 : tie.Need-enum-known-call-5
+enum-known-call-5 c = search needs
+
+returns : tie.Need-returns
+unfolding kindOf
+returns c = sym (ap kindOf (c .before .call .given .1))
+
+returns-2 : tie.Need-returns-2
+unfolding kindOf
+returns-2 c = sym (ap kindOf (c .before .call2 .given .1))
+
+returns-3 : tie.Need-returns-3
+unfolding kindOf
+returns-3 c = sym (ap kindOf (c .before .call3 .given .1))
+
+returns-4 : tie.Need-returns-4
+unfolding kindOf
+returns-4 c = sym (ap kindOf (c .before .call4 .given .1))
+
+returns-5 : tie.Need-returns-5
+unfolding kindOf
+returns-5 c = sym (ap kindOf (c .before .call5 .given .1))
+
+pub kind-of-spec : {M : Type 1} → statement M
+kind-of-spec =
+    tie.close
+    (tie.spec
+    enum-known-call
+    enum-known-call-2
+    enum-known-call-3
+    enum-known-call-4
+    enum-known-call-5
+    returns
+    returns-2
+    returns-3
+    returns-4
+    returns-5)

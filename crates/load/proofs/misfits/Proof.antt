@@ -1,0 +1,31 @@
+-- `load::misfits` meets its contract: each test in turn.
+use borrow.Author.Tests.{eq-eqb, ne-eqb}
+use mathlib.Core.Path.{sym, ap, _∙_}
+use mathlib.Core.Bool.{not}
+use Rattle.load.specs.Reading.{misfit}
+use borrow.Author.Needs.{needs}
+use Rattle.load.proofs.misfits.Statement.{statement}
+use Rattle.load.proofs.misfits.Tie as tie
+
+returns : tie.Need-returns
+unfolding misfit
+returns c = rw (eq-eqb _ _ (c .if1 .taken))
+
+length-of-requires : tie.Need-length-of-requires
+length-of-requires c κs = search needs
+
+returns-2 : tie.Need-returns-2
+unfolding misfit
+returns-2 c = let e = c .before .length-of .ensures in rw (ne-eqb _ _ (c .before .before .if1 .left), ne-eqb _ _ (λ z. c .if2 .taken (z ∙ sym e)))
+
+placed-requires : tie.Need-placed-requires
+placed-requires c κs = search needs
+
+returns-3 : tie.Need-returns-3
+unfolding misfit
+returns-3 c =
+    let n = c .before .before in
+    rw (ne-eqb _ _ (n .before .if1 .left), eq-eqb _ _ (c .before .if2 .left ∙ n .length-of .ensures)) (ap not (c .placed .ensures))
+
+pub misfits-spec : {M : Type 1} → statement M
+misfits-spec = tie.close (tie.spec returns length-of-requires returns-2 placed-requires returns-3)

@@ -1,0 +1,93 @@
+-- The reader. A position is a count of bytes from the load's start; the first record stands at 1. "A load [is tested in the order] 14, 12,
+-- 11, then each record 12, 13." "Reader and writer pass fields on without judging them; the table judges."
+use Prim.Native.Nat.{ℕ, zero, suc, _+_}
+use mathlib.Core.Bool.{Bool, true, false, not, _||_, cond}
+use mathlib.Core.List.{List, [], _∷_}
+use lib.Dec.{ltb, eqb}
+use lib.ListN.{length, take, drop, getD}
+use Rattle.load.specs.declared.Call.{Call}
+use Rattle.load.specs.declared.Item.{Item}
+use Rattle.load.specs.declared.Item.the-variants.{Record, End, Refused}
+use Rattle.load.specs.Calls.{known, widths, lengthOf, callOf}
+use Rattle.load.specs.Bytes.{bigValue, fieldValues}
+
+-- ── one record ──
+-- Both, or neither.
+abbrev pub agree : Bool → Bool → Bool
+agree true b = b
+agree false b = not b
+
+-- "The first record is the rig and no other is."
+abbrev pub inPlace : ℕ → ℕ → Bool
+inPlace kind at = agree (eqb kind 1) (eqb at 1)
+
+-- The length field and the kind byte of a record.
+abbrev pub lengthField : List ℕ → ℕ
+lengthField bs = bigValue (take 2 bs)
+
+abbrev pub kindField : List ℕ → ℕ
+kindField bs = getD bs 2 0
+
+-- 12: "the load .. ends inside a record". (One byte alone is fewer than two, whatever it says.)
+abbrev pub short : List ℕ → Bool
+short bs = ltb (length bs) (2 + lengthField bs)
+
+-- 13: "record length wrong for its kind, a kind its edition lacks, or rig record out of place". A record of no bytes has no kind.
+unfoldable pub misfit : ℕ → ℕ → ℕ → ℕ → Bool
+misfit e at n kind = eqb n 0 || (not (eqb n (lengthOf e kind)) || not (inPlace kind at))
+
+-- What the bytes from a position to the load's end begin with: "Behind the last record it says that the load has ended".
+unfoldable pub readAt : ℕ → ℕ → List ℕ → Item
+readAt e at bs =
+    cond (eqb (length bs) 0) End
+    (cond (short bs) (Refused 12)
+    (cond (misfit e at (lengthField bs) (kindField bs)) (Refused 13)
+    (Record (callOf e (kindField bs) (fieldValues (widths e (kindField bs)) (drop 3 bs))) (at + (2 + lengthField bs)))))
+
+-- A load's edition is its first byte.
+abbrev pub editionOf : List ℕ → ℕ
+editionOf s = getD s 0 0
+
+-- What stands at a position of a load: a record's call with the next position, the end, or a refusal.
+unfoldable pub itemAt : List ℕ → ℕ → Item
+itemAt s at = readAt (editionOf s) at (drop at s)
+
+-- ── a whole load ──
+-- 14 "load over 65,536 bytes", 12 "the load is empty", 11 "first byte of a load names no edition the reader knows"; 0 for none of them.
+unfoldable pub openNumber : List ℕ → ℕ
+openNumber s = cond (ltb 65536 (length s)) 14 (cond (eqb (length s) 0) 12 (cond (known (editionOf s)) 0 11))
+
+-- The calls up to the end or the first refusal, and the number of that, 0 at the end.
+pub record Walk : Type 0 where
+  pub calls : List Call
+  pub stop : ℕ
+
+abbrev pub ended : ℕ → Walk
+ended n = record { calls = []; stop = n }
+
+abbrev pub onto : Call → Walk → Walk
+onto c w = record { calls = c ∷ w .calls; stop = w .stop }
+
+-- From an item on, where `f` walks from a position on.
+abbrev pub follow : (ℕ → Walk) → Item → Walk
+follow f (Record c next) = onto c (f next)
+follow f End = ended 0
+follow f (Refused n) = ended n
+
+-- At most k items. A record takes up bytes, so that a load has no more of them than bytes, and `walk` comes to its end or a refusal.
+unfoldable pub walkIn : ℕ → List ℕ → ℕ → Walk
+walkIn zero s at = ended 0
+walkIn (suc k) s at = follow (λ n. walkIn k s n) (itemAt s at)
+
+-- What a load reads as from a position on.
+unfoldable pub walk : List ℕ → ℕ → Walk
+walk s at = walkIn (suc (length s)) s at
+
+-- The first of two numbers, unless it is 0.
+abbrev pub orElse : ℕ → ℕ → ℕ
+orElse zero n = n
+orElse (suc k) n = suc k
+
+-- The test of a load: "14, 12, 11, then each record 12, 13"; 0 for a load that reads to its end.
+unfoldable pub loadNumber : List ℕ → ℕ
+loadNumber s = orElse (openNumber s) (walk s 1 .stop)

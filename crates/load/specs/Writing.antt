@@ -1,0 +1,48 @@
+-- The writer. "The writer is given a load and one call, puts that load with one record more behind it at the start of a lent buffer, and
+-- answers the new length; later bytes of the buffer keep their contents."
+use Prim.Native.Nat.{ℕ, zero, suc}
+use mathlib.Core.Bool.{not, _||_, cond}
+use mathlib.Core.List.{List, _++_}
+use lib.Dec.{ltb}
+use lib.ListN.{length, drop}
+use Rattle.load.specs.declared.Call.{Call}
+use Rattle.load.specs.declared.Written.{Written}
+use Rattle.load.specs.declared.Written.the-variants.{Length, Refusal}
+use Rattle.load.specs.Calls.{kindOf, carries}
+use Rattle.load.specs.Bytes.{recordBytes}
+use Rattle.load.specs.Reading.{inPlace, editionOf, loadNumber, orElse}
+
+-- "that load with one record more behind it".
+unfoldable pub grown : List ℕ → Call → List ℕ
+grown s c = s ++ recordBytes (editionOf s) c
+
+-- "then come 13 (a rig that isn't first, another record that is, or a call with a value that the load's edition can't carry), 14 (the grown
+-- load would pass 65,536 bytes) and 15". Room is the length of the lent buffer.
+unfoldable pub growNumber : List ℕ → Call → ℕ → ℕ
+growNumber s c room =
+    cond (not (inPlace (kindOf c) (length s)) || not (carries (editionOf s) c)) 13
+    (cond (ltb 65536 (length (grown s c))) 14
+    (cond (ltb room (length (grown s c))) 15
+    0))
+
+-- "The load it is given is tested as by the reader, then come .."
+unfoldable pub appendNumber : List ℕ → Call → ℕ → ℕ
+appendNumber s c room = orElse (loadNumber s) (growNumber s c room)
+
+-- The answer: a length where the number is 0, else the number.
+abbrev pub answered : ℕ → ℕ → Written
+answered zero n = Length n
+answered (suc k) n = Refusal (suc k)
+
+-- The lent buffer: the new contents where the number is 0, else "no byte of a lent buffer differs".
+abbrev pub lent : ℕ → List ℕ → List ℕ → List ℕ
+lent zero new old = new
+lent (suc k) new old = old
+
+-- What the writer answers: "the new length", or the refusal.
+unfoldable pub appendAnswer : List ℕ → Call → List ℕ → Written
+appendAnswer s c out = answered (appendNumber s c (length out)) (length (grown s c))
+
+-- What the lent buffer holds afterwards: the grown load at its start, and "later bytes of the buffer keep their contents".
+unfoldable pub appendOut : List ℕ → Call → List ℕ → List ℕ
+appendOut s c out = lent (appendNumber s c (length out)) (grown s c ++ drop (length (grown s c)) out) out

@@ -1,0 +1,102 @@
+-- Bytes laid one behind the other over a buffer that may be too short: pieces join (`put-then`), and where there is room the buffer
+-- begins with them (`laid-fits`).
+use Prim.Native.Nat.{ℕ, zero, suc, _+_, _/_, _%_, _≤_, _<_}
+use mathlib.Core.List.{List, [], _∷_, _++_}
+use mathlib.Core.Path.{_≡_, refl, sym, ap, _∙_}
+use native.Mathlib.Omega.{arith}
+use native.Mathlib.Numerals.{add-one}
+use native.Mathlib.Nat.{add-zero, zero-add}
+use lib.Dec.{ltb}
+use mathlib.Core.Bool.{Bool, true, false, cond}
+use lib.ListN.{length, drop, getD, set, length-append}
+use lib.Seq.{sets, length-sets, sets-eq, set-comm, drop-cons, drop-length}
+use Rattle.numerals.specs.Digits.{digits, decimalOf, widthOf, widthUpTo}
+use Rattle.numerals.specs.Laid.{laid, Put}
+use Rattle.numerals.proofs.Numbers.{stored}
+use Rattle.numerals.proofs.BigEndian.{digits-length}
+
+pub laid-length : (o : List ℕ) (at : ℕ) (xs : List ℕ) → length (laid o at xs) ≡ length o
+unfolding laid
+laid-length o at xs = length-sets o at xs
+
+pub laid-none : (o : List ℕ) (at : ℕ) → laid o at [] ≡ o
+unfolding laid
+laid-none o at = refl
+
+pub laid-one : (o : List ℕ) (at b : ℕ) → laid o at (b ∷ []) ≡ set o at b
+unfolding laid
+laid-one o at b = refl
+
+pub laid-cons : (o : List ℕ) (at b : ℕ) (xs : List ℕ) → laid o at (b ∷ xs) ≡ laid (set o at b) (suc at) xs
+unfolding laid
+laid-cons o at b xs = refl
+
+sets-append : (xs ys o : List ℕ) (at : ℕ) → sets o at (xs ++ ys) ≡ sets (sets o at xs) (at + length xs) ys
+sets-append [] ys o at = rw add-zero
+sets-append (x ∷ xs) ys o at =
+    let e : suc at + length xs ≡ at + suc (length xs) = omega arith in
+    sets-append xs ys (set o at x) (suc at) ∙ ap (λ k. sets (sets (set o at x) (suc at) xs) k ys) e
+
+pub laid-append : (o : List ℕ) (at : ℕ) (xs ys : List ℕ) → laid o at (xs ++ ys) ≡ laid (laid o at xs) (at + length xs) ys
+unfolding laid
+laid-append o at xs ys = sets-append xs ys o at
+
+-- Where there is room, it is what one expects.
+pub laid-fits : (o xs : List ℕ) → length xs ≤ length o → laid o 0 xs ≡ xs ++ drop (length xs) o
+unfolding laid
+laid-fits o xs h = sets-eq xs o 0 (omega arith) ∙ rw zero-add
+
+sets-set : (xs o : List ℕ) (at k d : ℕ) → at + length xs ≤ k → sets (set o k d) at xs ≡ set (sets o at xs) k d
+sets-set [] o at k d h = refl
+sets-set (x ∷ xs) o at k d h = ap (λ r. sets r (suc at) xs) (set-comm o k at d x (λ e. omega arith)) ∙ sets-set xs (set o at x) (suc at) k d (omega arith)
+
+-- Digits stored the last first are digits laid.
+stored-sets : (b z at n v : ℕ) (o : List ℕ) → stored b z at n v o ≡ sets o at (digits b z n v)
+unfolding stored digits
+stored-sets b z at zero v o = refl
+stored-sets b z at (suc n) v o =
+    let ds = digits b z n (v / b) in
+    let d = v % b + z in
+    let l = digits-length b z n (v / b) in
+    stored-sets b z at n (v / b) (set o (at + n) d) ∙ sets-set ds o at (at + n) d (omega arith) ∙ sym (sets-append ds (d ∷ []) o at ∙ rw l)
+
+pub stored-laid : (b z at n v : ℕ) (o : List ℕ) → stored b z at n v o ≡ laid o at (digits b z n v)
+unfolding laid
+stored-laid b z at n v o = stored-sets b z at n v o
+
+-- One piece behind the other is one piece.
+pub put-then : (o : List ℕ) (at : ℕ) (xs ys : List ℕ) (m r : ℕ) (p q : List ℕ) → Put o at xs m p → Put p m ys r q → Put o at (xs ++ ys) r q
+put-then o at xs ys m r p q a b = record {
+  next = omega (arith, a .next, b .next, length-append xs ys);
+  is = b .is ∙ rw (a .is, a .next) (sym (laid-append o at xs ys));
+}
+
+pub put-as : {o : List ℕ} {at : ℕ} (xs ys : List ℕ) {r : ℕ} {p : List ℕ} → xs ≡ ys → Put o at xs r p → Put o at ys r p
+put-as xs ys e w = rw e at w
+
+-- One step of a copy.
+pub laid-turn : (o : List ℕ) (at i : ℕ) (s : List ℕ) → i < length s → laid (set o (at + i) (getD s i 0)) (at + (i + 1)) (drop (i + 1) s) ≡ laid o (at + i) (drop i s)
+laid-turn o at i s h =
+    let e : at + (i + 1) ≡ suc (at + i) = omega arith in
+    rw (e, add-one, drop-cons s i 0 h) (sym (laid-cons o (at + i) (getD s i 0) (drop (suc i) s)))
+
+pub laid-done : (o : List ℕ) (at i : ℕ) (s : List ℕ) → i ≡ length s → laid o (at + i) (drop i s) ≡ o
+laid-done o at i s h = rw (h, drop-length s) (laid-none o (at + length s))
+
+-- A u64 has at most 20 decimal digits.
+width-up : (k v : ℕ) → widthUpTo k v ≤ suc k
+unfolding widthUpTo
+width-up zero v = omega arith
+width-up (suc k) v = go (width-up k (v / 10)) (ltb v 10)
+  where
+    go : widthUpTo k (v / 10) ≤ suc k → (b : Bool) → cond b 1 (suc (widthUpTo k (v / 10))) ≤ suc (suc k)
+    go h true = omega arith
+    go h false = omega arith
+
+pub width-small : (v : ℕ) → widthOf v ≤ 20
+unfolding widthOf
+width-small v = width-up 19 v
+
+pub decimal-length : (v : ℕ) → length (decimalOf v) ≡ widthOf v
+unfolding decimalOf
+decimal-length v = digits-length 10 48 (widthOf v) v

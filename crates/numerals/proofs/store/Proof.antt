@@ -1,0 +1,21 @@
+-- `numerals::store` meets its contract: behind the end nothing is set.
+use mathlib.Core.Path.{sym}
+use lib.Seq.{set-out}
+use borrow.Author.Needs.{needs}
+use Rattle.numerals.proofs.store.Statement.{statement}
+use Rattle.numerals.proofs.store.Tie as tie
+
+returns : tie.Need-returns
+returns c = sym (set-out _ _ _ (c .if1 .taken))
+
+slice-write-out : tie.Need-slice-write-out
+slice-write-out c = search needs
+
+same-length : tie.Need-same-length
+same-length c = search needs
+
+returns-2 : tie.Need-returns-2
+returns-2 c = search needs
+
+pub store-spec : {M : Type 1} → statement M
+store-spec = tie.close (tie.spec returns slice-write-out same-length returns-2)

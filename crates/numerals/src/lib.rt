@@ -1,0 +1,144 @@
+// Numbers in bytes: read big-endian, and laid big-endian or in decimal into a lent buffer.
+// The readers take any place. The writers leave out what would go past the buffer's end, and answer the place behind what was laid:
+// they ask only that this place is a usize.
+ghost use mathlib.Core.Path.{_≡_};
+ghost use mathlib.Core.List.{[], _∷_};
+ghost use Prim.Native.Nat.{_+_, _-_, _^_, _<_, min};
+ghost use lib.ListN.{length, take, drop, set};
+ghost use Rattle.numerals.specs.Laid.{Put};
+ghost use Rattle.numerals.specs.Digits.{Read, bytesAt, numeral, digits, decimalOf, widthOf};
+
+// ---- reading
+fn wide(b: u8) -> u64
+    ensures { λ r. ⌜ (r ≡ b) × (r < 256) ⌝ }
+{
+    b as u64
+}
+
+// How many bytes there are to read from a place on: n, at most 8, and no more than are left.
+fn readable(size: usize, at: usize, n: usize) -> usize
+    ensures { λ r. ⌜ r ≡ min (min n 8) (size - at) ⌝ }
+{
+    if size <= at {
+        return 0;
+    }
+    let left = size - at;
+    if n < left {
+        if n < 8 { n } else { 8 }
+    } else {
+        if left < 8 { left } else { 8 }
+    }
+}
+
+// The number that n bytes from a place on say, the highest first; behind the end of s, those that are left. At most eight bytes are read.
+pub fn number(s: &[u8], at: usize, n: usize) -> u64
+    ensures { λ r. ⌜ Read r n (bytesAt (now (s .entry)) at n) ⌝ }
+{
+    let m = readable(s.len(), at, n);
+    let mut v: u64 = 0;
+    let mut i: usize = 0;
+    while i < m {
+        v = v * 256 + wide(s[at + i]);
+        i += 1;
+    }
+    v
+}
+
+// The same for four bytes, and for two.
+pub fn be32(s: &[u8], at: usize) -> u32
+    ensures { λ r. ⌜ r ≡ numeral 0 (take 4 (drop at (now (s .entry)))) ⌝ }
+{
+    number(s, at, 4) as u32
+}
+
+pub fn be16(s: &[u8], at: usize) -> u16
+    ensures { λ r. ⌜ r ≡ numeral 0 (take 2 (drop at (now (s .entry)))) ⌝ }
+{
+    number(s, at, 2) as u16
+}
+
+// How many decimal digits a number has; a division for each.
+pub fn width(value: u64) -> usize
+    ensures { λ r. ⌜ r ≡ widthOf value ⌝ }
+{
+    let mut v = value;
+    let mut n: usize = 1;
+    while 10 <= v {
+        v /= 10;
+        n += 1;
+    }
+    n
+}
+
+// ---- writing
+// One byte at a place, if there is such a place.
+fn store(out: &mut [u8], k: usize, b: u8)
+    ensures { λ _. ⌜ now (out .exit) ≡ set (now (out .entry)) k b ⌝ }
+{
+    if out.len() <= k {
+        return;
+    }
+    out[k] = b;
+}
+
+// One byte laid at a place.
+pub fn put_byte(out: &mut [u8], at: usize, b: u8) -> usize
+    requires { ⌜ at + 1 < 2 ^ 64 ⌝ }
+    ensures { λ r. ⌜ Put (now (out .entry)) at (b ∷ []) r (now (out .exit)) ⌝ }
+{
+    store(out, at, b);
+    at + 1
+}
+
+// A number laid in n bytes from a place on, the highest first; one step for each byte.
+pub fn put_big(out: &mut [u8], at: usize, n: usize, value: u64) -> usize
+    requires { ⌜ at + n < 2 ^ 64 ⌝ }
+    ensures { λ r. ⌜ Put (now (out .entry)) at (digits 256 0 n value) r (now (out .exit)) ⌝ }
+{
+    let mut v = value;
+    let mut i = n;
+    while 0 < i {
+        i -= 1;
+        store(out, at + i, (v % 256) as u8);
+        v /= 256;
+    }
+    at + n
+}
+
+// Its n lowest decimal digits laid so.
+fn put_digits(out: &mut [u8], at: usize, n: usize, value: u64) -> usize
+    requires { ⌜ at + n < 2 ^ 64 ⌝ }
+    ensures { λ r. ⌜ Put (now (out .entry)) at (digits 10 48 n value) r (now (out .exit)) ⌝ }
+{
+    let mut v = value;
+    let mut i = n;
+    while 0 < i {
+        i -= 1;
+        store(out, at + i, (v % 10) as u8 + 48);
+        v /= 10;
+    }
+    at + n
+}
+
+// A number laid in decimal: at most 20 digits, a division for each to count them and one to lay them.
+pub fn put_decimal(out: &mut [u8], at: usize, value: u64) -> usize
+    requires { ⌜ at + 20 < 2 ^ 64 ⌝ }
+    ensures { λ r. ⌜ Put (now (out .entry)) at (decimalOf value) r (now (out .exit)) ⌝ }
+{
+    let n = width(value);
+    put_digits(out, at, n, value)
+}
+
+// Bytes laid from a place on; one step for each byte.
+pub fn put_bytes(out: &mut [u8], at: usize, src: &[u8]) -> usize
+    requires { ⌜ at + length (now src) < 2 ^ 64 ⌝ }
+    ensures { λ r. ⌜ Put (now (out .entry)) at (now (src .entry)) r (now (out .exit)) ⌝ }
+{
+    let n = src.len();
+    let mut i: usize = 0;
+    while i < n {
+        store(out, at + i, src[i]);
+        i += 1;
+    }
+    at + n
+}
