@@ -1,0 +1,13 @@
+use Prim.Native.Nat.{ℕ}
+use mathlib.Core.Path.{sym}
+use lib.ListN.{length-replicate}
+use Rattle.cue.proofs.listing_buffer.Statement.{statement}
+use Rattle.cue.proofs.listing_buffer.Tie as tie
+use Rattle.cue.proofs.listing_buffer.Reads as reads
+use Rattle.cue.proofs.listing_buffer.Lts as lts
+
+returns : tie.Need-returns
+returns c = sym (length-replicate {0} {A = ℕ} 1048576 0)
+
+pub listing-buffer-spec : {M : Type 1} → statement M
+listing-buffer-spec = tie.close (tie.spec returns)

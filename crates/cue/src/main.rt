@@ -1,0 +1,29 @@
+// Reads a load on standard input and prints its listing.
+ghost use mathlib.Core.Path.{_≡_};
+ghost use lib.ListN.{length};
+
+// Room for a load, which may have 65,536 bytes, and one byte more, so that a longer one is told (14).
+fn load_buffer() -> [u8; 65537]
+    ensures { λ r. ⌜ 65537 ≡ length r ⌝ }
+{
+    [0; 65537]
+}
+
+// Room for every listing: none has over 71 + 129 * (65536 / 11) bytes.
+fn listing_buffer() -> [u8; 1048576]
+    ensures { λ r. ⌜ 1048576 ≡ length r ⌝ }
+{
+    [0; 1048576]
+}
+
+fn print(load: &[u8]) {
+    let mut out = listing_buffer();
+    let n = listing::belgwyth_listing(load, &mut out);
+    io::write_all(1, &out[..n]);
+}
+
+fn main() {
+    let mut load = load_buffer();
+    let n = io::read_full(0, &mut load);
+    print(&load[..n]);
+}

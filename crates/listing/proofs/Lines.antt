@@ -1,0 +1,40 @@
+-- The lengths of lines, and lines laid one by one.
+use mathlib.Core.Path.{_≡_}
+use mathlib.Core.List.{List, [], _∷_, _++_}
+use Prim.Native.Nat.{ℕ, _+_, _*_, _≤_, _<_}
+use native.Mathlib.Omega.{arith}
+use lib.ListN.{length, take, drop, getD, length-append}
+use Rattle.numerals.specs.Digits.{decimalOf}
+use Rattle.numerals.proofs.Laying.{width-small, decimal-length}
+use Rattle.claims.proofs.Rows.{prefix-step, prefix-end}
+use Rattle.listing.specs.Lines.{column, lineOf, onLine, onLines}
+
+-- ── lengths ──
+pub column-length : (v b : ℕ) → length (column v b) ≤ 21
+unfolding column
+column-length v b = omega (arith, length-append (decimalOf v) (b ∷ []), decimal-length v, width-small v)
+
+pub pair-length : (v b w d : ℕ) → length (column v b ++ column w d) ≤ 42
+pair-length v b w d = omega (arith, length-append (column v b) (column w d), column-length v b, column-length w d)
+
+pub line-length : (k n t s : ℕ) → length (lineOf k n t s) ≤ 84
+unfolding lineOf
+line-length k n t s = omega (arith, length-append (column k 32 ++ column n 32) (column t 32 ++ column s 10), pair-length k 32 n 32, pair-length t 32 s 10)
+
+pub on-length : (t k : ℕ) → length (onLine t k) ≤ 45
+unfolding onLine
+on-length t k = omega (arith, pair-length k 32 t 10)
+
+pub ons-length : (t : ℕ) (ks : List ℕ) → length (onLines t ks) ≤ 45 * length ks
+unfolding onLines
+ons-length t [] = omega arith
+ons-length t (k ∷ ks) = omega (arith, length-append (onLine t k) (onLines t ks), on-length t k, ons-length t ks)
+
+-- ── the grants of an array, from place i on ──
+pub ons-step : (t : ℕ) (l : List ℕ) (n i : ℕ) → i < n → n ≤ length l → onLines t (drop i (take n l)) ≡ onLine t (getD l i 0) ++ onLines t (drop (i + 1) (take n l))
+unfolding onLines
+ons-step t l n i h k = rw (prefix-step 0 l n i h k)
+
+pub ons-end : (t : ℕ) (l : List ℕ) (n i : ℕ) → n ≤ i → onLines t (drop i (take n l)) ≡ []
+unfolding onLines
+ons-end t l n i h = rw (prefix-end l n i h)

@@ -1,0 +1,166 @@
+-- A turn of the listing's loop: one record, and the ways out; then the whole.
+use mathlib.Core.Path.{_≡_, refl, sym, ap, _∙_}
+use mathlib.Core.Bool.{Bool, true, false, cond}
+use mathlib.Core.List.{List, [], _++_}
+use Prim.Native.Nat.{ℕ, zero, suc, _+_, _*_, _≤_}
+use native.Mathlib.Omega.{arith}
+use native.Mathlib.Nat.{zero-add}
+use lib.ListN.{length, take, length-append, length-take}
+use lib.Dec.{leb}
+use borrow.Author.Tests.{leb-true}
+use Rattle.rules.specs.declared.Table.{Table}
+use Rattle.rules.specs.Calls.{Model, Step, blank, new}
+use Rattle.rules.specs.Tables.{model}
+use Rattle.rules.proofs.Calls.{new-cases}
+use Rattle.claims.proofs.Rows.{pad-take}
+use Rattle.numerals.specs.Laid.{Put}
+use Rattle.numerals.proofs.Laying.{laid-fits}
+use Rattle.table.specs.declared.Outcome.{Outcome}
+use Rattle.table.specs.Valid.{Valid}
+use Rattle.table.specs.Outcomes.{outcome}
+use Rattle.table.proofs.Ranges.{model-is, formed-few}
+use Rattle.load.specs.declared.Call.{Call}
+use Rattle.load.specs.declared.Item.the-variants.{Record, End, Refused}
+use Rattle.load.specs.Reading.{itemAt, walk, openNumber}
+use Rattle.load.proofs.Reading.{walk-record, walk-end, walk-refused, step-refused, step-next}
+use Rattle.listing.specs.Lines.{header, lineOf, onLines, stopLine}
+use Rattle.listing.specs.Text.{stepOf, entryOf, ending, stopOr, linesFrom, linesOf, listingOf, answerOf, bufferOf}
+use Rattle.listing.proofs.Counts.{record-counted}
+use Rattle.listing.proofs.Lines.{line-length, ons-length}
+use Rattle.listing.proofs.Going.{Going, going-start, going-step, going-as, going-none, going-last}
+
+-- ── what an outcome prints ──
+abbrev pub shown : ℕ → Outcome → List ℕ
+shown k o = lineOf k (o .number) (o .ticket) (o .start) ++ onLines (o .table .clock) (take (o .granted) (o .grants))
+
+pub shown-length : (k : ℕ) (o : Outcome) → o .granted ≤ 64 → length (shown k o) ≤ 2964
+shown-length k o h =
+    let g = take (o .granted) (o .grants) in
+    let t = o .table .clock in
+    omega (arith, length-append (lineOf k (o .number) (o .ticket) (o .start)) (onLines t g), line-length k (o .number) (o .ticket) (o .start), ons-length t g, length-take (o .granted) (o .grants))
+
+shown-is : (k : ℕ) (s : Step) → entryOf k s ≡ shown k (outcome s)
+unfolding entryOf
+shown-is k s =
+    let a = s .answer in
+    ap (λ (g : List ℕ). lineOf k (a .number) (a .ticket) (a .start) ++ onLines (s .model .clock) g) (sym (pad-take 0 (a .grants)))
+
+-- An outcome of the rules with a valid table.
+module _ (m : Model) (c : Call) (o : Outcome) (p : o ≡ outcome (stepOf m c)) where
+  pub few-granted : Valid (o .table) → o .granted ≤ 64
+  few-granted v =
+      let s = stepOf m c in
+      let e : o .granted ≡ length (s .answer .grants) = ap (λ (x : Outcome). x .granted) p in
+      let t : o .table .count ≡ length (s .model .pending) = ap (λ (x : Outcome). x .table .count) p in
+      omega (arith, record-counted m c .few, formed-few (o .table) (v .formed))
+
+  entry-is : (k : ℕ) → entryOf k (stepOf m c) ≡ shown k o
+  entry-is k = shown-is k (stepOf m c) ∙ ap (shown k) (sym p)
+
+  next-is : model (o .table) ≡ stepOf m c .model
+  next-is = model-is (o .table) (stepOf m c .model) (ap (λ (x : Outcome). x .table) p)
+
+-- ── the lines left ──
+stop-some : (n k : ℕ) (lines : List ℕ) → (n ≡ 0 → ⊥) → stopOr n k lines ≡ stopLine n k
+stop-some zero k lines h = absurd (h refl)
+stop-some (suc n) k lines h = refl
+
+stop-none : (n k : ℕ) (lines : List ℕ) → n ≡ 0 → stopOr n k lines ≡ lines
+stop-none zero k lines h = refl
+stop-none (suc n) k lines h = absurd (omega arith)
+
+module _ (s : List ℕ) (at : ℕ) (m : Model) (k : ℕ) where
+  lines-end : itemAt s at ≡ End → linesOf k m (walk s at) ≡ []
+  unfolding linesOf linesFrom
+  lines-end e = rw (walk-end s at e)
+
+  lines-refused : (n : ℕ) → itemAt s at ≡ Refused n → linesOf k m (walk s at) ≡ stopLine n k
+  unfolding linesOf linesFrom
+  lines-refused n e = rw (walk-refused s at n e) (stop-some n k [] (λ z. omega (arith, step-refused s at n e)))
+
+  module _ (c : Call) (next : ℕ) (e : itemAt s at ≡ Record c next) (o : Outcome) (p : o ≡ outcome (stepOf m c)) (n : ℕ) (q : n ≡ ending c (o .number)) where
+    ends-as : n ≡ ending c (stepOf m c .answer .number)
+    ends-as = q ∙ ap (λ (x : Outcome). ending c (x .number)) p
+
+    lines-stop : (n ≡ 0 → ⊥) → linesOf k m (walk s at) ≡ stopLine n k
+    unfolding linesOf linesFrom
+    lines-stop z = rw (walk-record s at c next e, sym ends-as) (stop-some n k _ z)
+
+    lines-record : n ≡ 0 → linesOf k m (walk s at) ≡ shown k o ++ linesOf (k + 1) (model (o .table)) (walk s next)
+    unfolding linesOf linesFrom
+    lines-record z = rw (walk-record s at c next e, sym ends-as, next-is m c o p, sym (entry-is m c o p k)) (stop-none n k _ z)
+
+  module _ (o₀ : List ℕ) (at₀ : ℕ) (w out : List ℕ) (n : ℕ) (g : Going o₀ at₀ w out n (linesOf k m (walk s at))) where
+    pub run-end : itemAt s at ≡ End → Put o₀ at₀ w n out
+    run-end e = going-none o₀ at₀ w out n (going-as o₀ at₀ w out n _ _ (lines-end e) g)
+
+    pub run-refused : (x r : ℕ) (p : List ℕ) → itemAt s at ≡ Refused x → Put out n (stopLine x k) r p → Put o₀ at₀ w r p
+    run-refused x r p e z = going-last o₀ at₀ w out n (stopLine x k) p r (going-as o₀ at₀ w out n _ _ (lines-refused x e) g) z
+
+    module _ (c : Call) (next : ℕ) (e : itemAt s at ≡ Record c next) (o : Outcome) (h : o ≡ outcome (stepOf m c)) (x : ℕ) (q : x ≡ ending c (o .number)) (r : ℕ) (p : List ℕ) where
+      pub run-stop : (x ≡ 0 → ⊥) → Put out n (stopLine x k) r p → Put o₀ at₀ w r p
+      run-stop y z = going-last o₀ at₀ w out n (stopLine x k) p r (going-as o₀ at₀ w out n _ _ (lines-stop c next e o h x q y) g) z
+
+      pub run-record : x ≡ 0 → Put out n (shown k o) r p → Going o₀ at₀ w p r (linesOf (k + 1) (model (o .table)) (walk s next))
+      run-record y z = going-step o₀ at₀ w out n (shown k o) _ p r (going-as o₀ at₀ w out n _ _ (lines-record c next e o h x q y) g) z
+
+-- ── the loop's invariant ──
+pub record Turn (s o₀ : List ℕ) (from : ℕ) (o : List ℕ) (t : Table) (at k n : ℕ) : Type 0 where
+  pub valid : Valid t
+  pub inside : at ≤ 65536
+  pub few : k ≤ at
+  pub near : n ≤ 24 + 4096 * at
+  pub going : Going o₀ from (linesOf 1 (blank 0) (walk s 1)) o n (linesOf k (model t) (walk s at))
+
+pub turn-start : (s o : List ℕ) (from : ℕ) (r : Outcome) → from ≤ 24 → r ≡ outcome (new 0) → Valid (r .table) → Turn s o from o (r .table) 1 1 from
+turn-start s o from r h e v =
+    let b : new 0 .model ≡ blank 0 = new-cases (λ (x : Step). x .model ≡ blank 0) 0 (λ z. refl) (λ z. refl) in
+    let q : model (r .table) ≡ blank 0 = model-is (r .table) (new 0 .model) (ap (λ (x : Outcome). x .table) e) ∙ b in
+    record {
+      valid = v;
+      inside = omega arith;
+      few = omega arith;
+      near = omega arith;
+      going = going-as o from _ o from _ _ (ap (λ (x : Model). linesOf 1 x (walk s 1)) (sym q)) (going-start o from (linesOf 1 (blank 0) (walk s 1)));
+    }
+
+pub turn-more : (s o₀ : List ℕ) (from : ℕ) (out : List ℕ) (t : Table) (at k n : ℕ) → Turn s o₀ from out t at k n → length s ≤ 65536
+    → (c : Call) (next : ℕ) → itemAt s at ≡ Record c next → (o : Outcome) → o ≡ outcome (stepOf (model t) c) → Valid (o .table)
+    → (x : ℕ) → x ≡ ending c (o .number) → x ≡ 0 → (r : ℕ) (p : List ℕ) → Put out n (shown k o) r p → Turn s o₀ from p (o .table) next (k + 1) r
+turn-more s o₀ from out t at k n u l c next e o h v x q y r p z =
+    let i = step-next s at c next e in
+    let d = shown-length k o (few-granted (model t) c o h v) in
+    record {
+      valid = v;
+      inside = omega (arith, i .1);
+      few = omega (arith, i .0, u .few);
+      near = omega (arith, i .0, u .near, z .next, d);
+      going = run-record s at (model t) k o₀ from (linesOf 1 (blank 0) (walk s 1)) out n (u .going) c next e o h x q r p y z;
+    }
+
+-- ── the whole ──
+pub text-stopped : (s : List ℕ) (n : ℕ) → n ≡ openNumber s → (n ≡ 0 → ⊥) → header ++ stopLine n 0 ≡ listingOf s
+unfolding listingOf
+text-stopped s n p q = ap (λ (r : List ℕ). header ++ r) (sym (rw (sym p) (stop-some n 0 _ q)))
+
+pub text-read : (s : List ℕ) (n : ℕ) → n ≡ openNumber s → n ≡ 0 → header ++ linesOf 1 (blank 0) (walk s 1) ≡ listingOf s
+unfolding listingOf
+text-read s n p q = ap (λ (r : List ℕ). header ++ r) (sym (rw (sym p) (stop-none n 0 _ q)))
+
+-- ── the player's call ──
+pub listing-none : (x out : List ℕ) → leb (length x) (length out) ≡ false → (15 ≡ answerOf x out) × (out ≡ bufferOf x out)
+unfolding answerOf bufferOf
+listing-none x out e = rw e (refl, refl)
+
+pub listing-all : (x out : List ℕ) → leb (length x) (length out) ≡ true → (r : ℕ) (p : List ℕ) → Put out 0 x r p → (r ≡ answerOf x out) × (p ≡ bufferOf x out)
+unfolding answerOf bufferOf
+listing-all x out e r p w = rw e (w .next ∙ zero-add (length x), w .is ∙ laid-fits out x (leb-true (length x) (length out) e))
+
+-- The answer is a count of the buffer's bytes, where it has 15.
+pub answer-within : (x out p : List ℕ) (r : ℕ) → r ≡ answerOf x out → length p ≡ length out → 15 ≤ length out → r ≤ length p
+unfolding answerOf
+answer-within x out p r e l h = go (leb (length x) (length out)) (leb-true (length x) (length out)) e
+  where
+    go : (b : Bool) → (b ≡ true → length x ≤ length out) → r ≡ cond b (length x) 15 → r ≤ length p
+    go true f e = omega (arith, f refl)
+    go false f e = omega arith

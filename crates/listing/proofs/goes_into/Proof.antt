@@ -1,0 +1,30 @@
+use mathlib.Core.Path.{ap, _∙_}
+use native.Mathlib.Nat.{zero-add}
+use lib.Dec.{leb}
+use Rattle.listing.proofs.Sizes.{goes-surely}
+use borrow.Author.Needs.{needs}
+use Rattle.listing.proofs.goes_into.Statement.{statement}
+use Rattle.listing.proofs.goes_into.Tie as tie
+use Rattle.listing.proofs.goes_into.Reads as reads
+use Rattle.listing.proofs.goes_into.Lts as lts
+use Rattle.listing.proofs.room_for.Reads as room-for-reads
+use Rattle.listing.proofs.run.Reads as run-reads
+
+room-for-requires : tie.Need-room-for-requires
+room-for-requires c κs = search needs
+
+returns : tie.Need-returns
+returns c = goes-surely _ _ _ (c .before .room-for .ensures) (c .if1 .taken)
+
+slice-aggregate-run : tie.Need-slice-aggregate-run
+slice-aggregate-run c = search needs
+
+run-requires : tie.Need-run-requires
+run-requires c κs = search needs
+
+returns-2 : tie.Need-returns-2
+returns-2 c = ap (λ n. leb n (c .before .before .before .before .before .before .args .room)) (c .before .run .ensures .next ∙ zero-add _)
+
+pub goes-into-spec : {M : Type 1} → statement M
+goes-into-spec =
+    tie.close (tie.spec room-for-requires returns slice-aggregate-run run-requires returns-2)

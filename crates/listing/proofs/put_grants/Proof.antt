@@ -1,0 +1,71 @@
+use lib.ListN.{length, take, drop, getD}
+use borrow.Author.Needs.{needs}
+use native.Mathlib.Omega.{arith}
+use mathlib.Core.Path.{_≡_}
+use Rattle.listing.specs.Lines.{onLines}
+use Prim.Native.Nat.{_+_, _-_, _*_, _≤_}
+use Rattle.listing.proofs.Lines.{on-length, ons-step, ons-end}
+use Rattle.listing.proofs.Going.{Going, going-start, going-step, going-as, going-none}
+use Rattle.listing.proofs.put_grants.Statement.{statement}
+use Rattle.listing.proofs.put_grants.Tie as tie
+use Rattle.listing.proofs.put_grants.Reads as reads
+use Rattle.listing.proofs.put_grants.Lts as lts
+use Rattle.listing.proofs.put_grant.Reads as put-grant-reads
+
+abbrev Inv-loop : tie.InvT-loop
+Inv-loop out₀ at clock granted grants n₀ i₀ out n i = (i ≤ granted) × (n ≤ at + 45 * i) × Going out₀ at (onLines clock (take granted grants)) out n (onLines clock (drop i (take granted grants)))
+
+abbrev μ-loop : tie.MeasureT-loop
+μ-loop out₀ at clock granted grants n₀ i₀ out n i = granted - i
+
+loop-holds : tie.Need-loop-holds Inv-loop μ-loop
+loop-holds c = (omega arith, omega arith, going-start _ _ _)
+
+mul-t : tie.Need-mul-t Inv-loop μ-loop
+mul-t c = omega arith
+
+array-read-t : tie.Need-array-read-t Inv-loop μ-loop
+array-read-t c = omega arith
+
+put-grant-requires : tie.Need-put-grant-requires Inv-loop μ-loop
+put-grant-requires c κs = omega arith
+
+add-i : tie.Need-add-i Inv-loop μ-loop
+add-i c = omega arith
+
+loop-less : tie.Need-loop-less Inv-loop μ-loop
+loop-less c = omega arith
+
+loop-again : tie.Need-loop-again Inv-loop μ-loop
+loop-again c =
+    let l = c .before .before .before .before .before in
+    let a = l .before .before .args in
+    let w = c .before .before .put-grant .ensures in
+    let s : length (a .t4) ≡ 64 = search needs in
+    let e = ons-step (a .clock) (a .t4) (a .granted) (l .loop .i) (c .before .before .before .before .loop-test .taken) (omega arith) in
+    (omega arith, omega (arith, w .next, on-length (a .clock) (getD (a .t4) (l .loop .i) 0)), going-step _ _ _ _ _ _ _ _ _ (going-as _ _ _ _ _ _ _ e (l .loop .inv .2)) w)
+
+same-length : tie.Need-same-length Inv-loop μ-loop
+same-length c = c .before .loop .inv .2 .size
+
+returns : tie.Need-returns Inv-loop μ-loop
+returns c =
+    let l = c .before .loop in
+    let a = c .before .before .before .args in
+    going-none _ _ _ _ _ (going-as _ _ _ _ _ _ _ (ons-end (a .clock) (a .t4) (a .granted) (l .i) (c .loop-test .left)) (l .inv .2))
+
+pub put-grants-spec : {M : Type 1} → statement M
+put-grants-spec =
+    tie.close
+    (tie.spec
+    Inv-loop
+    μ-loop
+    loop-holds
+    mul-t
+    array-read-t
+    put-grant-requires
+    add-i
+    loop-less
+    loop-again
+    same-length
+    returns)

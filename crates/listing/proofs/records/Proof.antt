@@ -1,0 +1,124 @@
+use borrow.Author.Needs.{needs}
+use native.Mathlib.Omega.{arith}
+use mathlib.Core.Path.{sym, _∙_}
+use Prim.Native.Nat.{_-_}
+use lib.ListN.{length}
+use Rattle.load.proofs.Reading.{step-next}
+use Rattle.listing.proofs.Turns.{Turn, turn-start, turn-more, run-end, run-refused, run-stop, few-granted}
+use Rattle.listing.proofs.records.Statement.{statement}
+use Rattle.listing.proofs.records.Tie as tie
+use Rattle.listing.proofs.records.Reads as reads
+use Rattle.listing.proofs.records.Lts as lts
+use Rattle.listing.proofs.act.Reads as act-reads
+use Rattle.listing.proofs.ending_of.Reads as ending-of-reads
+use Rattle.listing.proofs.put_entry.Reads as put-entry-reads
+use Rattle.listing.proofs.put_stop.Reads as put-stop-reads
+use Rattle.load.proofs.record_at.Reads as record-at-reads
+use Rattle.table.proofs.new.Reads as new-reads
+
+abbrev Inv-loop : tie.InvT-loop
+Inv-loop load out₀ from t₀ at₀ k₀ n₀ out t at k n = Turn load out₀ from out t at k n
+
+abbrev μ-loop : tie.MeasureT-loop
+μ-loop load out₀ from t₀ at₀ k₀ n₀ out t at k n = length load - at
+
+new-requires : tie.Need-new-requires Inv-loop μ-loop
+new-requires c κs = search needs
+
+loop-holds : tie.Need-loop-holds Inv-loop μ-loop
+loop-holds c = turn-start _ _ _ _ (c .before .before .before .before .pre .0) (c .before .new .ensures .0) (c .before .new .ensures .1)
+
+record-at-requires : tie.Need-record-at-requires Inv-loop μ-loop
+record-at-requires c κs = search needs
+
+enum-known-call : tie.Need-enum-known-call Inv-loop μ-loop
+enum-known-call c = search needs
+
+act-requires : tie.Need-act-requires Inv-loop μ-loop
+act-requires c κs = c .before .before .before .before .loop .inv .valid
+
+ending-of-requires : tie.Need-ending-of-requires Inv-loop μ-loop
+ending-of-requires c κs = search needs
+
+put-stop-requires : tie.Need-put-stop-requires Inv-loop μ-loop
+put-stop-requires c κs = let i = c .before .before .before .before .before .before .before .before .loop .inv in omega (arith, i .near, i .inside)
+
+same-length : tie.Need-same-length Inv-loop μ-loop
+same-length c = c .before .before .put-stop .kept .0 ∙ c .before .before .before .before .before .before .before .before .before .before .before .loop .inv .going .size
+
+returns : tie.Need-returns Inv-loop μ-loop
+returns c =
+    let e = c .before .before .before .before .before in
+    let l = e .before .before .before .before .before in
+    run-stop _ _ _ _ _ _ _ _ _ (l .before .loop .inv .going) _ _ (sym (l .record-at .ensures) ∙ e .before .before .before .call .given .1) _ (e .before .act .ensures .0) _ (e .ending-of .ensures) _ _ (c .before .before .before .before .if1 .taken) (c .before .before .put-stop .ensures)
+
+put-entry-requires : tie.Need-put-entry-requires Inv-loop μ-loop
+put-entry-requires c κs =
+    let i = c .before .before .before .before .before .before .before .before .loop .inv in
+    let a = c .before .before .before .act .ensures in
+    (omega (arith, i .near, i .inside), few-granted _ _ _ (a .0) (a .1))
+
+add-k : tie.Need-add-k Inv-loop μ-loop
+add-k c = let i = c .before .before .before .before .before .before .before .before .before .before .before .before .loop .inv in omega (arith, i .few, i .inside)
+
+loop-less : tie.Need-loop-less Inv-loop μ-loop
+loop-less c =
+    let q = step-next _ _ _ _ (sym (c .before .before .before .before .before .before .before .before .before .before .before .record-at .ensures) ∙ c .before .before .before .before .before .before .before .before .before .call .given .1) in
+    omega (arith, q .0, q .1)
+
+loop-again : tie.Need-loop-again Inv-loop μ-loop
+loop-again c =
+    let e = c .before .before .before .before .before .before in
+    let l = e .before .before .before .before .before in
+    let a = e .before .act .ensures in
+    turn-more _ _ _ _ _ _ _ _ (l .before .loop .inv) (l .before .before .before .before .before .before .pre .1) _ _ (sym (l .record-at .ensures) ∙ e .before .before .before .call .given .1) _ (a .0) (a .1) _ (e .ending-of .ensures) (c .before .before .before .before .before .if1 .left) _ _ (c .before .before .before .put-entry .ensures)
+
+enum-told : tie.Need-enum-told Inv-loop μ-loop
+enum-told c = search needs
+
+same-length-2 : tie.Need-same-length-2 Inv-loop μ-loop
+same-length-2 c = c .before .before .before .loop .inv .going .size
+
+returns-2 : tie.Need-returns-2 Inv-loop μ-loop
+returns-2 c = run-end _ _ _ _ _ _ _ _ _ (c .before .before .before .loop .inv .going) (sym (c .before .before .record-at .ensures) ∙ c .enum-told .given .1)
+
+enum-known-r : tie.Need-enum-known-r Inv-loop μ-loop
+enum-known-r c = search needs
+
+put-stop-requires-2 : tie.Need-put-stop-requires-2 Inv-loop μ-loop
+put-stop-requires-2 c κs = let i = c .before .before .before .before .before .loop .inv in omega (arith, i .near, i .inside)
+
+same-length-3 : tie.Need-same-length-3 Inv-loop μ-loop
+same-length-3 c = c .before .before .put-stop2 .kept .0 ∙ c .before .before .before .before .before .before .before .before .loop .inv .going .size
+
+returns-3 : tie.Need-returns-3 Inv-loop μ-loop
+returns-3 c =
+    let l = c .before .before .before .before .before .before .before in
+    run-refused _ _ _ _ _ _ _ _ _ (l .before .loop .inv .going) _ _ _ (sym (l .record-at .ensures) ∙ c .before .before .before .before .before .r .given .1) (c .before .before .put-stop2 .ensures)
+
+pub records-spec : {M : Type 1} → statement M
+records-spec =
+    tie.close
+    (tie.spec
+    Inv-loop
+    μ-loop
+    new-requires
+    loop-holds
+    record-at-requires
+    enum-known-call
+    act-requires
+    ending-of-requires
+    put-stop-requires
+    same-length
+    returns
+    put-entry-requires
+    add-k
+    loop-less
+    loop-again
+    enum-told
+    same-length-2
+    returns-2
+    enum-known-r
+    put-stop-requires-2
+    same-length-3
+    returns-3)

@@ -1,0 +1,62 @@
+use native.Mathlib.Omega.{arith}
+use mathlib.Core.Path.{sym, _∙_}
+use Rattle.numerals.proofs.Laying.{put-then}
+use Rattle.numerals.proofs.Laying.{put-as}
+use Rattle.load.proofs.Reading.{open-known}
+use Rattle.listing.proofs.Turns.{text-stopped, text-read}
+use borrow.Author.Needs.{needs}
+use Rattle.listing.proofs.run.Statement.{statement}
+use Rattle.listing.proofs.run.Tie as tie
+use Rattle.listing.proofs.run.Reads as reads
+use Rattle.listing.proofs.run.Lts as lts
+use Rattle.listing.proofs.put_stop.Reads as put-stop-reads
+use Rattle.listing.proofs.records.Reads as records-reads
+use Rattle.load.proofs.open_number.Reads as open-number-reads
+use Rattle.numerals.proofs.put_bytes.Reads as put-bytes-reads
+
+slice-aggregate-put-bytes : tie.Need-slice-aggregate-put-bytes
+slice-aggregate-put-bytes c = search needs
+
+put-bytes-requires : tie.Need-put-bytes-requires
+put-bytes-requires c κs = search needs
+
+open-number-requires : tie.Need-open-number-requires
+open-number-requires c κs = search needs
+
+put-stop-requires : tie.Need-put-stop-requires
+put-stop-requires c κs = search needs
+
+same-length : tie.Need-same-length
+same-length c = search needs
+
+returns : tie.Need-returns
+returns c =
+    let b = c .before .before .before .before in
+    put-as _ _ (text-stopped _ _ (b .before .open-number .ensures) (b .if1 .taken)) (put-then _ _ _ _ _ _ _ _ (b .before .before .before .before .put-bytes .ensures) (c .before .before .put-stop .ensures))
+
+records-requires : tie.Need-records-requires
+records-requires c κs =
+    let n = c .before .before in
+    (omega (arith, n .before .before .before .put-bytes .ensures .next), open-known _ (sym (n .open-number .ensures) ∙ c .before .if1 .left) .2)
+
+same-length-2 : tie.Need-same-length-2
+same-length-2 c = search needs
+
+returns-2 : tie.Need-returns-2
+returns-2 c =
+    let b = c .before .before .before .before in
+    put-as _ _ (text-read _ _ (b .before .open-number .ensures) (b .if1 .left)) (put-then _ _ _ _ _ _ _ _ (b .before .before .before .before .put-bytes .ensures) (c .before .before .records .ensures))
+
+pub run-spec : {M : Type 1} → statement M
+run-spec =
+    tie.close
+    (tie.spec
+    slice-aggregate-put-bytes
+    put-bytes-requires
+    open-number-requires
+    put-stop-requires
+    same-length
+    returns
+    records-requires
+    same-length-2
+    returns-2)

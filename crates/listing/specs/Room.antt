@@ -1,0 +1,8 @@
+-- Room that the listing of every load of n bytes goes into (proofs/Sizes, `listing-bounded`): the header and a stop line, and for each
+-- record a line and an `on` line.
+use mathlib.Core.Bool.{cond}
+use Prim.Native.Nat.{ℕ, _+_, _*_, _/_}
+use lib.Dec.{ltb}
+
+unfoldable pub roomFor : ℕ → ℕ
+roomFor n = cond (ltb 65536 n) 71 (71 + 129 * (n / 11))

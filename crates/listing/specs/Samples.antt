@@ -1,0 +1,65 @@
+-- The listing that document 01 prints, and those of case 15 of its "Plots to try" and of a dark rig, as one table of loads and texts.
+-- proofs/AllSamples has the theorem that covers the table.
+use mathlib.Core.List.{List, [], _∷_, _++_}
+use Prim.Native.Nat.{ℕ}
+use Rattle.load.specs.declared.Call.the-variants.{Rig, Claim, Release, Clock}
+use Rattle.load.specs.Bytes.{loadBytes}
+use Rattle.listing.specs.Lines.{header}
+use Rattle.listing.specs.Text.{listingOf}
+
+pub record Sample : Type 0 where
+  pub load : List ℕ
+  pub lines : List ℕ
+
+-- A load, and what stands behind the header in its listing.
+abbrev pub sample : List ℕ → List ℕ → Sample
+sample load lines = record { load = load; lines = lines }
+
+-- "For a load of rig F hex, the three claims of S below, the claim of case 5 and a release of ticket 1 at clock 4, the whole is"
+abbrev pub printed : Sample
+printed =
+    sample
+    (loadBytes 1 (Rig 0xF ∷ Claim 0 0x8 10 ∷ Claim 0 0xC 10 ∷ Claim 0 0x6 11 ∷ Claim 0 0x3 20 ∷ Release 4 1 ∷ []))
+    (
+    -- 1 0 0 0
+    49 ∷ 32 ∷ 48 ∷ 32 ∷ 48 ∷ 32 ∷ 48 ∷ 10 ∷
+    -- 2 0 1 0
+    50 ∷ 32 ∷ 48 ∷ 32 ∷ 49 ∷ 32 ∷ 48 ∷ 10 ∷
+    -- on 1 0
+    111 ∷ 110 ∷ 32 ∷ 49 ∷ 32 ∷ 48 ∷ 10 ∷
+    -- 3 0 2 10
+    51 ∷ 32 ∷ 48 ∷ 32 ∷ 50 ∷ 32 ∷ 49 ∷ 48 ∷ 10 ∷
+    -- 4 0 3 20
+    52 ∷ 32 ∷ 48 ∷ 32 ∷ 51 ∷ 32 ∷ 50 ∷ 48 ∷ 10 ∷
+    -- 5 0 4 0
+    53 ∷ 32 ∷ 48 ∷ 32 ∷ 52 ∷ 32 ∷ 48 ∷ 10 ∷
+    -- on 4 0
+    111 ∷ 110 ∷ 32 ∷ 52 ∷ 32 ∷ 48 ∷ 10 ∷
+    -- 6 0 1 4
+    54 ∷ 32 ∷ 48 ∷ 32 ∷ 49 ∷ 32 ∷ 52 ∷ 10 ∷
+    -- on 2 4
+    111 ∷ 110 ∷ 32 ∷ 50 ∷ 32 ∷ 52 ∷ 10 ∷
+    [])
+
+unfoldable pub samples : List Sample
+samples =
+    printed
+    -- "none gives 12": stop 12 0
+    ∷ sample [] (115 ∷ 116 ∷ 111 ∷ 112 ∷ 32 ∷ 49 ∷ 50 ∷ 32 ∷ 48 ∷ 10 ∷ [])
+    -- "01 prints the header alone"
+    ∷ sample (0x01 ∷ []) []
+    -- "FF gives 11": stop 11 0
+    ∷ sample (0xFF ∷ []) (115 ∷ 116 ∷ 111 ∷ 112 ∷ 32 ∷ 49 ∷ 49 ∷ 32 ∷ 48 ∷ 10 ∷ [])
+    -- "01 00 gives 12": stop 12 1
+    ∷ sample (0x01 ∷ 0x00 ∷ []) (115 ∷ 116 ∷ 111 ∷ 112 ∷ 32 ∷ 49 ∷ 50 ∷ 32 ∷ 49 ∷ 10 ∷ [])
+    -- "01 00 00 gives 13": stop 13 1
+    ∷ sample (0x01 ∷ 0x00 ∷ 0x00 ∷ []) (115 ∷ 116 ∷ 111 ∷ 112 ∷ 32 ∷ 49 ∷ 51 ∷ 32 ∷ 49 ∷ 10 ∷ [])
+    -- a dark rig, and nothing behind it: stop 1 1
+    ∷ sample (loadBytes 1 (Rig 0 ∷ Clock 1 ∷ [])) (115 ∷ 116 ∷ 111 ∷ 112 ∷ 32 ∷ 49 ∷ 32 ∷ 49 ∷ 10 ∷ [])
+    ∷ []
+
+abbrev pub given : Sample → List ℕ
+given x = listingOf (x .load)
+
+abbrev pub expected : Sample → List ℕ
+expected x = header ++ x .lines

@@ -1,0 +1,62 @@
+-- The listing of a load: its records, as the load format reads them (load, Format), are calls of the rules (rules, Calls), and each
+-- prints what it answers. Quotations are from document 01, "What the program prints".
+use mathlib.Core.Bool.{cond}
+use mathlib.Core.List.{List, [], _∷_, _++_}
+use Prim.Native.Nat.{ℕ, zero, suc, _+_}
+use lib.Dec.{leb}
+use lib.ListN.{length, drop}
+use Rattle.rules.specs.Calls.{Model, Step, claim, release, withdraw, clock, step, blank, new}
+use Rattle.load.specs.declared.Call.{Call}
+use Rattle.load.specs.declared.Call.the-variants.{Rig, Claim, Release, Withdraw, Clock}
+use Rattle.load.specs.Reading.{Walk, walk, openNumber}
+use Rattle.listing.specs.Lines.{header, lineOf, onLines, stopLine}
+
+-- What a record does: the rig makes the table, each other is a call on it.
+unfoldable pub stepOf : Model → Call → Step
+stepOf m (Rig g) = new g
+stepOf m (Claim t g n) = step m (claim t g n)
+stepOf m (Release t k) = step m (release t k)
+stepOf m (Withdraw t k) = step m (withdraw t k)
+stepOf m (Clock t) = step m (clock t)
+
+-- "one line for each record .. Each grant adds `on TICKET CLOCK`": the call's clock, which is the table's after it.
+unfoldable pub entryOf : ℕ → Step → List ℕ
+entryOf k s =
+    let a = s .answer in
+    lineOf k (a .number) (a .ticket) (a .start) ++ onLines (s .model .clock) (a .grants)
+
+-- The number by which a record that was read ends the listing, 0 for none: "Only 11 to 14 and a dark rig end the listing early."
+abbrev pub ending : Call → ℕ → ℕ
+ending (Rig g) n = n
+ending (Claim t g l) n = 0
+ending (Release t k) n = 0
+ending (Withdraw t k) n = 0
+ending (Clock t) n = 0
+
+-- Lines, or where a number is not 0 "`stop NUMBER RECORD`, in place of" them.
+abbrev pub stopOr : ℕ → ℕ → List ℕ → List ℕ
+stopOr zero k lines = lines
+stopOr (suc n) k lines = stopLine (suc n) k
+
+-- The lines from record k on, in table m: of the records cs, then the stop by what follows them (0: the load ends there).
+unfoldable pub linesFrom : ℕ → Model → List Call → ℕ → List ℕ
+linesFrom k m [] n = stopOr n k []
+linesFrom k m (c ∷ cs) n =
+    let s = stepOf m c in
+    stopOr (ending c (s .answer .number)) k (entryOf k s ++ linesFrom (k + 1) (s .model) cs n)
+
+unfoldable pub linesOf : ℕ → Model → Walk → List ℕ
+linesOf k m w = linesFrom k m (w .calls) (w .stop)
+
+-- "The header, then one line for each record"; "RECORD is 0 for 14, 11 and an empty load", which are told before any record.
+unfoldable pub listingOf : List ℕ → List ℕ
+listingOf load = header ++ stopOr (openNumber load) 0 (linesOf 1 (blank 0) (walk load 1))
+
+-- ── the player's call ──
+-- "answers the count of bytes written, a stop line included"; "it answers 15 if the whole listing doesn't go in".
+unfoldable pub answerOf : List ℕ → List ℕ → ℕ
+answerOf text out = cond (leb (length text) (length out)) (length text) 15
+
+-- It "keeps the buffer's later bytes", and where it answers 15 all of them.
+unfoldable pub bufferOf : List ℕ → List ℕ → List ℕ
+bufferOf text out = cond (leb (length text) (length out)) (text ++ drop (length text) out) out

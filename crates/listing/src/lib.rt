@@ -1,0 +1,190 @@
+// The listing of a load: the player's call. A load's records run on a table, and each prints what it answers.
+ghost use mathlib.Core.Path.{_≡_};
+ghost use mathlib.Core.List.{_++_};
+ghost use Prim.Native.Nat.{_+_, _^_, _≤_, _<_};
+ghost use lib.Dec.{leb};
+ghost use lib.ListN.{length, take};
+ghost use Rattle.rules.specs.Calls.{blank};
+ghost use Rattle.rules.specs.Tables.{model};
+ghost use Rattle.numerals.specs.Laid.{Put};
+ghost use Rattle.load.specs.Reading.{walk};
+ghost use Rattle.table.specs.Valid.{Valid};
+ghost use Rattle.table.specs.Outcomes.{outcome};
+ghost use Rattle.listing.specs.Lines.{column, lineOf, onLine, onLines, stopLine};
+ghost use Rattle.listing.specs.Room.{roomFor};
+ghost use Rattle.listing.specs.Text.{stepOf, ending, linesOf, listingOf, answerOf, bufferOf};
+use load::Call;
+use load::Item;
+use rules::Table;
+use table::Outcome;
+
+// ── lines: each is laid over a buffer from a place on, as far as that goes, and answers the place behind it ──
+
+fn put_column(out: &mut [u8], at: usize, value: u64, b: u8) -> usize
+    requires { ⌜ at + 21 < 2 ^ 64 ⌝ }
+    ensures { λ r. ⌜ Put (now (out .entry)) at (column value b) r (now (out .exit)) ⌝ }
+{
+    let m = numerals::put_decimal(out, at, value);
+    numerals::put_byte(out, m, b)
+}
+
+fn put_pair(out: &mut [u8], at: usize, a: u64, b: u64, last: u8) -> usize
+    requires { ⌜ at + 42 < 2 ^ 64 ⌝ }
+    ensures { λ r. ⌜ Put (now (out .entry)) at (column a 32 ++ column b last) r (now (out .exit)) ⌝ }
+{
+    let m = put_column(out, at, a, 32);
+    put_column(out, m, b, last)
+}
+
+fn put_line(out: &mut [u8], at: usize, k: u64, number: u8, ticket: u16, start: u64) -> usize
+    requires { ⌜ at + 84 < 2 ^ 64 ⌝ }
+    ensures { λ r. ⌜ Put (now (out .entry)) at (lineOf k number ticket start) r (now (out .exit)) ⌝ }
+{
+    let m = put_pair(out, at, k, number as u64, 32);
+    put_pair(out, m, ticket as u64, start, 10)
+}
+
+fn put_grant(out: &mut [u8], at: usize, clock: u64, ticket: u16) -> usize
+    requires { ⌜ at + 45 < 2 ^ 64 ⌝ }
+    ensures { λ r. ⌜ Put (now (out .entry)) at (onLine clock ticket) r (now (out .exit)) ⌝ }
+{
+    let m = numerals::put_bytes(out, at, b"on ");
+    put_pair(out, m, ticket as u64, clock, 10)
+}
+
+fn put_stop(out: &mut [u8], at: usize, number: u8, k: u64) -> usize
+    requires { ⌜ at + 47 < 2 ^ 64 ⌝ }
+    ensures { λ r. ⌜ Put (now (out .entry)) at (stopLine number k) r (now (out .exit)) ⌝ }
+{
+    let m = numerals::put_bytes(out, at, b"stop ");
+    put_pair(out, m, number as u64, k, 10)
+}
+
+fn put_grants(out: &mut [u8], at: usize, clock: u64, grants: [u16; 64], granted: usize) -> usize
+    requires { ⌜ (at + 2880 < 2 ^ 64) × (granted ≤ 64) ⌝ }
+    ensures { λ r. ⌜ Put (now (out .entry)) at (onLines clock (take granted grants)) r (now (out .exit)) ⌝ }
+{
+    let mut n = at;
+    let mut i: usize = 0;
+    while i < granted {
+        let t = grants[i];
+        n = put_grant(out, n, clock, t);
+        i += 1;
+    }
+    n
+}
+
+fn put_entry(out: &mut [u8], at: usize, k: u64, o: Outcome) -> usize
+    requires { ⌜ (at + 2964 < 2 ^ 64) × (o .granted ≤ 64) ⌝ }
+    ensures { λ r. ⌜ Put (now (out .entry)) at (lineOf k (o .number) (o .ticket) (o .start) ++ onLines (o .table .clock) (take (o .granted) (o .grants))) r (now (out .exit)) ⌝ }
+{
+    let m = put_line(out, at, k, o.number, o.ticket, o.start);
+    let g = o.grants;
+    put_grants(out, m, o.table.clock, g, o.granted)
+}
+
+// ── records ──
+
+// The number by which a record ends the listing, 0 for none.
+fn ending_of(call: Call, number: u8) -> u8
+    ensures { λ r. ⌜ r ≡ ending call number ⌝ }
+{
+    match call {
+        Call::Rig(_g) => number,
+        Call::Claim(_t, _g, _n) => 0,
+        Call::Release(_t, _k) => 0,
+        Call::Withdraw(_t, _k) => 0,
+        Call::Clock(_t) => 0,
+    }
+}
+
+fn act(t: Table, call: Call) -> Outcome
+    requires { ⌜ Valid t ⌝ }
+    ensures { λ r. ⌜ (r ≡ outcome (stepOf (model t) call)) × Valid (r .table) ⌝ }
+{
+    match call {
+        Call::Rig(g) => table::new(g),
+        Call::Claim(c, g, n) => table::claim(t, c, g, n),
+        Call::Release(c, k) => table::release(t, c, k),
+        Call::Withdraw(c, k) => table::withdraw(t, c, k),
+        Call::Clock(c) => table::clock(t, c),
+    }
+}
+
+fn records(load: &[u8], out: &mut [u8], from: usize) -> usize
+    requires { ⌜ (from ≤ 24) × (length (now load) ≤ 65536) ⌝ }
+    ensures { λ r. ⌜ Put (now (out .entry)) from (linesOf 1 (blank 0) (walk (now (load .entry)) 1)) r (now (out .exit)) ⌝ }
+{
+    let none = table::new(0);
+    let mut t = none.table;
+    let mut at: usize = 1;
+    let mut k: u64 = 1;
+    let mut n = from;
+    loop {
+        match load::record_at(load, at) {
+            Item::Record(call, next) => {
+                let o = act(t, call);
+                let stop = ending_of(call, o.number);
+                if stop != 0 {
+                    return put_stop(out, n, stop, k);
+                }
+                n = put_entry(out, n, k, o);
+                t = o.table;
+                at = next;
+                k += 1;
+            }
+            Item::End => {
+                return n;
+            }
+            Item::Refused(r) => {
+                return put_stop(out, n, r, k);
+            }
+        }
+    }
+}
+
+// The whole listing laid over a buffer, as far as that goes, and its length.
+fn run(load: &[u8], out: &mut [u8]) -> usize
+    ensures { λ r. ⌜ Put (now (out .entry)) 0 (listingOf (now (load .entry))) r (now (out .exit)) ⌝ }
+{
+    let n = numerals::put_bytes(out, 0, b"rec answer ticket start\n");
+    let number = load::open_number(load);
+    if number != 0 {
+        return put_stop(out, n, number, 0);
+    }
+    records(load, out, n)
+}
+
+// Room that the listing of every load of a size goes into: the header and a stop line, and for each record a line and an `on` line.
+fn room_for(size: usize) -> usize
+    ensures { λ r. ⌜ r ≡ roomFor size ⌝ }
+{
+    if 65536 < size {
+        return 71;
+    }
+    71 + 129 * (size / 11)
+}
+
+// Whether the listing goes into so much room. Where the load's length does not tell, it is counted, on a buffer that takes one byte.
+fn goes_into(load: &[u8], room: usize) -> bool
+    ensures { λ r. ⌜ r ≡ leb (length (listingOf (now (load .entry)))) room ⌝ }
+{
+    if room_for(load.len()) <= room {
+        return true;
+    }
+    let mut scrap = [0u8; 1];
+    run(load, &mut scrap) <= room
+}
+
+// The listing of a load at the start of a buffer: the count of bytes written, or 15 and the buffer untouched.
+// Cost: one call of the table for each record; two where the buffer has under 71 + 129 * (load.len() / 11) bytes.
+#[no_mangle]
+pub extern "C" fn belgwyth_listing(load: &[u8], out: &mut [u8]) -> usize
+    ensures answer { λ r. ⌜ r ≡ answerOf (listingOf (now (load .entry))) (now (out .entry)) ⌝ }
+    ensures buffer { λ _. ⌜ now (out .exit) ≡ bufferOf (listingOf (now (load .entry))) (now (out .entry)) ⌝ }
+{
+    if goes_into(load, out.len()) {
+        return run(load, out);
+    }
+    15
+}

@@ -1,0 +1,38 @@
+/*
+ * Belgwyth: what a load of light-cue calls does to a claims table, as a listing.
+ *
+ * Link with the static library that `rt staticlib listing` writes:
+ *
+ *     gcc -O2 -Iinclude -o player player.c target/staticlib/liblisting.a
+ */
+#ifndef BELGWYTH_H
+#define BELGWYTH_H
+
+#include <stddef.h>
+#include <stdint.h>
+
+#ifdef __cplusplus
+extern "C" {
+#endif
+
+/* A load is at most this long; a longer one is listed as `stop 14 0`. */
+#define BELGWYTH_LOAD_MAX 65536
+
+/* The answer when the whole listing does not go into the buffer. No listing is that short: the header alone is 24 bytes. */
+#define BELGWYTH_NO_SPACE 15
+
+/*
+ * Writes the listing of a load to the start of `out`.
+ *
+ * Answers the count of bytes written, a stop line included; the bytes of `out` behind them keep their contents. If the listing is
+ * longer than `out_length`, answers BELGWYTH_NO_SPACE and no byte of `out` differs. Every input is taken: what is wrong with a load is
+ * told in its listing. Reads `load[0 .. load_length]` and writes `out[0 .. out_length]`, nothing else; keeps no state between calls.
+ * Neither pointer may be null, not even where its length is 0, and the two ranges must not overlap.
+ */
+size_t belgwyth_listing(const uint8_t *load, size_t load_length, uint8_t *out, size_t out_length);
+
+#ifdef __cplusplus
+}
+#endif
+
+#endif

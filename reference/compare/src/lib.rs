@@ -1,0 +1,84 @@
+//! The proved library as Rust sees it, and what a comparison prints where the
+//! two differ.
+
+use reference::{load, shrink, text};
+use std::io::Write;
+use std::path::PathBuf;
+use std::process::{Command, Stdio};
+
+mod proved {
+    extern "C" {
+        pub fn belgwyth_listing(
+            load: *const u8,
+            load_length: usize,
+            out: *mut u8,
+            out_length: usize,
+        ) -> usize;
+    }
+}
+
+/// The player's call: the count of bytes written to the buffer, or 15.
+pub fn listing(load: &[u8], out: &mut [u8]) -> usize {
+    // SAFETY: both slices are valid for their lengths and don't overlap.
+    unsafe { proved::belgwyth_listing(load.as_ptr(), load.len(), out.as_mut_ptr(), out.len()) }
+}
+
+/// A program of the repository, as `rt check` built it.
+pub fn program(name: &str) -> PathBuf {
+    PathBuf::from(env!("CARGO_MANIFEST_DIR"))
+        .join("../../target/bin")
+        .join(name)
+}
+
+/// What a program writes to standard output when it is given these bytes.
+pub fn output_of(name: &str, input: &[u8]) -> Vec<u8> {
+    let mut child = Command::new(program(name))
+        .stdin(Stdio::piped())
+        .stdout(Stdio::piped())
+        .spawn()
+        .unwrap_or_else(|e| panic!("{name} does not start ({e}): run rt check first"));
+    let mut stdin = child.stdin.take().expect("a pipe");
+    let bytes = input.to_vec();
+    let writer = std::thread::spawn(move || {
+        // A program may stop reading early.
+        let _ = stdin.write_all(&bytes);
+    });
+    let output = child.wait_with_output().expect("an output");
+    writer.join().expect("the writer ends");
+    output.stdout
+}
+
+/// How many cases to run: the number in the environment variable, or else.
+pub fn cases(variable: &str, otherwise: u64) -> u64 {
+    std::env::var(variable)
+        .ok()
+        .and_then(|n| n.parse().ok())
+        .unwrap_or(otherwise)
+}
+
+/// A load as lines of text, as far as it reads, for a report.
+pub fn shown(bytes: &[u8]) -> String {
+    let mut calls = Vec::new();
+    let mut position = 1;
+    while let Ok(load::Next::Call { call, next }) = load::next_call(bytes, position) {
+        calls.push(call);
+        position = next;
+    }
+    let rest: Vec<String> = bytes[position.min(bytes.len())..]
+        .iter()
+        .take(64)
+        .map(|b| format!("{b:02X}"))
+        .collect();
+    format!(
+        "{}# {} bytes in all; unread: {}\n",
+        text::print(&calls),
+        bytes.len(),
+        rest.join(" ")
+    )
+}
+
+/// Fails with the seed and the smallest load found on which the two still differ.
+pub fn report(seed: u64, load: &[u8], differ: impl FnMut(&[u8]) -> bool) -> ! {
+    let small = shrink::shrink(load, differ);
+    panic!("seed {seed}: differs; shrunk to\n{}", shown(&small));
+}

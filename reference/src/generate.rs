@@ -1,0 +1,973 @@
+//! A deterministic generator of runs and loads from a seed, and a damager of
+//! loads. The same seed gives the same bytes everywhere.
+
+use crate::load::{self, Call, MAX_LOAD};
+use crate::table::{Claim, State, Table, TimedCall, MAX_CLOCK, MAX_LENGTH, MAX_PENDING};
+
+/// A small generator of numbers (splitmix64).
+#[derive(Clone, Debug)]
+pub struct Prng {
+    state: u64,
+}
+
+impl Prng {
+    pub fn new(seed: u64) -> Prng {
+        Prng { state: seed }
+    }
+
+    /// The next 64 bits.
+    pub fn draw(&mut self) -> u64 {
+        self.state = self.state.wrapping_add(0x9E37_79B9_7F4A_7C15);
+        let mut z = self.state;
+        z = (z ^ (z >> 30)).wrapping_mul(0xBF58_476D_1CE4_E5B9);
+        z = (z ^ (z >> 27)).wrapping_mul(0x94D0_49BB_1331_11EB);
+        z ^ (z >> 31)
+    }
+
+    /// A number below the bound, which is not 0.
+    pub fn below(&mut self, bound: u64) -> u64 {
+        self.draw() % bound
+    }
+
+    /// A number from low to high, both included.
+    pub fn range(&mut self, low: u64, high: u64) -> u64 {
+        low + self.below(high - low + 1)
+    }
+
+    /// True once in so many draws.
+    pub fn one_in(&mut self, count: u64) -> bool {
+        self.below(count) == 0
+    }
+
+    /// One of the items, of which there is at least one.
+    pub fn pick<T: Copy>(&mut self, items: &[T]) -> T {
+        items[self.below(items.len() as u64) as usize]
+    }
+
+    /// A number of random magnitude.
+    pub fn magnitude(&mut self) -> u64 {
+        let shift = self.below(64);
+        self.draw() >> shift
+    }
+
+    /// An index, drawn by weight.
+    fn weighted(&mut self, weights: &[u64]) -> usize {
+        let mut at = self.below(weights.iter().sum());
+        for (index, &weight) in weights.iter().enumerate() {
+            if at < weight {
+                return index;
+            }
+            at -= weight;
+        }
+        unreachable!("the draw is below the sum of the weights")
+    }
+}
+
+/// What a generated run is like.
+#[derive(Clone, Copy, PartialEq, Eq, PartialOrd, Ord, Debug)]
+pub enum Shape {
+    /// A few calls.
+    Short,
+    /// Hundreds of calls, sometimes as many as a load holds.
+    Long,
+    /// 64 pending claims and more, then releases, and so on.
+    Full,
+    /// All 64 groups.
+    AllGroups,
+    /// Few groups, equal starts and claims that touch.
+    Ties,
+    /// Clocks past promised ends, so that holders overrun (document 01: an
+    /// overdue holder).
+    Overrun,
+    /// Boundary values of every field.
+    Boundary,
+    /// Almost every call is accepted.
+    Accepted,
+    /// Chains of claims, each sharing a group with the next.
+    Chain,
+    /// Clocks near the greatest one.
+    EndOfTime,
+    /// Any values.
+    Noise,
+    /// No accepted call bears a clock past the promised end of a held claim.
+    InTime,
+}
+
+/// Every shape.
+pub const SHAPES: [Shape; 12] = [
+    Shape::Short,
+    Shape::Long,
+    Shape::Full,
+    Shape::AllGroups,
+    Shape::Ties,
+    Shape::Overrun,
+    Shape::Boundary,
+    Shape::Accepted,
+    Shape::Chain,
+    Shape::EndOfTime,
+    Shape::Noise,
+    Shape::InTime,
+];
+
+/// A generated run: the rig and the calls.
+#[derive(Clone, PartialEq, Eq, Debug)]
+pub struct Run {
+    pub shape: Shape,
+    pub rig: u64,
+    pub calls: Vec<TimedCall>,
+}
+
+impl Run {
+    /// The run as the calls of a load.
+    pub fn load_calls(&self) -> Vec<Call> {
+        let mut calls = vec![Call::Rig(self.rig)];
+        calls.extend(self.calls.iter().map(|&call| Call::Timed(call)));
+        calls
+    }
+
+    /// The run as a load of at most 65,536 bytes.
+    pub fn load(&self) -> Vec<u8> {
+        load::join(&self.load_calls())
+    }
+}
+
+/// The run of a seed, its shape chosen by the seed.
+pub fn run(seed: u64) -> Run {
+    let weights = [4, 1, 2, 2, 4, 4, 3, 4, 3, 2, 1, 3];
+    let shape = SHAPES[Prng::new(!seed).weighted(&weights)];
+    run_of(shape, seed)
+}
+
+/// The good load of a seed (its rig may be without groups).
+pub fn load(seed: u64) -> Vec<u8> {
+    run(seed).load()
+}
+
+/// A load of a seed: three in four good, the others damaged.
+pub fn any_load(seed: u64) -> Vec<u8> {
+    let good = load(seed);
+    if Prng::new(seed ^ 0xDA4A_6ED0).one_in(4) {
+        damage(&good, seed)
+    } else {
+        good
+    }
+}
+
+/// The run of a shape and a seed.
+pub fn run_of(shape: Shape, seed: u64) -> Run {
+    let mut prng = Prng::new(seed);
+    let rig = rig(&mut prng, shape);
+    let mut build = Builder::new(prng, rig, MAX_LOAD, shape == Shape::InTime);
+    match shape {
+        Shape::Short => {
+            let count = build.prng.below(9);
+            build.mix(count, &ALL_ROUND);
+        }
+        Shape::Long => {
+            let count = if build.prng.one_in(8) {
+                6_000
+            } else {
+                build.prng.range(150, 600)
+            };
+            let habits = build
+                .prng
+                .pick(&[&ALL_ROUND, &ACCEPTED, &OVERRUN, &MANY_GROUPS]);
+            build.mix(count, habits);
+        }
+        Shape::Full => build.full(),
+        Shape::AllGroups => {
+            let count = build.prng.range(20, 160);
+            build.mix(count, &MANY_GROUPS);
+        }
+        Shape::Ties => {
+            let count = build.prng.range(6, 60);
+            build.mix(count, &TIES);
+        }
+        Shape::Overrun => {
+            let count = build.prng.range(6, 80);
+            build.mix(count, &OVERRUN);
+        }
+        Shape::Boundary => {
+            let count = build.prng.range(4, 60);
+            build.mix(count, &BOUNDARY);
+        }
+        Shape::Accepted => {
+            let count = build.prng.range(10, 100);
+            build.mix(count, &ACCEPTED);
+        }
+        Shape::Chain => build.chain(),
+        Shape::EndOfTime => {
+            let short = build.prng.magnitude() % 8_000_000;
+            build.push(TimedCall::Clock {
+                clock: MAX_CLOCK - short,
+            });
+            let count = build.prng.range(6, 60);
+            build.mix(count, &END_OF_TIME);
+        }
+        Shape::Noise => {
+            let count = build.prng.range(1, 60);
+            for _ in 0..count {
+                let call = build.noise();
+                build.push(call);
+            }
+        }
+        Shape::InTime => {
+            let count = build.prng.range(10, 120);
+            let habits = build
+                .prng
+                .pick(&[&ALL_ROUND, &ACCEPTED, &TIES, &MANY_GROUPS]);
+            build.mix(count, habits);
+        }
+    }
+    Run {
+        shape,
+        rig,
+        calls: build.calls,
+    }
+}
+
+/// A good load of exactly this many bytes; none if it is too small for that.
+pub fn sized_load(seed: u64, size: usize) -> Option<Vec<u8>> {
+    // From 120 on every number is a sum of 11s and 13s.
+    const CLOCK: usize = 11;
+    const RELEASE: usize = 13;
+    const CLAIM: usize = 23;
+    let mut build = Builder::new(Prng::new(seed), 0xFF, size, false);
+    while build.bytes + CLAIM + 120 <= size {
+        build.step(&BRISK);
+    }
+    let rest = size.checked_sub(build.bytes)?;
+    let releases = (0..CLOCK).find(|count| {
+        rest.checked_sub(count * RELEASE)
+            .is_some_and(|left| left % CLOCK == 0)
+    })?;
+    for _ in 0..releases {
+        let call = build.release(&BRISK);
+        build.push(call);
+    }
+    while build.bytes < size {
+        let clock = build.clock(Pace::Slow);
+        build.push(TimedCall::Clock { clock });
+    }
+    let run = Run {
+        shape: Shape::Long,
+        rig: 0xFF,
+        calls: build.calls,
+    };
+    Some(run.load())
+}
+
+/// A rig that suits the shape; now and then one without groups.
+fn rig(prng: &mut Prng, shape: Shape) -> u64 {
+    match shape {
+        Shape::AllGroups | Shape::Chain => u64::MAX,
+        Shape::Ties => prng.pick(&[0x3, 0x7, 0xF, 0x1F, 0x8000_0000_0000_0001]),
+        Shape::Full => prng.pick(&[0x1, 1 << 63, 0x7, u64::MAX]),
+        Shape::Short | Shape::Boundary | Shape::Noise => {
+            let random = prng.draw();
+            prng.pick(&[
+                0,
+                1,
+                0xF,
+                0xF,
+                0xFF,
+                1 << 63,
+                u64::MAX,
+                u64::MAX >> 1,
+                random,
+                random & 0xFFFF,
+            ])
+        }
+        _ => {
+            let random = prng.draw() & prng.draw();
+            prng.pick(&[0xF, 0xF, 0x3F, 0xFF, 0xF0F, u64::MAX, random | 1])
+        }
+    }
+}
+
+/// How the groups of a claim are drawn from the rig.
+#[derive(Clone, Copy)]
+enum Groups {
+    One,
+    /// Two neighbours in the rig.
+    Pair,
+    /// Up to three.
+    Few,
+    /// Any of them.
+    Any,
+    All,
+}
+
+/// How a length is drawn.
+#[derive(Clone, Copy)]
+enum Lengths {
+    /// 1 to 3.
+    Tiny,
+    /// 1 to 20.
+    Small,
+    /// 10.
+    Equal,
+    /// As long as a gap before a planned start, one less or one more.
+    Touch,
+    /// Of any magnitude.
+    Long,
+    /// The greatest.
+    Greatest,
+}
+
+/// How a clock is drawn.
+#[derive(Clone, Copy)]
+enum Pace {
+    /// Mostly the table's clock.
+    Still,
+    /// Up to 3 more.
+    Slow,
+    /// An end or a planned start, one less or one more.
+    Event,
+    /// Up to 60 more.
+    Jump,
+    /// Past a promised end.
+    Late,
+    /// Of any magnitude more.
+    Far,
+}
+
+/// How the calls of a run are drawn.
+struct Habits {
+    /// Weights of claim, release, withdraw, clock and stray calls.
+    weights: [u64; 5],
+    groups: &'static [Groups],
+    lengths: &'static [Lengths],
+    paces: &'static [Pace],
+    /// Once in so many, a ticket is not aimed at a fitting claim.
+    miss: u64,
+}
+
+const ALL_ROUND: Habits = Habits {
+    weights: [10, 5, 2, 2, 2],
+    groups: &[Groups::One, Groups::Pair, Groups::Few, Groups::Any],
+    lengths: &[Lengths::Tiny, Lengths::Small, Lengths::Touch, Lengths::Long],
+    paces: &[Pace::Still, Pace::Slow, Pace::Event, Pace::Jump],
+    miss: 8,
+};
+
+const ACCEPTED: Habits = Habits {
+    weights: [10, 7, 2, 2, 0],
+    groups: &[Groups::One, Groups::Pair, Groups::Few],
+    lengths: &[Lengths::Small, Lengths::Small, Lengths::Touch],
+    paces: &[Pace::Still, Pace::Still, Pace::Slow, Pace::Event],
+    miss: 64,
+};
+
+/// Few pending claims at any time, so that long loads go fast.
+const BRISK: Habits = Habits {
+    weights: [8, 9, 2, 1, 0],
+    ..ACCEPTED
+};
+
+const MANY_GROUPS: Habits = Habits {
+    weights: [14, 6, 2, 1, 1],
+    groups: &[
+        Groups::One,
+        Groups::Pair,
+        Groups::Few,
+        Groups::Few,
+        Groups::Any,
+        Groups::All,
+    ],
+    lengths: &[Lengths::Small, Lengths::Touch, Lengths::Long],
+    paces: &[Pace::Still, Pace::Slow, Pace::Event],
+    miss: 16,
+};
+
+const TIES: Habits = Habits {
+    weights: [12, 5, 3, 1, 1],
+    groups: &[Groups::One, Groups::One, Groups::Pair, Groups::Few],
+    lengths: &[
+        Lengths::Equal,
+        Lengths::Equal,
+        Lengths::Touch,
+        Lengths::Tiny,
+    ],
+    paces: &[Pace::Still, Pace::Still, Pace::Event],
+    miss: 16,
+};
+
+const OVERRUN: Habits = Habits {
+    weights: [9, 5, 2, 3, 1],
+    groups: &[Groups::One, Groups::Pair, Groups::Few, Groups::Any],
+    lengths: &[Lengths::Tiny, Lengths::Small, Lengths::Equal],
+    paces: &[Pace::Late, Pace::Late, Pace::Still, Pace::Event],
+    miss: 16,
+};
+
+const BOUNDARY: Habits = Habits {
+    weights: [4, 1, 1, 0, 10],
+    groups: &[Groups::One, Groups::Few, Groups::All],
+    lengths: &[Lengths::Tiny, Lengths::Greatest, Lengths::Long],
+    paces: &[Pace::Still, Pace::Event, Pace::Far],
+    miss: 4,
+};
+
+const END_OF_TIME: Habits = Habits {
+    weights: [10, 4, 2, 2, 2],
+    groups: &[Groups::One, Groups::Pair, Groups::Few],
+    lengths: &[
+        Lengths::Small,
+        Lengths::Greatest,
+        Lengths::Long,
+        Lengths::Touch,
+    ],
+    paces: &[Pace::Still, Pace::Still, Pace::Slow, Pace::Event, Pace::Far],
+    miss: 16,
+};
+
+/// A run being built, with the table that it leads to.
+struct Builder {
+    prng: Prng,
+    rig: u64,
+    table: Table,
+    calls: Vec<TimedCall>,
+    /// The bytes of the load so far.
+    bytes: usize,
+    /// The most bytes of the load.
+    limit: usize,
+    in_time: bool,
+}
+
+impl Builder {
+    fn new(prng: Prng, rig: u64, limit: usize, in_time: bool) -> Builder {
+        Builder {
+            prng,
+            rig,
+            table: Table::new(rig).0,
+            calls: Vec::new(),
+            bytes: load::join(&[Call::Rig(rig)]).len(),
+            limit,
+            in_time,
+        }
+    }
+
+    /// Adds a call, unless the load has no room for it or a run in time has
+    /// none.
+    fn push(&mut self, call: TimedCall) {
+        let bytes = self.bytes + load::encode(Call::Timed(call)).len();
+        if bytes > self.limit {
+            return;
+        }
+        if self.in_time && self.earliest_end().is_some_and(|end| call.clock() > end) {
+            let answer = self.table.clone().call(call);
+            if answer.accepted() {
+                return;
+            }
+        }
+        self.bytes = bytes;
+        self.table.call(call);
+        self.calls.push(call);
+    }
+
+    /// The least promised end of a held claim.
+    fn earliest_end(&self) -> Option<u64> {
+        self.table
+            .claims()
+            .iter()
+            .filter_map(Claim::promised_end)
+            .min()
+    }
+
+    fn mix(&mut self, count: u64, habits: &Habits) {
+        for _ in 0..count {
+            self.step(habits);
+        }
+    }
+
+    fn step(&mut self, habits: &Habits) {
+        let call = match self.prng.weighted(&habits.weights) {
+            0 => self.claim(habits),
+            1 => self.release(habits),
+            2 => self.withdraw(habits),
+            3 => {
+                let pace = self.prng.pick(habits.paces);
+                let clock = self.clock(pace);
+                TimedCall::Clock { clock }
+            }
+            _ => self.stray(),
+        };
+        self.push(call);
+    }
+
+    fn claim(&mut self, habits: &Habits) -> TimedCall {
+        let pace = self.prng.pick(habits.paces);
+        let groups = self.prng.pick(habits.groups);
+        let lengths = self.prng.pick(habits.lengths);
+        TimedCall::Claim {
+            clock: self.clock(pace),
+            groups: self.groups(groups),
+            length: self.length(lengths),
+        }
+    }
+
+    fn release(&mut self, habits: &Habits) -> TimedCall {
+        let pace = self.prng.pick(habits.paces);
+        let clock = self.clock(pace);
+        let ticket = self.aim(habits.miss, |claim| matches!(claim.state, State::On(_)));
+        TimedCall::Release { clock, ticket }
+    }
+
+    fn withdraw(&mut self, habits: &Habits) -> TimedCall {
+        let pace = self.prng.pick(habits.paces);
+        let clock = self.clock(pace);
+        let ticket = self.aim(habits.miss, |claim| {
+            matches!(claim.state, State::Waiting(_))
+        });
+        TimedCall::Withdraw { clock, ticket }
+    }
+
+    /// The ticket of a claim that fits, or now and then any other. A holder at
+    /// its promised end is taken before others.
+    fn aim(&mut self, miss: u64, fits: impl Fn(&Claim) -> bool) -> u16 {
+        let now = self.table.now();
+        let mut tickets = Vec::new();
+        let mut due = Vec::new();
+        for claim in self.table.claims() {
+            if fits(claim) {
+                tickets.push(claim.ticket);
+                if claim.promised_end().is_some_and(|end| end <= now) {
+                    due.push(claim.ticket);
+                }
+            }
+        }
+        if tickets.is_empty() || self.prng.one_in(miss) {
+            self.ticket()
+        } else if !due.is_empty() && !self.prng.one_in(4) {
+            self.prng.pick(&due)
+        } else {
+            self.prng.pick(&tickets)
+        }
+    }
+
+    /// Any ticket, and mostly one of interest.
+    fn ticket(&mut self) -> u16 {
+        let issued = self.table.issued();
+        let random = self.prng.draw() as u16;
+        let some = self.prng.below(u64::from(issued) + 1) as u16;
+        self.prng.pick(&[
+            0,
+            1,
+            some,
+            some,
+            some,
+            issued,
+            issued.wrapping_add(1),
+            255,
+            256,
+            65_534,
+            65_535,
+            random,
+        ])
+    }
+
+    /// The ends and planned starts of the table, and its clock.
+    fn events(&self) -> Vec<u64> {
+        let now = self.table.now();
+        let mut events = vec![now];
+        for claim in self.table.claims() {
+            events.push(claim.end(now));
+            events.extend(claim.planned_start());
+        }
+        events
+    }
+
+    fn clock(&mut self, pace: Pace) -> u64 {
+        let now = self.table.now();
+        let clock = match pace {
+            Pace::Still => {
+                if self.prng.one_in(8) {
+                    now + self.prng.below(4)
+                } else {
+                    now
+                }
+            }
+            Pace::Slow => now + self.prng.below(4),
+            Pace::Event => {
+                let events = self.events();
+                let near = events.iter().copied().filter(|&event| event > now).min();
+                let event = match near {
+                    Some(near) if !self.prng.one_in(3) => near,
+                    _ => self.prng.pick(&events),
+                };
+                if self.prng.one_in(3) {
+                    (event + self.prng.below(3)).saturating_sub(1).max(now)
+                } else {
+                    event
+                }
+            }
+            Pace::Jump => now + self.prng.below(60),
+            Pace::Late => match self.earliest_end() {
+                Some(end) => end.max(now) + self.prng.pick(&[0, 1, 1, 2, 7, 30]),
+                None => now + self.prng.below(4),
+            },
+            Pace::Far => now + self.prng.magnitude() % (MAX_CLOCK / 4),
+        };
+        match self.earliest_end() {
+            Some(end) if self.in_time => clock.min(end),
+            _ => clock,
+        }
+    }
+
+    /// Groups of the rig; group 0 if it has none.
+    fn groups(&mut self, how: Groups) -> u64 {
+        let bits: Vec<u64> = (0..64)
+            .map(|group| 1 << group)
+            .filter(|bit| self.rig & bit != 0)
+            .collect();
+        if bits.is_empty() {
+            return 1;
+        }
+        match how {
+            Groups::One => self.prng.pick(&bits),
+            Groups::Pair => {
+                let at = self.prng.below(bits.len() as u64) as usize;
+                bits[at] | bits[(at + 1) % bits.len()]
+            }
+            Groups::Few => self.prng.pick(&bits) | self.prng.pick(&bits) | self.prng.pick(&bits),
+            Groups::Any => {
+                let some = self.rig & self.prng.draw();
+                some | self.prng.pick(&bits)
+            }
+            Groups::All => self.rig,
+        }
+    }
+
+    fn length(&mut self, how: Lengths) -> u32 {
+        let greatest = u64::from(MAX_LENGTH);
+        let length = match how {
+            Lengths::Tiny => self.prng.range(1, 3),
+            Lengths::Small => self.prng.range(1, 20),
+            Lengths::Equal => 10,
+            Lengths::Touch => {
+                let start = self.prng.pick(&self.events());
+                let end = self.prng.pick(&self.events());
+                let gap = start.abs_diff(end).min(greatest);
+                (gap + self.prng.below(3)).saturating_sub(1)
+            }
+            Lengths::Long => 1 + self.prng.magnitude() % greatest,
+            Lengths::Greatest => greatest,
+        };
+        length.clamp(1, greatest) as u32
+    }
+
+    /// A call with boundary values, mostly refused.
+    fn stray(&mut self) -> TimedCall {
+        let clock = self.stray_clock();
+        match self.prng.below(4) {
+            0 | 1 => TimedCall::Claim {
+                clock,
+                groups: self.stray_groups(),
+                length: self.stray_length(),
+            },
+            2 => {
+                let ticket = self.ticket();
+                if self.prng.one_in(2) {
+                    TimedCall::Release { clock, ticket }
+                } else {
+                    TimedCall::Withdraw { clock, ticket }
+                }
+            }
+            _ => TimedCall::Clock { clock },
+        }
+    }
+
+    fn stray_clock(&mut self) -> u64 {
+        let now = self.table.now();
+        if !self.prng.one_in(3) {
+            return now;
+        }
+        let boundary = self.prng.pick(&[
+            0,
+            now.saturating_sub(1),
+            now.saturating_sub(1),
+            now + 1,
+            1 << 32,
+            MAX_CLOCK + 1,
+            MAX_CLOCK + 1,
+            1 << 63,
+            u64::MAX,
+        ]);
+        // The greatest clocks leave little to do behind them.
+        if self.prng.one_in(12) {
+            self.prng.pick(&[MAX_CLOCK - 1, MAX_CLOCK])
+        } else {
+            boundary
+        }
+    }
+
+    fn stray_groups(&mut self) -> u64 {
+        let one = self.groups(Groups::One);
+        let any = self.groups(Groups::Any);
+        let outside = 1 << self.prng.below(64);
+        self.prng.pick(&[
+            one,
+            one,
+            any,
+            any,
+            self.rig,
+            0,
+            1,
+            1 << 63,
+            u64::MAX,
+            !self.rig,
+            one | outside,
+            outside,
+        ])
+    }
+
+    fn stray_length(&mut self) -> u32 {
+        self.prng.pick(&[
+            0,
+            1,
+            2,
+            10,
+            65_536,
+            MAX_LENGTH - 1,
+            MAX_LENGTH,
+            MAX_LENGTH,
+            MAX_LENGTH + 1,
+            1 << 31,
+            u32::MAX,
+        ])
+    }
+
+    /// A call with any values.
+    fn noise(&mut self) -> TimedCall {
+        let clock = self.prng.magnitude();
+        let ticket = self.prng.magnitude() as u16;
+        match self.prng.below(4) {
+            0 => TimedCall::Claim {
+                clock,
+                groups: self.prng.draw() & self.prng.magnitude(),
+                length: self.prng.magnitude() as u32,
+            },
+            1 => TimedCall::Release { clock, ticket },
+            2 => TimedCall::Withdraw { clock, ticket },
+            _ => TimedCall::Clock { clock },
+        }
+    }
+
+    /// A claim of one group each, until 64 are pending, and some more; then
+    /// releases and withdrawals; and again.
+    fn full(&mut self) {
+        let spread = self.prng.one_in(3);
+        let fixed = self.groups(Groups::One);
+        let rounds = self.prng.range(1, 2);
+        for _ in 0..rounds {
+            for _ in 0..80 {
+                if self.table.claims().len() == MAX_PENDING {
+                    break;
+                }
+                let pace = self.prng.pick(&[Pace::Still, Pace::Still, Pace::Slow]);
+                let lengths = self.prng.pick(&[Lengths::Small, Lengths::Long]);
+                let groups = if spread {
+                    self.groups(Groups::One)
+                } else if self.prng.one_in(3) {
+                    fixed | self.groups(Groups::Any)
+                } else {
+                    fixed
+                };
+                let call = TimedCall::Claim {
+                    clock: self.clock(pace),
+                    groups,
+                    length: self.length(lengths),
+                };
+                self.push(call);
+            }
+            let beyond = self.prng.range(1, 4);
+            for _ in 0..beyond {
+                let call = self.claim(&TIES);
+                self.push(call);
+                let call = self.stray();
+                self.push(call);
+            }
+            let leaving = self.prng.range(1, 70);
+            for _ in 0..leaving {
+                let call = if self.prng.one_in(4) {
+                    self.withdraw(&ALL_ROUND)
+                } else {
+                    self.release(&ACCEPTED)
+                };
+                self.push(call);
+                if self.prng.one_in(8) {
+                    let call = self.claim(&TIES);
+                    self.push(call);
+                }
+            }
+        }
+    }
+
+    /// Neighbours from the top down, so that each waits for the one before;
+    /// then claims that may cut ahead, and releases.
+    fn chain(&mut self) {
+        let links = self.prng.range(3, 30);
+        let top = self.prng.range(links, 62);
+        let step = self.prng.range(1, 2);
+        for link in 0..links {
+            let low = top.saturating_sub(link * step);
+            let call = TimedCall::Claim {
+                clock: self.clock(Pace::Still),
+                groups: 0b11 << low,
+                length: self.length(Lengths::Small),
+            };
+            self.push(call);
+        }
+        let count = self.prng.range(4, 60);
+        for _ in 0..count {
+            if self.prng.one_in(3) {
+                self.step(&ACCEPTED);
+                continue;
+            }
+            let low = top.saturating_sub(self.prng.below(links * step + 1));
+            let lengths = self.prng.pick(&[Lengths::Touch, Lengths::Small]);
+            let call = TimedCall::Claim {
+                clock: self.clock(Pace::Still),
+                groups: self.prng.pick(&[0b1, 0b10, 0b11, 0b101]) << low,
+                length: self.length(lengths),
+            };
+            self.push(call);
+        }
+    }
+}
+
+/// The places where the records of a load begin, as far as their lengths tell.
+fn places(load: &[u8]) -> Vec<usize> {
+    let mut places = Vec::new();
+    let mut at = 1;
+    while at + 2 < load.len() {
+        places.push(at);
+        at += 2 + usize::from(u16::from_be_bytes([load[at], load[at + 1]]));
+    }
+    places
+}
+
+/// Damages a load in one of many ways, chosen by the seed. Some of them leave
+/// a good load.
+pub fn damage(load: &[u8], seed: u64) -> Vec<u8> {
+    let mut prng = Prng::new(seed ^ 0xBAD_10AD);
+    let mut out = load.to_vec();
+    let places = places(load);
+    // The place of a record, or of the end in a load without records.
+    let place = if places.is_empty() {
+        load.len()
+    } else {
+        prng.pick(&places)
+    };
+    match prng.below(15) {
+        // Cut anywhere.
+        0 | 1 => {
+            let keep = prng.below(load.len() as u64 + 1) as usize;
+            out.truncate(keep);
+        }
+        // Some bits other than they were.
+        2 | 3 => {
+            if !out.is_empty() {
+                let count = prng.range(1, 8);
+                for _ in 0..count {
+                    let at = prng.below(out.len() as u64) as usize;
+                    out[at] ^= 1 << prng.below(8);
+                }
+            }
+        }
+        // Another length of a record.
+        4 | 5 => {
+            if place + 2 <= out.len() {
+                let length = u16::from_be_bytes([out[place], out[place + 1]]);
+                let random = prng.draw() as u16;
+                let other = prng.pick(&[
+                    0,
+                    1,
+                    9,
+                    11,
+                    21,
+                    length.wrapping_sub(1),
+                    length.wrapping_add(1),
+                    0x7FFF,
+                    0xFFFF,
+                    random,
+                ]);
+                out[place..place + 2].copy_from_slice(&other.to_be_bytes());
+            }
+        }
+        // Another kind, mostly an unknown one.
+        6 => {
+            if place + 2 < out.len() {
+                out[place + 2] = prng.pick(&[0, 1, 2, 3, 4, 5, 6, 7, 8, 9, 127, 255]);
+            }
+        }
+        // Another edition.
+        7 => {
+            if !out.is_empty() {
+                out[0] = prng.pick(&[0, 2, 3, 4, 127, 128, 255]);
+            }
+        }
+        // A second rig.
+        8 => {
+            let record = load::encode(Call::Rig(prng.magnitude()));
+            let at = if places.len() > 1 && !prng.one_in(4) {
+                places[prng.range(1, places.len() as u64 - 1) as usize]
+            } else {
+                out.len()
+            };
+            out.splice(at..at, record);
+        }
+        // No rig first: without it, or behind another record.
+        9 => {
+            if out.len() >= 12 {
+                let rig: Vec<u8> = out.drain(1..12).collect();
+                if prng.one_in(3) {
+                    out.extend(rig);
+                }
+            }
+        }
+        // Bytes behind the last record.
+        10 => {
+            let count = prng.range(1, 30);
+            for _ in 0..count {
+                let byte = prng.pick(&[0, 0, 1, 5, 9, 11]);
+                out.push(byte);
+            }
+        }
+        // About as many bytes as a load may have, good but for that.
+        11 => {
+            let more = prng.range(1, 3_000) as usize;
+            let size = prng.pick(&[
+                MAX_LOAD - 1,
+                MAX_LOAD,
+                MAX_LOAD + 1,
+                MAX_LOAD + more,
+                MAX_LOAD + 1,
+            ]);
+            if let Some(sized) = sized_load(seed, size) {
+                out = sized;
+            }
+        }
+        // The same, filled up with zeros.
+        12 => {
+            let size = prng.pick(&[MAX_LOAD - 1, MAX_LOAD, MAX_LOAD + 1, 3 * MAX_LOAD]);
+            out.resize(size, 0);
+        }
+        // Nothing, or the edition byte alone.
+        13 => {
+            let keep = prng.below(2) as usize;
+            out.truncate(keep);
+        }
+        // Any bytes behind the rig.
+        _ => {
+            out.truncate(12);
+            let count = prng.below(60);
+            for _ in 0..count {
+                let byte = prng.draw() as u8;
+                out.push(byte & prng.pick(&[0xFF, 0x0F, 0x00]));
+            }
+        }
+    }
+    out
+}

@@ -1,0 +1,294 @@
+//! Makes a load smaller while a difference that it shows stays: drops records,
+//! then lowers the values of fields.
+
+use crate::load::{self, Call};
+use crate::table::{Table, TimedCall};
+
+/// A load in parts: its first byte, whole records by their lengths, and what
+/// is left behind them.
+#[derive(Clone, PartialEq, Eq)]
+struct Parts {
+    edition: Vec<u8>,
+    records: Vec<Vec<u8>>,
+    tail: Vec<u8>,
+}
+
+impl Parts {
+    fn split(load: &[u8]) -> Parts {
+        let at = load.len().min(1);
+        let edition = load[..at].to_vec();
+        let mut rest = &load[at..];
+        let mut records = Vec::new();
+        while rest.len() >= 2 {
+            let length = 2 + usize::from(u16::from_be_bytes([rest[0], rest[1]]));
+            if rest.len() < length {
+                break;
+            }
+            records.push(rest[..length].to_vec());
+            rest = &rest[length..];
+        }
+        Parts {
+            edition,
+            records,
+            tail: rest.to_vec(),
+        }
+    }
+
+    fn join(&self) -> Vec<u8> {
+        let mut load = self.edition.clone();
+        for record in &self.records {
+            load.extend_from_slice(record);
+        }
+        load.extend_from_slice(&self.tail);
+        load
+    }
+
+    /// The call of a record, if it is one.
+    fn call(&self, index: usize) -> Option<Call> {
+        load::decode(&self.records[index][2..])
+    }
+
+    /// The ticket that each record issues, 0 for none.
+    fn tickets(&self) -> Vec<u16> {
+        let mut table = Table::new(0).0;
+        let mut tickets = Vec::new();
+        for index in 0..self.records.len() {
+            let mut ticket = 0;
+            match self.call(index) {
+                Some(Call::Rig(groups)) => table = Table::new(groups).0,
+                Some(Call::Timed(call @ TimedCall::Claim { .. })) => {
+                    ticket = table.call(call).ticket;
+                }
+                Some(Call::Timed(call)) => {
+                    table.call(call);
+                }
+                None => {}
+            }
+            tickets.push(ticket);
+        }
+        tickets
+    }
+
+    /// Without these records.
+    fn without(&self, from: usize, to: usize) -> Parts {
+        let mut parts = self.clone();
+        parts.records.drain(from..to);
+        parts
+    }
+
+    /// Without these records and without releases and withdrawals of tickets
+    /// that they issue; later tickets move down. `tickets` is what each record
+    /// issues.
+    fn without_tickets(&self, from: usize, to: usize, tickets: &[u16]) -> Parts {
+        let gone: Vec<u16> = tickets[from..to]
+            .iter()
+            .copied()
+            .filter(|&ticket| ticket != 0)
+            .collect();
+        let moved = |ticket: u16| {
+            let below = gone.iter().filter(|&&other| other < ticket).count();
+            ticket - below as u16
+        };
+        let mut parts = self.clone();
+        parts.records.clear();
+        for index in (0..from).chain(to..self.records.len()) {
+            let call = match self.call(index) {
+                Some(Call::Timed(
+                    TimedCall::Release { ticket, .. } | TimedCall::Withdraw { ticket, .. },
+                )) if gone.contains(&ticket) => continue,
+                Some(Call::Timed(TimedCall::Release { clock, ticket })) => {
+                    Some(Call::Timed(TimedCall::Release {
+                        clock,
+                        ticket: moved(ticket),
+                    }))
+                }
+                Some(Call::Timed(TimedCall::Withdraw { clock, ticket })) => {
+                    Some(Call::Timed(TimedCall::Withdraw {
+                        clock,
+                        ticket: moved(ticket),
+                    }))
+                }
+                _ => None,
+            };
+            parts.records.push(match call {
+                Some(call) => load::encode(call),
+                None => self.records[index].clone(),
+            });
+        }
+        parts
+    }
+}
+
+/// A load that is not larger and for which `still_differs` holds, if it holds
+/// for the given one; else the given one.
+pub fn shrink(load: &[u8], mut still_differs: impl FnMut(&[u8]) -> bool) -> Vec<u8> {
+    if !still_differs(load) {
+        return load.to_vec();
+    }
+    if still_differs(&[]) {
+        return Vec::new();
+    }
+    let mut parts = Parts::split(load);
+    let mut holds = |parts: &Parts| still_differs(&parts.join());
+    loop {
+        let before = parts.clone();
+        shorten_tail(&mut parts, &mut holds);
+        drop_records(&mut parts, &mut holds);
+        lower_fields(&mut parts, &mut holds);
+        if parts == before {
+            return parts.join();
+        }
+    }
+}
+
+type Holds<'a> = dyn FnMut(&Parts) -> bool + 'a;
+
+/// Takes the other parts if the difference stays.
+fn attempt(parts: &mut Parts, other: Parts, holds: &mut Holds) -> bool {
+    let better = other != *parts && holds(&other);
+    if better {
+        *parts = other;
+    }
+    better
+}
+
+fn shorten_tail(parts: &mut Parts, holds: &mut Holds) {
+    let mut drop = parts.tail.len();
+    while drop > 0 {
+        let mut other = parts.clone();
+        other.tail.truncate(parts.tail.len() - drop);
+        if attempt(parts, other, holds) {
+            drop = drop.min(parts.tail.len());
+        } else {
+            drop /= 2;
+        }
+    }
+}
+
+/// Drops runs of records, from long ones to single ones.
+fn drop_records(parts: &mut Parts, holds: &mut Holds) {
+    let mut tickets = parts.tickets();
+    let mut size = parts.records.len();
+    while size > 0 {
+        let mut to = parts.records.len();
+        while to > 0 {
+            let from = to.saturating_sub(size);
+            let moved = parts.without_tickets(from, to, &tickets);
+            let plain = parts.without(from, to);
+            if attempt(parts, moved, holds) || attempt(parts, plain, holds) {
+                tickets = parts.tickets();
+            }
+            to = from;
+        }
+        size /= 2;
+    }
+}
+
+/// Lowers each field of each record as far as single steps lead.
+fn lower_fields(parts: &mut Parts, holds: &mut Holds) {
+    for index in 0..parts.records.len() {
+        while let Some(call) = parts.call(index) {
+            let lowered = lower(call).into_iter().any(|call| {
+                let mut other = parts.clone();
+                other.records[index] = load::encode(call);
+                attempt(parts, other, holds)
+            });
+            if !lowered {
+                break;
+            }
+        }
+    }
+}
+
+/// The calls that have one field lower.
+fn lower(call: Call) -> Vec<Call> {
+    let mut calls = Vec::new();
+    match call {
+        Call::Rig(groups) => calls.extend(fewer(groups).into_iter().map(Call::Rig)),
+        Call::Timed(TimedCall::Claim {
+            clock,
+            groups,
+            length,
+        }) => {
+            calls.extend(smaller(clock).into_iter().map(|clock| {
+                Call::Timed(TimedCall::Claim {
+                    clock,
+                    groups,
+                    length,
+                })
+            }));
+            calls.extend(fewer(groups).into_iter().map(|groups| {
+                Call::Timed(TimedCall::Claim {
+                    clock,
+                    groups,
+                    length,
+                })
+            }));
+            calls.extend(smaller(u64::from(length)).into_iter().map(|length| {
+                Call::Timed(TimedCall::Claim {
+                    clock,
+                    groups,
+                    length: length as u32,
+                })
+            }));
+        }
+        Call::Timed(TimedCall::Release { clock, ticket }) => {
+            calls.extend(
+                smaller(clock)
+                    .into_iter()
+                    .map(|clock| Call::Timed(TimedCall::Release { clock, ticket })),
+            );
+            calls.extend(smaller(u64::from(ticket)).into_iter().map(|ticket| {
+                Call::Timed(TimedCall::Release {
+                    clock,
+                    ticket: ticket as u16,
+                })
+            }));
+        }
+        Call::Timed(TimedCall::Withdraw { clock, ticket }) => {
+            calls.extend(
+                smaller(clock)
+                    .into_iter()
+                    .map(|clock| Call::Timed(TimedCall::Withdraw { clock, ticket })),
+            );
+            calls.extend(smaller(u64::from(ticket)).into_iter().map(|ticket| {
+                Call::Timed(TimedCall::Withdraw {
+                    clock,
+                    ticket: ticket as u16,
+                })
+            }));
+        }
+        Call::Timed(TimedCall::Clock { clock }) => calls.extend(
+            smaller(clock)
+                .into_iter()
+                .map(|clock| Call::Timed(TimedCall::Clock { clock })),
+        ),
+    }
+    calls
+}
+
+/// Some numbers below this one, ascending.
+fn smaller(value: u64) -> Vec<u64> {
+    let mut values = Vec::new();
+    for shift in [63, 8, 4, 2, 1] {
+        values.push(value >> shift);
+    }
+    values.push(value - value / 4);
+    values.push(value - value / 16);
+    values.push(value.saturating_sub(1));
+    values.retain(|&other| other < value);
+    values.sort_unstable();
+    values.dedup();
+    values
+}
+
+/// Sets of groups below this one, with groups missing.
+fn fewer(groups: u64) -> Vec<u64> {
+    let mut sets = vec![0, groups & 0xFF, groups & 0xFFFF_FFFF];
+    for group in (0..64).rev() {
+        sets.push(groups & !(1 << group));
+    }
+    sets.retain(|&other| other < groups);
+    sets.dedup();
+    sets
+}

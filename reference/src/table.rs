@@ -1,0 +1,440 @@
+//! The claims table of document 01, in the plainest way.
+
+use crate::refusal::Refusal;
+
+/// The greatest clock (document 01: clocks run from 0 to this).
+pub const MAX_CLOCK: u64 = 1_000_000_000_000;
+/// The greatest declared length in ticks.
+pub const MAX_LENGTH: u32 = 3_600_000;
+/// The most claims that are pending at once.
+pub const MAX_PENDING: usize = 64;
+/// The last ticket that a table issues.
+pub const MAX_TICKET: u16 = 65_535;
+
+/// Document 01: "either waiting, with a planned start, or on, with the clock
+/// of its grant".
+#[derive(Clone, Copy, PartialEq, Eq, Debug)]
+pub enum State {
+    /// Waiting, with its planned start.
+    Waiting(u64),
+    /// On, with the clock of its grant.
+    On(u64),
+}
+
+/// Document 01: "claim", while it is pending.
+#[derive(Clone, Copy, PartialEq, Eq, Debug)]
+pub struct Claim {
+    pub ticket: u16,
+    /// The set of groups: group g stands for 2^g.
+    pub groups: u64,
+    /// The declared length in ticks.
+    pub length: u32,
+    pub state: State,
+}
+
+impl Claim {
+    /// Document 01: "conflict", sharing a group.
+    pub fn conflicts(&self, groups: u64) -> bool {
+        self.groups & groups != 0
+    }
+
+    /// Document 01: "precedes" (the paragraph on order).
+    pub fn precedes(&self, other: &Claim) -> bool {
+        self.conflicts(other.groups)
+            && match (self.state, other.state) {
+                (State::On(_), State::Waiting(_)) => true,
+                (State::Waiting(mine), State::Waiting(its)) => mine < its,
+                (_, State::On(_)) => false,
+            }
+    }
+
+    /// Document 01: "promised end", of an on claim.
+    pub fn promised_end(&self) -> Option<u64> {
+        match self.state {
+            State::Waiting(_) => None,
+            State::On(grant) => Some(grant + u64::from(self.length)),
+        }
+    }
+
+    /// Document 01: "planned start", of a waiting claim.
+    pub fn planned_start(&self) -> Option<u64> {
+        match self.state {
+            State::Waiting(start) => Some(start),
+            State::On(_) => None,
+        }
+    }
+
+    /// Document 01: "end"; of an on claim not before the table's clock.
+    pub fn end(&self, clock: u64) -> u64 {
+        match self.state {
+            State::Waiting(start) => start + u64::from(self.length),
+            State::On(grant) => (grant + u64::from(self.length)).max(clock),
+        }
+    }
+
+    /// Document 01: "remaining time" (the sum in the ceiling).
+    pub fn remaining(&self, clock: u64) -> u64 {
+        match self.state {
+            State::Waiting(_) => u64::from(self.length),
+            State::On(_) => self.end(clock) - clock,
+        }
+    }
+}
+
+/// Document 01: "timed call (claim, release, withdraw, clock)".
+#[derive(Clone, Copy, PartialEq, Eq, PartialOrd, Ord, Hash, Debug)]
+pub enum TimedCall {
+    Claim {
+        clock: u64,
+        groups: u64,
+        length: u32,
+    },
+    Release {
+        clock: u64,
+        ticket: u16,
+    },
+    Withdraw {
+        clock: u64,
+        ticket: u16,
+    },
+    Clock {
+        clock: u64,
+    },
+}
+
+impl TimedCall {
+    /// The clock that the call bears.
+    pub fn clock(&self) -> u64 {
+        match *self {
+            TimedCall::Claim { clock, .. }
+            | TimedCall::Release { clock, .. }
+            | TimedCall::Withdraw { clock, .. }
+            | TimedCall::Clock { clock } => clock,
+        }
+    }
+}
+
+/// Document 01: "answer" of a call.
+#[derive(Clone, PartialEq, Eq, Debug, Default)]
+pub struct Answer {
+    /// 0 for an accepted call, or the number of its refusal.
+    pub number: u8,
+    pub ticket: u16,
+    pub start: u64,
+    /// Document 01: "crowd".
+    pub contention: u64,
+    /// Document 01: "ceiling".
+    pub start_bound: u64,
+    /// The tickets granted, ascending.
+    pub grants: Vec<u16>,
+}
+
+impl Answer {
+    /// The answer of a refused call (document 01: turned down).
+    pub fn refused(refusal: Refusal) -> Answer {
+        Answer {
+            number: refusal.number(),
+            ..Answer::default()
+        }
+    }
+
+    pub fn accepted(&self) -> bool {
+        self.number == 0
+    }
+}
+
+/// The answer of a lookup (document 01: "look").
+#[derive(Clone, Copy, PartialEq, Eq, Debug)]
+pub enum Lookup {
+    /// Waiting, with its planned start.
+    Waiting(u64),
+    /// On, with its promised end.
+    On(u64),
+    /// Not pending: number 8.
+    Unknown,
+}
+
+impl Lookup {
+    /// 0, or 8 for a ticket that is not pending.
+    pub fn number(self) -> u8 {
+        match self {
+            Lookup::Waiting(_) | Lookup::On(_) => 0,
+            Lookup::Unknown => Refusal::Unknown.number(),
+        }
+    }
+}
+
+/// The claims table.
+#[derive(Clone, PartialEq, Eq, Debug)]
+pub struct Table {
+    rig: u64,
+    clock: u64,
+    issued: u16,
+    /// The pending claims, by ascending ticket.
+    claims: Vec<Claim>,
+}
+
+impl Table {
+    /// The call for a new table. When refused, the table has no groups.
+    pub fn new(rig: u64) -> (Table, Answer) {
+        let answer = if rig == 0 {
+            Answer::refused(Refusal::NoGroup)
+        } else {
+            Answer::default()
+        };
+        let table = Table {
+            rig,
+            clock: 0,
+            issued: 0,
+            claims: Vec::new(),
+        };
+        (table, answer)
+    }
+
+    /// The groups that exist.
+    pub fn rig(&self) -> u64 {
+        self.rig
+    }
+
+    /// Document 01: "the table's clock".
+    pub fn now(&self) -> u64 {
+        self.clock
+    }
+
+    /// How many tickets have been issued.
+    pub fn issued(&self) -> u16 {
+        self.issued
+    }
+
+    /// The pending claims, by ascending ticket.
+    pub fn claims(&self) -> &[Claim] {
+        &self.claims
+    }
+
+    /// Does one timed call.
+    pub fn call(&mut self, call: TimedCall) -> Answer {
+        match call {
+            TimedCall::Claim {
+                clock,
+                groups,
+                length,
+            } => self.claim(clock, groups, length),
+            TimedCall::Release { clock, ticket } => self.release(clock, ticket),
+            TimedCall::Withdraw { clock, ticket } => self.withdraw(clock, ticket),
+            TimedCall::Clock { clock } => self.clock(clock),
+        }
+    }
+
+    /// Document 01: "claim".
+    pub fn claim(&mut self, clock: u64, groups: u64, length: u32) -> Answer {
+        if let Err(refusal) = self.test_claim(clock, groups, length) {
+            return Answer::refused(refusal);
+        }
+        self.clock = clock;
+        self.pack();
+
+        let mut contention = 0;
+        let mut start_bound = clock;
+        for claim in &self.claims {
+            if claim.conflicts(groups) {
+                contention += 1;
+                start_bound += claim.remaining(clock);
+            }
+        }
+        start_bound += contention * (u64::from(length) - 1);
+
+        let start = self.least_start(groups, length);
+        self.issued += 1;
+        let ticket = self.issued;
+        self.claims.push(Claim {
+            ticket,
+            groups,
+            length,
+            state: State::Waiting(start),
+        });
+
+        self.pack();
+        let grants = self.grant();
+        Answer {
+            number: 0,
+            ticket,
+            start,
+            contention,
+            start_bound,
+            grants,
+        }
+    }
+
+    /// Document 01: "release", which takes away an on claim.
+    pub fn release(&mut self, clock: u64, ticket: u16) -> Answer {
+        if let Err(refusal) = self.test_clock(clock) {
+            return Answer::refused(refusal);
+        }
+        match self.find(ticket).map(|claim| claim.state) {
+            None => Answer::refused(Refusal::Unknown),
+            Some(State::Waiting(_)) => Answer::refused(Refusal::NotYetOn),
+            Some(State::On(_)) => self.take_away(clock, ticket),
+        }
+    }
+
+    /// Document 01: "withdraw", which takes away a waiting claim.
+    pub fn withdraw(&mut self, clock: u64, ticket: u16) -> Answer {
+        if let Err(refusal) = self.test_clock(clock) {
+            return Answer::refused(refusal);
+        }
+        match self.find(ticket).map(|claim| claim.state) {
+            None => Answer::refused(Refusal::Unknown),
+            Some(State::On(_)) => Answer::refused(Refusal::AlreadyOn),
+            Some(State::Waiting(_)) => self.take_away(clock, ticket),
+        }
+    }
+
+    /// Document 01: "clock", the call that only moves the clock.
+    pub fn clock(&mut self, clock: u64) -> Answer {
+        if let Err(refusal) = self.test_clock(clock) {
+            return Answer::refused(refusal);
+        }
+        self.clock = clock;
+        self.pack();
+        self.pack();
+        let grants = self.grant();
+        Answer {
+            start: clock,
+            grants,
+            ..Answer::default()
+        }
+    }
+
+    /// Document 01: "look". It changes nothing.
+    pub fn lookup(&self, ticket: u16) -> Lookup {
+        match self.find(ticket) {
+            None => Lookup::Unknown,
+            Some(claim) => match claim.state {
+                State::Waiting(start) => Lookup::Waiting(start),
+                State::On(grant) => Lookup::On(grant + u64::from(claim.length)),
+            },
+        }
+    }
+
+    /// The pending claim with this ticket.
+    fn find(&self, ticket: u16) -> Option<&Claim> {
+        self.claims.iter().find(|claim| claim.ticket == ticket)
+    }
+
+    /// The tests 5 and 4 of every timed call.
+    fn test_clock(&self, clock: u64) -> Result<(), Refusal> {
+        if clock > MAX_CLOCK {
+            return Err(Refusal::Late);
+        }
+        if clock < self.clock {
+            return Err(Refusal::Backward);
+        }
+        Ok(())
+    }
+
+    /// The tests of a claim: 5, 4, 1, 2, 3, 6, 7.
+    fn test_claim(&self, clock: u64, groups: u64, length: u32) -> Result<(), Refusal> {
+        self.test_clock(clock)?;
+        if groups == 0 {
+            return Err(Refusal::NoGroup);
+        }
+        if groups & !self.rig != 0 {
+            return Err(Refusal::OutsideRig);
+        }
+        if length == 0 || length > MAX_LENGTH {
+            return Err(Refusal::Length);
+        }
+        if self.claims.len() == MAX_PENDING {
+            return Err(Refusal::Full);
+        }
+        if self.issued == MAX_TICKET {
+            return Err(Refusal::NoTicket);
+        }
+        Ok(())
+    }
+
+    /// The accepted part of a release or a withdrawal.
+    fn take_away(&mut self, clock: u64, ticket: u16) -> Answer {
+        self.clock = clock;
+        self.pack();
+        self.claims.retain(|claim| claim.ticket != ticket);
+        self.pack();
+        let grants = self.grant();
+        Answer {
+            ticket,
+            start: clock,
+            grants,
+            ..Answer::default()
+        }
+    }
+
+    /// Document 01: "packing". The order is that of the planned starts before
+    /// it; by ascending start, so that the ends it reads are packed already.
+    fn pack(&mut self) {
+        let before = self.claims.clone();
+        let mut waiting: Vec<(u64, usize)> = Vec::new();
+        for (index, claim) in before.iter().enumerate() {
+            if let State::Waiting(start) = claim.state {
+                waiting.push((start, index));
+            }
+        }
+        waiting.sort_unstable();
+        for (_, index) in waiting {
+            let mut start = self.clock;
+            for (other, claim) in before.iter().enumerate() {
+                if claim.precedes(&before[index]) {
+                    start = start.max(self.claims[other].end(self.clock));
+                }
+            }
+            self.claims[index].state = State::Waiting(start);
+        }
+    }
+
+    /// The least start that fits: the clock and the ends of the conflicting
+    /// claims are tried, ascending.
+    fn least_start(&self, groups: u64, length: u32) -> u64 {
+        let mut candidates = vec![self.clock];
+        for claim in &self.claims {
+            if claim.conflicts(groups) {
+                candidates.push(claim.end(self.clock));
+            }
+        }
+        candidates.sort_unstable();
+        for &start in &candidates {
+            if self.fits(groups, length, start) {
+                return start;
+            }
+        }
+        unreachable!("the greatest end of all conflicting claims fits")
+    }
+
+    /// Whether a claim of these groups and this length may start here.
+    fn fits(&self, groups: u64, length: u32, start: u64) -> bool {
+        self.claims
+            .iter()
+            .filter(|claim| claim.conflicts(groups))
+            .all(|claim| {
+                let behind = start >= claim.end(self.clock);
+                match claim.state {
+                    State::On(_) => behind,
+                    State::Waiting(planned) => behind || start + u64::from(length) <= planned,
+                }
+            })
+    }
+
+    /// Document 01: "grant". Every waiting claim that no pending claim
+    /// precedes goes on; the tickets come ascending.
+    fn grant(&mut self) -> Vec<u16> {
+        let before = self.claims.clone();
+        let mut grants = Vec::new();
+        for claim in &mut self.claims {
+            let waits = matches!(claim.state, State::Waiting(_));
+            if waits && !before.iter().any(|other| other.precedes(claim)) {
+                claim.state = State::On(self.clock);
+                grants.push(claim.ticket);
+            }
+        }
+        grants.sort_unstable();
+        grants
+    }
+}

@@ -1,0 +1,120 @@
+//! The shrinker.
+
+mod common;
+
+use common::{claim, for_seeds, listing, load_of, release, withdraw};
+use reference::generate::{self, Shape};
+use reference::load::{self, Call};
+use reference::shrink::shrink;
+use reference::table::{Table, TimedCall};
+
+/// Whether some line of the listing has this answer.
+fn answers(load: &[u8], number: &str) -> bool {
+    listing(load)
+        .lines()
+        .any(|line| line.split(' ').nth(1) == Some(number) && !line.starts_with("on"))
+}
+
+#[test]
+fn a_load_that_shows_nothing_stays() {
+    let load = load_of(0xF, &[claim(0, 1, 1)]);
+    assert_eq!(shrink(&load, |_| false), load);
+    assert_eq!(shrink(&[], |_| true), []);
+    assert_eq!(shrink(&load, |_| true), []);
+}
+
+#[test]
+fn a_refused_withdrawal_shrinks_to_three_records() {
+    let mut shrunk = 0;
+    for_seeds(0..12, |seed| {
+        let load = generate::run_of(Shape::Boundary, seed).load();
+        if !answers(&load, "10") {
+            return;
+        }
+        shrunk += 1;
+        let small = shrink(&load, |load| answers(load, "10"));
+        let calls = load::read_all(&small).unwrap();
+        let Call::Rig(rig) = calls[0] else {
+            unreachable!("a rig comes first");
+        };
+        assert_eq!(rig.count_ones(), 1);
+        let rest = [claim(0, rig, 1), withdraw(0, 1)].map(Call::Timed);
+        assert_eq!(calls[1..], rest);
+    });
+    assert!(shrunk >= 3, "{shrunk}");
+}
+
+/// Whether some release grants another claim.
+fn release_grants(load: &[u8]) -> bool {
+    let Ok(calls) = load::read_all(load) else {
+        return false;
+    };
+    let mut table = Table::new(0).0;
+    calls.into_iter().any(|call| match call {
+        Call::Rig(groups) => {
+            table = Table::new(groups).0;
+            false
+        }
+        Call::Timed(call) => {
+            let granted = !table.call(call).grants.is_empty();
+            granted && matches!(call, TimedCall::Release { .. })
+        }
+    })
+}
+
+#[test]
+fn tickets_move_down_with_the_claims_dropped() {
+    let calls = [
+        claim(0, 1, 5),
+        release(1, 1),
+        claim(1, 1, 5),
+        release(2, 2),
+        claim(2, 1, 5),
+        claim(2, 2, 5),
+        claim(2, 1, 5),
+        release(20, 3),
+    ];
+    let load = load_of(0xF, &calls);
+    let small = shrink(&load, release_grants);
+    let expected = load_of(1, &[claim(0, 1, 1), claim(0, 1, 1), release(0, 1)]);
+    assert_eq!(small, expected);
+}
+
+#[test]
+fn damaged_loads_shrink_too() {
+    let good = generate::run_of(Shape::Accepted, 3).load();
+    let mut load = good.clone();
+    load.extend_from_slice(&[0, 30, 2, 1, 1, 1, 1]);
+    let short = |load: &[u8]| listing(load).lines().last().unwrap().starts_with("stop 12");
+    assert!(short(&load));
+    let small = shrink(&load, short);
+    assert_eq!(small, []);
+    let inside = |load: &[u8]| short(load) && load.len() > 1;
+    let small = shrink(&load, inside);
+    assert!(inside(&small));
+    assert_eq!(small.len(), 2);
+}
+
+#[test]
+fn what_is_left_still_differs_and_is_no_larger() {
+    for_seeds(0..25, |seed| {
+        let load = generate::any_load(seed);
+        if load.len() > 3_000 {
+            return;
+        }
+        let wanted = listing(&load)
+            .lines()
+            .last()
+            .unwrap()
+            .chars()
+            .next()
+            .unwrap();
+        let differs = |load: &[u8]| {
+            let text = listing(load);
+            text.lines().last().unwrap().starts_with(wanted)
+        };
+        let small = shrink(&load, differs);
+        assert!(differs(&small));
+        assert!(small.len() <= load.len());
+    });
+}

@@ -1,0 +1,308 @@
+//! The table's rules one by one, and the laws that they imply on generated
+//! runs.
+
+mod common;
+
+use common::for_seeds;
+use reference::generate::{self, Shape};
+use reference::table::{Answer, Claim, Lookup, State, Table, TimedCall};
+use reference::table::{MAX_CLOCK, MAX_LENGTH};
+
+fn new_table(rig: u64) -> Table {
+    Table::new(rig).0
+}
+
+fn number(answer: &Answer) -> u8 {
+    answer.number
+}
+
+#[test]
+fn a_rig_without_groups_is_refused() {
+    let (mut table, answer) = Table::new(0);
+    assert_eq!(
+        answer,
+        Answer {
+            number: 1,
+            ..Answer::default()
+        }
+    );
+    assert_eq!((table.rig(), table.now(), table.issued()), (0, 0, 0));
+    assert!(table.claims().is_empty());
+    assert_eq!(number(&table.claim(0, 1, 1)), 2);
+    assert_eq!(number(&table.clock(7)), 0);
+    assert_eq!(table.now(), 7);
+}
+
+#[test]
+fn tests_of_a_claim_come_in_order() {
+    let mut table = new_table(0xF);
+    table.clock(5);
+    let late = MAX_CLOCK + 1;
+    // Each line mends the fault of the line before.
+    assert_eq!(number(&table.claim(late, 0, 0)), 5);
+    assert_eq!(number(&table.claim(4, 0, 0)), 4);
+    assert_eq!(number(&table.claim(5, 0, 0)), 1);
+    assert_eq!(number(&table.claim(5, 0x10, 0)), 2);
+    assert_eq!(number(&table.claim(5, 0x1F, 0)), 2);
+    assert_eq!(number(&table.claim(5, 0xF, 0)), 3);
+    assert_eq!(number(&table.claim(5, 0xF, MAX_LENGTH + 1)), 3);
+    assert_eq!(number(&table.claim(5, 0xF, u32::MAX)), 3);
+    assert_eq!(number(&table.claim(5, 0xF, 1)), 0);
+}
+
+#[test]
+fn tests_of_the_other_calls_come_in_order() {
+    let mut table = new_table(0xF);
+    table.claim(5, 0xF, 10);
+    table.claim(5, 0xF, 10);
+    let late = MAX_CLOCK + 1;
+    for ticket in [0, 1, 2, 3, 65_535] {
+        assert_eq!(number(&table.release(late, ticket)), 5);
+        assert_eq!(number(&table.release(4, ticket)), 4);
+        assert_eq!(number(&table.withdraw(late, ticket)), 5);
+        assert_eq!(number(&table.withdraw(4, ticket)), 4);
+    }
+    assert_eq!(number(&table.release(5, 0)), 8);
+    assert_eq!(number(&table.release(5, 3)), 8);
+    assert_eq!(number(&table.release(5, 2)), 9);
+    assert_eq!(number(&table.withdraw(5, 0)), 8);
+    assert_eq!(number(&table.withdraw(5, 3)), 8);
+    assert_eq!(number(&table.withdraw(5, 1)), 10);
+    assert_eq!(number(&table.clock(late)), 5);
+    assert_eq!(number(&table.clock(u64::MAX)), 5);
+    assert_eq!(number(&table.clock(4)), 4);
+    assert_eq!(number(&table.clock(MAX_CLOCK)), 0);
+    assert_eq!(number(&table.clock(MAX_CLOCK - 1)), 4);
+    assert_eq!(number(&table.clock(MAX_CLOCK)), 0);
+}
+
+#[test]
+fn tickets_end_at_65535_and_full_is_tested_before() {
+    let mut table = new_table(u64::MAX);
+    for ticket in 1..=65_535 - 64 {
+        assert_eq!(table.claim(0, 1, 1).ticket, ticket);
+        assert_eq!(number(&table.release(0, ticket)), 0);
+    }
+    for group in 0..64 {
+        assert_eq!(number(&table.claim(0, 1 << group, 1)), 0);
+    }
+    assert_eq!(table.issued(), 65_535);
+    assert_eq!(table.lookup(65_535), Lookup::On(1));
+    assert_eq!(number(&table.claim(0, 1, 1)), 6);
+    assert_eq!(number(&table.release(0, 65_535)), 0);
+    let before = table.clone();
+    assert_eq!(number(&table.claim(0, 1, 1)), 7);
+    assert_eq!(number(&table.claim(0, 1, 0)), 3);
+    assert_eq!(table, before);
+}
+
+#[test]
+fn the_first_packing_counts_for_the_place() {
+    let mut table = new_table(0xF);
+    table.claim(0, 0x1, 10);
+    table.claim(0, 0x3, 10);
+    let answer = table.claim(15, 0x2, 3);
+    assert_eq!(
+        answer,
+        Answer {
+            number: 0,
+            ticket: 3,
+            start: 25,
+            contention: 1,
+            start_bound: 15 + 10 + 2,
+            grants: vec![],
+        }
+    );
+    assert_eq!(table.lookup(1), Lookup::On(10));
+    assert_eq!(table.lookup(2), Lookup::Waiting(15));
+    assert_eq!(table.lookup(3), Lookup::Waiting(25));
+}
+
+#[test]
+fn an_overrun_still_precedes() {
+    let mut table = new_table(0x1);
+    table.claim(0, 0x1, 10);
+    // At its promised end and past it nobody else is granted.
+    for clock in [10, 11, 50] {
+        assert_eq!(table.clock(clock).grants, []);
+    }
+    let answer = table.claim(50, 0x1, 5);
+    assert_eq!((answer.start, answer.grants), (50, vec![]));
+    assert_eq!((answer.contention, answer.start_bound), (1, 54));
+    assert_eq!(table.lookup(1), Lookup::On(10));
+    assert_eq!(table.lookup(2), Lookup::Waiting(50));
+    table.clock(60);
+    assert_eq!(table.lookup(2), Lookup::Waiting(60));
+    assert_eq!(table.release(61, 1).grants, [2]);
+    assert_eq!(table.lookup(2), Lookup::On(66));
+}
+
+#[test]
+fn grants_come_by_ticket_and_not_by_start() {
+    let mut table = new_table(0xF);
+    table.claim(0, 0xF, 10);
+    table.claim(0, 0x3, 10);
+    // Ticket 3 waits behind 2; ticket 4 starts before 3; all are freed by 1
+    // and 2 together.
+    table.claim(0, 0x1, 5);
+    table.claim(0, 0xC, 5);
+    assert_eq!(table.lookup(3), Lookup::Waiting(20));
+    assert_eq!(table.lookup(4), Lookup::Waiting(10));
+    assert_eq!(table.withdraw(0, 2).grants, []);
+    assert_eq!(table.lookup(3), Lookup::Waiting(10));
+    assert_eq!(table.release(3, 1).grants, [3, 4]);
+}
+
+#[test]
+fn grants_ascend_though_planned_starts_descend() {
+    let mut table = new_table(0x7);
+    table.claim(0, 0x7, 10);
+    table.claim(0, 0x1, 100);
+    // Ticket 3 needs groups 0 and 1 and waits until 110.
+    table.claim(0, 0x3, 10);
+    table.claim(0, 0x4, 10);
+    assert_eq!(table.lookup(3), Lookup::Waiting(110));
+    assert_eq!(table.release(10, 1).grants, [2, 4]);
+    assert_eq!(table.release(11, 2).grants, [3]);
+}
+
+#[test]
+fn starts_may_pass_the_greatest_clock() {
+    let mut table = new_table(0x1);
+    table.clock(MAX_CLOCK);
+    let mut start = MAX_CLOCK;
+    for ticket in 1..=64 {
+        let answer = table.claim(MAX_CLOCK, 1, MAX_LENGTH);
+        assert_eq!((answer.ticket, answer.start), (ticket, start));
+        start += u64::from(MAX_LENGTH);
+    }
+    assert_eq!(number(&table.claim(MAX_CLOCK, 1, MAX_LENGTH)), 6);
+}
+
+/// Whether a claim may start here, by the words of document 01.
+fn fits(table: &Table, groups: u64, length: u32, start: u64) -> bool {
+    table.claims().iter().all(|claim| {
+        let end = claim.end(table.now());
+        claim.groups & groups == 0
+            || start >= end
+            || matches!(claim.state, State::Waiting(planned) if start + u64::from(length) <= planned)
+    })
+}
+
+/// What holds of a table after any accepted call.
+fn check_laws(table: &Table) {
+    let claims = table.claims();
+    assert!(claims.len() <= 64);
+    for claim in claims {
+        assert_eq!(claim.groups & !table.rig(), 0);
+        let State::Waiting(start) = claim.state else {
+            continue;
+        };
+        let before: Vec<&Claim> = claims
+            .iter()
+            .filter(|other| other.precedes(claim))
+            .collect();
+        let ends = before.iter().map(|other| other.end(table.now()));
+        assert_eq!(start, ends.fold(table.now(), u64::max), "packed");
+        assert!(!before.is_empty(), "a waiting claim has one before it");
+        for other in claims {
+            if other.ticket != claim.ticket && other.conflicts(claim.groups) {
+                assert!(other.precedes(claim) != claim.precedes(other));
+            }
+        }
+    }
+}
+
+/// A claim's answer against the rules, tick by tick.
+fn check_claim(before: &Table, clock: u64, groups: u64, length: u32, answer: &Answer) {
+    // A clock call packs and does nothing else.
+    let mut packed = before.clone();
+    assert_eq!(packed.clock(clock).grants, []);
+    if answer.start - clock < 2_000 {
+        for start in clock..answer.start {
+            assert!(!fits(&packed, groups, length, start), "{start} fits");
+        }
+    }
+    assert!(fits(&packed, groups, length, answer.start));
+    let mut contention = 0;
+    let mut sum = 0;
+    for claim in packed.claims() {
+        if claim.groups & groups != 0 {
+            contention += 1;
+            sum += match claim.state {
+                State::On(grant) => (grant + u64::from(claim.length)).saturating_sub(clock),
+                State::Waiting(_) => u64::from(claim.length),
+            };
+        }
+    }
+    assert_eq!(answer.contention, contention);
+    let bound = clock + sum + contention * u64::from(length - 1);
+    assert_eq!(answer.start_bound, bound);
+    assert!(answer.start <= bound);
+}
+
+#[test]
+fn rules_hold_on_generated_runs() {
+    let shapes = [
+        Shape::Ties,
+        Shape::Overrun,
+        Shape::Accepted,
+        Shape::Chain,
+        Shape::Boundary,
+        Shape::EndOfTime,
+        Shape::InTime,
+        Shape::Noise,
+    ];
+    for_seeds(0..320, |seed| {
+        let run = generate::run_of(shapes[seed as usize % shapes.len()], seed);
+        let mut table = new_table(run.rig);
+        for &call in &run.calls {
+            let before = table.clone();
+            let answer = table.call(call);
+            if !answer.accepted() {
+                assert_eq!(table, before);
+                let number = answer.number;
+                assert_eq!(
+                    answer,
+                    Answer {
+                        number,
+                        ..Answer::default()
+                    }
+                );
+                continue;
+            }
+            assert_eq!(table.now(), call.clock());
+            check_laws(&table);
+            assert!(answer.grants.windows(2).all(|pair| pair[0] < pair[1]));
+            match call {
+                TimedCall::Claim {
+                    clock,
+                    groups,
+                    length,
+                } => {
+                    check_claim(&before, clock, groups, length, &answer);
+                    assert_eq!(answer.ticket, before.issued() + 1);
+                    // The start answered is the start placed.
+                    let said = table.lookup(answer.ticket);
+                    if answer.grants == [answer.ticket] {
+                        assert_eq!(answer.start, clock);
+                        assert_eq!(said, Lookup::On(clock + u64::from(length)));
+                    } else {
+                        assert_eq!(answer.grants, []);
+                        assert_eq!(said, Lookup::Waiting(answer.start));
+                    }
+                }
+                TimedCall::Release { clock, ticket } | TimedCall::Withdraw { clock, ticket } => {
+                    assert_eq!((answer.ticket, answer.start), (ticket, clock));
+                    assert_eq!((answer.contention, answer.start_bound), (0, 0));
+                    assert_eq!(table.lookup(ticket), Lookup::Unknown);
+                }
+                TimedCall::Clock { clock } => {
+                    assert_eq!((answer.ticket, answer.start), (0, clock));
+                    assert_eq!((answer.contention, answer.start_bound), (0, 0));
+                    assert_eq!(answer.grants, []);
+                }
+            }
+        }
+    });
+}
