@@ -1,5 +1,4 @@
 pub mod AllSamples
-pub mod Going
 pub mod Lines
 pub mod Counts
 pub mod Turns

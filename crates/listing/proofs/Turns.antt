@@ -27,7 +27,7 @@ use Rattle.listing.specs.Lines.{header, lineOf, onLines, stopLine}
 use Rattle.listing.specs.Text.{stepOf, entryOf, ending, stopOr, linesFrom, linesOf, listingOf, answerOf, bufferOf}
 use Rattle.listing.proofs.Counts.{record-counted}
 use Rattle.listing.proofs.Lines.{line-length, ons-length}
-use Rattle.listing.proofs.Going.{Going, going-start, going-step, going-as, going-none, going-last}
+use Rattle.numerals.proofs.Going.{Going, going-start, going-step, going-as, going-none, going-last}
 
 -- ── what an outcome prints ──
 abbrev pub shown : ℕ → Outcome → List ℕ

@@ -1,3 +1,4 @@
 pub mod Numbers
 pub mod BigEndian
 pub mod Laying
+pub mod Going

@@ -5,7 +5,7 @@ use mathlib.Core.Path.{_≡_}
 use Rattle.listing.specs.Lines.{onLines}
 use Prim.Native.Nat.{_+_, _-_, _*_, _≤_}
 use Rattle.listing.proofs.Lines.{on-length, ons-step, ons-end}
-use Rattle.listing.proofs.Going.{Going, going-start, going-step, going-as, going-none}
+use Rattle.numerals.proofs.Going.{Going, going-start, going-step, going-as, going-none}
 use Rattle.listing.proofs.put_grants.Statement.{statement}
 use Rattle.listing.proofs.put_grants.Tie as tie
 use Rattle.listing.proofs.put_grants.Reads as reads

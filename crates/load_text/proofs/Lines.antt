@@ -1,0 +1,90 @@
+-- Laws of lines: hex digit by digit, and lengths, none of which is long.
+use Prim.Native.Nat.{ℕ, zero, suc, _+_, _-_, _/_, _%_, _≤_, _<_}
+use mathlib.Core.Bool.{Bool, true, false}
+use mathlib.Core.List.{List, [], _∷_, _++_}
+use mathlib.Core.Path.{_≡_, refl, sym, ap, _∙_}
+use native.Mathlib.Omega.{arith}
+use lib.Dec.{ltb}
+use lib.ListN.{length, length-append}
+use borrow.Author.Tests.{lt-ltb, le-ltb}
+use Rattle.numerals.specs.Digits.{decimalOf}
+use Rattle.numerals.proofs.Laying.{width-small, decimal-length}
+use Rattle.load.specs.declared.Call.{Call}
+use Rattle.load.specs.declared.Call.the-variants.{Rig, Claim, Release, Withdraw, Clock}
+use Rattle.load_text.specs.Lines.{pick, pickText, glyphOf, hexUpTo, setOf, fieldOf, pairOf, lineOf, stopLine}
+
+-- ── hex ──
+pub glyph-low : (v : ℕ) → v % 16 < 10 → 48 + v % 16 ≡ glyphOf v
+unfolding glyphOf
+glyph-low v h = rw (lt-ltb (v % 16) 10 h)
+
+pub glyph-high : (v : ℕ) → 10 ≤ v % 16 → 55 + v % 16 ≡ glyphOf v
+unfolding glyphOf
+glyph-high v h = rw (le-ltb (v % 16) 10 h)
+
+pub hex-one : (k v b : ℕ) → b ≡ glyphOf v → k ≡ 0 → b ∷ [] ≡ hexUpTo k v
+unfolding hexUpTo
+hex-one k v b g e = rw (e, g)
+
+pub hex-last : (k v b : ℕ) → b ≡ glyphOf v → v < 16 → b ∷ [] ≡ hexUpTo k v
+unfolding hexUpTo
+hex-last zero v b g h = rw g
+hex-last (suc k) v b g h = rw (lt-ltb v 16 h, g)
+
+pub hex-more : (k v b : ℕ) → b ≡ glyphOf v → (k ≡ 0 → ⊥) → 16 ≤ v → hexUpTo (k - 1) (v / 16) ++ (b ∷ []) ≡ hexUpTo k v
+unfolding hexUpTo
+hex-more zero v b g n h = absurd (n refl)
+hex-more (suc k) v b g n h =
+    let e : suc k - 1 ≡ k = omega arith in
+    rw (le-ltb v 16 h, e, g)
+
+pub hex-length : (k v : ℕ) → length (hexUpTo k v) ≤ suc k
+unfolding hexUpTo
+hex-length zero v = omega arith
+hex-length (suc k) v = go (hex-length k (v / 16)) (ltb v 16)
+  where
+    go : length (hexUpTo k (v / 16)) ≤ suc k → (b : Bool) → length (pickText b (glyphOf v ∷ []) (hexUpTo k (v / 16) ++ (glyphOf v ∷ []))) ≤ suc (suc k)
+    go h true = omega arith
+    go h false = omega (arith, length-append (hexUpTo k (v / 16)) (glyphOf v ∷ []))
+
+-- ── lengths ──
+pub set-length : (g b : ℕ) → length (setOf g b) ≤ 17
+unfolding setOf
+set-length g b = omega (arith, length-append (hexUpTo 15 g) (b ∷ []), hex-length 15 g)
+
+pub field-length : (v b : ℕ) → length (fieldOf v b) ≤ 21
+unfolding fieldOf
+field-length v b = omega (arith, length-append (decimalOf v) (b ∷ []), decimal-length v, width-small v)
+
+pub pair-length : (a b : ℕ) → length (pairOf a b) ≤ 42
+unfolding pairOf
+pair-length a b = omega (arith, length-append (fieldOf a 32) (fieldOf b 10), field-length a 32, field-length b 10)
+
+pub line-length : (c : Call) → length (lineOf c) ≤ 65
+unfolding lineOf
+line-length (Rig g) = omega (arith, set-length g 10)
+line-length (Claim c g l) = omega (arith, length-append (fieldOf c 32) (setOf g 32 ++ fieldOf l 10), length-append (setOf g 32) (fieldOf l 10), field-length c 32, set-length g 32, field-length l 10)
+line-length (Release c t) = omega (arith, pair-length c t)
+line-length (Withdraw c t) = omega (arith, pair-length c t)
+line-length (Clock c) = omega (arith, field-length c 10)
+
+-- ── lines by kind ──
+pub rig-line : (c : Call) (g : ℕ) → c ≡ Rig g → (114 ∷ 105 ∷ 103 ∷ 32 ∷ []) ++ setOf g 10 ≡ lineOf c
+unfolding lineOf
+rig-line c g e = rw e
+
+pub claim-line : (c : Call) (k g l : ℕ) → c ≡ Claim k g l → (99 ∷ 108 ∷ 97 ∷ 105 ∷ 109 ∷ 32 ∷ []) ++ (fieldOf k 32 ++ (setOf g 32 ++ fieldOf l 10)) ≡ lineOf c
+unfolding lineOf
+claim-line c k g l e = rw e
+
+pub release-line : (c : Call) (k t : ℕ) → c ≡ Release k t → (114 ∷ 101 ∷ 108 ∷ 101 ∷ 97 ∷ 115 ∷ 101 ∷ 32 ∷ []) ++ pairOf k t ≡ lineOf c
+unfolding lineOf
+release-line c k t e = rw e
+
+pub withdraw-line : (c : Call) (k t : ℕ) → c ≡ Withdraw k t → (119 ∷ 105 ∷ 116 ∷ 104 ∷ 100 ∷ 114 ∷ 97 ∷ 119 ∷ 32 ∷ []) ++ pairOf k t ≡ lineOf c
+unfolding lineOf
+withdraw-line c k t e = rw e
+
+pub clock-line : (c : Call) (k : ℕ) → c ≡ Clock k → (99 ∷ 108 ∷ 111 ∷ 99 ∷ 107 ∷ 32 ∷ []) ++ fieldOf k 10 ≡ lineOf c
+unfolding lineOf
+clock-line c k e = rw e

@@ -1,0 +1,193 @@
+-- Hex is that of the higher digits, then the lowest digit. The measure is the number of digits allowed.
+use Prim.Native.Nat.{ℕ, _-_, _/_, _<_}
+use native.Mathlib.Omega.{arith}
+use borrow.Author.Needs.{needs}
+use borrow.Fn.Kinds.{In}
+use borrow.Fn.PlainCycle.{Measures, is, falls, and}
+use Rattle.load_text.proofs.Lines.{hex-one, hex-last, hex-more, hex-length}
+use Rattle.numerals.proofs.Laying.{put-as}
+use Rattle.numerals.proofs.Laying.{put-then}
+use Rattle.numerals.proofs.put_byte.Reads as put-byte-reads
+use Rattle.load_text.proofs.print.+put_digits.{statement}
+use Rattle.load_text.proofs.print.+put_digits.Tie.{close}
+use Rattle.load_text.proofs.print.put_digits.Reads as put-digits
+use Rattle.load_text.proofs.print.put_digits.Kinds as put-digits-kinds
+use Rattle.load_text.proofs.print.+put_digits.Lts-put_digits as put-digits-lts
+use Rattle.load_text.proofs.print.glyph.Reads as glyph-reads
+
+abbrev μ-put-digits : Measures 1 put-digits-kinds.ps ℕ
+μ-put-digits κs a = a .1 .1 .1 .0
+
+abbrev put-digits-at : ℕ → In 1 put-digits-kinds.ps
+put-digits-at t =
+    and 1 put-digits-kinds.ps (is 1 put-digits-kinds.ps μ-put-digits t) put-digits.Pre
+
+abbrev put-digits-below : ℕ → In 1 put-digits-kinds.ps
+put-digits-below t =
+    and 1 put-digits-kinds.ps (falls 1 put-digits-kinds.ps _<_ μ-put-digits t) put-digits.Pre
+
+put-digits-glyph-requires : (t : ℕ) → put-digits-lts.Need-glyph-requires (
+  glyph-reads.Asked,
+  glyph-reads.Learnt,
+  put-byte-reads.Asked,
+  put-byte-reads.Learnt,
+  put-digits-below t,
+  put-digits.Post,
+) (put-digits-at t) put-digits.Post
+put-digits-glyph-requires t c κs = search needs
+
+put-digits-put-byte-requires : (t : ℕ) → put-digits-lts.Need-put-byte-requires (
+  glyph-reads.Asked,
+  glyph-reads.Learnt,
+  put-byte-reads.Asked,
+  put-byte-reads.Learnt,
+  put-digits-below t,
+  put-digits.Post,
+) (put-digits-at t) put-digits.Post
+put-digits-put-byte-requires t c κs = omega (arith, c .before .before .before .before .pre .1)
+
+put-digits-same-length : (t : ℕ) → put-digits-lts.Need-same-length (
+  glyph-reads.Asked,
+  glyph-reads.Learnt,
+  put-byte-reads.Asked,
+  put-byte-reads.Learnt,
+  put-digits-below t,
+  put-digits.Post,
+) (put-digits-at t) put-digits.Post
+put-digits-same-length t c = search needs
+
+put-digits-returns : (t : ℕ) → put-digits-lts.Need-returns (
+  glyph-reads.Asked,
+  glyph-reads.Learnt,
+  put-byte-reads.Asked,
+  put-byte-reads.Learnt,
+  put-digits-below t,
+  put-digits.Post,
+) (put-digits-at t) put-digits.Post
+put-digits-returns t c = put-as _ _ (hex-one _ _ _ (c .before .before .before .glyph .ensures) (c .before .before .before .before .before .if1 .taken)) (c .before .before .put-byte .ensures)
+
+put-digits-glyph-requires-2 : (t : ℕ) → put-digits-lts.Need-glyph-requires-2 (
+  glyph-reads.Asked,
+  glyph-reads.Learnt,
+  put-byte-reads.Asked,
+  put-byte-reads.Learnt,
+  put-digits-below t,
+  put-digits.Post,
+) (put-digits-at t) put-digits.Post
+put-digits-glyph-requires-2 t c κs = search needs
+
+put-digits-put-byte-requires-2 : (t : ℕ) → put-digits-lts.Need-put-byte-requires-2 (
+  glyph-reads.Asked,
+  glyph-reads.Learnt,
+  put-byte-reads.Asked,
+  put-byte-reads.Learnt,
+  put-digits-below t,
+  put-digits.Post,
+) (put-digits-at t) put-digits.Post
+put-digits-put-byte-requires-2 t c κs = omega (arith, c .before .before .before .before .before .pre .1)
+
+put-digits-same-length-2 : (t : ℕ) → put-digits-lts.Need-same-length-2 (
+  glyph-reads.Asked,
+  glyph-reads.Learnt,
+  put-byte-reads.Asked,
+  put-byte-reads.Learnt,
+  put-digits-below t,
+  put-digits.Post,
+) (put-digits-at t) put-digits.Post
+put-digits-same-length-2 t c = search needs
+
+put-digits-returns-2 : (t : ℕ) → put-digits-lts.Need-returns-2 (
+  glyph-reads.Asked,
+  glyph-reads.Learnt,
+  put-byte-reads.Asked,
+  put-byte-reads.Learnt,
+  put-digits-below t,
+  put-digits.Post,
+) (put-digits-at t) put-digits.Post
+put-digits-returns-2 t c = put-as _ _ (hex-last _ _ _ (c .before .before .before .glyph2 .ensures) (c .before .before .before .before .before .if2 .taken)) (c .before .before .put-byte2 .ensures)
+
+put-digits-sub-put-digits : (t : ℕ) → put-digits-lts.Need-sub-put-digits (
+  glyph-reads.Asked,
+  glyph-reads.Learnt,
+  put-byte-reads.Asked,
+  put-byte-reads.Learnt,
+  put-digits-below t,
+  put-digits.Post,
+) (put-digits-at t) put-digits.Post
+put-digits-sub-put-digits t c = omega (arith, c .before .before .if1 .left)
+
+put-digits-put-digits-requires : (t : ℕ) → put-digits-lts.Need-put-digits-requires (
+  glyph-reads.Asked,
+  glyph-reads.Learnt,
+  put-byte-reads.Asked,
+  put-byte-reads.Learnt,
+  put-digits-below t,
+  put-digits.Post,
+) (put-digits-at t) put-digits.Post
+put-digits-put-digits-requires t c κs = (omega (arith, c .before .before .before .before .pre .0, c .before .before .if1 .left), omega (arith, c .before .before .before .before .pre .1, c .before .before .if1 .left))
+
+put-digits-glyph-requires-3 : (t : ℕ) → put-digits-lts.Need-glyph-requires-3 (
+  glyph-reads.Asked,
+  glyph-reads.Learnt,
+  put-byte-reads.Asked,
+  put-byte-reads.Learnt,
+  put-digits-below t,
+  put-digits.Post,
+) (put-digits-at t) put-digits.Post
+put-digits-glyph-requires-3 t c κs = search needs
+
+put-digits-put-byte-requires-3 : (t : ℕ) → put-digits-lts.Need-put-byte-requires-3 (
+  glyph-reads.Asked,
+  glyph-reads.Learnt,
+  put-byte-reads.Asked,
+  put-byte-reads.Learnt,
+  put-digits-below t,
+  put-digits.Post,
+) (put-digits-at t) put-digits.Post
+put-digits-put-byte-requires-3 t c κs = omega (arith, c .before .before .before .before .before .before .before .before .before .pre .1, c .before .before .before .before .put-digits .ensures .next, hex-length (c .before .before .before .before .before .before .before .before .before .args .k - 1) (c .before .before .before .before .before .before .before .before .before .args .value / 16), c .before .before .before .before .before .before .before .if1 .left)
+
+put-digits-same-length-3 : (t : ℕ) → put-digits-lts.Need-same-length-3 (
+  glyph-reads.Asked,
+  glyph-reads.Learnt,
+  put-byte-reads.Asked,
+  put-byte-reads.Learnt,
+  put-digits-below t,
+  put-digits.Post,
+) (put-digits-at t) put-digits.Post
+put-digits-same-length-3 t c = search needs
+
+put-digits-returns-3 : (t : ℕ) → put-digits-lts.Need-returns-3 (
+  glyph-reads.Asked,
+  glyph-reads.Learnt,
+  put-byte-reads.Asked,
+  put-byte-reads.Learnt,
+  put-digits-below t,
+  put-digits.Post,
+) (put-digits-at t) put-digits.Post
+put-digits-returns-3 t c = put-as _ _ (hex-more _ _ _ (c .before .before .before .glyph3 .ensures) (c .before .before .before .before .before .before .before .before .before .before .if1 .left) (c .before .before .before .before .before .before .before .before .before .if2 .left)) (put-then _ _ _ _ _ _ _ _ (c .before .before .before .before .before .before .before .put-digits .ensures) (c .before .before .put-byte3 .ensures))
+
+pub +put-digits-spec : {M : Type 1} → statement M
++put-digits-spec = close μ-put-digits λ t. put-digits-lts.spec (
+  glyph-reads.Asked,
+  glyph-reads.Learnt,
+  put-byte-reads.Asked,
+  put-byte-reads.Learnt,
+  put-digits-below t,
+  put-digits.Post,
+)
+    (put-digits-at t)
+    put-digits.Post
+    (put-digits-glyph-requires t)
+    (put-digits-put-byte-requires t)
+    (put-digits-same-length t)
+    (put-digits-returns t)
+    (put-digits-glyph-requires-2 t)
+    (put-digits-put-byte-requires-2 t)
+    (put-digits-same-length-2 t)
+    (put-digits-returns-2 t)
+    (put-digits-sub-put-digits t)
+    (put-digits-put-digits-requires t)
+    (put-digits-glyph-requires-3 t)
+    (put-digits-put-byte-requires-3 t)
+    (put-digits-same-length-3 t)
+    (put-digits-returns-3 t)

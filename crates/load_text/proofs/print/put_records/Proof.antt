@@ -1,0 +1,79 @@
+-- What is laid so far with what is left gives the whole: the invariant is `Turn` of Showing.
+use mathlib.Core.Path.{sym, _∙_}
+use Prim.Native.Nat.{_-_}
+use lib.ListN.{length}
+use native.Mathlib.Omega.{arith}
+use borrow.Author.Needs.{needs}
+use Rattle.load_text.proofs.Showing.{Turn, turn-start, turn-more, turn-refused, turn-end}
+use Rattle.load.proofs.Reading.{step-next}
+use Rattle.load_text.proofs.print.put_records.Statement.{statement}
+use Rattle.load_text.proofs.print.put_records.Tie as tie
+
+abbrev Inv-loop : tie.InvT-loop
+Inv-loop out₀ from load at₀ k₀ n₀ out at k n = Turn load out₀ from out at k n
+
+abbrev μ-loop : tie.MeasureT-loop
+μ-loop out₀ from load at₀ k₀ n₀ out at k n = length load - at
+
+loop-holds : tie.Need-loop-holds Inv-loop μ-loop
+loop-holds c = turn-start _ _ _ (c .before .before .pre .0)
+
+record-at-requires : tie.Need-record-at-requires Inv-loop μ-loop
+record-at-requires c κs = search needs
+
+enum-known-call : tie.Need-enum-known-call Inv-loop μ-loop
+enum-known-call c = search needs
+
+put-call-requires : tie.Need-put-call-requires Inv-loop μ-loop
+put-call-requires c κs = omega (arith, c .before .before .before .before .before .loop .inv .near, c .before .before .before .before .before .loop .inv .inside)
+
+add-k : tie.Need-add-k Inv-loop μ-loop
+add-k c = omega (arith, c .before .before .before .before .before .before .before .before .loop .inv .few, c .before .before .before .before .before .before .before .before .loop .inv .inside)
+
+loop-less : tie.Need-loop-less Inv-loop μ-loop
+loop-less c = let q = step-next _ _ _ _ (sym (c .before .before .before .before .before .before .before .record-at .ensures) ∙ c .before .before .before .before .before .call .given .1) in omega (arith, q .0, q .1)
+
+loop-again : tie.Need-loop-again Inv-loop μ-loop
+loop-again c = turn-more _ _ _ _ _ _ _ (c .before .before .before .before .before .before .before .before .loop .inv) _ _ (c .before .before .before .before .before .before .before .before .before .before .before .pre .1) _ _ (sym (c .before .before .before .before .before .before .before .record-at .ensures) ∙ c .before .before .before .before .before .call .given .1) (c .before .before .put-call .ensures)
+
+enum-told : tie.Need-enum-told Inv-loop μ-loop
+enum-told c = search needs
+
+same-length : tie.Need-same-length Inv-loop μ-loop
+same-length c = c .before .before .before .loop .inv .going .size
+
+returns : tie.Need-returns Inv-loop μ-loop
+returns c = turn-end _ _ _ _ _ _ _ (c .before .before .before .loop .inv) (sym (c .before .before .record-at .ensures) ∙ c .enum-told .given .1)
+
+enum-known-r : tie.Need-enum-known-r Inv-loop μ-loop
+enum-known-r c = search needs
+
+put-stop-requires : tie.Need-put-stop-requires Inv-loop μ-loop
+put-stop-requires c κs = omega (arith, c .before .before .before .before .before .loop .inv .near, c .before .before .before .before .before .loop .inv .inside)
+
+same-length-2 : tie.Need-same-length-2 Inv-loop μ-loop
+same-length-2 c = c .before .before .put-stop .kept .0 ∙ c .before .before .before .before .before .before .before .before .loop .inv .going .size
+
+returns-2 : tie.Need-returns-2 Inv-loop μ-loop
+returns-2 c = turn-refused _ _ _ _ _ _ _ (c .before .before .before .before .before .before .before .before .loop .inv) _ _ _ (sym (c .before .before .before .before .before .before .before .record-at .ensures) ∙ c .before .before .before .before .before .r .given .1) (c .before .before .put-stop .ensures)
+
+pub put-records-spec : {M : Type 1} → statement M
+put-records-spec =
+    tie.close
+    (tie.spec
+    Inv-loop
+    μ-loop
+    loop-holds
+    record-at-requires
+    enum-known-call
+    put-call-requires
+    add-k
+    loop-less
+    loop-again
+    enum-told
+    same-length
+    returns
+    enum-known-r
+    put-stop-requires
+    same-length-2
+    returns-2)

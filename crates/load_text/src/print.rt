@@ -1,0 +1,183 @@
+// Calls, refusals and reports as lines, laid into a lent buffer as far as that goes.
+ghost use mathlib.Core.Path.{_≡_};
+ghost use mathlib.Core.List.{[], _∷_, _++_};
+ghost use Prim.Native.Nat.{_+_, _^_, _≤_, _<_};
+ghost use lib.ListN.{length};
+ghost use Rattle.numerals.specs.Laid.{Put};
+ghost use Rattle.load.specs.Reading.{walk};
+ghost use Rattle.load_text.specs.Lines.{glyphOf, hexUpTo, setOf, fieldOf, pairOf, lineOf, stopLine, restOf, textOf};
+use load::Call;
+use load::Item;
+
+// A digit of base 16, upper case.
+fn glyph(d: u64) -> u8
+    ensures { λ r. ⌜ r ≡ glyphOf d ⌝ }
+{
+    let k = (d % 16) as u8;
+    if k < 10 {
+        return 48 + k;
+    }
+    55 + k
+}
+
+// A number in hex without zeros in front, at most k + 1 digits.
+fn put_digits(out: &mut [u8], at: usize, value: u64, k: usize) -> usize
+    requires { ⌜ at + (k + 1) < 2 ^ 64 ⌝ }
+    ensures { λ r. ⌜ Put (now (out .entry)) at (hexUpTo k value) r (now (out .exit)) ⌝ }
+{
+    if k == 0 {
+        return numerals::put_byte(out, at, glyph(value));
+    }
+    if value < 16 {
+        return numerals::put_byte(out, at, glyph(value));
+    }
+    let m = put_digits(out, at, value / 16, k - 1);
+    numerals::put_byte(out, m, glyph(value))
+}
+
+// A set of groups in hex, and the byte behind it.
+fn put_set(out: &mut [u8], at: usize, groups: u64, b: u8) -> usize
+    requires { ⌜ at + 17 < 2 ^ 64 ⌝ }
+    ensures { λ r. ⌜ Put (now (out .entry)) at (setOf groups b) r (now (out .exit)) ⌝ }
+{
+    let m = put_digits(out, at, groups, 15);
+    numerals::put_byte(out, m, b)
+}
+
+// A number, and the byte behind it.
+fn put_field(out: &mut [u8], at: usize, value: u64, b: u8) -> usize
+    requires { ⌜ at + 21 < 2 ^ 64 ⌝ }
+    ensures { λ r. ⌜ Put (now (out .entry)) at (fieldOf value b) r (now (out .exit)) ⌝ }
+{
+    let m = numerals::put_decimal(out, at, value);
+    numerals::put_byte(out, m, b)
+}
+
+fn put_pair(out: &mut [u8], at: usize, a: u64, b: u64) -> usize
+    requires { ⌜ at + 42 < 2 ^ 64 ⌝ }
+    ensures { λ r. ⌜ Put (now (out .entry)) at (pairOf a b) r (now (out .exit)) ⌝ }
+{
+    let m = put_field(out, at, a, 32);
+    put_field(out, m, b, 10)
+}
+
+fn put_claim(out: &mut [u8], at: usize, clock: u64, groups: u64, length: u32) -> usize
+    requires { ⌜ at + 59 < 2 ^ 64 ⌝ }
+    ensures { λ r. ⌜ Put (now (out .entry)) at (fieldOf clock 32 ++ (setOf groups 32 ++ fieldOf length 10)) r (now (out .exit)) ⌝ }
+{
+    let a = put_field(out, at, clock, 32);
+    let b = put_set(out, a, groups, 32);
+    put_field(out, b, length as u64, 10)
+}
+
+// A call as a line.
+fn put_call(out: &mut [u8], at: usize, call: Call) -> usize
+    requires { ⌜ at + 66 < 2 ^ 64 ⌝ }
+    ensures { λ r. ⌜ Put (now (out .entry)) at (lineOf call) r (now (out .exit)) ⌝ }
+{
+    match call {
+        Call::Rig(g) => {
+            let m = numerals::put_bytes(out, at, b"rig ");
+            put_set(out, m, g, 10)
+        }
+        Call::Claim(c, g, l) => {
+            let m = numerals::put_bytes(out, at, b"claim ");
+            put_claim(out, m, c, g, l)
+        }
+        Call::Release(c, t) => {
+            let m = numerals::put_bytes(out, at, b"release ");
+            put_pair(out, m, c, t as u64)
+        }
+        Call::Withdraw(c, t) => {
+            let m = numerals::put_bytes(out, at, b"withdraw ");
+            put_pair(out, m, c, t as u64)
+        }
+        Call::Clock(c) => {
+            let m = numerals::put_bytes(out, at, b"clock ");
+            put_field(out, m, c, 10)
+        }
+    }
+}
+
+// The same at the start of a buffer, for any caller.
+pub fn put_line(call: Call, out: &mut [u8]) -> usize
+    ensures { λ r. ⌜ Put (now (out .entry)) 0 (lineOf call) r (now (out .exit)) ⌝ }
+{
+    put_call(out, 0, call)
+}
+
+fn put_stop(out: &mut [u8], at: usize, number: u8, k: u64) -> usize
+    requires { ⌜ at + 50 < 2 ^ 64 ⌝ }
+    ensures { λ r. ⌜ Put (now (out .entry)) at (stopLine number k) r (now (out .exit)) ⌝ }
+{
+    let m = numerals::put_bytes(out, at, b"# stop ");
+    put_pair(out, m, number as u64, k)
+}
+
+// The records of a load that opens, to its end or to the first that is refused.
+fn put_records(out: &mut [u8], from: usize, load: &[u8]) -> usize
+    requires { ⌜ (from ≤ 12) × (length (now load) ≤ 65536) ⌝ }
+    ensures { λ r. ⌜ Put (now (out .entry)) from (restOf 1 (walk (now (load .entry)) 1)) r (now (out .exit)) ⌝ }
+{
+    let mut at: usize = 1;
+    let mut k: u64 = 1;
+    let mut n = from;
+    loop {
+        match load::record_at(load, at) {
+            Item::Record(call, next) => {
+                n = put_call(out, n, call);
+                at = next;
+                k += 1;
+            }
+            Item::End => {
+                return n;
+            }
+            Item::Refused(r) => {
+                return put_stop(out, n, r, k);
+            }
+        }
+    }
+}
+
+// A load as text, and the text's length.
+pub fn show(load: &[u8], out: &mut [u8]) -> usize
+    ensures { λ r. ⌜ Put (now (out .entry)) 0 (textOf (now (load .entry))) r (now (out .exit)) ⌝ }
+{
+    let number = load::open_number(load);
+    if number != 0 {
+        return put_stop(out, 0, number, 0);
+    }
+    let n = numerals::put_bytes(out, 0, b"# edition 1\n");
+    put_records(out, n, load)
+}
+
+fn put_reason(out: &mut [u8], at: usize, reason: u8) -> usize
+    requires { ⌜ at + 32 < 2 ^ 64 ⌝ }
+    ensures { λ r. ⌜ r ≤ at + 32 ⌝ }
+{
+    match reason {
+        1 => numerals::put_bytes(out, at, b"unknown call\n"),
+        2 => numerals::put_bytes(out, at, b"a number is missing\n"),
+        3 => numerals::put_bytes(out, at, b"too many words\n"),
+        4 => numerals::put_bytes(out, at, b"clock is not a number\n"),
+        5 => numerals::put_bytes(out, at, b"ticket is not a number\n"),
+        6 => numerals::put_bytes(out, at, b"length is not a number\n"),
+        7 => numerals::put_bytes(out, at, b"groups are not hex or a list\n"),
+        8 => numerals::put_bytes(out, at, b"number too large\n"),
+        9 => numerals::put_bytes(out, at, b"group over 63\n"),
+        10 => numerals::put_bytes(out, at, b"range runs backward\n"),
+        13 => numerals::put_bytes(out, at, b"rig must be first\n"),
+        14 => numerals::put_bytes(out, at, b"load over 65,536 bytes\n"),
+        _ => numerals::put_bytes(out, at, b"not written\n"),
+    }
+}
+
+// A line that says what is wrong with a line of text.
+pub fn report(line: u64, reason: u8, out: &mut [u8]) -> usize
+    ensures { λ r. ⌜ r ≤ 64 ⌝ }
+{
+    let a = numerals::put_bytes(out, 0, b"line ");
+    let b = numerals::put_decimal(out, a, line);
+    let c = numerals::put_bytes(out, b, b": ");
+    put_reason(out, c, reason)
+}

@@ -1,0 +1,33 @@
+// Lines of calls on standard input to a load on standard output.
+// A line that is wrong is reported on standard error, and then nothing is written.
+use load_text::Made;
+
+fn fail(line: u64, reason: u8) {
+    let mut text = [0u8; 64];
+    let n = load_text::report(line, reason, &mut text);
+    io::write_all(2, &text[..n]);
+}
+
+fn write(text: &[u8]) {
+    let mut load = io::large_buffer();
+    match load_text::make(text, &mut load) {
+        Made::Load(n) => {
+            io::write_all(1, &load[..n]);
+        }
+        Made::Mistake(line, reason) => fail(line, reason),
+    }
+}
+
+// `room` is for the longest text and one byte more.
+fn run(mut room: [u8; 1048577]) {
+    let n = io::read_full(0, &mut room);
+    if 1048576 < n {
+        io::write_all(2, b"text over 1,048,576 bytes\n");
+        return;
+    }
+    write(&room[..n]);
+}
+
+fn main() {
+    run([0; 1048577]);
+}

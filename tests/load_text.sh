@@ -1,0 +1,137 @@
+#!/usr/bin/env bash
+# Runs load_write and load_show (built by `rt check load_write load_show`) on small cases: a line for each, and the count at the end.
+cd "$(dirname "$0")/.." || exit 2
+bin=target/bin
+tmp=$(mktemp -d) || exit 2
+trap 'rm -rf "$tmp"' EXIT
+passed=0
+failed=0
+
+# verdict NAME: compares what a program wrote (out, err) with what was expected (want, wanterr).
+verdict() {
+    if cmp -s "$tmp/out" "$tmp/want" && cmp -s "$tmp/err" "$tmp/wanterr"; then
+        passed=$((passed + 1))
+        echo "ok: $1"
+    else
+        failed=$((failed + 1))
+        echo "FAIL: $1"
+        diff <(xxd "$tmp/want") <(xxd "$tmp/out") | head -n 6
+        diff "$tmp/wanterr" "$tmp/err" | head -n 6
+    fi
+}
+
+# good NAME TEXT HEX: the text (with printf's escapes) is written as the load of these bytes.
+good() {
+    printf "$2" | "$bin/load_write" >"$tmp/out" 2>"$tmp/err"
+    printf '%s' "$3" | xxd -r -p >"$tmp/want"
+    : >"$tmp/wanterr"
+    verdict "$1"
+}
+
+# bad NAME TEXT MESSAGE: the text is reported with this message, and nothing is written.
+bad() {
+    printf "$2" | "$bin/load_write" >"$tmp/out" 2>"$tmp/err"
+    : >"$tmp/want"
+    printf '%s\n' "$3" >"$tmp/wanterr"
+    verdict "$1"
+}
+
+# shown NAME HEX TEXT: the load of these bytes is shown as this text.
+shown() {
+    printf '%s' "$2" | xxd -r -p | "$bin/load_show" >"$tmp/out" 2>"$tmp/err"
+    printf "$3" >"$tmp/want"
+    : >"$tmp/wanterr"
+    verdict "$1"
+}
+
+rig=000901000000000000000f
+header='# edition 1\n'
+
+# the sample, there and back
+"$bin/load_write" <crates/load_write/stdin >"$tmp/out" 2>"$tmp/err"
+cp crates/load_write/stdout "$tmp/want"
+: >"$tmp/wanterr"
+verdict "sample: text to load"
+"$bin/load_show" <crates/load_write/stdout >"$tmp/out" 2>"$tmp/err"
+cp crates/load_show/stdout "$tmp/want"
+verdict "sample: load to text"
+"$bin/load_write" <crates/load_show/stdout >"$tmp/out" 2>"$tmp/err"
+cp crates/load_show/stdin "$tmp/want"
+verdict "sample: shown text to the same load"
+"$bin/load_write" <crates/load_write/stdin | "$bin/load_show" >"$tmp/out" 2>"$tmp/err"
+cp crates/load_show/stdout "$tmp/want"
+verdict "sample: text to load to text"
+
+# scenario 15's loads
+shown "empty load" "" '# stop 12 0\n'
+shown "edition byte alone" 01 "$header"
+shown "unknown edition" ff '# stop 11 0\n'
+shown "half a length" 0100 "$header# stop 12 1\n"
+shown "record of no bytes" 010000 "$header# stop 13 1\n"
+
+# other refusals of load_show
+shown "second rig" "01$rig$rig" "${header}rig F\n# stop 13 2\n"
+shown "cut in the third record" "01${rig}0009050000000000000007000b03" "${header}rig F\nclock 7\n# stop 12 3\n"
+head -c 65537 /dev/zero | "$bin/load_show" >"$tmp/out" 2>"$tmp/err"
+printf '# stop 14 0\n' >"$tmp/want"
+verdict "load of 65,537 bytes"
+
+# lines
+good "no text" "" 01
+good "comments and blank lines" '# a show\n\n \t \nrig F# all\n   # end' "01$rig"
+good "tabs, spaces, and no line feed at the end" '\t rig \t F \t' "01$rig"
+good "carriage returns" 'rig F\r\n\r\n# x\r\nclock 7\r\n' "01${rig}0009050000000000000007"
+good "hex in either case" 'rig aBcDeF0123456789\n' 01000901abcdef0123456789
+good "list of groups" 'rig 0,3,5-7\n' 0100090100000000000000e9
+good "a single group as a list" 'rig 5,\nclaim 0 5-5 1\n' 0100090100000000000000200015020000000000000000000000000000002000000001
+good "all groups" 'rig 0-63\n' 01000901ffffffffffffffff
+good "largest numbers" 'rig F\nclaim 18446744073709551615 FFFFFFFFFFFFFFFF 4294967295\nrelease 0 65535\nwithdraw 007 0\n' \
+    "01${rig}001502ffffffffffffffffffffffffffffffffffffffff000b030000000000000000ffff000b0400000000000000070000"
+
+bad "unknown call" 'rig F\n\nclam 0 F 1\n' 'line 3: unknown call'
+bad "upper case call" 'RIG F\n' 'line 1: unknown call'
+bad "missing number" '# x\nrig F\nclock 0\nclaim 0 F\n' 'line 4: a number is missing'
+bad "missing everything" 'rig # F\n' 'line 1: a number is missing'
+bad "too many words" 'rig F\nclock 5 6\n' 'line 2: too many words'
+bad "clock is no number" 'rig F\nclock 5x\n' 'line 2: clock is not a number'
+bad "ticket is no number" 'rig F\nrelease 5 A\n' 'line 2: ticket is not a number'
+bad "length is no number" 'rig F\nclaim 5 A -1\n' 'line 2: length is not a number'
+bad "groups are no hex" 'rig 0xF\n' 'line 1: groups are not hex or a list'
+bad "list with a hole" 'rig 1,,2\n' 'line 1: groups are not hex or a list'
+bad "list with a hex digit" 'rig 1,A\n' 'line 1: groups are not hex or a list'
+bad "range without an end" 'rig 1-\n' 'line 1: groups are not hex or a list'
+bad "range of three" 'rig 1-2-3\n' 'line 1: groups are not hex or a list'
+bad "range backward" 'rig 7-5\n' 'line 1: range runs backward'
+bad "group over 63" 'rig F\nclaim 0 60-64 1\n' 'line 2: group over 63'
+bad "clock of 2^64" 'rig F\nclock 18446744073709551616\n' 'line 2: number too large'
+bad "17 digits of hex" 'rig 00000000000000001\n' 'line 1: number too large'
+bad "length of 2^32" 'rig F\nclaim 0 F 4294967296\n' 'line 2: number too large'
+bad "ticket of 65,536" 'rig F\nwithdraw 0 65536\n' 'line 2: number too large'
+bad "a long word that is no number" 'rig F\nclock 99999999999999999999999x\n' 'line 2: clock is not a number'
+bad "rig not first" 'clock 0\nrig F\n' 'line 1: rig must be first'
+bad "second rig in a text" 'rig F\nclock 0\nrig F\n' 'line 3: rig must be first'
+bad "a bad line at the end writes nothing" 'rig F\nclaim 0 1 1\nclaim 0 1 1\nnonsense\n' 'line 4: unknown call'
+
+# sizes: the edition byte, the rig and 5,956 clocks are 65,528 bytes
+{ echo "rig F"; yes "clock 1" | head -n 5956; } >"$tmp/full"
+"$bin/load_write" <"$tmp/full" >"$tmp/load" 2>"$tmp/err"
+"$bin/load_show" <"$tmp/load" >"$tmp/out" 2>>"$tmp/err"
+{ printf "$header"; cat "$tmp/full"; } >"$tmp/want"
+: >"$tmp/wanterr"
+verdict "a full load there and back"
+{ cat "$tmp/full"; echo "clock 1"; } >"$tmp/over"
+"$bin/load_write" <"$tmp/over" >"$tmp/out" 2>"$tmp/err"
+: >"$tmp/want"
+echo "line 5958: load over 65,536 bytes" >"$tmp/wanterr"
+verdict "one record over a full load"
+{ echo "rig F"; head -c 1048570 /dev/zero | tr '\0' '\n'; } | "$bin/load_write" >"$tmp/out" 2>"$tmp/err"
+printf '01%s' "$rig" | xxd -r -p >"$tmp/want"
+: >"$tmp/wanterr"
+verdict "text of 1,048,576 bytes"
+{ echo "rig F"; head -c 1048571 /dev/zero | tr '\0' '\n'; } | "$bin/load_write" >"$tmp/out" 2>"$tmp/err"
+: >"$tmp/want"
+echo "text over 1,048,576 bytes" >"$tmp/wanterr"
+verdict "text of 1,048,577 bytes"
+
+echo "$passed passed, $failed failed"
+[ "$failed" -eq 0 ]
