@@ -7,6 +7,11 @@ trap 'rm -rf "$tmp"' EXIT
 passed=0
 failed=0
 
+# unhex: the bytes that a text of hex digits stands for.
+unhex() {
+    perl -ne 'print pack "H*", $_'
+}
+
 # verdict NAME: compares what a program wrote (out, err) with what was expected (want, wanterr).
 verdict() {
     if cmp -s "$tmp/out" "$tmp/want" && cmp -s "$tmp/err" "$tmp/wanterr"; then
@@ -15,7 +20,7 @@ verdict() {
     else
         failed=$((failed + 1))
         echo "FAIL: $1"
-        diff <(xxd "$tmp/want") <(xxd "$tmp/out") | head -n 6
+        diff <(od -A d -t x1 "$tmp/want") <(od -A d -t x1 "$tmp/out") | head -n 6
         diff "$tmp/wanterr" "$tmp/err" | head -n 6
     fi
 }
@@ -23,7 +28,7 @@ verdict() {
 # good NAME TEXT HEX: the text (with printf's escapes) is written as the load of these bytes.
 good() {
     printf "$2" | "$bin/load_write" >"$tmp/out" 2>"$tmp/err"
-    printf '%s' "$3" | xxd -r -p >"$tmp/want"
+    printf '%s' "$3" | unhex >"$tmp/want"
     : >"$tmp/wanterr"
     verdict "$1"
 }
@@ -38,7 +43,7 @@ bad() {
 
 # shown NAME HEX TEXT: the load of these bytes is shown as this text.
 shown() {
-    printf '%s' "$2" | xxd -r -p | "$bin/load_show" >"$tmp/out" 2>"$tmp/err"
+    printf '%s' "$2" | unhex | "$bin/load_show" >"$tmp/out" 2>"$tmp/err"
     printf "$3" >"$tmp/want"
     : >"$tmp/wanterr"
     verdict "$1"
@@ -125,7 +130,7 @@ verdict "a full load there and back"
 echo "line 5958: load over 65,536 bytes" >"$tmp/wanterr"
 verdict "one record over a full load"
 { echo "rig F"; head -c 1048570 /dev/zero | tr '\0' '\n'; } | "$bin/load_write" >"$tmp/out" 2>"$tmp/err"
-printf '01%s' "$rig" | xxd -r -p >"$tmp/want"
+printf '01%s' "$rig" | unhex >"$tmp/want"
 : >"$tmp/wanterr"
 verdict "text of 1,048,576 bytes"
 { echo "rig F"; head -c 1048571 /dev/zero | tr '\0' '\n'; } | "$bin/load_write" >"$tmp/out" 2>"$tmp/err"

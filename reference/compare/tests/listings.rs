@@ -4,6 +4,7 @@ use compare::{cases, listing, output_of, report};
 use reference::generate::{self, Prng};
 use reference::load::{self, Call};
 use reference::table::TimedCall;
+use reference::text;
 
 /// The two differ in the listing, or the proved call touches what it must not.
 fn differs(load: &[u8]) -> bool {
@@ -113,4 +114,87 @@ fn the_program_prints_the_same() {
         let expected = reference::listing::listing(&load);
         assert!(output_of("cue", &load) == expected, "seed {seed}");
     }
+}
+
+/// S of document 01: three claims at clock 0.
+const S: &str = "claim 0 8 10\nclaim 0 C 10\nclaim 0 6 11\n";
+
+/// The scenarios of document 01 as loads (there: plots), in their order; the
+/// fifteenth is of bytes that are no good load.
+fn scenarios() -> Vec<String> {
+    let full = "claim 0 1 5\n".repeat(64);
+    [
+        "claim 0 8 10".to_string(),
+        "claim 0 8 10\nclaim 0 C 10".to_string(),
+        S.to_string(),
+        "claim 0 8 10\nclaim 0 C 10\nclaim 0 6 10".to_string(),
+        format!("{S}claim 0 3 20"),
+        format!("{S}claim 0 3 21"),
+        format!("{S}claim 0 3 20\nrelease 4 1"),
+        format!("{S}release 4 1"),
+        format!("{S}withdraw 0 2"),
+        format!("{S}clock 12\nclock 11\nclock 12"),
+        "claim 0 10 10\nclaim 0 1 3600001\nclaim 0 1 0\nclaim 0 1 3600000".to_string(),
+        format!("{S}release 0 2\nwithdraw 0 1\nrelease 0 0\nwithdraw 0 0"),
+        format!("{full}claim 0 1 5\nrelease 0 1\nclaim 0 1 5"),
+        "clock 1\nclaim 0 0 10".to_string(),
+    ]
+    .map(|calls| format!("rig F\n{calls}\n"))
+    .to_vec()
+}
+
+/// The last lines of the listings of the fourteen, as document 01 numbers them.
+const LAST_LINES: [&str; 14] = [
+    "2 0 1 0\non 1 0\n",
+    "3 0 2 10\n",
+    "4 0 3 20\n",
+    "4 0 3 0\non 3 0\n",
+    "5 0 4 0\non 4 0\n",
+    "5 0 4 31\n",
+    "6 0 1 4\non 2 4\n",
+    "5 0 1 4\non 2 4\n",
+    "5 0 2 0\non 3 0\n",
+    "5 0 0 12\n6 4 0 0\n7 0 0 12\n",
+    "2 2 0 0\n3 3 0 0\n4 3 0 0\n5 0 1 0\non 1 0\n",
+    "5 9 0 0\n6 10 0 0\n7 8 0 0\n8 8 0 0\n",
+    "66 6 0 0\n67 0 1 0\non 2 0\n68 0 65 315\n",
+    "2 0 0 1\n3 4 0 0\n",
+];
+
+/// The listing that the proved call and the program give; they must agree with the reference.
+fn agreed(load: &[u8]) -> String {
+    check(load);
+    let expected = reference::listing::listing(load);
+    assert!(output_of("cue", load) == expected);
+    String::from_utf8(expected).expect("a listing is plain text")
+}
+
+#[test]
+fn the_fifteen_scenarios() {
+    for (text, last) in scenarios().iter().zip(LAST_LINES) {
+        let load = load::join(&text::parse(text).expect("a load's text"));
+        let listing = agreed(&load);
+        assert!(listing.ends_with(last), "{text}gives\n{listing}");
+    }
+    let header = "rec answer ticket start\n";
+    for (load, stop) in [
+        (&b""[..], "stop 12 0\n"),
+        (&[1], ""),
+        (&[0xFF], "stop 11 0\n"),
+        (&[1, 0], "stop 12 1\n"),
+        (&[1, 0, 0], "stop 13 1\n"),
+    ] {
+        assert_eq!(agreed(load), format!("{header}{stop}"));
+    }
+}
+
+#[test]
+fn the_sample() {
+    let text = format!("rig F\n{S}claim 0 3 20\nrelease 4 1\n");
+    let load = load::join(&text::parse(&text).expect("a load's text"));
+    assert_eq!(
+        agreed(&load),
+        "rec answer ticket start\n1 0 0 0\n2 0 1 0\non 1 0\n3 0 2 10\n4 0 3 20\n\
+         5 0 4 0\non 4 0\n6 0 1 4\non 2 4\n"
+    );
 }
