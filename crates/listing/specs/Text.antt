@@ -1,4 +1,4 @@
--- The listing of a load: its records, as the load format reads them (load, Format), are calls of the rules (rules, Calls), and each
+-- The listing of a load: its records, as the load format reads them (load, Reading), are calls of the rules (rules, Calls), and each
 -- prints what it answers. Quotations are from document 01, "What the program prints".
 use mathlib.Core.Bool.{cond}
 use mathlib.Core.List.{List, [], _∷_, _++_}

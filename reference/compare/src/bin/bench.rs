@@ -9,7 +9,7 @@ use std::hint::black_box;
 use std::time::{Duration, Instant};
 
 /// A load of so many claims of two groups of 64 each, with a release of the
-/// lowest on ticket behind every other one.
+/// lowest ticket that is on behind about every other one.
 fn workshop(claims: u32, seed: u64) -> Vec<u8> {
     let mut prng = Prng::new(seed);
     let (mut table, _) = Table::new(u64::MAX);
