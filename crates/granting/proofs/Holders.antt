@@ -7,7 +7,7 @@ use Prim.Native.Nat.{ℕ, _<_}
 use native.Mathlib.Omega.{arith}
 use lib.ListN.{length, take, getD}
 use borrow.Author.Tests.{eq-eqb, ne-eqb}
-use Rattle.groups.specs.Groups.{shares, Union}
+use Rattle.groups.specs.Groups.{shares, union}
 use Rattle.groups.proofs.Groups.{union-shares}
 use Rattle.groups.proofs.Words.{zero-shares}
 use Rattle.rules.specs.declared.Claim.{Claim}
@@ -23,8 +23,8 @@ use Rattle.granting.specs.Rows.{Planned}
 
 -- ── one claim ──
 module _ (h : ℕ) (c : Claim) where
-  pub with-holder : (r : ℕ) → on c ≡ true → Union h (c .groups) r → HeldWith h c r
-  with-holder r o u = record { by-either = λ x. rw o (union-shares h (c .groups) r x u) }
+  pub with-holder : on c ≡ true → HeldWith h c (union h (c .groups))
+  with-holder o = record { by-either = λ x. rw o (union-shares h (c .groups) x) }
 
   pub with-waiting : on c ≡ false → HeldWith h c h
   with-waiting o = record { by-either = λ x. rw o (sym (or-false (shares h x))) }

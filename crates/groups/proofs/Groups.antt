@@ -1,12 +1,14 @@
 -- Laws of specs/Groups.antt for callers: `shares`, `empty` and `within`, each as a statement of the groups 0 to 63, and what a union
--- shares. They rest on four inductions over the groups: `from-elim`, `from-intro`, `from-same` and `from-or`. Assumes nothing.
-use mathlib.Core.Path.{_≡_, refl, sym, _∙_}
-use mathlib.Core.Bool.{Bool, true, false, not, _&&_, _||_, and-comm, and-eq-true-iff, and-or-distrib-right, or-true, false≢true}
-use Prim.Native.Nat.{ℕ, zero, suc, _+_, _<_}
-use native.Mathlib.Nat.{add-zero, zero-add}
+-- shares. They rest on four inductions over the groups: `from-elim`, `from-intro`, `from-same` and `from-or`; a union on two more, `set-same` and `from-has`. Assumes nothing.
+use mathlib.Core.Path.{_≡_, refl, sym, ap, _∙_}
+use mathlib.Core.Bool.{Bool, true, false, not, _&&_, _||_, cond, and-comm, and-eq-true-iff, and-or-distrib-right, or-true, false≢true}
+use Prim.Native.Nat.{ℕ, zero, suc, _+_, _*_, _/_, _%_, _^_, _<_}
+use native.Mathlib.Nat.{add-zero, zero-add, div-one}
 use native.Mathlib.Omega.{arith}
-use borrow.Author.Tests.{not-true, not-false}
-use Rattle.groups.specs.Groups.{has, someFrom, someGroup, shares, empty, within, Union}
+use lib.Dec.{eqb}
+use lib.Pow.{shr-shr}
+use borrow.Author.Tests.{eq-eqb, ne-eqb, not-true, not-false}
+use Rattle.groups.specs.Groups.{has, someFrom, someGroup, shares, empty, within, setFrom, setWhere, union}
 
 -- Group j + 1 from g on is group j from the next one on.
 next : (g j : ℕ) → g + suc j ≡ suc g + j
@@ -71,6 +73,43 @@ none-intro p f = go (someGroup p) refl
     go true q = let r = some-elim p q in sym (r .2) ∙ f (r .0) (r .1)
     go false q = refl
 
+-- Sets of groups that pass tests which agree at each of the k groups are equal.
+pub set-same : (k g : ℕ) (p q : ℕ → Bool) → ((h : ℕ) → h < g + k → p h ≡ q h) → setFrom k g p ≡ setFrom k g q
+unfolding setFrom
+set-same zero g p q s = refl
+set-same (suc k) g p q s = rw (s g (omega arith), set-same k (suc g) p q (λ h l. s h (omega arith)))
+
+one-add : (j : ℕ) → 1 + j ≡ suc j
+one-add j = omega arith
+
+-- The lowest digit of a set, and the others.
+lowest : (t : Bool) (n : ℕ) → (cond t 1 0 + 2 * n) % 2 ≡ cond t 1 0
+lowest true n = omega arith
+lowest false n = omega arith
+
+others : (t : Bool) (n : ℕ) → (cond t 1 0 + 2 * n) / 2 ≡ n
+others true n = omega arith
+others false n = omega arith
+
+-- Group g + j is in the set of the k groups from g on that pass p exactly where it passes.
+from-has : (k g : ℕ) (p : ℕ → Bool) (j : ℕ) → j < k → has (setFrom k g p) j ≡ p (g + j)
+unfolding setFrom
+from-has zero g p j h = absurd (omega arith)
+from-has (suc k) g p zero h = rw (add-zero, div-one, lowest) (go (p g))
+  where
+    go : (t : Bool) → eqb (cond t 1 0) 1 ≡ t
+    go true = refl
+    go false = refl
+from-has (suc k) g p (suc j) h =
+    let n = cond (p g) 1 0 + 2 * setFrom k (suc g) p in
+    let half : n / 2 ≡ setFrom k (suc g) p = others (p g) (setFrom k (suc g) p) in
+    let all : n / 2 ^ suc j ≡ setFrom k (suc g) p / 2 ^ j = rw (← one-add j) (sym (shr-shr n 1 j)) ∙ ap (λ m. m / 2 ^ j) half in
+    ap (λ m. eqb (m % 2) 1) all ∙ from-has k (suc g) p j (omega arith) ∙ ap p (sym (next g j))
+
+-- A group is in the set of the groups that pass p exactly where it passes.
+pub has-set : (p : ℕ → Bool) (g : ℕ) → g < 64 → has (setWhere p) g ≡ p g
+has-set p g h = from-has _ 0 p g (omega arith) ∙ ap p (zero-add g)
+
 -- Sharing a group does not depend on the order.
 pub shares-sym : (a b : ℕ) → shares a b ≡ shares b a
 unfolding shares
@@ -90,12 +129,12 @@ unfolding shares
 shares-intro a b g h p q = some-intro _ g h (rw (p, q))
 
 -- A union shares a group with x exactly where one of its two sets does.
-pub union-shares : (a b r x : ℕ) → Union a b r → shares r x ≡ (shares a x || shares b x)
-unfolding shares
-union-shares a b r x u = from-same _ 0 _ _ at-group ∙ from-or _ 0 _ _
+pub union-shares : (a b x : ℕ) → shares (union a b) x ≡ (shares a x || shares b x)
+unfolding shares union
+union-shares a b x = from-same _ 0 _ _ at-group ∙ from-or _ 0 _ _
   where
-    at-group : (g : ℕ) → g < 64 → (has r g && has x g) ≡ (has a g && has x g || has b g && has x g)
-    at-group g h = rw (u .has-either g h) (and-or-distrib-right (has a g) (has b g) (has x g))
+    at-group : (g : ℕ) → g < 64 → (has (union a b) g && has x g) ≡ (has a g && has x g || has b g && has x g)
+    at-group g h = rw (has-set _ g h) (and-or-distrib-right (has a g) (has b g) (has x g))
 
 -- Each group is missing from an empty set.
 pub empty-elim : (a : ℕ) → empty a ≡ true → (g : ℕ) → g < 64 → has a g ≡ false

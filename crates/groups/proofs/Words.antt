@@ -1,18 +1,18 @@
 -- What the code's words have to do with the definitions of specs/Groups.antt. Group g is the digit of 2^g, and two words are equal
 -- exactly where no digit differs: `differ-from`, the one induction. Three of the laws say which two words to compare; that of a union
--- needs no more than a digit of `a | b`. Assumes nothing.
+-- rests on `word-from`: a word is the set of the groups that it has. Assumes nothing.
 use mathlib.Core.Path.{_≡_, refl, sym, ap, _∙_}
-use mathlib.Core.Bool.{Bool, true, false, not, _&&_, _||_, Bool·not-not}
-use Prim.Native.Nat.{ℕ, zero, suc, _/_, _%_, _^_, _<_, min, max}
+use mathlib.Core.Bool.{Bool, true, false, not, _&&_, _||_, cond, Bool·not-not}
+use Prim.Native.Nat.{ℕ, zero, suc, _+_, _*_, _/_, _%_, _^_, _<_, min, max}
 use native.Mathlib.Nat.{div-one, zero-div, two-pow-succ}
 use native.Mathlib.Numerals.{add-one}
 use native.Mathlib.Omega.{arith}
-use lib.Bits.{bitAnd, bitOr, and-shr, and-step, and-le-l, or-shr, or-step}
+use lib.Bits.{bitAnd, bitOr, and-shr, and-step, and-le-l, or-shr, or-step, or-lt}
 use lib.Dec.{eqb}
 use lib.Pow.{shr-shr}
 use borrow.Author.Tests.{eq-eqb, ne-eqb, eqb-true, eqb-false}
-use Rattle.groups.specs.Groups.{has, someFrom, someGroup, shares, empty, within, Union}
-use Rattle.groups.proofs.Groups.{from-same}
+use Rattle.groups.specs.Groups.{has, someFrom, someGroup, shares, empty, within, setFrom, union}
+use Rattle.groups.proofs.Groups.{from-same, set-same}
 
 -- The digit of x that stands for group g.
 abbrev digit : ℕ → ℕ → ℕ
@@ -109,10 +109,26 @@ within-word a b h = ap not (some-differ _ (bitAnd a b) a (omega (arith, and-le-l
 or-digit : (a b g : ℕ) → digit (bitOr a b) g ≡ max (digit a g) (digit b g)
 or-digit a b g = rw or-shr (omega (arith, or-step (a / 2 ^ g) (b / 2 ^ g)))
 
--- `a | b` has the groups of either.
-pub union-word : (a b : ℕ) → Union a b (bitOr a b)
-union-word a b = record {
-  has-either = λ g h.
-      rw or-digit
-      (four (λ u v. eqb (max u v) 1 ≡ (eqb u 1 || eqb v 1)) refl refl refl refl (a / 2 ^ g) (b / 2 ^ g));
-}
+or-has : (a b g : ℕ) → has (bitOr a b) g ≡ (has a g || has b g)
+or-has a b g =
+    rw or-digit
+    (four (λ u v. eqb (max u v) 1 ≡ (eqb u 1 || eqb v 1)) refl refl refl refl (a / 2 ^ g) (b / 2 ^ g))
+
+-- A word of k digits from group g on is the set of the groups that it has.
+word-from : (k g x : ℕ) → x / 2 ^ g < 2 ^ k → setFrom k g (has x) ≡ x / 2 ^ g
+unfolding setFrom
+word-from zero g x h = omega arith
+word-from (suc k) g x h =
+    let p = two-pow-succ k in
+    let s = shifted x g in
+    rw (word-from k (suc g) x (omega arith), s) (two-parts (x / 2 ^ g))
+  where
+    two-parts : (y : ℕ) → cond (eqb (y % 2) 1) 1 0 + 2 * (y / 2) ≡ y
+    two-parts y = omega (arith, two (λ u. cond (eqb u 1) 1 0 ≡ u) refl refl y)
+
+-- `a | b` is the union.
+pub union-word : (a b : ℕ) → a < 2 ^ 64 → b < 2 ^ 64 → union a b ≡ bitOr a b
+unfolding union
+union-word a b h l =
+    set-same 64 0 _ (has (bitOr a b)) (λ g k. sym (or-has a b g))
+    ∙ (simp div-one at (word-from 64 0 (bitOr a b) (simp div-one (or-lt 64 a b h l))))

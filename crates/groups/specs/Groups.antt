@@ -1,8 +1,7 @@
 -- Sets of groups. Document 01: "Groups are numbered 0 to 63; a set of groups is a 64-bit number, group g standing for 2^g."
 -- What is said here is said of the groups 0 to 63, one by one; that the code may work on all bits at once is proved.
-use mathlib.Core.Path.{_≡_}
-use mathlib.Core.Bool.{Bool, false, not, _&&_, _||_}
-use Prim.Native.Nat.{ℕ, zero, suc, _/_, _%_, _^_, _<_}
+use mathlib.Core.Bool.{Bool, false, not, _&&_, _||_, cond}
+use Prim.Native.Nat.{ℕ, zero, suc, _+_, _*_, _/_, _%_, _^_}
 use lib.Dec.{eqb}
 
 -- Group g is in the set s.
@@ -30,6 +29,15 @@ empty a = not (someGroup (λ g. has a g))
 unfoldable pub within : ℕ → ℕ → Bool
 within a b = not (someGroup (λ g. has a g && not (has b g)))
 
--- r has the groups of either set.
-pub record Union (a b r : ℕ) : Type 0 where
-  pub has-either : (g : ℕ) → g < 64 → has r g ≡ (has a g || has b g)
+-- The set of those of the k groups from g on that pass p, group g standing for 1.
+unfoldable pub setFrom : ℕ → ℕ → (ℕ → Bool) → ℕ
+setFrom zero g p = 0
+setFrom (suc k) g p = cond (p g) 1 0 + 2 * setFrom k (suc g) p
+
+-- The set of the groups 0 to 63 that pass p.
+abbrev pub setWhere : (ℕ → Bool) → ℕ
+setWhere p = setFrom 64 0 p
+
+-- The groups of either set.
+unfoldable pub union : ℕ → ℕ → ℕ
+union a b = setWhere (λ g. has a g || has b g)

@@ -1,7 +1,7 @@
 // Sets of groups as 64-bit words: each question is answered for all 64 groups at once.
 // What is asked is defined in specs/Groups.antt; proofs/Groups.antt has its laws, and proofs/Words.antt what joins it to words.
 ghost use mathlib.Core.Path.{_≡_};
-ghost use Rattle.groups.specs.Groups.{shares, empty, within, Union};
+ghost use Rattle.groups.specs.Groups.{shares, empty, within, union};
 
 // Whether two sets have a group in common. Cost: one instruction on 64 bits.
 pub fn shares(a: u64, b: u64) -> bool
@@ -26,7 +26,7 @@ pub fn within(a: u64, b: u64) -> bool
 
 // The groups of either set. Cost: one instruction on 64 bits.
 pub fn union(a: u64, b: u64) -> u64
-    ensures { λ r. ⌜ Union a b r ⌝ }
+    ensures { λ r. ⌜ r ≡ union a b ⌝ }
 {
     a | b
 }

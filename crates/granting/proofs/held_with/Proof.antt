@@ -16,7 +16,7 @@ returns : tie.Need-returns
 returns c =
     let p = c .before .before in
     let a = p .before .args in
-    with-holder (a .held) (a .c) _ (sym (p .is-on .ensures) ∙ c .before .if1 .taken) (c .union .ensures)
+    rw (c .union .ensures) (with-holder (a .held) (a .c) (sym (p .is-on .ensures) ∙ c .before .if1 .taken))
 
 returns-2 : tie.Need-returns-2
 returns-2 c =

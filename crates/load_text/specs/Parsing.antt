@@ -1,0 +1,190 @@
+-- What a text says. Bytes are ASCII: 9 is a tab, 10 a line feed, 13 a carriage return, 32 a space, 35 '#', 44 ',', 45 '-'.
+-- The reasons are those of src/reasons.rt.
+use Prim.Native.Nat.{ℕ, zero, suc, _+_, _-_, _*_}
+use mathlib.Core.Bool.{Bool, true, false, not, _&&_, _||_, cond}
+use mathlib.Core.List.{List, [], _∷_}
+use lib.Dec.{eqb, leb, ltb}
+use Rattle.groups.specs.Groups.{setWhere, union}
+use Rattle.load.specs.declared.Call.{Call}
+use Rattle.load.specs.declared.Call.the-variants.{Rig, Claim, Release, Withdraw, Clock}
+use Rattle.load_text.specs.declared.parse.Parsed.{Parsed}
+use Rattle.load_text.specs.declared.parse.Parsed.the-variants.{Nothing, Said, Bad}
+use Rattle.load_text.specs.declared.words.Field.{Field}
+use Rattle.load_text.specs.declared.words.Field.the-variants.{Value, Wrong}
+
+-- ── parts of a text ──
+-- The bytes before the first that passes p, and those from it on.
+unfoldable pub until : (ℕ → Bool) → List ℕ → List ℕ
+until p [] = []
+until p (b ∷ l) = cond (p b) [] (b ∷ until p l)
+
+unfoldable pub since : (ℕ → Bool) → List ℕ → List ℕ
+since p [] = []
+since p (b ∷ l) = cond (p b) (b ∷ l) (since p l)
+
+-- A byte in front of the first part.
+abbrev pub inFront : ℕ → List (List ℕ) → List (List ℕ)
+inFront b [] = (b ∷ []) ∷ []
+inFront b (w ∷ ws) = (b ∷ w) ∷ ws
+
+-- The parts of a text, each ended by a byte that passes p; the last may lack its end.
+unfoldable pub parts : (ℕ → Bool) → List ℕ → List (List ℕ)
+parts p [] = []
+parts p (b ∷ l) = cond (p b) ([] ∷ parts p l) (inFront b (parts p l))
+
+abbrev pub full : List (List ℕ) → List (List ℕ)
+full [] = []
+full ([] ∷ ws) = full ws
+full ((b ∷ w) ∷ ws) = (b ∷ w) ∷ full ws
+
+abbrev pub isBlank : ℕ → Bool
+isBlank b = eqb b 32 || eqb b 9
+
+-- The lines of a text, the words of a line, the items of a list.
+unfoldable pub linesIn : List ℕ → List (List ℕ)
+linesIn l = parts (λ b. eqb b 10) l
+
+unfoldable pub wordsIn : List ℕ → List (List ℕ)
+wordsIn l = full (parts isBlank l)
+
+unfoldable pub itemsIn : List ℕ → List (List ℕ)
+itemsIn l = parts (λ b. eqb b 44) l
+
+-- A line before its comment, and before a carriage return that ends it.
+unfoldable pub said : List ℕ → List ℕ
+said [] = []
+said (b ∷ []) = cond (eqb b 35 || eqb b 13) [] (b ∷ [])
+said (b ∷ c ∷ l) = cond (eqb b 35) [] (b ∷ said (c ∷ l))
+
+-- ── numbers ──
+-- The value of a digit up to F in either case, 16 for any other byte.
+unfoldable pub digitOf : ℕ → ℕ
+digitOf b =
+    cond (leb 48 b && leb b 57) (b - 48)
+    (cond (leb 65 b && leb b 70) (b - 55)
+    (cond (leb 97 b && leb b 102) (b - 87) 16))
+
+-- v, and the digits behind it.
+unfoldable pub valueIn : ℕ → ℕ → List ℕ → ℕ
+valueIn base v [] = v
+valueIn base v (b ∷ l) = valueIn base (v * base + digitOf b) l
+
+-- Only digits of the base, and at least one.
+unfoldable pub isNumber : ℕ → List ℕ → Bool
+isNumber base [] = false
+isNumber base (b ∷ []) = ltb (digitOf b) base
+isNumber base (b ∷ c ∷ l) = ltb (digitOf b) base && isNumber base (c ∷ l)
+
+-- The number that a word says: `none` where it says none, `large` where it is over `most`.
+unfoldable pub numberIn : ℕ → ℕ → ℕ → ℕ → List ℕ → Field
+numberIn base most none large w =
+    cond (isNumber base w)
+    (cond (leb (valueIn base 0 w) most) (Value (valueIn base 0 w)) (Wrong large))
+    (Wrong none)
+
+-- ── sets of groups ──
+unfoldable pub groupIn : List ℕ → Field
+groupIn w = numberIn 10 63 7 9 w
+
+-- The groups from one to another.
+unfoldable pub span : ℕ → ℕ → ℕ
+span low high = setWhere (λ g. leb low g && leb g high)
+
+abbrev pub upTo : ℕ → Field → Field
+upTo low (Value high) = cond (ltb high low) (Wrong 10) (Value (span low high))
+upTo low (Wrong n) = Wrong n
+
+-- A group, and what stands behind it from a dash on.
+abbrev pub rangeIn : Field → List ℕ → Field
+rangeIn (Value g) [] = Value (span g g)
+rangeIn (Value g) (dash ∷ l) = upTo g (groupIn l)
+rangeIn (Wrong n) l = Wrong n
+
+-- An item of a list: `5` or `5-7`.
+unfoldable pub itemIn : List ℕ → Field
+itemIn w = rangeIn (groupIn (until (λ b. eqb b 45) w)) (since (λ b. eqb b 45) w)
+
+-- Groups, and those of an item more.
+abbrev pub joined : ℕ → Field → Field
+joined s (Value g) = Value (union s g)
+joined s (Wrong n) = Wrong n
+
+abbrev pub withItem : Field → List ℕ → Field
+withItem (Value s) w = joined s (itemIn w)
+withItem (Wrong n) w = Wrong n
+
+-- Groups, and those of the items of a list; the first that is wrong decides.
+unfoldable pub withItems : Field → List (List ℕ) → Field
+withItems f [] = f
+withItems f (w ∷ ws) = withItems (withItem f w) ws
+
+unfoldable pub isList : List ℕ → Bool
+isList [] = false
+isList (b ∷ l) = eqb b 44 || eqb b 45 || isList l
+
+-- A word with a comma or a dash is a list, any other a set in hex.
+unfoldable pub groupsIn : List ℕ → Field
+groupsIn w = cond (isList w) (withItems (Value 0) (itemsIn w)) (numberIn 16 18446744073709551615 7 8 w)
+
+-- ── calls ──
+unfoldable pub clockIn : List ℕ → Field
+clockIn w = numberIn 10 18446744073709551615 4 8 w
+
+unfoldable pub ticketIn : List ℕ → Field
+ticketIn w = numberIn 10 65535 5 8 w
+
+unfoldable pub lengthIn : List ℕ → Field
+lengthIn w = numberIn 10 4294967295 6 8 w
+
+-- What a call makes of a field; its reason where it is wrong.
+abbrev pub withField : Field → (ℕ → Parsed) → Parsed
+withField (Value v) f = f v
+withField (Wrong n) f = Bad n
+
+-- The words behind the first of a line: 2 where one is missing, 3 where there are too many.
+abbrev pub rigIn : List (List ℕ) → Parsed
+rigIn [] = Bad 2
+rigIn (g ∷ []) = withField (groupsIn g) (λ s. Said (Rig s))
+rigIn (g ∷ a ∷ ws) = Bad 3
+
+abbrev pub clockCallIn : List (List ℕ) → Parsed
+clockCallIn [] = Bad 2
+clockCallIn (t ∷ []) = withField (clockIn t) (λ c. Said (Clock c))
+clockCallIn (t ∷ a ∷ ws) = Bad 3
+
+abbrev pub leaveIn : (ℕ → ℕ → Call) → List (List ℕ) → Parsed
+leaveIn f [] = Bad 2
+leaveIn f (t ∷ []) = Bad 2
+leaveIn f (t ∷ k ∷ []) = withField (clockIn t) (λ c. withField (ticketIn k) (λ n. Said (f c n)))
+leaveIn f (t ∷ k ∷ a ∷ ws) = Bad 3
+
+abbrev pub claimIn : List (List ℕ) → Parsed
+claimIn [] = Bad 2
+claimIn (t ∷ []) = Bad 2
+claimIn (t ∷ g ∷ []) = Bad 2
+claimIn (t ∷ g ∷ n ∷ []) = withField (clockIn t) (λ c. withField (groupsIn g) (λ s. withField (lengthIn n) (λ l. Said (Claim c s l))))
+claimIn (t ∷ g ∷ n ∷ a ∷ ws) = Bad 3
+
+abbrev pub isWord : List ℕ → List ℕ → Bool
+isWord [] [] = true
+isWord [] (b ∷ l) = false
+isWord (a ∷ k) [] = false
+isWord (a ∷ k) (b ∷ l) = eqb a b && isWord k l
+
+-- "rig", "claim", "release", "withdraw", "clock".
+abbrev pub callOf : List ℕ → List (List ℕ) → Parsed
+callOf k ws =
+    cond (isWord k (114 ∷ 105 ∷ 103 ∷ [])) (rigIn ws)
+    (cond (isWord k (99 ∷ 108 ∷ 97 ∷ 105 ∷ 109 ∷ [])) (claimIn ws)
+    (cond (isWord k (114 ∷ 101 ∷ 108 ∷ 101 ∷ 97 ∷ 115 ∷ 101 ∷ [])) (leaveIn Release ws)
+    (cond (isWord k (119 ∷ 105 ∷ 116 ∷ 104 ∷ 100 ∷ 114 ∷ 97 ∷ 119 ∷ [])) (leaveIn Withdraw ws)
+    (cond (isWord k (99 ∷ 108 ∷ 111 ∷ 99 ∷ 107 ∷ [])) (clockCallIn ws)
+    (Bad 1)))))
+
+abbrev pub callIn : List (List ℕ) → Parsed
+callIn [] = Nothing
+callIn (k ∷ ws) = callOf k ws
+
+-- What a line says.
+unfoldable pub lineSays : List ℕ → Parsed
+lineSays l = callIn (wordsIn (said l))
