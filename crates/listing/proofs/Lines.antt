@@ -6,7 +6,7 @@ use native.Mathlib.Omega.{arith}
 use lib.ListN.{length, take, drop, getD, length-append}
 use Rattle.numerals.specs.Digits.{decimalOf}
 use Rattle.numerals.proofs.Laying.{width-small, decimal-length}
-use Rattle.claims.proofs.Rows.{prefix-step, prefix-end}
+use Rattle.table.proofs.Rows.{prefix-step, prefix-end}
 use Rattle.listing.specs.Lines.{column, lineOf, onLine, onLines}
 
 -- ── lengths ──

@@ -12,7 +12,7 @@ use Rattle.rules.specs.declared.Table.{Table}
 use Rattle.rules.specs.Calls.{Model, Step, blank, new}
 use Rattle.rules.specs.Tables.{model}
 use Rattle.rules.proofs.Calls.{new-cases}
-use Rattle.claims.proofs.Rows.{pad-take}
+use Rattle.table.proofs.Rows.{pad-take}
 use Rattle.numerals.specs.Laid.{Put}
 use Rattle.numerals.proofs.Laying.{laid-fits}
 use Rattle.table.specs.declared.Outcome.{Outcome}

@@ -1,3 +1,17 @@
+pub mod Rows
+pub mod Sizes
+pub mod Phases
+pub mod Rising
+pub mod Words
+pub mod Sorting
+pub mod Starts
+pub mod Turns
+pub mod Passing
+pub mod Clearing
+pub mod Searching
+pub mod Counting
+pub mod Holders
+pub mod Grants
 pub mod Ranges
 pub mod Tests
 pub mod Scanning

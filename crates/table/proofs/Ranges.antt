@@ -21,9 +21,9 @@ use Rattle.rules.proofs.Order.{ascending-map, ascending-keep, ascending-snoc}
 use Rattle.rules.proofs.Packing.{moved-cases, moved-ticket}
 use Rattle.rules.proofs.Granting.{granted-cases, granted-ticket}
 use Rattle.rules.proofs.Once.{grantAll}
-use Rattle.claims.specs.Rows.{Sized, Row}
-use Rattle.claims.proofs.Sizes.{sized-later, start-small}
-use Rattle.claims.proofs.Rows.{pad-length, pad-take}
+use Rattle.table.specs.Rows.{Sized, Row}
+use Rattle.table.proofs.Sizes.{sized-later, start-small}
+use Rattle.table.proofs.Rows.{pad-length, pad-take}
 use Rattle.table.specs.Valid.{Ranged, Formed}
 
 -- ── tables and models ──

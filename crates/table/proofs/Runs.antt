@@ -6,7 +6,7 @@ use Rattle.rules.specs.declared.Table.{Table}
 use Rattle.rules.specs.Calls as rules
 use Rattle.rules.specs.Calls.{Model, Call, lookup, Answer, Step, step, unchanged, standingOf, new, after}
 use Rattle.rules.specs.Tables.{model}
-use Rattle.claims.proofs.Rows.{pad-take}
+use Rattle.table.proofs.Rows.{pad-take}
 use Rattle.promises.specs.Ledger.{Turn, turns, ledgerOf, Punctual}
 use Rattle.promises.specs.Demand3.{Now, Next}
 use Rattle.promises.specs.Demand3 as demand

@@ -11,7 +11,7 @@ use Rattle.rules.specs.Lists.{any, keep}
 use Rattle.rules.specs.Claims.{on, at}
 use Rattle.rules.specs.Calls.{standing, standingOf}
 use Rattle.rules.specs.Tables.{vacant}
-use Rattle.claims.proofs.Rows.{Filled, fill-more, fill-end}
+use Rattle.table.proofs.Rows.{Filled, fill-more, fill-end}
 use Rattle.table.specs.declared.Pending.{Pending}
 use Rattle.table.specs.Outcomes.{pastEnd, pendingOf, without}
 

@@ -27,13 +27,13 @@ use Rattle.rules.proofs.Lists.{any-none}
 use Rattle.rules.proofs.Calls.{placed, new-cases, blank-invariant, step-invariant}
 use Rattle.rules.proofs.Prompt.{Prompt, prompt-still}
 use Rattle.rules.proofs.Once.{advance-still, join-still, leave-once, grantAll, finish-still}
-use Rattle.claims.specs.Rows.{Sized, rewritten}
-use Rattle.claims.proofs.Rows.{pad-over, pad-more}
-use Rattle.placing.specs.declared.Contention.{Contention}
-use Rattle.placing.specs.Contention.{contentionOf}
-use Rattle.placing.proofs.Sizes.{place-small}
-use Rattle.granting.specs.declared.Granted.{Granted}
-use Rattle.granting.specs.Rows.{grantedRow}
+use Rattle.table.specs.Rows.{Sized, rewritten}
+use Rattle.table.proofs.Rows.{pad-over, pad-more}
+use Rattle.table.specs.declared.placing.Contention.{Contention}
+use Rattle.table.specs.Contention.{contentionOf}
+use Rattle.table.proofs.Sizes.{place-small}
+use Rattle.table.specs.declared.granting.Granted.{Granted}
+use Rattle.table.specs.Granted.{grantedRow}
 use Rattle.table.specs.declared.Outcome.{Outcome}
 use Rattle.table.specs.declared.Pending.{Pending}
 use Rattle.table.specs.Valid.{Formed, Valid}

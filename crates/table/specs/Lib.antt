@@ -1,3 +1,9 @@
+pub mod Rows
+pub mod Words
+pub mod Starts
+pub mod Contention
+pub mod Holders
+pub mod Granted
 pub mod Valid
 pub mod Outcomes
 pub mod Runs

@@ -9,7 +9,7 @@ use Rattle.rules.specs.Calls.{Model}
 use Rattle.rules.specs.Plans.{Ascending}
 use Rattle.rules.specs.Invariants.{Invariant}
 use Rattle.rules.specs.Tables.{encode, model}
-use Rattle.claims.specs.Rows.{Sized}
+use Rattle.table.specs.Rows.{Sized}
 
 -- The limits of document 01, "A claim".
 pub record Ranged (m : Model) : Type 0 where

@@ -9,9 +9,15 @@ ghost use Rattle.rules.specs.Calls.{Call, step, firstOf, tests, advance, finish
 ghost use Rattle.rules.specs.Tables.{encode, model};
 ghost use Rattle.rules.specs.Invariants.{Still};
 ghost use Rattle.rules.specs.Lists.{any};
-ghost use Rattle.claims.specs.Rows.{Sized, Row};
+ghost use Rattle.table.specs.Rows.{Sized, Row};
 ghost use Rattle.table.specs.Valid.{Formed, Valid};
 ghost use Rattle.table.specs.Outcomes.{outcome, refusalOf, standingIn, numberOf, timeNumber, pastEnd, phaseNumber, leaving, pendingOf, without};
+
+mod claims;
+mod granting;
+mod packing;
+mod placing;
+
 use rules::Claim;
 use rules::Phase;
 use rules::Table;

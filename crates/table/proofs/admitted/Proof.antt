@@ -8,9 +8,9 @@ use Rattle.table.proofs.admitted.Statement.{statement}
 use Rattle.table.proofs.admitted.Tie as tie
 use Rattle.table.proofs.admitted.Reads as reads
 use Rattle.table.proofs.admitted.Lts as lts
-use Rattle.claims.proofs.waiting_from.Reads as waiting-from-reads
-use Rattle.placing.proofs.contention_of.Reads as contention-of-reads
-use Rattle.placing.proofs.place.Reads as place-reads
+use Rattle.table.proofs.claims.waiting_from.Reads as waiting-from-reads
+use Rattle.table.proofs.placing.contention_of.Reads as contention-of-reads
+use Rattle.table.proofs.placing.place.Reads as place-reads
 use Rattle.table.proofs.finished.Reads as finished-reads
 use Rattle.table.proofs.joined.Reads as joined-reads
 

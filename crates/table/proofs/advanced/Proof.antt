@@ -5,7 +5,7 @@ use Rattle.table.proofs.advanced.Statement.{statement}
 use Rattle.table.proofs.advanced.Tie as tie
 use Rattle.table.proofs.advanced.Reads as reads
 use Rattle.table.proofs.advanced.Lts as lts
-use Rattle.packing.proofs.pack.Reads as pack-reads
+use Rattle.table.proofs.packing.pack.Reads as pack-reads
 
 pack-requires : tie.Need-pack-requires
 pack-requires c κs =

@@ -4,7 +4,7 @@ use native.Mathlib.Omega.{arith}
 use lib.ListN.{take, drop, getD}
 use Rattle.rules.specs.Lists.{any}
 use Rattle.rules.specs.Tables.{vacant}
-use Rattle.claims.proofs.Rows.{prefix-step, prefix-end, row-small}
+use Rattle.table.proofs.Rows.{prefix-step, prefix-end, row-small}
 use Rattle.table.specs.Outcomes.{pastEnd}
 use Rattle.table.proofs.Scanning.{overrun-found, overrun-not}
 use Rattle.table.proofs.any_overrun.Statement.{statement}

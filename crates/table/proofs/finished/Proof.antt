@@ -8,7 +8,7 @@ use Rattle.table.proofs.finished.Statement.{statement}
 use Rattle.table.proofs.finished.Tie as tie
 use Rattle.table.proofs.finished.Reads as reads
 use Rattle.table.proofs.finished.Lts as lts
-use Rattle.granting.proofs.grant.Reads as grant-reads
+use Rattle.table.proofs.granting.grant.Reads as grant-reads
 
 -- src/lib.rt:145:9
 grant-requires : tie.Need-grant-requires

@@ -4,7 +4,7 @@ use native.Mathlib.Omega.{arith}
 use lib.ListN.{take, drop, getD}
 use Rattle.rules.specs.Calls.{standingOf}
 use Rattle.rules.specs.Tables.{model, vacant}
-use Rattle.claims.proofs.Rows.{prefix-step, prefix-end, row-small}
+use Rattle.table.proofs.Rows.{prefix-step, prefix-end, row-small}
 use Rattle.table.specs.Outcomes.{standingIn, numberOf}
 use Rattle.table.proofs.Ranges.{formed-few, formed-length, formed-row}
 use Rattle.table.proofs.Scanning.{found, passed-by}

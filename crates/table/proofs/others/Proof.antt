@@ -4,7 +4,7 @@ use Prim.Native.Nat.{_+_, _-_, _≤_}
 use native.Mathlib.Omega.{arith}
 use lib.ListN.{take, drop, getD}
 use Rattle.rules.specs.Tables.{vacant}
-use Rattle.claims.proofs.Rows.{prefix-step, prefix-end, Filled, fill-start}
+use Rattle.table.proofs.Rows.{prefix-step, prefix-end, Filled, fill-start}
 use Rattle.table.specs.Outcomes.{without}
 use Rattle.table.proofs.Scanning.{kept, left-out, all-kept}
 use Rattle.table.proofs.others.Statement.{statement}

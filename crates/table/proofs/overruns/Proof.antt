@@ -5,9 +5,9 @@ use Rattle.table.proofs.overruns.Statement.{statement}
 use Rattle.table.proofs.overruns.Tie as tie
 use Rattle.table.proofs.overruns.Reads as reads
 use Rattle.table.proofs.overruns.Lts as lts
-use Rattle.claims.proofs.is_on.Reads as is-on-reads
-use Rattle.claims.proofs.start_or_grant.Reads as start-or-grant-reads
-use Rattle.claims.proofs.wide.Reads as wide-reads
+use Rattle.table.proofs.claims.is_on.Reads as is-on-reads
+use Rattle.table.proofs.claims.start_or_grant.Reads as start-or-grant-reads
+use Rattle.table.proofs.claims.wide.Reads as wide-reads
 
 -- src/lib.rt:146:8
 is-on-requires : tie.Need-is-on-requires

@@ -1,4 +1,0 @@
-pub mod Clearing
-pub mod Searching
-pub mod Sizes
-pub mod Counting

@@ -1,0 +1,116 @@
+-- Rows of 64 places: what is read from them, and what writing them gives.
+use mathlib.Core.Path.{_≡_, refl, sym, _∙_, ap}
+use mathlib.Core.Logic.{_⊎_, inl, inr}
+use mathlib.Core.Bool.{true, false}
+use mathlib.Core.List.{List, [], _∷_, _++_, map, append-nil}
+use Prim.Native.Nat.{ℕ, zero, suc, _+_, _-_, _≤_, _<_}
+use native.Mathlib.Omega.{arith}
+use native.Mathlib.Numerals.{add-one}
+use lib.ListN.{length, take, drop, getD, set, replicate, length-append, length-replicate, length-take, length-map, drop-of-length-le}
+use lib.Seq.{take-append-seam, drop-append-seam, drop-cons, getD-take, set-append-seam, append-snoc, take-suc, set-at, length-take-le}
+use Rattle.rules.specs.declared.Claim.{Claim}
+use Rattle.rules.specs.Lists.{_∈_}
+use Rattle.rules.specs.Claims.{on, at}
+use Rattle.rules.specs.Tables.{pad, vacant}
+use Rattle.rules.proofs.Bools.{split}
+use Rattle.rules.proofs.Lists.{here, there}
+use Rattle.table.specs.Rows.{Sized, Row}
+
+-- The length of a list of which a map's length is known.
+pub unmapped : (X Y : Type 0) (f : X → Y) (l : List X) (n : ℕ) → length (map f l) ≡ n → length l ≡ n
+unmapped X Y f l n e = sym (length-map l f) ∙ e
+
+-- ── reading front to back ──
+module _ {A : Type 0} where
+  -- What is left of the first n elements at place i: the element there, and what is left behind it; in the end nothing.
+  pub prefix-step : (d : A) (l : List A) (n i : ℕ) → i < n → n ≤ length l → drop i (take n l) ≡ getD l i d ∷ drop (i + 1) (take n l)
+  prefix-step d l n i h k =
+      let q : i < length (take n l) = simp (length-take) (omega arith) in
+      drop-cons (take n l) i d q ∙ rw (add-one, getD-take)
+
+  pub prefix-end : (l : List A) (n i : ℕ) → n ≤ i → drop i (take n l) ≡ []
+  prefix-end l n i h = drop-of-length-le (take n l) {i = i} (simp (length-take) (omega arith))
+
+  -- The element at place i is one of the first n.
+  pub in-prefix : (d : A) (l : List A) (n i : ℕ) → i < n → i < length l → getD l i d ∈ take n l
+  in-prefix d [] n i h k = absurd (omega arith)
+  in-prefix d (x ∷ l) zero i h k = absurd (omega arith)
+  in-prefix d (x ∷ l) (suc n) zero h k = here
+  in-prefix d (x ∷ l) (suc n) (suc i) h k = there (in-prefix d l n i (omega arith) (omega arith))
+
+-- ── rows filled up with d ──
+module _ {A : Type 0} (d : A) where
+  pub pad-length : (l : List A) → length l ≤ 64 → length (pad d l) ≡ 64
+  unfolding pad
+  pad-length l h = omega (arith, length-append l (replicate (64 - length l) d), length-replicate (64 - length l) d)
+
+  pub pad-take : (l : List A) → take (length l) (pad d l) ≡ l
+  unfolding pad
+  pad-take l = take-append-seam l (replicate (64 - length l) d)
+
+  -- Other elements in the same places.
+  pub pad-over : (l k : List A) → length k ≡ length l → k ++ drop (length l) (pad d l) ≡ pad d k
+  unfolding pad
+  pad-over l k e = ap (λ (r : List A). k ++ r) (drop-append-seam l (replicate (64 - length l) d)) ∙ ap (λ (n : ℕ). k ++ replicate (64 - n) d) (sym e)
+
+  -- One element more.
+  pub pad-more : (l : List A) (x : A) → length l < 64 → set (pad d l) (length l) x ≡ pad d (l ++ (x ∷ []))
+  unfolding pad
+  pad-more l x h =
+      let e : length (l ++ (x ∷ [])) ≡ length l + 1 = length-append l (x ∷ []) in
+      let p : 64 - length l ≡ suc (63 - length l) = omega arith in
+      let q : 64 - (length l + 1) ≡ 63 - length l = omega arith in
+      rw (e, p, q) (set-append-seam l d (replicate (63 - length l) d) x ∙ sym (append-snoc l x (replicate (63 - length l) d)))
+
+-- ── writing front to back: the first i elements are those of new, the others still those of old ──
+module _ {A : Type 0} where
+  abbrev pub over : List A → List A → ℕ → List A
+  over new old i = take i new ++ drop i old
+
+  pub over-step : (d : A) (new old : List A) (i : ℕ) → i < length new → i < length old → set (over new old i) i (getD new i d) ≡ over new old (i + 1)
+  over-step d new old i h k =
+      let l : length (take i new) ≡ i = length-take-le i new (omega arith) in
+      rw (add-one, take-suc new i d, drop-cons old i d) (set-at (take i new) (getD old i d) (drop (suc i) old) (getD new i d) i l ∙ sym (append-snoc (take i new) (getD new i d) (drop (suc i) old)))
+
+-- ── filling a row: n elements are done, rest is still to come ──
+pub record Filled {A : Type 0} (d : A) (total rest : List A) (n : ℕ) (l : List A) : Type 0 where
+  pub done : List A
+  pub counts : n ≡ length done
+  pub is : l ≡ pad d done
+  pub all : done ++ rest ≡ total
+
+module _ {A : Type 0} (d : A) (total : List A) where
+  pub fill-start : (l : List A) → l ≡ replicate 64 d → Filled d total total 0 l
+  unfolding pad
+  fill-start l e = record { done = []; counts = refl; is = e; all = refl }
+
+  pub fill-more : (x : A) (rest : List A) (n : ℕ) (l : List A) → n < 64 → Filled d total (x ∷ rest) n l → Filled d total rest (n + 1) (set l n x)
+  fill-more x rest n l h f =
+      record {
+        done = f .done ++ (x ∷ []);
+        counts = omega (arith, f .counts, length-append (f .done) (x ∷ []));
+        is =
+            ap (λ (k : List A). set k n x) (f .is)
+            ∙ ap (λ (m : ℕ). set (pad d (f .done)) m x) (f .counts)
+            ∙ pad-more d (f .done) x (omega (arith, f .counts));
+        all = append-snoc (f .done) x rest ∙ f .all;
+      }
+
+  pub fill-end : (n : ℕ) (l : List A) → Filled d total [] n l → (n ≡ length total) × (l ≡ pad d total)
+  fill-end n l f =
+      let e : f .done ≡ total = sym (append-nil (f .done)) ∙ f .all in
+      (f .counts ∙ ap length e, f .is ∙ ap (pad d) e)
+
+-- ── a row's claims are in range ──
+pub sized-small : (t : ℕ) (c : Claim) → t ≤ 1000000000000 → Sized t c → at c ≤ 1000000000000000000
+sized-small t c h s = go (split (on c))
+  where
+    go : (on c ≡ true) ⊎ (on c ≡ false) → at c ≤ 1000000000000000000
+    go (inl o) = omega (arith, s .aged o)
+    go (inr o) = omega (arith, s .planned o)
+
+pub row-sized : (t : ℕ) (l : List Claim) (n i : ℕ) → Row t l n → length l ≡ 64 → i < n → Sized t (getD l i vacant)
+row-sized t l n i r e h = r .sized (getD l i vacant) (in-prefix vacant l n i h (omega (arith, r .few)))
+
+pub row-small : (t : ℕ) (l : List Claim) (n i : ℕ) → Row t l n → length l ≡ 64 → i < n → at (getD l i vacant) ≤ 1000000000000000000
+row-small t l n i r e h = sized-small t (getD l i vacant) (r .timely) (row-sized t l n i r e h)
