@@ -19,7 +19,7 @@ use Rattle.rules.proofs.Granting.{goes-quick}
 use Rattle.table.specs.Rows.{Row}
 use Rattle.table.proofs.Rows.{in-prefix}
 use Rattle.table.specs.Holders.{holds, Held, HeldWith, goesAt}
-use Rattle.table.specs.Granted.{Planned}
+use Rattle.table.specs.Parts.{Planned}
 
 -- ── one claim ──
 module _ (h : ℕ) (c : Claim) where

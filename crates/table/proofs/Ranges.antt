@@ -56,6 +56,7 @@ module _ (t : Table) (v : Formed t) where
 -- The row of a table, at its clock or a later one.
 pub formed-row : (t : Table) (u : ℕ) → Formed t → t .clock ≤ u → u ≤ 1000000000000 → Row u (t .claims) (t .count)
 formed-row t u v l k = record {
+  places = formed-length t v;
   few = formed-few t v;
   timely = k;
   ascending = v .ranged .ascending;

@@ -2,23 +2,21 @@
 use mathlib.Core.Path.{_≡_, refl, sym, _∙_, ap}
 use mathlib.Core.Logic.{_⊎_, inl, inr}
 use mathlib.Core.Bool.{true, false}
-use mathlib.Core.List.{List, [], _∷_, _++_, map, append-nil}
+use mathlib.Core.List.{List, [], _∷_, _++_, append-nil}
 use Prim.Native.Nat.{ℕ, zero, suc, _+_, _-_, _≤_, _<_}
 use native.Mathlib.Omega.{arith}
 use native.Mathlib.Numerals.{add-one}
-use lib.ListN.{length, take, drop, getD, set, replicate, length-append, length-replicate, length-take, length-map, drop-of-length-le}
-use lib.Seq.{take-append-seam, drop-append-seam, drop-cons, getD-take, set-append-seam, append-snoc, take-suc, set-at, length-take-le}
+use lib.ListN.{length, take, drop, getD, set, replicate, length-append, length-replicate, length-take, drop-of-length-le}
+use lib.Seq.{take-append-seam, drop-append-seam, drop-cons, getD-take, set-append-seam, append-snoc, take-suc, set-at, length-take-le, getD-append-add, getD-drop}
 use Rattle.rules.specs.declared.Claim.{Claim}
+use Rattle.rules.specs.declared.Table.{Table}
 use Rattle.rules.specs.Lists.{_∈_}
 use Rattle.rules.specs.Claims.{on, at}
 use Rattle.rules.specs.Tables.{pad, vacant}
 use Rattle.rules.proofs.Bools.{split}
 use Rattle.rules.proofs.Lists.{here, there}
 use Rattle.table.specs.Rows.{Sized, Row}
-
--- The length of a list of which a map's length is known.
-pub unmapped : (X Y : Type 0) (f : X → Y) (l : List X) (n : ℕ) → length (map f l) ≡ n → length l ≡ n
-unmapped X Y f l n e = sym (length-map l f) ∙ e
+use Rattle.table.specs.Parts.{withClaims}
 
 -- ── reading front to back ──
 module _ {A : Type 0} where
@@ -72,6 +70,13 @@ module _ {A : Type 0} where
       let l : length (take i new) ≡ i = length-take-le i new (omega arith) in
       rw (add-one, take-suc new i d, drop-cons old i d) (set-at (take i new) (getD old i d) (drop (suc i) old) (getD new i d) i l ∙ sym (append-snoc (take i new) (getD new i d) (drop (suc i) old)))
 
+  -- From place i on the elements are those of old.
+  pub over-rest : (d : A) (new old : List A) (i j : ℕ) → i ≤ length new → i ≤ j → getD (over new old i) j d ≡ getD old j d
+  over-rest d new old i j h k =
+      let e : length (take i new) + (j - i) ≡ j = omega (arith, length-take-le i new h) in
+      let f : i + (j - i) ≡ j = omega arith in
+      ap (λ (m : ℕ). getD (over new old i) m d) (sym e) ∙ getD-append-add (take i new) (drop i old) (j - i) d ∙ getD-drop i old (j - i) d ∙ ap (λ (m : ℕ). getD old m d) f
+
 -- ── filling a row: n elements are done, rest is still to come ──
 pub record Filled {A : Type 0} (d : A) (total rest : List A) (n : ℕ) (l : List A) : Type 0 where
   pub done : List A
@@ -114,3 +119,10 @@ row-sized t l n i r e h = r .sized (getD l i vacant) (in-prefix vacant l n i h (
 
 pub row-small : (t : ℕ) (l : List Claim) (n i : ℕ) → Row t l n → length l ≡ 64 → i < n → at (getD l i vacant) ≤ 1000000000000000000
 row-small t l n i r e h = sized-small t (getD l i vacant) (r .timely) (row-sized t l n i r e h)
+
+-- ── a table whose claims alone have changed ──
+pub other-claims : (t t₀ : Table) (l : List Claim) → t ≡ withClaims t₀ (t .claims) → withClaims t l ≡ withClaims t₀ l
+other-claims t t₀ l e = ap (λ (x : Table). withClaims x l) e
+
+pub these-claims : (t t₀ : Table) (l : List Claim) → t ≡ withClaims t₀ (t .claims) → t .claims ≡ l → t ≡ withClaims t₀ l
+these-claims t t₀ l e q = e ∙ ap (withClaims t₀) q

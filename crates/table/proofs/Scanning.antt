@@ -1,19 +1,31 @@
 -- Loops over a table's claims: looking for a ticket, and leaving one out.
-use mathlib.Core.Path.{_≡_, _∙_, ap}
+use mathlib.Core.Path.{_≡_, refl, sym, _∙_, ap, subst}
+use mathlib.Core.Logic.{_⊎_, inl, inr, ⊎-elim, _≢_}
 use mathlib.Core.Bool.{true, false}
-use mathlib.Core.List.{List, [], _∷_}
-use Prim.Native.Nat.{ℕ, _+_, _<_}
+use mathlib.Core.List.{List, [], _∷_, _++_}
+use Prim.Native.Nat.{ℕ, zero, suc, _+_, _-_, _≤_, _<_}
+use native.Mathlib.Omega.{arith}
+use native.Mathlib.Numerals.{add-one}
 use lib.Dec.{ltb}
-use lib.ListN.{length, set}
+use lib.ListN.{length, take, drop, getD, set, replicate, length-drop}
+use lib.Seq.{drop-cons, take-all, length-take-le, set-at, drop-append-seam}
 use borrow.Author.Tests.{eq-eqb, ne-eqb}
 use Rattle.rules.specs.declared.Claim.{Claim}
-use Rattle.rules.specs.Lists.{any, keep}
+use Rattle.rules.specs.Lists.{_∈_, any, keep}
+use Rattle.rules.specs.Plans.{Ascending}
 use Rattle.rules.specs.Claims.{on, at}
 use Rattle.rules.specs.Calls.{standing, standingOf}
-use Rattle.rules.specs.Tables.{vacant}
-use Rattle.table.proofs.Rows.{Filled, fill-more, fill-end}
-use Rattle.table.specs.declared.Pending.{Pending}
-use Rattle.table.specs.Outcomes.{pastEnd, pendingOf, without}
+use Rattle.rules.specs.Tables.{vacant, pad}
+use Rattle.rules.proofs.Lists.{Each, here, there}
+use Rattle.table.proofs.Rows.{prefix-step, prefix-end, pad-over, over, over-step, over-rest}
+use Rattle.table.specs.declared.Standing.{Standing}
+use Rattle.table.specs.declared.Standing.the-variants.{NotPending}
+use Rattle.table.specs.Outcomes.{standingIn, pastEnd, without}
+
+ascending-drop : (i : ℕ) (l : List Claim) → Ascending l → Ascending (drop i l)
+ascending-drop zero l a = a
+ascending-drop (suc i) [] a = a
+ascending-drop (suc i) (c ∷ l) a = ascending-drop i l (a .1)
 
 module _ (k : ℕ) (c : Claim) (l : List Claim) where
   pub found : c .ticket ≡ k → standing c ≡ standingOf k (c ∷ l)
@@ -24,30 +36,136 @@ module _ (k : ℕ) (c : Claim) (l : List Claim) where
   unfolding standingOf
   passed-by e = rw (ne-eqb (c .ticket) k e)
 
-  module _ (total row : List Claim) (n : ℕ) where
-    pub kept : (c .ticket ≡ k → ⊥) → n < 64 → Filled vacant total (without k (c ∷ l)) n row → Filled vacant total (without k l) (n + 1) (set row n c)
-    unfolding keep
-    kept e h f = fill-more vacant total c (without k l) n row h (rw (ne-eqb (c .ticket) k e) at f)
+-- ── a claim taken out ──
+-- Of the claims l, n of them, the first i are done, and m of these stay: they are the first m of `row`, in which all else is as it was.
+-- The ticket k is still to come, or s is how it stands, and it does not come again.
+pub record Taking (k : ℕ) (l : List Claim) (n i : ℕ) (s : Standing) (m : ℕ) (row : List Claim) : Type 0 where
+  pub within : i ≤ n
+  pub few : m ≤ length (without k (take n l))
+  pub over-row : row ≡ over (without k (take n l)) l m
+  pub left : drop m (without k (take n l)) ≡ without k (drop i (take n l))
+  pub told : ((m ≡ i) × (s ≡ NotPending) × (standingOf k (drop i (take n l)) ≡ standingOf k (take n l)))
+      ⊎ ((m + 1 ≡ i) × (s ≡ standingIn (standingOf k (take n l))) × Each (λ d. d .ticket ≢ k) (drop i (take n l)))
 
-    pub left-out : c .ticket ≡ k → Filled vacant total (without k (c ∷ l)) n row → Filled vacant total (without k l) n row
-    unfolding keep
-    left-out e f = rw (eq-eqb (c .ticket) k e) at f
+module _ (k : ℕ) (l : List Claim) (n : ℕ) (few : n ≤ 64) (places : length l ≡ 64) where
+  -- The claims, and those that stay.
+  abbrev pending : List Claim
+  pending = take n l
 
-pub all-kept : (total : List Claim) (out : Pending) (k : ℕ) → Filled vacant total (without k []) (out .count) (out .claims) → out ≡ pendingOf total
-unfolding keep
-all-kept total out k f =
-    let g = fill-end vacant total (out .count) (out .claims) f in
-    ap (λ (n : ℕ). record { count = n; claims = out .claims }) (g .0) ∙ ap (λ (l : List Claim). record { count = length total; claims = l }) (g .1)
+  abbrev staying : List Claim
+  staying = without k (take n l)
+
+  pub taking-start : Taking k l n 0 NotPending 0 l
+  taking-start = record { within = omega arith; few = omega arith; over-row = refl; left = refl; told = inl (refl, refl, refl) }
+
+  module _ (i : ℕ) (s : Standing) (m : ℕ) (row : List Claim) (w : Taking k l n i s m row) where
+    pub taking-few : m ≤ i
+    taking-few = ⊎-elim (λ a. omega (arith, a .0)) (λ a. omega (arith, a .0)) (w .told)
+
+    -- A place that is not done yet is as it was.
+    pub taking-rest : getD row i vacant ≡ getD l i vacant
+    taking-rest = ap (λ (r : List Claim). getD r i vacant) (w .over-row) ∙ over-rest vacant staying l m i (w .few) taking-few
+
+    module _ (h : i < n) where
+      abbrev next : Claim
+      next = getD l i vacant
+
+      abbrev behind : List Claim
+      behind = drop (i + 1) pending
+
+      here-next : drop i pending ≡ next ∷ behind
+      here-next = prefix-step vacant l n i h (omega arith)
+
+      -- The next claim has another ticket: it stays.
+      taking-keep : (next .ticket ≡ k → ⊥) → Taking k l n (i + 1) s (m + 1) (set row m next)
+      unfolding keep
+      taking-keep e =
+          let f : drop m staying ≡ next ∷ without k behind = rw (here-next, ne-eqb (next .ticket) k e) at (w .left) in
+          let a : m < length staying = omega (arith, ap length f, length-drop m staying) in
+          let g : getD staying m vacant ∷ drop (suc m) staying ≡ next ∷ without k behind = sym (drop-cons staying m vacant a) ∙ f in
+          let x : getD staying m vacant ≡ next = cc in
+          let y : drop (suc m) staying ≡ without k behind = cc in
+          record {
+            within = omega arith;
+            few = omega arith;
+            over-row =
+                ap (λ (r : List Claim). set r m next) (w .over-row) ∙ ap (λ (c : Claim). set (over staying l m) m c) (sym x)
+                ∙ over-step vacant staying l m a (omega (arith, taking-few));
+            left = ap (λ (j : ℕ). drop j staying) (add-one m) ∙ y;
+            told =
+                ⊎-elim
+                (λ b. inl (omega (arith, b .0), b .1, passed-by k next behind e ∙ ap (standingOf k) (sym here-next) ∙ b .2))
+                (λ b. inr (omega (arith, b .0), b .1, λ d j. b .2 d (subst (λ (r : List Claim). d ∈ r) (sym here-next) (there j))))
+                (w .told);
+          }
+
+      -- The next claim is that of the ticket: it goes, and no other has its ticket.
+      taking-out : next .ticket ≡ k → (x : Standing) → x ≡ standingIn (standing next) → Ascending pending → Taking k l n (i + 1) x m row
+      unfolding keep
+      taking-out e x q a = record {
+        within = omega arith;
+        few = w .few;
+        over-row = w .over-row;
+        left = rw (here-next, eq-eqb (next .ticket) k e) at (w .left);
+        told =
+            ⊎-elim
+            (λ b. inr (
+              omega (arith, b .0),
+              q ∙ ap standingIn (found k next behind e ∙ ap (standingOf k) (sym here-next) ∙ b .2),
+              λ d j z. omega (arith, subst Ascending here-next (ascending-drop i pending a) .0 d j, e, z),
+            ))
+            (λ b. absurd (b .2 next (subst (λ (r : List Claim). next ∈ r) (sym here-next) here) e))
+            (w .told);
+      }
+
+      -- Both, for the claim as it is read from the row.
+      pub taking-kept : (getD row i vacant .ticket ≡ k → ⊥) → Taking k l n (i + 1) s (m + 1) (set row m (getD row i vacant))
+      taking-kept e = subst (λ (c : Claim). Taking k l n (i + 1) s (m + 1) (set row m c)) (sym taking-rest) (taking-keep (λ q. e (ap (λ (c : Claim). c .ticket) taking-rest ∙ q)))
+
+      pub taking-gone : getD row i vacant .ticket ≡ k → (x : Standing) → x ≡ standingIn (standing (getD row i vacant)) → Ascending pending → Taking k l n (i + 1) x m row
+      taking-gone e x q a =
+          taking-out (ap (λ (c : Claim). c .ticket) (sym taking-rest) ∙ e) x (q ∙ ap (λ (c : Claim). standingIn (standing c)) taking-rest) a
+
+    -- All claims are done: m claims stay, and s is how the claim of the ticket stood.
+    module _ (h : n ≤ i) where
+      done : drop i pending ≡ []
+      done = prefix-end l n i h
+
+      pub taking-count : m ≡ length staying
+      unfolding keep
+      taking-count = let e : drop m staying ≡ [] = rw done at (w .left) in omega (arith, ap length e, length-drop m staying, w .few)
+
+      pub taking-told : s ≡ standingIn (standingOf k pending)
+      unfolding standingOf
+      taking-told = ⊎-elim (λ b. b .1 ∙ ap standingIn (rw done at (b .2))) (λ b. b .1) (w .told)
+
+      whole : row ≡ staying ++ drop m l
+      whole = w .over-row ∙ ap (λ (r : List Claim). r ++ drop m l) (take-all m staying (omega (arith, taking-count)))
+
+      module _ (full : l ≡ pad vacant pending) where
+        -- None went, or one did, and the place behind those that stay becomes vacant.
+        pub taking-none : n ≤ m → row ≡ pad vacant staying
+        taking-none a =
+            let e : m ≡ length pending = omega (arith, taking-few, w .within, length-take-le n l (omega arith)) in
+            whole ∙ ap (λ (r : List Claim). staying ++ drop m r) full ∙ ap (λ (j : ℕ). staying ++ drop j (pad vacant pending)) e
+            ∙ pad-over vacant pending staying (sym taking-count ∙ e)
+
+        pub taking-one : m < n → set row m vacant ≡ pad vacant staying
+        unfolding pad
+        taking-one a =
+            let b : suc m ≡ length pending = ⊎-elim (λ b. omega (arith, b .0, w .within)) (λ b. omega (arith, b .0, w .within, length-take-le n l (omega arith))) (w .told) in
+            let size : 64 - length staying ≡ suc (64 - length pending) = omega (arith, taking-count, b, length-take-le n l (omega arith)) in
+            let tail : drop (suc m) l ≡ replicate (64 - length pending) vacant =
+            ap (drop (suc m)) full ∙ ap (λ (j : ℕ). drop j (pad vacant pending)) b ∙ drop-append-seam pending (replicate (64 - length pending) vacant) in
+            ap (λ (r : List Claim). set r m vacant) (whole ∙ ap (λ (r : List Claim). staying ++ r) (drop-cons l m vacant (omega arith)))
+            ∙ set-at staying (getD l m vacant) (drop (suc m) l) vacant m (sym taking-count)
+            ∙ ap (λ (r : List Claim). staying ++ (vacant ∷ r)) tail ∙ ap (λ (j : ℕ). staying ++ replicate j vacant) (sym size)
 
 -- ── overruns ──
 pub past-end-on : (t : ℕ) (c : Claim) (a n : ℕ) → a ≡ at c → n ≡ c .length → on c ≡ true → ltb (a + n) t ≡ pastEnd t c
 past-end-on t c a n p q o = rw o (cc (p, q))
 
 module _ (t : ℕ) (c : Claim) (l : List Claim) where
-  pub overrun-found : pastEnd t c ≡ true → true ≡ any (pastEnd t) (c ∷ l)
-  unfolding any
-  overrun-found e = rw e
-
   pub overrun-not : pastEnd t c ≡ false → any (pastEnd t) (c ∷ l) ≡ any (pastEnd t) l
   unfolding any
   overrun-not e = rw e

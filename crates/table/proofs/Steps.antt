@@ -27,17 +27,16 @@ use Rattle.rules.proofs.Lists.{any-none}
 use Rattle.rules.proofs.Calls.{placed, new-cases, blank-invariant, step-invariant}
 use Rattle.rules.proofs.Prompt.{Prompt, prompt-still}
 use Rattle.rules.proofs.Once.{advance-still, join-still, leave-once, grantAll, finish-still}
-use Rattle.table.specs.Rows.{Sized, rewritten}
+use Rattle.table.specs.Rows.{Sized, Row, rewritten}
 use Rattle.table.proofs.Rows.{pad-over, pad-more}
 use Rattle.table.specs.declared.placing.Contention.{Contention}
 use Rattle.table.specs.Contention.{contentionOf}
 use Rattle.table.proofs.Sizes.{place-small}
 use Rattle.table.specs.declared.granting.Granted.{Granted}
-use Rattle.table.specs.Granted.{grantedRow}
+use Rattle.table.specs.Parts.{withClaims, atClock, packedTable, grantedIn}
 use Rattle.table.specs.declared.Outcome.{Outcome}
-use Rattle.table.specs.declared.Pending.{Pending}
 use Rattle.table.specs.Valid.{Formed, Valid}
-use Rattle.table.specs.Outcomes.{outcome, refusalOf, timeNumber, pastEnd, leaving, pendingOf, without}
+use Rattle.table.specs.Outcomes.{outcome, refusalOf, timeNumber, pastEnd, leaving, without}
 use Rattle.table.proofs.Ranges.{model-is, formed-row, formed-is, formed-count, formed-claims, formed-sane, blank-ranged, advance-ranged, remove-ranged, join-ranged, grant-ranged}
 use Rattle.table.proofs.Tests.{timed-passes, step-refused, step-accepted}
 
@@ -94,11 +93,10 @@ rewritten-is t v f e =
     ∙ ap (λ (n : ℕ). f (model t .pending) ++ drop n (pad vacant (model t .pending))) (sym (formed-count t v))
     ∙ pad-over vacant (model t .pending) (f (model t .pending)) e
 
-pub advanced-is : (t : Table) (u : ℕ) (l : List Claim) → Formed t → t .clock ≤ u → u ≤ 1000000000000 → l ≡ rewritten (pack (record { clock = u })) (t .claims) (t .count)
-    → (r : Table) → r ≡ record { rig = t .rig; clock = u; issued = t .issued; count = t .count; claims = l }
+pub advanced-is : (t : Table) (u : ℕ) → Formed t → t .clock ≤ u → u ≤ 1000000000000 → (r : Table) → r ≡ packedTable u t
     → (r ≡ encode (advance (model t) u)) × Formed r × Still (model r)
 unfolding advance
-advanced-is t u l v a b e r q = (
+advanced-is t u v a b r q = (
   is,
   formed-is r (advance (model t) u) is (advance-ranged (model t) u (v .ranged) a b),
   subst Still (sym (model-is r (advance (model t) u) is)) (advance-still (model t) u (formed-sane t v) (v .ranged .ascending)),
@@ -109,18 +107,16 @@ advanced-is t u l v a b e r q = (
 
     is : r ≡ encode (advance (model t) u)
     is =
-        q ∙ ap (λ (x : List Claim). record { rig = t .rig; clock = u; issued = t .issued; count = t .count; claims = x })
-        (e ∙ rewritten-is t v (pack (record { clock = u })) (pack-length (record { clock = u }) (model t .pending)))
+        q ∙ ap (withClaims (atClock u t)) (rewritten-is t v (pack (record { clock = u })) (pack-length (record { clock = u }) (model t .pending)))
         ∙ ap (λ (n : ℕ). record { rig = t .rig; clock = u; issued = t .issued; count = n; claims = pad vacant (pack (record { clock = u }) (model t .pending)) })
         (sym (formed-count t v) ∙ sym (pack-length (record { clock = u }) (model t .pending)))
 
 -- While nobody overruns, setting the clock is all there is to do.
 pub prompt-is : (t : Table) (u : ℕ) → Valid t → t .clock ≤ u → u ≤ 1000000000000 → any (pastEnd u) (take (t .count) (t .claims)) ≡ false
-    → (r : Table) → r ≡ record { rig = t .rig; clock = u; issued = t .issued; count = t .count; claims = t .claims }
-    → (r ≡ encode (advance (model t) u)) × Formed r × Still (model r)
+    → (r : Table) → r ≡ atClock u t → (r ≡ encode (advance (model t) u)) × Formed r × Still (model r)
 prompt-is t u v a b none r q =
-    advanced-is t u (t .claims) (v .formed) a b
-    (sym (rewritten-is t (v .formed) (pack (record { clock = u })) (pack-length (record { clock = u }) (model t .pending)) ∙ ap (pad vacant) still ∙ formed-claims t (v .formed))) r q
+    advanced-is t u (v .formed) a b r
+    (q ∙ ap (withClaims (atClock u t)) (sym (rewritten-is t (v .formed) (pack (record { clock = u })) (pack-length (record { clock = u }) (model t .pending)) ∙ ap (pad vacant) still ∙ formed-claims t (v .formed))))
   where
     prompt : Prompt u (model t .pending)
     prompt c m o = ltb-false (at c + c .length) u (after-on c o (any-none (pastEnd u) none m))
@@ -142,11 +138,11 @@ grant-length : (v : Setting) (ps : List Claim) → length (grant v ps) ≡ lengt
 unfolding grant
 grant-length v ps = length-map ps (granted v ps)
 
--- What a finished call hands back, made of the table handed in and what granting gave.
-abbrev pub finishedWith : Table → Granted → ℕ → ℕ → ℕ → ℕ → Outcome
-finishedWith t g k s n b =
+-- What a finished call hands back, made of what granting gave.
+abbrev pub finishedWith : Granted → ℕ → ℕ → ℕ → ℕ → Outcome
+finishedWith g k s n b =
     record {
-      table = record { rig = t .rig; clock = t .clock; issued = t .issued; count = t .count; claims = g .claims };
+      table = g .table;
       number = 0;
       ticket = k;
       start = s;
@@ -156,7 +152,7 @@ finishedWith t g k s n b =
       grants = g .tickets;
     }
 
-pub finished-is : (t : Table) (g : Granted) (k s n b : ℕ) (r : Outcome) → Formed t → Still (model t) → g ≡ grantedRow (t .clock) (t .claims) (t .count) → r ≡ finishedWith t g k s n b
+pub finished-is : (t : Table) (g : Granted) (k s n b : ℕ) (r : Outcome) → Formed t → Still (model t) → g ≡ grantedIn t → r ≡ finishedWith g k s n b
     → (r ≡ outcome (finish (model t) k s n b)) × Formed (r .table)
 finished-is t g k s n b r v st e q = (is, formed-is (r .table) (grantAll (model t) k s n b .model) (ap (λ (x : Outcome). x .table) is′) (grant-ranged (model t) k s n b (v .ranged)))
   where
@@ -178,7 +174,7 @@ finished-is t g k s n b r v st e q = (is, formed-is (r .table) (grantAll (model 
 
     is′ : r ≡ outcome (grantAll (model t) k s n b)
     is′ =
-        q ∙ ap (λ (x : Granted). finishedWith t x k s n b) e
+        q ∙ ap (λ (x : Granted). finishedWith x k s n b) e
         ∙ ap (λ (l : List Claim). put l (t .count)) (rewritten-is t v (grant (settingOf (model t))) (grant-length (settingOf (model t)) (model t .pending)))
         ∙ ap (λ (c : ℕ). put (pad vacant (grant (settingOf (model t)) (model t .pending))) c) (sym (formed-count t v) ∙ sym (grant-length (settingOf (model t)) (model t .pending)))
 
@@ -186,14 +182,20 @@ finished-is t g k s n b r v st e q = (is, formed-is (r .table) (grantAll (model 
     is = is′ ∙ ap outcome (sym (finish-still (model t) k s n b st))
 
 -- ── fewer claims, and one more ──
-pub removed-is : (t : Table) (k : ℕ) (p : Pending) (r : Table) → Formed t → p ≡ pendingOf (without k (take (t .count) (t .claims)))
-    → r ≡ record { rig = t .rig; clock = t .clock; issued = t .issued; count = p .count; claims = p .claims }
-    → (r ≡ encode (remove (model t) k)) × Formed r
+-- A table with other claims, and as many of them.
+abbrev pub counted : Table → ℕ → List Claim → Table
+counted t n l = record { rig = t .rig; clock = t .clock; issued = t .issued; count = n; claims = l }
+
+-- t is the table t₀ with other claims; with l as its claims, m of them, it is t₀ without the claim of ticket k.
+pub removed-is : (t₀ t : Table) (k m : ℕ) (l : List Claim) → Formed t₀ → t ≡ withClaims t₀ (t .claims) → m ≡ length (without k (model t₀ .pending)) → l ≡ pad vacant (without k (model t₀ .pending))
+    → (r : Table) → r ≡ counted t m l → (r ≡ encode (remove (model t₀) k)) × Formed r
 unfolding remove
-removed-is t k p r v e q = (is, formed-is r (remove (model t) k) is (remove-ranged (model t) k (v .ranged)))
+removed-is t₀ t k m l v e f g r q = (is, formed-is r (remove (model t₀) k) is (remove-ranged (model t₀) k (v .ranged)))
   where
-    is : r ≡ encode (remove (model t) k)
-    is = q ∙ ap (λ (x : Pending). record { rig = t .rig; clock = t .clock; issued = t .issued; count = x .count; claims = x .claims }) e
+    is : r ≡ encode (remove (model t₀) k)
+    is =
+        q ∙ ap (λ (x : Table). counted x m l) e ∙ ap (λ (n : ℕ). counted t₀ n l) f
+        ∙ ap (counted t₀ (length (without k (model t₀ .pending)))) g
 
 pub removed-clock : (t : Table) (k u : ℕ) (r : Table) → r ≡ encode (remove (model t) k) → t .clock ≤ u → r .clock ≤ u
 unfolding remove
@@ -254,6 +256,9 @@ asked-is t g n = ap (λ (k : ℕ). record { groups = g; phase = Waiting (t .cloc
 
 pub asked-sized : (t : Table) (g n : ℕ) → t .issued < 65535 → 1 ≤ n → n ≤ 3600000 → t .clock ≤ 1000000000000 → Sized (t .clock) (asked t g n)
 asked-sized t g n i l h k = record { sane = record { long = l; small = omega arith }; short = h; aged = λ o. clash o refl; planned = λ o. omega arith }
+
+pub asked-row : (t : Table) (g n : ℕ) → Formed t → t .issued < 65535 → 1 ≤ n → n ≤ 3600000 → Row (t .clock) (t .claims) (t .count) × Sized (t .clock) (asked t g n)
+asked-row t g n v i l h = (formed-row t (t .clock) v (omega arith) (v .ranged .timely), asked-sized t g n i l h (v .ranged .timely))
 
 -- At its planned start it is in range still.
 pub placed-sized : (t : Table) (g n s : ℕ) → Formed t → t .issued < 65535 → 1 ≤ n → n ≤ 3600000 → s ≡ place (settingOf (model t)) (model t .pending) (asked t g n) → Sized (t .clock) (withPhase (asked t g n) (Waiting s))

@@ -3,7 +3,7 @@ pub mod Words
 pub mod Starts
 pub mod Contention
 pub mod Holders
-pub mod Granted
+pub mod Parts
 pub mod Valid
 pub mod Outcomes
 pub mod Runs

@@ -10,9 +10,8 @@ use Rattle.rules.specs.Calls as rules
 use Rattle.rules.specs.Calls.{Call, release, withdraw, Step, named}
 use Rattle.rules.specs.Lists.{keep}
 use Rattle.rules.specs.Claims.{on, at}
-use Rattle.rules.specs.Tables.{encode, pad, vacant}
+use Rattle.rules.specs.Tables.{encode, pad}
 use Rattle.table.specs.declared.Outcome.{Outcome}
-use Rattle.table.specs.declared.Pending.{Pending}
 use Rattle.table.specs.declared.Standing.{Standing}
 use Rattle.table.specs.declared.Standing.the-variants.{NotPending, Waits, Holds}
 
@@ -71,10 +70,6 @@ orElse (suc k) n = suc k
 abbrev pub leaving : Bool → ℕ → ℕ → Call
 leaving true t k = release t k
 leaving false t k = withdraw t k
-
--- ── the pending claims as a row ──
-abbrev pub pendingOf : List Claim → Pending
-pendingOf ps = record { count = length ps; claims = pad vacant ps }
 
 -- The claims but that of ticket k.
 abbrev pub without : ℕ → List Claim → List Claim

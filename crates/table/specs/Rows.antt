@@ -3,7 +3,7 @@ use mathlib.Core.Path.{_≡_}
 use mathlib.Core.Bool.{true, false}
 use mathlib.Core.List.{List, _++_}
 use Prim.Native.Nat.{ℕ, _≤_}
-use lib.ListN.{take, drop}
+use lib.ListN.{length, take, drop}
 use Rattle.rules.specs.declared.Claim.{Claim}
 use Rattle.rules.specs.Lists.{_∈_}
 use Rattle.rules.specs.Claims.{on, at}
@@ -16,8 +16,9 @@ pub record Sized (t : ℕ) (c : Claim) : Type 0 where
   pub aged : on c ≡ true → at c ≤ t
   pub planned : on c ≡ false → at c ≤ 2000000000000
 
--- The first n places hold claims in ascending order of ticket, each in range.
+-- Of 64 places the first n hold claims in ascending order of ticket, each in range.
 pub record Row (t : ℕ) (claims : List Claim) (n : ℕ) : Type 0 where
+  pub places : length claims ≡ 64
   pub few : n ≤ 64
   pub timely : t ≤ 1000000000000
   pub ascending : Ascending (take n claims)

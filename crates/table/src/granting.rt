@@ -1,22 +1,15 @@
 // Granting, over the claims of a packed row: one pass for the groups that are held, one for those that go on.
 // What is granted is defined in rules, specs/Granting.antt; that two passes tell it is `goes-quick` of its proofs.
 ghost use mathlib.Core.Path.{_≡_};
-ghost use Prim.Native.Nat.{_≤_};
 ghost use lib.ListN.{take};
 ghost use Rattle.table.specs.Rows.{Row};
-ghost use Rattle.table.specs.Holders.{Held, HeldWith, goesAt};
-ghost use Rattle.table.specs.Granted.{Planned, grantedRow};
+ghost use Rattle.table.specs.Holders.{HeldWith, goesAt};
+ghost use Rattle.table.specs.Parts.{Planned, grantedIn};
 use crate::claims::is_on;
 use crate::claims::on_since;
 use crate::claims::start_or_grant;
 use rules::Claim;
-
-// The row with its grants, and their tickets in ascending order.
-pub struct Granted {
-    pub claims: [Claim; 64],
-    pub count: usize,
-    pub tickets: [u16; 64],
-}
+use rules::Table;
 
 // The groups `held`, with those of `c` if it is on. Cost: a few instructions.
 fn held_with(held: u64, c: Claim) -> u64
@@ -27,21 +20,6 @@ fn held_with(held: u64, c: Claim) -> u64
     } else {
         held
     }
-}
-
-// The groups of all holders. Cost: one pass over the claims.
-fn held_groups(row: [Claim; 64], count: usize) -> u64
-    requires { ⌜ count ≤ 64 ⌝ }
-    ensures { λ r. ⌜ Held (take count row) r ⌝ }
-{
-    let mut held: u64 = 0;
-    let mut i: usize = 0;
-    while i < count {
-        let c = row[i];
-        held = held_with(held, c);
-        i += 1;
-    }
-    held
 }
 
 // Whether `c` waits, starts at the clock and has no group that is held. Cost: a few instructions.
@@ -57,27 +35,43 @@ fn goes(clock: u64, held: u64, c: Claim) -> bool
     !groups::shares(held, c.groups)
 }
 
-// Grants what no pending claim precedes, and lists the tickets. Cost: two passes over the claims.
-pub(crate) fn grant(clock: u64, row: [Claim; 64], count: usize) -> Granted
-    requires { ⌜ Row clock row count × Planned (record { clock = clock }) (take count row) ⌝ }
-    ensures { λ r. ⌜ r ≡ grantedRow clock row count ⌝ }
+// What granting gives: the table with its grants, and their tickets in ascending order.
+pub struct Granted {
+    pub table: Table,
+    pub count: usize,
+    pub tickets: [u16; 64],
+}
+
+// Grants what no pending claim precedes, and lists the tickets. Both loops stand here, since a table handed on is a table copied.
+// Cost: two passes over the claims.
+pub(crate) fn grant(mut t: Table) -> Granted
+    requires { ⌜ Row (t .clock) (t .claims) (t .count) × Planned (record { clock = t .clock }) (take (t .count) (t .claims)) ⌝ }
+    ensures { λ r. ⌜ r ≡ grantedIn t ⌝ }
 {
-    let held = held_groups(row, count);
-    let mut out = Granted {
-        claims: row,
-        count: 0,
-        tickets: [0u16; 64],
-    };
+    let count = t.count;
+    let clock = t.clock;
+    let mut held: u64 = 0;
     let mut i: usize = 0;
     while i < count {
-        let c = row[i];
-        if goes(clock, held, c) {
-            out.claims[i] = on_since(c, clock);
-            let at = out.count;
-            out.tickets[at] = c.ticket;
-            out.count = at + 1;
-        }
+        let c = t.claims[i];
+        held = held_with(held, c);
         i += 1;
     }
-    out
+    let mut tickets = [0u16; 64];
+    let mut n: usize = 0;
+    let mut j: usize = 0;
+    while j < count {
+        let c = t.claims[j];
+        if goes(clock, held, c) {
+            t.claims[j] = on_since(c, clock);
+            tickets[n] = c.ticket;
+            n += 1;
+        }
+        j += 1;
+    }
+    Granted {
+        table: t,
+        count: n,
+        tickets: tickets,
+    }
 }

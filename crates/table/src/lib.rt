@@ -3,15 +3,13 @@
 // the search for a claim's start n² more, and everything else a few passes.
 ghost use mathlib.Core.Path.{_≡_};
 ghost use Prim.Native.Nat.{_+_, _≤_, _<_};
-ghost use lib.ListN.{take};
 ghost use Rattle.rules.specs.Claims.{at};
 ghost use Rattle.rules.specs.Calls.{Call, step, firstOf, tests, advance, finish, remove, join, admit, new, standing, standingOf};
 ghost use Rattle.rules.specs.Tables.{encode, model};
 ghost use Rattle.rules.specs.Invariants.{Still};
-ghost use Rattle.rules.specs.Lists.{any};
-ghost use Rattle.table.specs.Rows.{Sized, Row};
+ghost use Rattle.table.specs.Rows.{Sized};
 ghost use Rattle.table.specs.Valid.{Formed, Valid};
-ghost use Rattle.table.specs.Outcomes.{outcome, refusalOf, standingIn, numberOf, timeNumber, pastEnd, phaseNumber, leaving, pendingOf, without};
+ghost use Rattle.table.specs.Outcomes.{outcome, refusalOf, standingIn, numberOf, timeNumber, pastEnd, phaseNumber, leaving};
 
 mod claims;
 mod granting;
@@ -132,16 +130,7 @@ fn advanced(t: Table, clock: u64) -> Table
     requires { ⌜ Formed t × (t .clock ≤ clock) × (clock ≤ 1000000000000) ⌝ }
     ensures { λ r. ⌜ (r ≡ encode (advance (model t) clock)) × Formed r × Still (model r) ⌝ }
 {
-    let count = t.count;
-    let old = t.claims;
-    let new = packing::pack(clock, old, count);
-    Table {
-        rig: t.rig,
-        clock: clock,
-        issued: t.issued,
-        count: count,
-        claims: new,
-    }
+    packing::pack(t, clock)
 }
 
 // Whether a claim is on with its promised end below the clock.
@@ -156,38 +145,22 @@ fn overruns(clock: u64, c: Claim) -> bool
     false
 }
 
-// Whether any of the claims overruns at the clock. Cost: one pass at most.
-fn any_overrun(row: [Claim; 64], count: usize, clock: u64) -> bool
-    requires { ⌜ Row clock row count ⌝ }
-    ensures { λ r. ⌜ r ≡ any (pastEnd clock) (take count row) ⌝ }
-{
-    let mut i: usize = 0;
-    while i < count {
-        let c = row[i];
-        if overruns(clock, c) {
-            return true;
-        }
-        i += 1;
-    }
-    false
-}
-
-// Sets the clock of a table between calls. While nobody overruns, packing would change nothing.
-fn at_clock(t: Table, clock: u64) -> Table
+// Sets the clock of a table between calls. While nobody overruns, packing would change nothing. Cost: one pass where nobody does.
+fn at_clock(mut t: Table, clock: u64) -> Table
     requires { ⌜ Valid t × (t .clock ≤ clock) × (clock ≤ 1000000000000) ⌝ }
     ensures { λ r. ⌜ (r ≡ encode (advance (model t) clock)) × Formed r × Still (model r) ⌝ }
 {
-    let row = t.claims;
-    if any_overrun(row, t.count, clock) {
-        return advanced(t, clock);
+    let count = t.count;
+    let mut i: usize = 0;
+    while i < count {
+        let c = t.claims[i];
+        if overruns(clock, c) {
+            return advanced(t, clock);
+        }
+        i += 1;
     }
-    Table {
-        rig: t.rig,
-        clock: clock,
-        issued: t.issued,
-        count: t.count,
-        claims: row,
-    }
+    t.clock = clock;
+    t
 }
 
 // Grants in a table where packing again would change nothing, and answers.
@@ -195,19 +168,9 @@ fn finished(t: Table, ticket: u16, start: u64, contention: u64, bound: u64) -> O
     requires { ⌜ Formed t × Still (model t) ⌝ }
     ensures { λ r. ⌜ (r ≡ outcome (finish (model t) ticket start contention bound)) × Formed (r .table) ⌝ }
 {
-    let count = t.count;
-    let clock = t.clock;
-    let old = t.claims;
-    let g = granting::grant(clock, old, count);
-    let new = g.claims;
+    let g = granting::grant(t);
+    let after = g.table;
     let tickets = g.tickets;
-    let after = Table {
-        rig: t.rig,
-        clock: clock,
-        issued: t.issued,
-        count: count,
-        claims: new,
-    };
     Outcome {
         table: after,
         number: 0,
@@ -248,53 +211,43 @@ fn phase_number(releasing: bool, s: Standing) -> u8
     }
 }
 
-// The pending claims in the first places of a row, vacant places behind them.
-pub struct Pending {
-    pub count: usize,
-    pub claims: [Claim; 64],
+// How the claim of a ticket stood, and the table without it.
+pub struct Taken {
+    pub standing: Standing,
+    pub table: Table,
 }
 
-// The claims but that of a ticket. Cost: one pass.
-fn others(old: [Claim; 64], count: usize, ticket: u16) -> Pending
-    requires { ⌜ count ≤ 64 ⌝ }
-    ensures { λ r. ⌜ r ≡ pendingOf (without ticket (take count old)) ⌝ }
+// Takes the claim of a ticket out of a table; those behind it move up, and the last place becomes vacant. Cost: one pass.
+fn removed(mut t: Table, ticket: u16) -> Taken
+    requires { ⌜ Formed t ⌝ }
+    ensures { λ r. ⌜ (r .standing ≡ standingIn (standingOf ticket (model t .pending))) × (r .table ≡ encode (remove (model t) ticket)) × Formed (r .table) ⌝ }
 {
-    let vacant = Claim {
-        groups: 0,
-        phase: Phase::Waiting(0),
-        length: 0,
-        ticket: 0,
-    };
-    let mut out = Pending {
-        count: 0,
-        claims: [vacant; 64],
-    };
+    let count = t.count;
+    let mut s = Standing::NotPending;
+    let mut n: usize = 0;
     let mut i: usize = 0;
     while i < count {
-        let c = old[i];
-        if c.ticket != ticket {
-            let at = out.count;
-            out.claims[at] = c;
-            out.count = at + 1;
+        let c = t.claims[i];
+        if c.ticket == ticket {
+            s = shown(c);
+        } else {
+            t.claims[n] = c;
+            n += 1;
         }
         i += 1;
     }
-    out
-}
-
-fn removed(t: Table, ticket: u16) -> Table
-    requires { ⌜ Formed t ⌝ }
-    ensures { λ r. ⌜ (r ≡ encode (remove (model t) ticket)) × Formed r ⌝ }
-{
-    let old = t.claims;
-    let rest = others(old, t.count, ticket);
-    let claims = rest.claims;
-    Table {
-        rig: t.rig,
-        clock: t.clock,
-        issued: t.issued,
-        count: rest.count,
-        claims: claims,
+    if n < count {
+        t.claims[n] = Claim {
+            groups: 0,
+            phase: Phase::Waiting(0),
+            length: 0,
+            ticket: 0,
+        };
+    }
+    t.count = n;
+    Taken {
+        standing: s,
+        table: t,
     }
 }
 
@@ -306,12 +259,13 @@ fn leave(t: Table, releasing: bool, clock: u64, ticket: u16) -> Outcome
     if late != 0 {
         return refusal(t, late);
     }
-    let s = lookup(t, ticket);
+    let k = removed(t, ticket);
+    let s = k.standing;
     let wrong = phase_number(releasing, s);
     if wrong != 0 {
         return refusal(t, wrong);
     }
-    let rest = removed(t, ticket);
+    let rest = k.table;
     let u = advanced(rest, clock);
     finished(u, ticket, clock, 0, 0)
 }
@@ -365,20 +319,15 @@ fn claim_number(t: Table, clock: u64, groups: u64, length: u32) -> u8
 }
 
 // The table with one claim more.
-fn joined(t: Table, w: Claim) -> Table
+fn joined(mut t: Table, w: Claim) -> Table
     requires { ⌜ Formed t × (t .count < 64) × (t .issued < 65535) × Sized (t .clock) w × (w .ticket ≡ t .issued + 1) ⌝ }
     ensures { λ r. ⌜ (r ≡ encode (join (model t) w)) × Formed r ⌝ }
 {
     let count = t.count;
-    let mut claims = t.claims;
-    claims[count] = w;
-    Table {
-        rig: t.rig,
-        clock: t.clock,
-        issued: t.issued + 1,
-        count: count + 1,
-        claims: claims,
-    }
+    t.claims[count] = w;
+    t.issued = t.issued + 1;
+    t.count = count + 1;
+    t
 }
 
 // A claim that no test refuses, in a table that is packed.

@@ -2,17 +2,10 @@ use mathlib.Core.Path.{refl, _∙_, ap}
 use Rattle.rules.specs.declared.Claim.{Claim}
 use Rattle.rules.specs.Calls.{join}
 use Rattle.rules.specs.Tables.{encode, model}
-use Rattle.table.proofs.Steps.{placed-sized, placed-still, admitted-is}
+use Rattle.table.proofs.Steps.{asked-row, placed-sized, placed-still, admitted-is}
 use borrow.Author.Needs.{needs}
 use Rattle.table.proofs.admitted.Statement.{statement}
 use Rattle.table.proofs.admitted.Tie as tie
-use Rattle.table.proofs.admitted.Reads as reads
-use Rattle.table.proofs.admitted.Lts as lts
-use Rattle.table.proofs.claims.waiting_from.Reads as waiting-from-reads
-use Rattle.table.proofs.placing.contention_of.Reads as contention-of-reads
-use Rattle.table.proofs.placing.place.Reads as place-reads
-use Rattle.table.proofs.finished.Reads as finished-reads
-use Rattle.table.proofs.joined.Reads as joined-reads
 
 -- src/lib.rt:338:18
 add-ticket : tie.Need-add-ticket
@@ -20,11 +13,11 @@ add-ticket c = search needs
 
 -- src/lib.rt:346:9
 place-requires : tie.Need-place-requires
-place-requires c κs = search needs
+place-requires c κs = let b = c .before .before in asked-row (b .args .t) _ _ (b .pre .0) (b .pre .3) (b .pre .4) (b .pre .5)
 
 -- src/lib.rt:347:9
 contention-of-requires : tie.Need-contention-of-requires
-contention-of-requires c κs = search needs
+contention-of-requires c κs = let b = c .before .before .before in asked-row (b .args .t) _ _ (b .pre .0) (b .pre .3) (b .pre .4) (b .pre .5)
 
 -- src/lib.rt:348:23
 waiting-from-requires : tie.Need-waiting-from-requires

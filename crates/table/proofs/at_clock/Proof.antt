@@ -1,34 +1,86 @@
-use mathlib.Core.Path.{refl, sym, _∙_}
-use Rattle.table.proofs.Ranges.{formed-row}
+-- The loop's invariant: whether any claim overruns is told by those that are left.
+use mathlib.Core.Path.{_≡_, refl, sym, _∙_}
+use Prim.Native.Nat.{_-_, _≤_}
+use native.Mathlib.Omega.{arith}
+use lib.ListN.{take, drop, getD}
+use Rattle.rules.specs.Lists.{any}
+use Rattle.rules.specs.Tables.{vacant}
+use Rattle.table.specs.Outcomes.{pastEnd}
+use Rattle.table.proofs.Rows.{prefix-step, prefix-end, row-small}
+use Rattle.table.proofs.Ranges.{formed-few, formed-length, formed-row}
+use Rattle.table.proofs.Scanning.{overrun-not}
 use Rattle.table.proofs.Steps.{prompt-is}
-use borrow.Author.Needs.{needs}
 use Rattle.table.proofs.at_clock.Statement.{statement}
 use Rattle.table.proofs.at_clock.Tie as tie
-use Rattle.table.proofs.at_clock.Reads as reads
-use Rattle.table.proofs.at_clock.Lts as lts
-use Rattle.table.proofs.advanced.Reads as advanced-reads
-use Rattle.table.proofs.any_overrun.Reads as any-overrun-reads
 
--- src/lib.rt:175:8
-any-overrun-requires : tie.Need-any-overrun-requires
-any-overrun-requires c κs =
-    let b = c .before in
-    formed-row (b .args .t) (b .args .clock) (b .pre .0 .formed) (b .pre .1) (b .pre .2)
+abbrev Inv-loop : tie.InvT-loop
+Inv-loop clock t count i₀ i = (i ≤ count) × (any (pastEnd clock) (drop i (take count (t .claims))) ≡ any (pastEnd clock) (take count (t .claims)))
 
--- src/lib.rt:176:9
-advanced-requires : tie.Need-advanced-requires
-advanced-requires c κs = search needs
+abbrev μ-loop : tie.MeasureT-loop
+μ-loop clock t count i₀ i = count - i
 
--- src/lib.rt:176:9
-returns : tie.Need-returns
-returns c = search needs
+loop-holds : tie.Need-loop-holds Inv-loop μ-loop
+loop-holds c = (omega arith, refl)
 
--- src/lib.rt:170:1
-returns-2 : tie.Need-returns-2
-returns-2 c =
+mul-c : tie.Need-mul-c Inv-loop μ-loop
+mul-c c = let b = c .before .before in omega (arith, formed-few (b .args .t1) (b .pre .0 .formed))
+
+element-copy-out-c : tie.Need-element-copy-out-c Inv-loop μ-loop
+element-copy-out-c c = let b = c .before .before in omega (arith, formed-few (b .args .t1) (b .pre .0 .formed))
+
+overruns-requires : tie.Need-overruns-requires Inv-loop μ-loop
+overruns-requires c κs =
+    let z = c .before .before in
+    let b = z .before in
+    let t = b .args .t1 in
+    let v = b .pre .0 .formed in
+    row-small (b .args .clock) (t .claims) (t .count) (z .loop .i) (formed-row t (b .args .clock) v (b .pre .1) (b .pre .2)) (formed-length t v) (omega arith)
+
+advanced-requires : tie.Need-advanced-requires Inv-loop μ-loop
+advanced-requires c κs = let b = c .before .before .before .before .before in (b .pre .0 .formed, b .pre .1, b .pre .2)
+
+returns : tie.Need-returns Inv-loop μ-loop
+returns c = c .advanced .ensures
+
+add-i : tie.Need-add-i Inv-loop μ-loop
+add-i c = let b = c .before .before .before .before .before in omega (arith, formed-few (b .args .t1) (b .pre .0 .formed))
+
+loop-less : tie.Need-loop-less Inv-loop μ-loop
+loop-less c = omega arith
+
+loop-again : tie.Need-loop-again Inv-loop μ-loop
+loop-again c =
     let o = c .before in
-    let b = o .before .before in
-    prompt-is (b .args .t) (b .args .clock) (b .pre .0) (b .pre .1) (b .pre .2) (sym (o .any-overrun .ensures) ∙ c .if1 .left) _ refl
+    let z = o .before .before .before in
+    let b = z .before in
+    let t = b .args .t1 in
+    let v = b .pre .0 .formed in
+    let e = prefix-step vacant (t .claims) (t .count) (z .loop .i) (omega arith) (omega (arith, formed-length t v, formed-few t v)) in
+    let h = rw e at (z .loop .inv .1) in
+    (omega arith, sym (overrun-not (b .args .clock) (getD (t .claims) (z .loop .i) vacant) _ (sym (o .overruns .ensures) ∙ c .if1 .left)) ∙ h)
+
+returns-2 : tie.Need-returns-2 Inv-loop μ-loop
+unfolding any
+returns-2 c =
+    let z = c .before in
+    let b = z .before in
+    let t = b .args .t1 in
+    let none = rw (prefix-end (t .claims) (t .count) (z .loop .i) (c .loop-test .left)) at (z .loop .inv .1) in
+    prompt-is t (b .args .clock) (b .pre .0) (b .pre .1) (b .pre .2) (sym none) _ refl
 
 pub at-clock-spec : {M : Type 1} → statement M
-at-clock-spec = tie.close (tie.spec any-overrun-requires advanced-requires returns returns-2)
+at-clock-spec =
+    tie.close
+    (tie.spec
+    Inv-loop
+    μ-loop
+    loop-holds
+    mul-c
+    element-copy-out-c
+    overruns-requires
+    advanced-requires
+    returns
+    add-i
+    loop-less
+    loop-again
+    returns-2)

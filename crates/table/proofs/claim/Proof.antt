@@ -8,12 +8,6 @@ use Rattle.table.proofs.Steps.{refused, kept-valid, advanced-counts, cl
 use borrow.Author.Needs.{needs}
 use Rattle.table.proofs.claim.Statement.{statement}
 use Rattle.table.proofs.claim.Tie as tie
-use Rattle.table.proofs.claim.Reads as reads
-use Rattle.table.proofs.claim.Lts as lts
-use Rattle.table.proofs.admitted.Reads as admitted-reads
-use Rattle.table.proofs.at_clock.Reads as at-clock-reads
-use Rattle.table.proofs.claim_number.Reads as claim-number-reads
-use Rattle.table.proofs.refusal.Reads as refusal-reads
 
 -- src/lib.rt:337:9
 claim-number-requires : tie.Need-claim-number-requires

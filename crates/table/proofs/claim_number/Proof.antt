@@ -7,11 +7,6 @@ use Rattle.table.proofs.Tests.{claim-timed, claim-dark, claim-off-rig, 
 use borrow.Author.Needs.{needs}
 use Rattle.table.proofs.claim_number.Statement.{statement}
 use Rattle.table.proofs.claim_number.Tie as tie
-use Rattle.table.proofs.claim_number.Reads as reads
-use Rattle.table.proofs.claim_number.Lts as lts
-use Rattle.groups.proofs.empty.Reads as empty-reads
-use Rattle.groups.proofs.within.Reads as within-reads
-use Rattle.table.proofs.time_number.Reads as time-number-reads
 
 -- src/lib.rt:271:9
 time-number-requires : tie.Need-time-number-requires

@@ -6,12 +6,6 @@ use Rattle.table.proofs.Steps.{refused, kept-valid, clock-is}
 use borrow.Author.Needs.{needs}
 use Rattle.table.proofs.clock.Statement.{statement}
 use Rattle.table.proofs.clock.Tie as tie
-use Rattle.table.proofs.clock.Reads as reads
-use Rattle.table.proofs.clock.Lts as lts
-use Rattle.table.proofs.at_clock.Reads as at-clock-reads
-use Rattle.table.proofs.finished.Reads as finished-reads
-use Rattle.table.proofs.refusal.Reads as refusal-reads
-use Rattle.table.proofs.time_number.Reads as time-number-reads
 
 -- src/lib.rt:155:9
 time-number-requires : tie.Need-time-number-requires

@@ -6,23 +6,17 @@ use Rattle.table.proofs.Ranges.{formed-row}
 use Rattle.table.proofs.Steps.{finished-is}
 use Rattle.table.proofs.finished.Statement.{statement}
 use Rattle.table.proofs.finished.Tie as tie
-use Rattle.table.proofs.finished.Reads as reads
-use Rattle.table.proofs.finished.Lts as lts
-use Rattle.table.proofs.granting.grant.Reads as grant-reads
 
--- src/lib.rt:145:9
 grant-requires : tie.Need-grant-requires
 grant-requires c κs =
-    let b = c .before in
-    let t = b .args .t in
-    let v = b .pre .0 in
-    (formed-row t (t .clock) v (omega arith) (v .ranged .timely), record { low = still-starts (model t) (b .pre .1); tight = still-tight (model t) (b .pre .1) })
+    let t = c .args .t in
+    let v = c .pre .0 in
+    (formed-row t (t .clock) v (omega arith) (v .ranged .timely), record { low = still-starts (model t) (c .pre .1); tight = still-tight (model t) (c .pre .1) })
 
--- src/lib.rt:138:1
 returns : tie.Need-returns
 returns c =
     let g = c .before .before in
-    let b = g .before .before in
+    let b = g .before in
     let a = b .args in
     finished-is (a .t) (g .grant .result) (a .ticket) (a .start) (a .contention) (a .bound) _ (b .pre .0) (b .pre .1) (g .grant .ensures) refl
 

@@ -11,9 +11,6 @@ use Rattle.table.proofs.Scanning.{found, passed-by}
 use Rattle.table.proofs.Tests.{lookup-number}
 use Rattle.table.proofs.lookup.Statement.{statement}
 use Rattle.table.proofs.lookup.Tie as tie
-use Rattle.table.proofs.lookup.Reads as reads
-use Rattle.table.proofs.lookup.Lts as lts
-use Rattle.table.proofs.shown.Reads as shown-reads
 
 abbrev Inv-loop : tie.InvT-loop
 Inv-loop ticket t count i₀ i = (i ≤ count) × (standingOf ticket (drop i (take count (t .claims))) ≡ standingOf ticket (take count (t .claims)))

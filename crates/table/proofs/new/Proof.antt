@@ -3,10 +3,6 @@ use mathlib.Core.Path.{sym, _∙_}
 use borrow.Author.Needs.{needs}
 use Rattle.table.proofs.new.Statement.{statement}
 use Rattle.table.proofs.new.Tie as tie
-use Rattle.table.proofs.new.Reads as reads
-use Rattle.table.proofs.new.Lts as lts
-use Rattle.groups.proofs.empty.Reads as empty-reads
-use Rattle.table.proofs.refusal.Reads as refusal-reads
 
 -- src/lib.rt:68:8
 empty-requires : tie.Need-empty-requires

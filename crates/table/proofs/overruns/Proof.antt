@@ -3,11 +3,6 @@ use Rattle.table.proofs.Scanning.{past-end-on}
 use borrow.Author.Needs.{needs}
 use Rattle.table.proofs.overruns.Statement.{statement}
 use Rattle.table.proofs.overruns.Tie as tie
-use Rattle.table.proofs.overruns.Reads as reads
-use Rattle.table.proofs.overruns.Lts as lts
-use Rattle.table.proofs.claims.is_on.Reads as is-on-reads
-use Rattle.table.proofs.claims.start_or_grant.Reads as start-or-grant-reads
-use Rattle.table.proofs.claims.wide.Reads as wide-reads
 
 -- src/lib.rt:146:8
 is-on-requires : tie.Need-is-on-requires

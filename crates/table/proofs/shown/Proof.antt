@@ -5,9 +5,6 @@ use Rattle.table.proofs.Tests.{shown-waiting, shown-held}
 use borrow.Author.Needs.{needs}
 use Rattle.table.proofs.shown.Statement.{statement}
 use Rattle.table.proofs.shown.Tie as tie
-use Rattle.table.proofs.shown.Reads as reads
-use Rattle.table.proofs.shown.Lts as lts
-use Rattle.table.proofs.claims.wide.Reads as wide-reads
 
 -- src/lib.rt:81:9
 wide-requires : tie.Need-wide-requires

@@ -3,8 +3,6 @@ use native.Mathlib.Omega.{arith}
 use Rattle.table.specs.Outcomes.{timeNumber}
 use Rattle.table.proofs.time_number.Statement.{statement}
 use Rattle.table.proofs.time_number.Tie as tie
-use Rattle.table.proofs.time_number.Reads as reads
-use Rattle.table.proofs.time_number.Lts as lts
 
 -- src/lib.rt:112:9
 returns : tie.Need-returns

@@ -5,9 +5,6 @@ use Rattle.table.proofs.Phases.{end-waiting, end-held}
 use borrow.Author.Needs.{needs}
 use Rattle.table.proofs.claims.end_of.Statement.{statement}
 use Rattle.table.proofs.claims.end_of.Tie as tie
-use Rattle.table.proofs.claims.end_of.Reads as reads
-use Rattle.table.proofs.claims.end_of.Lts as lts
-use Rattle.table.proofs.claims.wide.Reads as wide-reads
 
 -- src/lib.rt:63:9
 wide-requires : tie.Need-wide-requires

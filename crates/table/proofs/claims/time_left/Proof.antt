@@ -6,10 +6,6 @@ use Rattle.table.proofs.Phases.{left-waiting, left-held}
 use borrow.Author.Needs.{needs}
 use Rattle.table.proofs.claims.time_left.Statement.{statement}
 use Rattle.table.proofs.claims.time_left.Tie as tie
-use Rattle.table.proofs.claims.time_left.Reads as reads
-use Rattle.table.proofs.claims.time_left.Lts as lts
-use Rattle.table.proofs.claims.end_of.Reads as end-of-reads
-use Rattle.table.proofs.claims.wide.Reads as wide-reads
 
 -- src/lib.rt:80:24
 enum-known-p : tie.Need-enum-known-p

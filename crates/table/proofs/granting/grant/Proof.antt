@@ -1,88 +1,125 @@
--- `granting::grant` meets its contract. The loop's invariant is `Written`: claims and tickets are done up to place i.
--- That the test is that of the rules is `held-goes`. The measure is what is left of the claims. Assumes nothing.
-use mathlib.Core.Path.{_≡_, sym, _∙_}
+-- `granting::grant` meets its contract. The first loop's invariant: the groups held so far and the claims that are left give the holders.
+-- The second's is `Written`: claims and tickets are done up to place j. That the test is that of the rules is `held-goes`.
+use mathlib.Core.Path.{_≡_, refl, sym, _∙_, ap}
 use mathlib.Core.Logic.{⊎-elim}
-use Prim.Native.Nat.{_-_, _<_}
+use Prim.Native.Nat.{_-_, _≤_, _<_}
 use native.Mathlib.Omega.{arith}
 use borrow.Author.Needs.{needs}
-use lib.ListN.{length}
+use lib.ListN.{take, drop}
 use Rattle.rules.specs.Claims.{Setting}
-use Rattle.table.proofs.Holders.{held-goes}
-use Rattle.table.proofs.Grants.{Written, written-start, written-go, written-stay, written-end}
+use Rattle.rules.specs.Tables.{vacant}
+use Rattle.table.specs.Holders.{goesAt}
+use Rattle.table.specs.Parts.{withClaims}
+use Rattle.table.proofs.Rows.{prefix-step, prefix-end, other-claims, these-claims}
+use Rattle.table.proofs.Holders.{Holding, holding-start, holding-more, holding-end, held-goes}
+use Rattle.table.proofs.Grants.{Written, written-start, written-rest, written-gone, written-stay, written-end, granted-is}
 use Rattle.table.proofs.granting.grant.Statement.{statement}
 use Rattle.table.proofs.granting.grant.Tie as tie
 
 abbrev Inv-loop : tie.InvT-loop
-Inv-loop clock count row held out₀ i₀ out i = Written (record { clock = clock }) row count i out
+Inv-loop t count clock held₀ i₀ held i = (i ≤ count) × Holding (take count (t .claims)) (drop i (take count (t .claims))) held
 
 abbrev μ-loop : tie.MeasureT-loop
-μ-loop clock count row held out₀ i₀ out i = count - i
+μ-loop t count clock held₀ i₀ held i = count - i
 
-held-groups-requires : tie.Need-held-groups-requires Inv-loop μ-loop
-held-groups-requires c κs = search needs
+abbrev Inv-loop2 : tie.InvT-loop2
+Inv-loop2 t₀ count clock held i tickets₀ n₀ j₀ t tickets n j =
+    (t ≡ withClaims t₀ (t .claims)) × Written (record { clock = clock }) (t₀ .claims) count j (t .claims) n tickets
 
-loop-holds : tie.Need-loop-holds Inv-loop μ-loop
-loop-holds c =
-    let a = c .before .args in
-    written-start (record { clock = a .clock }) (a .t2) (a .count) (c .before .pre .0 .few) (search needs)
+abbrev μ-loop2 : tie.MeasureT-loop2
+μ-loop2 t₀ count clock held i tickets₀ n₀ j₀ t tickets n j = count - j
 
-mul-c : tie.Need-mul-c Inv-loop μ-loop
-mul-c c = omega arith
+loop-holds : tie.Need-loop-holds Inv-loop μ-loop Inv-loop2 μ-loop2
+loop-holds c = (omega arith, holding-start _)
 
-array-copy-out-c : tie.Need-array-copy-out-c Inv-loop μ-loop
-array-copy-out-c c = omega arith
+mul-c : tie.Need-mul-c Inv-loop μ-loop Inv-loop2 μ-loop2
+mul-c c = omega (arith, c .before .before .pre .0 .few)
 
-goes-requires : tie.Need-goes-requires Inv-loop μ-loop
-goes-requires c κs = search needs
+element-copy-out-c : tie.Need-element-copy-out-c Inv-loop μ-loop Inv-loop2 μ-loop2
+element-copy-out-c c = omega (arith, c .before .before .pre .0 .few)
 
-on-since-requires : tie.Need-on-since-requires Inv-loop μ-loop
-on-since-requires c κs = search needs
+held-with-requires : tie.Need-held-with-requires Inv-loop μ-loop Inv-loop2 μ-loop2
+held-with-requires c κs = search needs
 
-mul-t19 : tie.Need-mul-t19 Inv-loop μ-loop
-mul-t19 c = omega arith
+add-i : tie.Need-add-i Inv-loop μ-loop Inv-loop2 μ-loop2
+add-i c = omega (arith, c .before .before .before .before .pre .0 .few)
 
-element-set-from-out : tie.Need-element-set-from-out Inv-loop μ-loop
-element-set-from-out c = omega arith
-
-mul-out : tie.Need-mul-out Inv-loop μ-loop
-mul-out c = omega arith
-
-element-write-out : tie.Need-element-write-out Inv-loop μ-loop
-element-write-out c = omega arith
-
-add-out : tie.Need-add-out Inv-loop μ-loop
-add-out c = omega arith
-
-add-i : tie.Need-add-i Inv-loop μ-loop
-add-i c = omega arith
-
-loop-less : tie.Need-loop-less Inv-loop μ-loop
+loop-less : tie.Need-loop-less Inv-loop μ-loop Inv-loop2 μ-loop2
 loop-less c = omega arith
 
-loop-again : tie.Need-loop-again Inv-loop μ-loop
+loop-again : tie.Need-loop-again Inv-loop μ-loop Inv-loop2 μ-loop2
 loop-again c =
+    let z = c .before .before .before in
+    let b = z .before in
+    let t = b .args .t1 in
+    let e = prefix-step vacant (t .claims) (t .count) (z .loop .i) (omega arith) (omega (arith, b .pre .0 .places, b .pre .0 .few)) in
+    (omega arith, holding-more _ _ _ _ _ (rw e at (z .loop .inv .1)) (c .held-with .ensures))
+
+loop2-holds : tie.Need-loop2-holds Inv-loop μ-loop Inv-loop2 μ-loop2
+loop2-holds c =
+    let b = c .before .before in
+    (refl, written-start _ _ _ (b .pre .0 .few) (b .pre .0 .places))
+
+mul-c-2 : tie.Need-mul-c-2 Inv-loop μ-loop Inv-loop2 μ-loop2
+mul-c-2 c = let z = c .before in omega (arith, z .before .before .before .pre .0 .few, z .loop2 .inv .1 .within, z .loop2 .inv .1 .fewer)
+
+element-copy-out-c-2 : tie.Need-element-copy-out-c-2 Inv-loop μ-loop Inv-loop2 μ-loop2
+element-copy-out-c-2 c = let z = c .before in omega (arith, z .before .before .before .pre .0 .few, z .loop2 .inv .1 .within, z .loop2 .inv .1 .fewer)
+
+goes-requires : tie.Need-goes-requires Inv-loop μ-loop Inv-loop2 μ-loop2
+goes-requires c κs = search needs
+
+on-since-requires : tie.Need-on-since-requires Inv-loop μ-loop Inv-loop2 μ-loop2
+on-since-requires c κs = search needs
+
+mul-t24 : tie.Need-mul-t24 Inv-loop μ-loop Inv-loop2 μ-loop2
+mul-t24 c = let z = c .before .before .before .before .before in omega (arith, z .before .before .before .pre .0 .few, z .loop2 .inv .1 .within, z .loop2 .inv .1 .fewer)
+
+element-set-from-t : tie.Need-element-set-from-t Inv-loop μ-loop Inv-loop2 μ-loop2
+element-set-from-t c = let z = c .before .before .before .before .before in omega (arith, z .before .before .before .pre .0 .few, z .loop2 .inv .1 .within, z .loop2 .inv .1 .fewer)
+
+mul-tickets : tie.Need-mul-tickets Inv-loop μ-loop Inv-loop2 μ-loop2
+mul-tickets c = let z = c .before .before .before .before .before in omega (arith, z .before .before .before .pre .0 .few, z .loop2 .inv .1 .within, z .loop2 .inv .1 .fewer)
+
+array-write-tickets : tie.Need-array-write-tickets Inv-loop μ-loop Inv-loop2 μ-loop2
+array-write-tickets c = let z = c .before .before .before .before .before in omega (arith, z .before .before .before .pre .0 .few, z .loop2 .inv .1 .within, z .loop2 .inv .1 .fewer)
+
+add-n : tie.Need-add-n Inv-loop μ-loop Inv-loop2 μ-loop2
+add-n c = let z = c .before .before .before .before .before in omega (arith, z .before .before .before .pre .0 .few, z .loop2 .inv .1 .within, z .loop2 .inv .1 .fewer)
+
+add-j : tie.Need-add-j Inv-loop μ-loop Inv-loop2 μ-loop2
+add-j c = let z = c .before .before .before .before in omega (arith, z .before .before .before .pre .0 .few, z .loop2 .inv .1 .within, z .loop2 .inv .1 .fewer)
+
+loop2-less : tie.Need-loop2-less Inv-loop μ-loop Inv-loop2 μ-loop2
+loop2-less c = omega arith
+
+loop2-again : tie.Need-loop2-again Inv-loop μ-loop Inv-loop2 μ-loop2
+loop2-again c =
     let y = c .before in
     let z = y .before .before .before in
-    let s = z .before .before in
-    let v : Setting = record { clock = s .args .clock } in
-    let l = s .args .t2 in
-    let n = s .args .count in
-    let i = z .loop .i in
-    let few = s .pre .0 .few in
-    let e : length l ≡ 64 = search needs in
-    let h : i < n = omega arith in
-    let g = held-goes (v .clock) l n _ i (s .pre .0) (s .pre .1) (z .before .held-groups .ensures) e h ∙ sym (y .goes .ensures) in
+    let o = z .before .before in
+    let b = o .before in
+    let t = b .args .t1 in
+    let v : Setting = record { clock = t .clock } in
+    let r = b .pre .0 in
+    let w = z .loop2 .inv .1 in
+    let j = z .loop2 .j in
+    let h : j < t .count = omega arith in
+    let held = holding-end _ _ (rw (prefix-end (t .claims) (t .count) (o .loop .i) (z .before .loop-test .left)) at (o .loop .inv .1)) in
+    let g = held-goes (t .clock) (t .claims) (t .count) _ j r (b .pre .1) held (r .places) h
+    ∙ ap (goesAt (t .clock) (o .loop .held)) (sym (written-rest v _ _ (r .few) (r .places) _ _ _ _ w h)) ∙ sym (y .goes .ensures) in
     ⊎-elim
-    (λ b. rw (b .2) (written-go v l n few e i _ _ h (z .loop .inv) (g ∙ b .0 .taken) (b .1 .ensures)))
-    (λ b. rw (b .1) (written-stay v l n few e i _ h (z .loop .inv) (g ∙ b .0 .left)))
+    (λ k. rw (k .2, k .3, k .4) (other-claims (z .loop2 .t) t _ (z .loop2 .inv .0), written-gone v _ _ (r .few) (r .places) _ _ _ _ w _ h (g ∙ k .0 .taken) (k .1 .ensures)))
+    (λ k. rw (k .1, k .2, k .3) (z .loop2 .inv .0, written-stay v _ _ (r .few) (r .places) _ _ _ _ w h (g ∙ k .0 .left)))
     (c .if1 .came)
 
-returns : tie.Need-returns Inv-loop μ-loop
+returns : tie.Need-returns Inv-loop μ-loop Inv-loop2 μ-loop2
 returns c =
     let z = c .before in
-    let s = z .before .before in
-    let a = s .args in
-    written-end (record { clock = a .clock }) (a .t2) (a .count) (s .pre .0 .few) (search needs) _ (z .loop .out) (omega arith) (z .loop .inv)
+    let b = z .before .before .before in
+    let t = b .args .t1 in
+    let e = written-end (record { clock = t .clock }) _ _ (b .pre .0 .few) (b .pre .0 .places) _ _ _ _ (z .loop2 .inv .1) (c .loop2-test .left) in
+    granted-is t (z .loop2 .t) _ _ (these-claims (z .loop2 .t) t _ (z .loop2 .inv .0) (e .0)) (e .1) (e .2)
 
 pub grant-spec : {M : Type 1} → statement M
 grant-spec =
@@ -90,18 +127,26 @@ grant-spec =
     (tie.spec
     Inv-loop
     μ-loop
-    held-groups-requires
+    Inv-loop2
+    μ-loop2
     loop-holds
     mul-c
-    array-copy-out-c
-    goes-requires
-    on-since-requires
-    mul-t19
-    element-set-from-out
-    mul-out
-    element-write-out
-    add-out
+    element-copy-out-c
+    held-with-requires
     add-i
     loop-less
     loop-again
+    loop2-holds
+    mul-c-2
+    element-copy-out-c-2
+    goes-requires
+    on-since-requires
+    mul-t24
+    element-set-from-t
+    mul-tickets
+    array-write-tickets
+    add-n
+    add-j
+    loop2-less
+    loop2-again
     returns)
