@@ -78,6 +78,10 @@ pub behind-none : (at : ℕ) → at < 2 ^ 64 → behind at 0 ≡ at
 unfolding behind
 behind-none at h = omega arith
 
+pub behind-under : (at n : ℕ) → behind at n < 2 ^ 64
+unfolding behind
+behind-under at n = omega arith
+
 -- One place behind the other; in words of one list behind the other.
 pub behind-add : (at m n : ℕ) → behind (behind at m) n ≡ behind at (m + n)
 unfolding behind
@@ -124,6 +128,10 @@ put-then o at xs ys m r p q h a b =
 
 pub put-as : {o : List ℕ} {at : ℕ} (xs ys : List ℕ) {r : ℕ} {p : List ℕ} → xs ≡ ys → Put o at xs r p → Put o at ys r p
 put-as xs ys e w = rw e at w
+
+-- A piece laid at the start that is not too long for a usize: the place behind it is its length.
+pub put-short : {o xs : List ℕ} {r : ℕ} {p : List ℕ} → length xs < 2 ^ 64 → Put o 0 xs r p → (r ≡ length xs) × (p ≡ laid o 0 xs)
+put-short {xs = xs} h w = (w .next ∙ behind-small 0 (length xs) (omega arith) ∙ zero-add (length xs), w .is)
 
 -- One step of a copy.
 pub laid-turn : (o : List ℕ) (at i : ℕ) (s : List ℕ) → i < length s → laid (set o (at + i) (getD s i 0)) (at + (i + 1)) (drop (i + 1) s) ≡ laid o (at + i) (drop i s)

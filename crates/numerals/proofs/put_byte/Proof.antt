@@ -1,5 +1,5 @@
 -- `numerals::put_byte` meets its contract: one byte stored.
-use mathlib.Core.Path.{refl, sym, _∙_}
+use mathlib.Core.Path.{sym, _∙_}
 use native.Mathlib.Nat.{add-zero}
 use Rattle.numerals.proofs.Laying.{laid-one}
 use borrow.Author.Needs.{needs}
