@@ -38,7 +38,7 @@ hex-more (suc k) v b g n h =
     let e : suc k - 1 ≡ k = omega arith in
     rw (le-ltb v 16 h, e, g)
 
-pub hex-length : (k v : ℕ) → length (hexUpTo k v) ≤ suc k
+hex-length : (k v : ℕ) → length (hexUpTo k v) ≤ suc k
 unfolding hexUpTo
 hex-length zero v = omega arith
 hex-length (suc k) v = go (hex-length k (v / 16)) (ltb v 16)
@@ -48,15 +48,15 @@ hex-length (suc k) v = go (hex-length k (v / 16)) (ltb v 16)
     go h false = omega (arith, length-append (hexUpTo k (v / 16)) (glyphOf v ∷ []))
 
 -- ── lengths ──
-pub set-length : (g b : ℕ) → length (setOf g b) ≤ 17
+set-length : (g b : ℕ) → length (setOf g b) ≤ 17
 unfolding setOf
 set-length g b = omega (arith, length-append (hexUpTo 15 g) (b ∷ []), hex-length 15 g)
 
-pub field-length : (v b : ℕ) → length (fieldOf v b) ≤ 21
+field-length : (v b : ℕ) → length (fieldOf v b) ≤ 21
 unfolding fieldOf
 field-length v b = omega (arith, length-append (decimalOf v) (b ∷ []), decimal-length v, width-small v)
 
-pub pair-length : (a b : ℕ) → length (pairOf a b) ≤ 42
+pair-length : (a b : ℕ) → length (pairOf a b) ≤ 42
 unfolding pairOf
 pair-length a b = omega (arith, length-append (fieldOf a 32) (fieldOf b 10), field-length a 32, field-length b 10)
 

@@ -82,8 +82,8 @@ pub behind-under : (at n : ℕ) → behind at n < 2 ^ 64
 unfolding behind
 behind-under at n = omega arith
 
--- One place behind the other; in words of one list behind the other.
-pub behind-add : (at m n : ℕ) → behind (behind at m) n ≡ behind at (m + n)
+-- A place behind a place; the same in words of lists.
+behind-add : (at m n : ℕ) → behind (behind at m) n ≡ behind at (m + n)
 unfolding behind
 behind-add at m n = omega arith
 
@@ -95,7 +95,7 @@ sets-out : (xs o : List ℕ) (at : ℕ) → length o ≤ at → sets o at xs ≡
 sets-out [] o at h = refl
 sets-out (x ∷ xs) o at h = ap (λ r. sets r (suc at) xs) (set-out o at x h) ∙ sets-out xs o (suc at) (omega arith)
 
-pub laid-out : (o : List ℕ) (at : ℕ) (xs : List ℕ) → length o ≤ at → laid o at xs ≡ o
+laid-out : (o : List ℕ) (at : ℕ) (xs : List ℕ) → length o ≤ at → laid o at xs ≡ o
 unfolding laid
 laid-out o at xs h = sets-out xs o at h
 
@@ -116,6 +116,10 @@ laid-behind o at n xs h = go (leb (at + n) 18446744073709551615) refl
 -- ── pieces ──
 pub put : {o : List ℕ} {at : ℕ} {xs : List ℕ} {r : ℕ} {p : List ℕ} → (r ≡ behind at (length xs)) × (p ≡ laid o at xs) → Put o at xs r p
 put w = record { next = w .0; is = w .1 }
+
+-- Of digits, as many as were asked for.
+pub put-digits : (b z n v : ℕ) {o : List ℕ} {at r : ℕ} {p : List ℕ} → (r ≡ behind at n) × (p ≡ laid o at (digits b z n v)) → Put o at (digits b z n v) r p
+put-digits b z n v {at = at} w = record { next = w .0 ∙ ap (behind at) (sym (digits-length b z n v)); is = w .1 }
 
 -- One piece behind the other is one piece.
 pub put-then : (o : List ℕ) (at : ℕ) (xs ys : List ℕ) (m r : ℕ) (p q : List ℕ) → length o < 2 ^ 64 → Put o at xs m p → Put p m ys r q → Put o at (xs ++ ys) r q

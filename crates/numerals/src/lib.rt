@@ -107,7 +107,7 @@ fn store(out: &mut [u8], at: usize, i: usize, b: u8)
 
 // One byte laid at a place.
 pub fn put_byte(out: &mut [u8], at: usize, b: u8) -> usize
-    ensures { λ r. ⌜ (r ≡ behind at (length (b ∷ []))) × (now (out .exit) ≡ laid (now (out .entry)) at (b ∷ [])) ⌝ }
+    ensures { λ r. ⌜ (r ≡ behind at 1) × (now (out .exit) ≡ laid (now (out .entry)) at (b ∷ [])) ⌝ }
 {
     store(out, at, 0, b);
     behind(at, 1)
@@ -115,7 +115,7 @@ pub fn put_byte(out: &mut [u8], at: usize, b: u8) -> usize
 
 // A number laid in n bytes from a place on, the highest first; one step for each byte.
 pub fn put_big(out: &mut [u8], at: usize, n: usize, value: u64) -> usize
-    ensures { λ r. ⌜ (r ≡ behind at (length (digits 256 0 n value))) × (now (out .exit) ≡ laid (now (out .entry)) at (digits 256 0 n value)) ⌝ }
+    ensures { λ r. ⌜ (r ≡ behind at n) × (now (out .exit) ≡ laid (now (out .entry)) at (digits 256 0 n value)) ⌝ }
 {
     let mut v = value;
     let mut i = n;
@@ -129,7 +129,7 @@ pub fn put_big(out: &mut [u8], at: usize, n: usize, value: u64) -> usize
 
 // Its n lowest decimal digits laid so.
 fn put_digits(out: &mut [u8], at: usize, n: usize, value: u64) -> usize
-    ensures { λ r. ⌜ (r ≡ behind at (length (digits 10 48 n value))) × (now (out .exit) ≡ laid (now (out .entry)) at (digits 10 48 n value)) ⌝ }
+    ensures { λ r. ⌜ (r ≡ behind at n) × (now (out .exit) ≡ laid (now (out .entry)) at (digits 10 48 n value)) ⌝ }
 {
     let mut v = value;
     let mut i = n;

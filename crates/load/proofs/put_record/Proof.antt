@@ -1,7 +1,7 @@
 -- `load::put_record` meets its contract: length, kind and fields laid one behind the other.
 use native.Mathlib.Omega.{arith}
 use Rattle.load.proofs.Writing.{record-pieces}
-use Rattle.numerals.proofs.Laying.{put, put-then, put-as}
+use Rattle.numerals.proofs.Laying.{put, put-digits, put-then, put-as}
 use borrow.Author.Needs.{needs}
 use Rattle.load.proofs.put_record.Statement.{statement}
 use Rattle.load.proofs.put_record.Tie as tie
@@ -31,7 +31,7 @@ returns c =
     let a = b .before .before .before .before in
     let n = a .before .before in
     put-as _ _ (record-pieces _ _ _ (n .length-of .ensures) (n .before .kind-of .ensures))
-    (put-then _ _ _ _ _ _ _ _ (omega arith) (put (a .put-big .ensures)) (put-then _ _ _ _ _ _ _ _ (omega arith) (put (b .put-byte .ensures)) (f .put-fields .ensures)))
+    (put-then _ _ _ _ _ _ _ _ (omega arith) (put-digits 256 0 _ _ (a .put-big .ensures)) (put-then _ _ _ _ _ _ _ _ (omega arith) (put (b .put-byte .ensures)) (f .put-fields .ensures)))
 
 pub put-record-spec : {M : Type 1} → statement M
 put-record-spec =

@@ -1,5 +1,6 @@
 -- `numerals::put_decimal` meets its contract: as many digits as the number has.
 use Rattle.numerals.specs.Digits.{decimalOf}
+use Rattle.numerals.proofs.Laying.{put-digits}
 use borrow.Author.Needs.{needs}
 use Rattle.numerals.proofs.put_decimal.Statement.{statement}
 use Rattle.numerals.proofs.put_decimal.Tie as tie
@@ -15,7 +16,9 @@ same-length c = search needs
 
 returns : tie.Need-returns
 unfolding decimalOf
-returns c = rw (← (c .before .before .before .before .width .ensures)) (c .before .before .put-digits .ensures)
+returns c =
+    let d = put-digits 10 48 _ _ (c .before .before .put-digits .ensures) in
+    rw (← (c .before .before .before .before .width .ensures)) (d .next, d .is)
 
 pub put-decimal-spec : {M : Type 1} → statement M
 put-decimal-spec = tie.close (tie.spec width-requires put-digits-requires same-length returns)

@@ -1,11 +1,9 @@
 -- `numerals::put_digits` meets its contract: what is stored so far, with the digits left, is the number laid.
 use native.Mathlib.Omega.{arith}
-use mathlib.Core.Path.{_≡_, refl, sym, ap, _∙_}
+use mathlib.Core.Path.{_≡_, refl, sym, _∙_}
 use Prim.Native.Nat.{_≤_}
 use lib.ListN.{length}
-use Rattle.numerals.specs.Laid.{behind}
 use Rattle.numerals.proofs.Numbers.{stored, stored-turn, stored-none}
-use Rattle.numerals.proofs.BigEndian.{digits-length}
 use Rattle.numerals.proofs.Laying.{stored-laid}
 use borrow.Author.Needs.{needs}
 use Rattle.numerals.proofs.put_digits.Statement.{statement}
@@ -51,10 +49,8 @@ same-length c = c .before .before .loop .inv .1
 returns : tie.Need-returns Inv-loop μ-loop
 returns c =
     let l = c .before .before in
-    let a = l .before .before .args in (
-      c .behind .ensures ∙ ap (behind (a .at)) (sym (digits-length 10 48 (a .n) (a .value))),
-      sym (stored-none 10 48 (a .at) (l .loop .i) (l .loop .v) (l .loop .out) (c .before .loop-test .left)) ∙ l .loop .inv .2 ∙ stored-laid 10 48 (a .at) (a .n) (a .value) (a .out .now),
-    )
+    let a = l .before .before .args in
+    (c .behind .ensures, sym (stored-none 10 48 (a .at) (l .loop .i) (l .loop .v) (l .loop .out) (c .before .loop-test .left)) ∙ l .loop .inv .2 ∙ stored-laid 10 48 (a .at) (a .n) (a .value) (a .out .now))
 
 pub put-digits-spec : {M : Type 1} → statement M
 put-digits-spec =
