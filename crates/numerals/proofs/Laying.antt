@@ -95,7 +95,7 @@ sets-out : (xs o : List ℕ) (at : ℕ) → length o ≤ at → sets o at xs ≡
 sets-out [] o at h = refl
 sets-out (x ∷ xs) o at h = ap (λ r. sets r (suc at) xs) (set-out o at x h) ∙ sets-out xs o (suc at) (omega arith)
 
-laid-out : (o : List ℕ) (at : ℕ) (xs : List ℕ) → length o ≤ at → laid o at xs ≡ o
+pub laid-out : (o : List ℕ) (at : ℕ) (xs : List ℕ) → length o ≤ at → laid o at xs ≡ o
 unfolding laid
 laid-out o at xs h = sets-out xs o at h
 

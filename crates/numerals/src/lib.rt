@@ -109,8 +109,11 @@ fn store(out: &mut [u8], at: usize, i: usize, b: u8)
 pub fn put_byte(out: &mut [u8], at: usize, b: u8) -> usize
     ensures { λ r. ⌜ (r ≡ behind at 1) × (now (out .exit) ≡ laid (now (out .entry)) at (b ∷ [])) ⌝ }
 {
-    store(out, at, 0, b);
-    behind(at, 1)
+    if out.len() <= at {
+        return behind(at, 1);
+    }
+    out[at] = b;
+    at + 1
 }
 
 // A number laid in n bytes from a place on, the highest first; one step for each byte.
