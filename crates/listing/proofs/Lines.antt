@@ -10,7 +10,7 @@ use Rattle.table.proofs.Rows.{prefix-step, prefix-end}
 use Rattle.listing.specs.Lines.{column, lineOf, onLine, onLines}
 
 -- ── lengths ──
-pub column-length : (v b : ℕ) → length (column v b) ≤ 21
+column-length : (v b : ℕ) → length (column v b) ≤ 21
 unfolding column
 column-length v b = omega (arith, length-append (decimalOf v) (b ∷ []), decimal-length v, width-small v)
 
@@ -21,7 +21,7 @@ pub line-length : (k n t s : ℕ) → length (lineOf k n t s) ≤ 84
 unfolding lineOf
 line-length k n t s = omega (arith, length-append (column k 32 ++ column n 32) (column t 32 ++ column s 10), pair-length k 32 n 32, pair-length t 32 s 10)
 
-pub on-length : (t k : ℕ) → length (onLine t k) ≤ 45
+on-length : (t k : ℕ) → length (onLine t k) ≤ 45
 unfolding onLine
 on-length t k = omega (arith, pair-length k 32 t 10)
 

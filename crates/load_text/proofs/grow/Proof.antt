@@ -38,7 +38,7 @@ slice-aggregate-put-bytes : tie.Need-slice-aggregate-put-bytes
 slice-aggregate-put-bytes c = simp length-take (omega (arith, append-room _ _ _ _ (sym (c .before .before .before .before .before .before .before .append .ensures .0) ∙ c .before .before .before .before .w .given .1), c .before .before .before .before .before .before .before .append .kept .1 .1 .0))
 
 put-bytes-requires : tie.Need-put-bytes-requires
-put-bytes-requires c κs = simp length-take (omega (arith, append-room _ _ _ _ (sym (c .before .before .before .before .before .before .before .append .ensures .0) ∙ c .before .before .before .before .w .given .1), c .before .before .before .before .before .before .before .append .kept .1 .1 .0))
+put-bytes-requires c κs = search needs
 
 enum-known-w-2 : tie.Need-enum-known-w-2
 enum-known-w-2 c = search needs

@@ -1,12 +1,19 @@
--- `numerals::put_byte` meets its contract: one byte stored.
-use mathlib.Core.Path.{refl, sym, _∙_}
-use Rattle.numerals.proofs.Laying.{laid-one}
+-- `numerals::put_byte` meets its contract: one byte, or none behind the end.
+use native.Mathlib.Omega.{arith}
+use mathlib.Core.Path.{sym}
+use Rattle.numerals.proofs.Laying.{behind-small, laid-one, laid-out}
 use borrow.Author.Needs.{needs}
 use Rattle.numerals.proofs.put_byte.Statement.{statement}
 use Rattle.numerals.proofs.put_byte.Tie as tie
 
-store-requires : tie.Need-store-requires
-store-requires c κs = search needs
+behind-requires : tie.Need-behind-requires
+behind-requires c κs = search needs
+
+returns : tie.Need-returns
+returns c = (c .behind .ensures, sym (laid-out _ _ _ (c .before .if1 .taken)))
+
+slice-write-out : tie.Need-slice-write-out
+slice-write-out c = search needs
 
 add-result : tie.Need-add-result
 add-result c = search needs
@@ -14,8 +21,9 @@ add-result c = search needs
 same-length : tie.Need-same-length
 same-length c = search needs
 
-returns : tie.Need-returns
-returns c = record { next = refl; is = c .before .before .store .ensures ∙ sym (laid-one _ _ _) }
+returns-2 : tie.Need-returns-2
+returns-2 c = (sym (behind-small _ _ (omega arith)), sym (laid-one _ _ _))
 
 pub put-byte-spec : {M : Type 1} → statement M
-put-byte-spec = tie.close (tie.spec store-requires add-result same-length returns)
+put-byte-spec =
+    tie.close (tie.spec behind-requires returns slice-write-out add-result same-length returns-2)

@@ -1,7 +1,6 @@
 -- `numerals::put_decimal` meets its contract: as many digits as the number has.
-use native.Mathlib.Omega.{arith}
 use Rattle.numerals.specs.Digits.{decimalOf}
-use Rattle.numerals.proofs.Laying.{width-small}
+use Rattle.numerals.proofs.Laying.{put-digits}
 use borrow.Author.Needs.{needs}
 use Rattle.numerals.proofs.put_decimal.Statement.{statement}
 use Rattle.numerals.proofs.put_decimal.Tie as tie
@@ -10,14 +9,16 @@ width-requires : tie.Need-width-requires
 width-requires c κs = search needs
 
 put-digits-requires : tie.Need-put-digits-requires
-put-digits-requires c κs = omega (arith, width-small (c .before .before .before .args .value), c .before .width .ensures)
+put-digits-requires c κs = search needs
 
 same-length : tie.Need-same-length
 same-length c = search needs
 
 returns : tie.Need-returns
 unfolding decimalOf
-returns c = rw (← (c .before .before .before .before .width .ensures)) (c .before .before .put-digits .ensures)
+returns c =
+    let d = put-digits 10 48 _ _ (c .before .before .put-digits .ensures) in
+    rw (← (c .before .before .before .before .width .ensures)) (d .next, d .is)
 
 pub put-decimal-spec : {M : Type 1} → statement M
 put-decimal-spec = tie.close (tie.spec width-requires put-digits-requires same-length returns)
