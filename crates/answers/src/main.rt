@@ -1,0 +1,124 @@
+// Prints whole answers, for comparison with the second program: for each record of a load on standard input its number, ticket, start,
+// contention and start bound, and then how each pending ticket stands. A listing prints less.
+ghost use Prim.Native.Nat.{_≤_};
+ghost use Rattle.table.specs.Valid.{Valid};
+use load::Call;
+use load::Item;
+use rules::Table;
+use table::Outcome;
+use table::Standing;
+
+fn put_number(out: &mut [u8], at: usize, value: u64) -> usize {
+    let m = numerals::put_byte(out, at, 32);
+    numerals::put_decimal(out, m, value)
+}
+
+fn put_answer(out: &mut [u8], k: u64, o: Outcome) -> usize {
+    let a = numerals::put_decimal(out, 0, k);
+    let b = put_number(out, a, o.number as u64);
+    let c = put_number(out, b, o.ticket as u64);
+    let d = put_number(out, c, o.start);
+    let e = put_number(out, d, o.contention);
+    let f = put_number(out, e, o.bound);
+    numerals::put_byte(out, f, 10)
+}
+
+fn put_pair(out: &mut [u8], at: usize, ticket: u16, value: u64) -> usize {
+    let m = put_number(out, at, ticket as u64);
+    let n = put_number(out, m, value);
+    numerals::put_byte(out, n, 10)
+}
+
+fn put_standing(out: &mut [u8], at: usize, ticket: u16, s: Standing) -> usize {
+    match s {
+        Standing::NotPending => at,
+        Standing::Waits(v) => {
+            let m = numerals::put_bytes(out, at, b"waits");
+            put_pair(out, m, ticket, v)
+        }
+        Standing::Holds(v) => {
+            let m = numerals::put_bytes(out, at, b"holds");
+            put_pair(out, m, ticket, v)
+        }
+    }
+}
+
+// Every ticket issued so far is looked up.
+fn put_standings(out: &mut [u8], from: usize, t: Table) -> usize
+    requires { ⌜ Valid t ⌝ }
+{
+    let issued = t.issued;
+    let mut n = from;
+    let mut k: u16 = 0;
+    while k < issued {
+        k += 1;
+        let s = table::lookup(t, k);
+        n = put_standing(out, n, k, s);
+    }
+    n
+}
+
+// A record's lines: at most 64 tickets are pending, so they go into this room.
+fn print(k: u64, o: Outcome, mut room: [u8; 4096])
+    requires { ⌜ Valid (o .table) ⌝ }
+{
+    let m = put_answer(&mut room, k, o);
+    let t = o.table;
+    let n = put_standings(&mut room, m, t);
+    if n <= 4096 {
+        io::write_all(1, &room[..n]);
+    }
+}
+
+fn act(t: Table, call: Call) -> Outcome
+    requires { ⌜ Valid t ⌝ }
+    ensures { λ r. ⌜ Valid (r .table) ⌝ }
+{
+    match call {
+        Call::Rig(g) => table::new(g),
+        Call::Claim(c, g, n) => table::claim(t, c, g, n),
+        Call::Release(c, k) => table::release(t, c, k),
+        Call::Withdraw(c, k) => table::withdraw(t, c, k),
+        Call::Clock(c) => table::clock(t, c),
+    }
+}
+
+// The records to the load's end or the first refusal of the reader; a rig without groups ends them too. No load has 6,000 records.
+fn records(load: &[u8]) {
+    let none = table::new(0);
+    let mut t = none.table;
+    let mut at: usize = 1;
+    let mut k: u64 = 0;
+    while k < 6000 {
+        k += 1;
+        match load::record_at(load, at) {
+            Item::Record(call, next) => {
+                let o = act(t, call);
+                print(k, o, [0; 4096]);
+                if k == 1 && o.number != 0 {
+                    return;
+                }
+                t = o.table;
+                at = next;
+            }
+            Item::End => {
+                return;
+            }
+            Item::Refused(_r) => {
+                return;
+            }
+        }
+    }
+}
+
+fn run(mut room: [u8; 65537]) {
+    let n = io::read_full(0, &mut room);
+    let load = &room[..n];
+    if load::open_number(load) == 0 {
+        records(load);
+    }
+}
+
+fn main() {
+    run([0; 65537]);
+}
