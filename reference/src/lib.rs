@@ -8,6 +8,7 @@
 
 #![deny(unsafe_code)]
 
+pub mod answers;
 pub mod generate;
 pub mod listing;
 pub mod load;

@@ -116,6 +116,22 @@ fn the_program_prints_the_same() {
     }
 }
 
+/// Contention, start bound and lookups are in no listing: the program `answers` prints them.
+#[test]
+fn whole_answers() {
+    let differs = |load: &[u8]| output_of("answers", load) != reference::answers::answers(load);
+    let count = cases("COMPARE_ANSWERS", 2_000);
+    let first = cases("COMPARE_SEED", 1);
+    println!("answers to loads of seeds {first} to {}", first + count - 1);
+    for seed in first..first + count {
+        let load = generate::any_load(seed);
+        let load = &load[..load.len().min(2_500)];
+        if differs(load) {
+            report(seed, load, differs);
+        }
+    }
+}
+
 /// S of document 01: three claims at clock 0.
 const S: &str = "claim 0 8 10\nclaim 0 C 10\nclaim 0 6 11\n";
 
