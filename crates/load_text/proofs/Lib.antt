@@ -2,4 +2,5 @@ pub mod Fields
 pub mod Growing
 pub mod Lines
 pub mod Numbers
+pub mod Parts
 pub mod Showing

@@ -4,6 +4,7 @@ use Prim.Native.Nat.{ℕ, zero, suc, _+_, _-_, _*_}
 use mathlib.Core.Bool.{Bool, true, false, not, _&&_, _||_, cond}
 use mathlib.Core.List.{List, [], _∷_}
 use lib.Dec.{eqb, leb, ltb}
+use lib.ListN.{length, drop}
 use Rattle.groups.specs.Groups.{setWhere, union}
 use Rattle.load.specs.declared.Call.{Call}
 use Rattle.load.specs.declared.Call.the-variants.{Rig, Claim, Release, Withdraw, Clock}
@@ -22,6 +23,10 @@ unfoldable pub since : (ℕ → Bool) → List ℕ → List ℕ
 since p [] = []
 since p (b ∷ l) = cond (p b) (b ∷ l) (since p l)
 
+-- The place of the first byte from `at` on that passes p, or the text's end.
+unfoldable pub placeOf : (ℕ → Bool) → List ℕ → ℕ → ℕ
+placeOf p s at = at + length (until p (drop at s))
+
 -- A byte in front of the first part.
 abbrev pub inFront : ℕ → List (List ℕ) → List (List ℕ)
 inFront b [] = (b ∷ []) ∷ []
@@ -37,18 +42,30 @@ full [] = []
 full ([] ∷ ws) = full ws
 full ((b ∷ w) ∷ ws) = (b ∷ w) ∷ full ws
 
+abbrev pub isFeed : ℕ → Bool
+isFeed b = eqb b 10
+
 abbrev pub isBlank : ℕ → Bool
 isBlank b = eqb b 32 || eqb b 9
 
+abbrev pub isFull : ℕ → Bool
+isFull b = not (isBlank b)
+
+abbrev pub isComma : ℕ → Bool
+isComma b = eqb b 44
+
+abbrev pub isDash : ℕ → Bool
+isDash b = eqb b 45
+
 -- The lines of a text, the words of a line, the items of a list.
 unfoldable pub linesIn : List ℕ → List (List ℕ)
-linesIn l = parts (λ b. eqb b 10) l
+linesIn l = parts isFeed l
 
 unfoldable pub wordsIn : List ℕ → List (List ℕ)
 wordsIn l = full (parts isBlank l)
 
 unfoldable pub itemsIn : List ℕ → List (List ℕ)
-itemsIn l = parts (λ b. eqb b 44) l
+itemsIn l = parts isComma l
 
 -- A line before its comment, and before a carriage return that ends it.
 unfoldable pub said : List ℕ → List ℕ
@@ -102,7 +119,7 @@ rangeIn (Wrong n) l = Wrong n
 
 -- An item of a list: `5` or `5-7`.
 unfoldable pub itemIn : List ℕ → Field
-itemIn w = rangeIn (groupIn (until (λ b. eqb b 45) w)) (since (λ b. eqb b 45) w)
+itemIn w = rangeIn (groupIn (until isDash w)) (since isDash w)
 
 -- Groups, and those of an item more.
 abbrev pub joined : ℕ → Field → Field
