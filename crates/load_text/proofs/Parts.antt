@@ -7,7 +7,7 @@ use native.Mathlib.Nat.{add-zero}
 use native.Mathlib.Numerals.{add-one}
 use native.Mathlib.Omega.{arith}
 use lib.ListN.{length, getD, take, drop, drop-of-length-le, length-drop}
-use lib.Seq.{drop-cons, drop-drop}
+use lib.Seq.{drop-cons, drop-drop, getD-drop}
 use Rattle.load_text.specs.Parsing.{until, since, placeOf, parts, inFront}
 
 module _ (p : ℕ → Bool) where
@@ -57,6 +57,16 @@ module _ (p : ℕ → Bool) where
   parts-of [] h = absurd (omega arith)
   parts-of (b ∷ l) h = parts-is b l
 
+  until-passes : (l : List ℕ) → length (until p l) < length l → p (getD l (length (until p l)) 0) ≡ true
+  unfolding until
+  until-passes [] h = absurd (omega arith)
+  until-passes (b ∷ l) h = go (until-passes l) (p b) refl h
+    where
+      go : (length (until p l) < length l → p (getD l (length (until p l)) 0) ≡ true) → (t : Bool) → p b ≡ t
+          → length (cond t [] (b ∷ until p l)) < suc (length l) → p (getD (b ∷ l) (length (cond t [] (b ∷ until p l))) 0) ≡ true
+      go f true e k = e
+      go f false e k = f (omega arith)
+
   module _ (s : List ℕ) where
     -- ── the place from `at` on: where the byte there passes, where it does not, and behind the end ──
     pub place-here : (at : ℕ) → at < length s → p (getD s at 0) ≡ true → placeOf p s at ≡ at
@@ -78,6 +88,11 @@ module _ (p : ℕ → Bool) where
     pub place-high : (at : ℕ) → placeOf p s at ≤ max at (length s)
     unfolding placeOf
     place-high at = omega (arith, until-length (drop at s), length-drop at s)
+
+    pub place-passes : (at : ℕ) → placeOf p s at < length s → p (getD s (placeOf p s at) 0) ≡ true
+    unfolding placeOf
+    place-passes at h =
+        ap (λ b. p b) (sym (getD-drop at s (length (until p (drop at s))) 0)) ∙ until-passes (drop at s) (omega (arith, length-drop at s))
 
     -- ── what lies before it, and from it on ──
     past : (at : ℕ) → placeOf p s at - at ≡ length (until p (drop at s))
