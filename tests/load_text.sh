@@ -87,6 +87,7 @@ good "comments and blank lines" '# a show\n\n \t \nrig F# all\n   # end' "01$rig
 good "tabs, spaces, and no line feed at the end" '\t rig \t F \t' "01$rig"
 good "carriage returns" 'rig F\r\n\r\n# x\r\nclock 7\r\n' "01${rig}0009050000000000000007"
 good "hex in either case" 'rig aBcDeF0123456789\n' 01000901abcdef0123456789
+good "zeros in front of hex" 'rig 0000000000000000F\n' "01$rig"
 good "list of groups" 'rig 0,3,5-7\n' 0100090100000000000000e9
 good "a single group as a list" 'rig 5,\nclaim 0 5-5 1\n' 0100090100000000000000200015020000000000000000000000000000002000000001
 good "all groups" 'rig 0-63\n' 01000901ffffffffffffffff
@@ -109,7 +110,7 @@ bad "range of three" 'rig 1-2-3\n' 'line 1: groups are not hex or a list'
 bad "range backward" 'rig 7-5\n' 'line 1: range runs backward'
 bad "group over 63" 'rig F\nclaim 0 60-64 1\n' 'line 2: group over 63'
 bad "clock of 2^64" 'rig F\nclock 18446744073709551616\n' 'line 2: number too large'
-bad "17 digits of hex" 'rig 00000000000000001\n' 'line 1: number too large'
+bad "groups of 2^64" 'rig 10000000000000000\n' 'line 1: number too large'
 bad "length of 2^32" 'rig F\nclaim 0 F 4294967296\n' 'line 2: number too large'
 bad "ticket of 65,536" 'rig F\nwithdraw 0 65536\n' 'line 2: number too large'
 bad "a long word that is no number" 'rig F\nclock 99999999999999999999999x\n' 'line 2: clock is not a number'

@@ -1,5 +1,9 @@
+pub mod Calls
 pub mod Fields
 pub mod Growing
 pub mod Lines
 pub mod Numbers
+pub mod Parts
+pub mod Reading
 pub mod Showing
+pub mod Spans

@@ -1,9 +1,11 @@
 -- What a text says. Bytes are ASCII: 9 is a tab, 10 a line feed, 13 a carriage return, 32 a space, 35 '#', 44 ',', 45 '-'.
 -- The reasons are those of src/reasons.rt.
-use Prim.Native.Nat.{ℕ, zero, suc, _+_, _-_, _*_}
+use Prim.Native.Nat.{ℕ, zero, suc, _+_, _-_, _*_, _≤_, max}
+use mathlib.Core.Path.{_≡_}
 use mathlib.Core.Bool.{Bool, true, false, not, _&&_, _||_, cond}
 use mathlib.Core.List.{List, [], _∷_}
 use lib.Dec.{eqb, leb, ltb}
+use lib.ListN.{length, take, drop}
 use Rattle.groups.specs.Groups.{setWhere, union}
 use Rattle.load.specs.declared.Call.{Call}
 use Rattle.load.specs.declared.Call.the-variants.{Rig, Claim, Release, Withdraw, Clock}
@@ -22,6 +24,10 @@ unfoldable pub since : (ℕ → Bool) → List ℕ → List ℕ
 since p [] = []
 since p (b ∷ l) = cond (p b) (b ∷ l) (since p l)
 
+-- The place of the first byte from `at` on that passes p, or the text's end.
+unfoldable pub placeOf : (ℕ → Bool) → List ℕ → ℕ → ℕ
+placeOf p s at = at + length (until p (drop at s))
+
 -- A byte in front of the first part.
 abbrev pub inFront : ℕ → List (List ℕ) → List (List ℕ)
 inFront b [] = (b ∷ []) ∷ []
@@ -37,24 +43,50 @@ full [] = []
 full ([] ∷ ws) = full ws
 full ((b ∷ w) ∷ ws) = (b ∷ w) ∷ full ws
 
+abbrev pub is : ℕ → ℕ → Bool
+is a b = eqb b a
+
+abbrev pub isFeed : ℕ → Bool
+isFeed b = is 10 b
+
 abbrev pub isBlank : ℕ → Bool
-isBlank b = eqb b 32 || eqb b 9
+isBlank b = is 32 b || is 9 b
+
+abbrev pub isFull : ℕ → Bool
+isFull b = not (isBlank b)
+
+abbrev pub isComma : ℕ → Bool
+isComma b = is 44 b
+
+abbrev pub isDash : ℕ → Bool
+isDash b = is 45 b
 
 -- The lines of a text, the words of a line, the items of a list.
 unfoldable pub linesIn : List ℕ → List (List ℕ)
-linesIn l = parts (λ b. eqb b 10) l
+linesIn l = parts isFeed l
 
 unfoldable pub wordsIn : List ℕ → List (List ℕ)
 wordsIn l = full (parts isBlank l)
 
 unfoldable pub itemsIn : List ℕ → List (List ℕ)
-itemsIn l = parts (λ b. eqb b 44) l
+itemsIn l = parts isComma l
+
+abbrev pub wordAt : List ℕ → ℕ → ℕ → List ℕ
+wordAt l from to = take (to - from) (drop from l)
+
+-- The first word from `at` on: from its first byte to behind its last, both the text's end where there is none.
+pub record FirstWord (l : List ℕ) (at from to : ℕ) : Type 0 where
+  pub low : at ≤ from
+  pub order : from ≤ to
+  pub high : to ≤ max at (length l)
+  pub none : to ≤ from → length l ≤ to
+  pub is : wordsIn (drop at l) ≡ cond (ltb from to) (wordAt l from to ∷ wordsIn (drop to l)) []
 
 -- A line before its comment, and before a carriage return that ends it.
 unfoldable pub said : List ℕ → List ℕ
 said [] = []
-said (b ∷ []) = cond (eqb b 35 || eqb b 13) [] (b ∷ [])
-said (b ∷ c ∷ l) = cond (eqb b 35) [] (b ∷ said (c ∷ l))
+said (b ∷ []) = cond (is 35 b || is 13 b) [] (b ∷ [])
+said (b ∷ c ∷ l) = cond (is 35 b) [] (b ∷ said (c ∷ l))
 
 -- ── numbers ──
 -- The value of a digit up to F in either case, 16 for any other byte.
@@ -69,21 +101,25 @@ unfoldable pub valueIn : ℕ → ℕ → List ℕ → ℕ
 valueIn base v [] = v
 valueIn base v (b ∷ l) = valueIn base (v * base + digitOf b) l
 
--- Only digits of the base, and at least one.
+-- Only digits of the base; and at least one.
+unfoldable pub digitsIn : ℕ → List ℕ → Bool
+digitsIn base [] = true
+digitsIn base (b ∷ l) = ltb (digitOf b) base && digitsIn base l
+
 unfoldable pub isNumber : ℕ → List ℕ → Bool
 isNumber base [] = false
-isNumber base (b ∷ []) = ltb (digitOf b) base
-isNumber base (b ∷ c ∷ l) = ltb (digitOf b) base && isNumber base (c ∷ l)
+isNumber base (b ∷ l) = digitsIn base (b ∷ l)
+
+-- A number, `large` where it is over `most`.
+abbrev pub upToMost : ℕ → ℕ → ℕ → Field
+upToMost most large v = cond (leb v most) (Value v) (Wrong large)
 
 -- The number that a word says: `none` where it says none, `large` where it is over `most`.
 unfoldable pub numberIn : ℕ → ℕ → ℕ → ℕ → List ℕ → Field
-numberIn base most none large w =
-    cond (isNumber base w)
-    (cond (leb (valueIn base 0 w) most) (Value (valueIn base 0 w)) (Wrong large))
-    (Wrong none)
+numberIn base most none large w = cond (isNumber base w) (upToMost most large (valueIn base 0 w)) (Wrong none)
 
 -- ── sets of groups ──
-unfoldable pub groupIn : List ℕ → Field
+abbrev pub groupIn : List ℕ → Field
 groupIn w = numberIn 10 63 7 9 w
 
 -- The groups from one to another.
@@ -102,7 +138,7 @@ rangeIn (Wrong n) l = Wrong n
 
 -- An item of a list: `5` or `5-7`.
 unfoldable pub itemIn : List ℕ → Field
-itemIn w = rangeIn (groupIn (until (λ b. eqb b 45) w)) (since (λ b. eqb b 45) w)
+itemIn w = rangeIn (groupIn (until isDash w)) (since isDash w)
 
 -- Groups, and those of an item more.
 abbrev pub joined : ℕ → Field → Field
@@ -120,20 +156,20 @@ withItems f (w ∷ ws) = withItems (withItem f w) ws
 
 unfoldable pub isList : List ℕ → Bool
 isList [] = false
-isList (b ∷ l) = eqb b 44 || eqb b 45 || isList l
+isList (b ∷ l) = isComma b || isDash b || isList l
 
 -- A word with a comma or a dash is a list, any other a set in hex.
 unfoldable pub groupsIn : List ℕ → Field
 groupsIn w = cond (isList w) (withItems (Value 0) (itemsIn w)) (numberIn 16 18446744073709551615 7 8 w)
 
 -- ── calls ──
-unfoldable pub clockIn : List ℕ → Field
+abbrev pub clockIn : List ℕ → Field
 clockIn w = numberIn 10 18446744073709551615 4 8 w
 
-unfoldable pub ticketIn : List ℕ → Field
+abbrev pub ticketIn : List ℕ → Field
 ticketIn w = numberIn 10 65535 5 8 w
 
-unfoldable pub lengthIn : List ℕ → Field
+abbrev pub lengthIn : List ℕ → Field
 lengthIn w = numberIn 10 4294967295 6 8 w
 
 -- What a call makes of a field; its reason where it is wrong.
@@ -142,46 +178,61 @@ withField (Value v) f = f v
 withField (Wrong n) f = Bad n
 
 -- The words behind the first of a line: 2 where one is missing, 3 where there are too many.
-abbrev pub rigIn : List (List ℕ) → Parsed
+unfoldable pub rigIn : List (List ℕ) → Parsed
 rigIn [] = Bad 2
 rigIn (g ∷ []) = withField (groupsIn g) (λ s. Said (Rig s))
 rigIn (g ∷ a ∷ ws) = Bad 3
 
-abbrev pub clockCallIn : List (List ℕ) → Parsed
+unfoldable pub clockCallIn : List (List ℕ) → Parsed
 clockCallIn [] = Bad 2
 clockCallIn (t ∷ []) = withField (clockIn t) (λ c. Said (Clock c))
 clockCallIn (t ∷ a ∷ ws) = Bad 3
 
-abbrev pub leaveIn : (ℕ → ℕ → Call) → List (List ℕ) → Parsed
+unfoldable pub leaveIn : (ℕ → ℕ → Call) → List (List ℕ) → Parsed
 leaveIn f [] = Bad 2
 leaveIn f (t ∷ []) = Bad 2
 leaveIn f (t ∷ k ∷ []) = withField (clockIn t) (λ c. withField (ticketIn k) (λ n. Said (f c n)))
 leaveIn f (t ∷ k ∷ a ∷ ws) = Bad 3
 
-abbrev pub claimIn : List (List ℕ) → Parsed
+unfoldable pub claimIn : List (List ℕ) → Parsed
 claimIn [] = Bad 2
 claimIn (t ∷ []) = Bad 2
 claimIn (t ∷ g ∷ []) = Bad 2
 claimIn (t ∷ g ∷ n ∷ []) = withField (clockIn t) (λ c. withField (groupsIn g) (λ s. withField (lengthIn n) (λ l. Said (Claim c s l))))
 claimIn (t ∷ g ∷ n ∷ a ∷ ws) = Bad 3
 
-abbrev pub isWord : List ℕ → List ℕ → Bool
+unfoldable pub isWord : List ℕ → List ℕ → Bool
 isWord [] [] = true
 isWord [] (b ∷ l) = false
 isWord (a ∷ k) [] = false
 isWord (a ∷ k) (b ∷ l) = eqb a b && isWord k l
 
 -- "rig", "claim", "release", "withdraw", "clock".
-abbrev pub callOf : List ℕ → List (List ℕ) → Parsed
+abbrev pub rigWord : List ℕ
+rigWord = 114 ∷ 105 ∷ 103 ∷ []
+
+abbrev pub claimWord : List ℕ
+claimWord = 99 ∷ 108 ∷ 97 ∷ 105 ∷ 109 ∷ []
+
+abbrev pub releaseWord : List ℕ
+releaseWord = 114 ∷ 101 ∷ 108 ∷ 101 ∷ 97 ∷ 115 ∷ 101 ∷ []
+
+abbrev pub withdrawWord : List ℕ
+withdrawWord = 119 ∷ 105 ∷ 116 ∷ 104 ∷ 100 ∷ 114 ∷ 97 ∷ 119 ∷ []
+
+abbrev pub clockWord : List ℕ
+clockWord = 99 ∷ 108 ∷ 111 ∷ 99 ∷ 107 ∷ []
+
+unfoldable pub callOf : List ℕ → List (List ℕ) → Parsed
 callOf k ws =
-    cond (isWord k (114 ∷ 105 ∷ 103 ∷ [])) (rigIn ws)
-    (cond (isWord k (99 ∷ 108 ∷ 97 ∷ 105 ∷ 109 ∷ [])) (claimIn ws)
-    (cond (isWord k (114 ∷ 101 ∷ 108 ∷ 101 ∷ 97 ∷ 115 ∷ 101 ∷ [])) (leaveIn Release ws)
-    (cond (isWord k (119 ∷ 105 ∷ 116 ∷ 104 ∷ 100 ∷ 114 ∷ 97 ∷ 119 ∷ [])) (leaveIn Withdraw ws)
-    (cond (isWord k (99 ∷ 108 ∷ 111 ∷ 99 ∷ 107 ∷ [])) (clockCallIn ws)
+    cond (isWord k rigWord) (rigIn ws)
+    (cond (isWord k claimWord) (claimIn ws)
+    (cond (isWord k releaseWord) (leaveIn Release ws)
+    (cond (isWord k withdrawWord) (leaveIn Withdraw ws)
+    (cond (isWord k clockWord) (clockCallIn ws)
     (Bad 1)))))
 
-abbrev pub callIn : List (List ℕ) → Parsed
+unfoldable pub callIn : List (List ℕ) → Parsed
 callIn [] = Nothing
 callIn (k ∷ ws) = callOf k ws
 

@@ -1,16 +1,18 @@
-// A line of text to a call.
-ghost use Prim.Native.Nat.{_≤_, max};
-ghost use lib.ListN.{length};
-ghost use Rattle.load_text.specs.Bounds.{Fits, badOf, reasonOf};
+// A line of text to a call. What a line says is defined in specs/Parsing.antt.
+ghost use mathlib.Core.Path.{_≡_};
+ghost use mathlib.Core.Bool.{cond};
+ghost use Prim.Native.Nat.{_≤_};
+ghost use lib.ListN.{length, drop};
+ghost use Rattle.load.specs.declared.Call.the-variants.{Release, Withdraw};
+ghost use Rattle.load_text.specs.Parsing.{callIn, callOf, claimIn, clockCallIn, clockIn, groupsIn, leaveIn, lengthIn, lineSays, rigIn, said, ticketIn, wordAt, wordsIn};
 use crate::reasons::MISSING;
 use crate::reasons::NO_CLOCK;
-use crate::reasons::NO_GROUPS;
 use crate::reasons::NO_LENGTH;
 use crate::reasons::NO_TICKET;
 use crate::reasons::TOO_LARGE;
 use crate::reasons::TOO_MANY;
 use crate::reasons::UNKNOWN;
-use crate::sets::groups;
+use crate::sets::groups_of;
 use crate::words::Field;
 use crate::words::Word;
 use crate::words::is_empty;
@@ -25,17 +27,9 @@ pub enum Parsed {
     Bad(u8),
 }
 
-// The words behind a line's first, up to three, and how many there are, four standing for more.
-pub struct Words {
-    pub a: Word,
-    pub b: Word,
-    pub c: Word,
-    pub count: usize,
-}
-
 // Where the words of a line end: at a comment, else at the line's end, before a carriage return there.
 fn said_end(line: &[u8]) -> usize
-    ensures { λ r. ⌜ r ≤ length (now (line .entry)) ⌝ }
+    ensures { λ r. ⌜ r ≡ length (said (now (line .entry))) ⌝ }
 {
     let size = line.len();
     let mut i: usize = 0;
@@ -43,129 +37,104 @@ fn said_end(line: &[u8]) -> usize
         if line[i] == b'#' {
             return i;
         }
-        if line[i] == 13 && i + 1 == size {
-            return i;
+        if line[i] == 13 {
+            if i + 1 == size {
+                return i;
+            }
         }
         i += 1;
     }
     size
 }
 
-// The kind of record that a word names, 0 for none.
-fn kind(word: &[u8]) -> u8
-    ensures { λ r. ⌜ r ≤ 5 ⌝ }
-{
-    if check::same(word, b"rig") {
-        return 1;
-    }
-    if check::same(word, b"claim") {
-        return 2;
-    }
-    if check::same(word, b"release") {
-        return 3;
-    }
-    if check::same(word, b"withdraw") {
-        return 4;
-    }
-    if check::same(word, b"clock") {
-        return 5;
-    }
-    0
-}
-
-// How many numbers stand behind a kind's word.
-fn numbers(kind: u8) -> usize
-    ensures { λ r. ⌜ r ≤ 3 ⌝ }
-{
-    match kind {
-        2 => 3,
-        3 => 2,
-        4 => 2,
-        _ => 1,
-    }
-}
-
-fn count(a: Word, b: Word, c: Word, d: Word) -> usize
-    ensures { λ r. ⌜ r ≤ 4 ⌝ }
-{
-    if is_empty(a) {
-        return 0;
-    }
-    if is_empty(b) {
-        return 1;
-    }
-    if is_empty(c) {
-        return 2;
-    }
-    if is_empty(d) {
-        return 3;
-    }
-    4
-}
-
-fn words_from(said: &[u8], at: usize) -> Words
-    ensures { λ r. ⌜ r .count ≤ 4 ⌝ }
-{
-    let a = next_word(said, at);
-    let b = next_word(said, a.to);
-    let c = next_word(said, b.to);
-    let d = next_word(said, c.to);
-    let n = count(a, b, c, d);
-    Words {
-        a: a,
-        b: b,
-        c: c,
-        count: n,
-    }
-}
-
-fn number_at(said: &[u8], w: Word, most: u64, none: u8) -> Field
-    ensures { λ r. ⌜ Fits most (max none 8) r ⌝ }
+// What the word of a line says, as one of the fields of a call.
+fn clock_at(said: &[u8], w: Word) -> Field
+    requires { ⌜ (w .from ≤ w .to) × (w .to ≤ length (now said)) ⌝ }
+    ensures { λ r. ⌜ r ≡ clockIn (wordAt (now (said .entry)) (w .from) (w .to)) ⌝ }
 {
     let from = w.from;
     let to = w.to;
-    if to < from || said.len() < to {
-        return Field::Wrong(none);
-    }
-    number(&said[from..to], 10, most, none, TOO_LARGE)
+    number(&said[from..to], 10, u64::MAX, NO_CLOCK, TOO_LARGE)
+}
+
+fn ticket_at(said: &[u8], w: Word) -> Field
+    requires { ⌜ (w .from ≤ w .to) × (w .to ≤ length (now said)) ⌝ }
+    ensures { λ r. ⌜ r ≡ ticketIn (wordAt (now (said .entry)) (w .from) (w .to)) ⌝ }
+{
+    let from = w.from;
+    let to = w.to;
+    number(&said[from..to], 10, 65535, NO_TICKET, TOO_LARGE)
+}
+
+fn length_at(said: &[u8], w: Word) -> Field
+    requires { ⌜ (w .from ≤ w .to) × (w .to ≤ length (now said)) ⌝ }
+    ensures { λ r. ⌜ r ≡ lengthIn (wordAt (now (said .entry)) (w .from) (w .to)) ⌝ }
+{
+    let from = w.from;
+    let to = w.to;
+    number(&said[from..to], 10, 4294967295, NO_LENGTH, TOO_LARGE)
 }
 
 fn groups_at(said: &[u8], w: Word) -> Field
-    ensures { λ r. ⌜ reasonOf r ≤ 10 ⌝ }
+    requires { ⌜ (w .from ≤ w .to) × (w .to ≤ length (now said)) ⌝ }
+    ensures { λ r. ⌜ r ≡ groupsIn (wordAt (now (said .entry)) (w .from) (w .to)) ⌝ }
 {
     let from = w.from;
     let to = w.to;
-    if to < from || said.len() < to {
-        return Field::Wrong(NO_GROUPS);
-    }
-    groups(&said[from..to])
+    groups_of(&said[from..to])
 }
 
-fn rig(said: &[u8], a: Word) -> Parsed
-    ensures { λ r. ⌜ badOf r ≤ 10 ⌝ }
+// Each kind of call reads its words from a place on, and the number of words is judged before what they say.
+fn rig(said: &[u8], at: usize) -> Parsed
+    ensures { λ r. ⌜ r ≡ rigIn (wordsIn (drop at (now (said .entry)))) ⌝ }
 {
+    let a = next_word(said, at);
+    let more = next_word(said, a.to);
+    if is_empty(a) {
+        return Parsed::Bad(MISSING);
+    }
+    if !is_empty(more) {
+        return Parsed::Bad(TOO_MANY);
+    }
     match groups_at(said, a) {
         Field::Value(g) => Parsed::Said(Call::Rig(g)),
         Field::Wrong(n) => Parsed::Bad(n),
     }
 }
 
-fn clock(said: &[u8], a: Word) -> Parsed
-    ensures { λ r. ⌜ badOf r ≤ 10 ⌝ }
+fn clock(said: &[u8], at: usize) -> Parsed
+    ensures { λ r. ⌜ r ≡ clockCallIn (wordsIn (drop at (now (said .entry)))) ⌝ }
 {
-    match number_at(said, a, u64::MAX, NO_CLOCK) {
+    let a = next_word(said, at);
+    let more = next_word(said, a.to);
+    if is_empty(a) {
+        return Parsed::Bad(MISSING);
+    }
+    if !is_empty(more) {
+        return Parsed::Bad(TOO_MANY);
+    }
+    match clock_at(said, a) {
         Field::Value(t) => Parsed::Said(Call::Clock(t)),
         Field::Wrong(n) => Parsed::Bad(n),
     }
 }
 
-fn leave(said: &[u8], a: Word, b: Word, kind: u8) -> Parsed
-    ensures { λ r. ⌜ badOf r ≤ 10 ⌝ }
+fn leave(said: &[u8], at: usize, release: bool) -> Parsed
+    ensures { λ r. ⌜ r ≡ leaveIn (cond release Release Withdraw) (wordsIn (drop at (now (said .entry)))) ⌝ }
 {
-    match number_at(said, a, u64::MAX, NO_CLOCK) {
-        Field::Value(t) => match number_at(said, b, 65535, NO_TICKET) {
+    let a = next_word(said, at);
+    let b = next_word(said, a.to);
+    let more = next_word(said, b.to);
+    if is_empty(b) {
+        return Parsed::Bad(MISSING);
+    }
+    if !is_empty(more) {
+        return Parsed::Bad(TOO_MANY);
+    }
+    match clock_at(said, a) {
+        Field::Value(t) => match ticket_at(said, b) {
             Field::Value(k) => {
-                if kind == 3 {
+                if release {
                     return Parsed::Said(Call::Release(t, k as u16));
                 }
                 Parsed::Said(Call::Withdraw(t, k as u16))
@@ -176,56 +145,56 @@ fn leave(said: &[u8], a: Word, b: Word, kind: u8) -> Parsed
     }
 }
 
-fn claim_of(said: &[u8], t: u64, g: u64, c: Word) -> Parsed
-    ensures { λ r. ⌜ badOf r ≤ 10 ⌝ }
+fn claim(said: &[u8], at: usize) -> Parsed
+    ensures { λ r. ⌜ r ≡ claimIn (wordsIn (drop at (now (said .entry)))) ⌝ }
 {
-    match number_at(said, c, 4294967295, NO_LENGTH) {
-        Field::Value(l) => Parsed::Said(Call::Claim(t, g, l as u32)),
-        Field::Wrong(n) => Parsed::Bad(n),
+    let a = next_word(said, at);
+    let b = next_word(said, a.to);
+    let c = next_word(said, b.to);
+    let more = next_word(said, c.to);
+    if is_empty(c) {
+        return Parsed::Bad(MISSING);
     }
-}
-
-fn claim(said: &[u8], a: Word, b: Word, c: Word) -> Parsed
-    ensures { λ r. ⌜ badOf r ≤ 10 ⌝ }
-{
-    match number_at(said, a, u64::MAX, NO_CLOCK) {
+    if !is_empty(more) {
+        return Parsed::Bad(TOO_MANY);
+    }
+    match clock_at(said, a) {
         Field::Value(t) => match groups_at(said, b) {
-            Field::Value(g) => claim_of(said, t, g, c),
+            Field::Value(g) => match length_at(said, c) {
+                Field::Value(l) => Parsed::Said(Call::Claim(t, g, l as u32)),
+                Field::Wrong(n) => Parsed::Bad(n),
+            },
             Field::Wrong(n) => Parsed::Bad(n),
         },
         Field::Wrong(n) => Parsed::Bad(n),
     }
 }
 
-// The call of a kind that the words say.
-fn call(said: &[u8], kind: u8, w: Words) -> Parsed
-    ensures { λ r. ⌜ badOf r ≤ 10 ⌝ }
+// The call that a word names, with its words from a place on.
+fn call(word: &[u8], said: &[u8], at: usize) -> Parsed
+    ensures { λ r. ⌜ r ≡ callOf (now (word .entry)) (wordsIn (drop at (now (said .entry)))) ⌝ }
 {
-    let n = numbers(kind);
-    let count = w.count;
-    if count < n {
-        return Parsed::Bad(MISSING);
+    if check::same(word, b"rig") {
+        return rig(said, at);
     }
-    if n < count {
-        return Parsed::Bad(TOO_MANY);
+    if check::same(word, b"claim") {
+        return claim(said, at);
     }
-    let a = w.a;
-    let b = w.b;
-    match kind {
-        1 => rig(said, a),
-        2 => {
-            let c = w.c;
-            claim(said, a, b, c)
-        }
-        3 => leave(said, a, b, 3),
-        4 => leave(said, a, b, 4),
-        _ => clock(said, a),
+    if check::same(word, b"release") {
+        return leave(said, at, true);
     }
+    if check::same(word, b"withdraw") {
+        return leave(said, at, false);
+    }
+    if check::same(word, b"clock") {
+        return clock(said, at);
+    }
+    Parsed::Bad(UNKNOWN)
 }
 
 // A line's part before its end or its comment.
 fn parse(said: &[u8]) -> Parsed
-    ensures { λ r. ⌜ badOf r ≤ 10 ⌝ }
+    ensures { λ r. ⌜ r ≡ callIn (wordsIn (now (said .entry))) ⌝ }
 {
     let w = next_word(said, 0);
     if is_empty(w) {
@@ -233,16 +202,12 @@ fn parse(said: &[u8]) -> Parsed
     }
     let from = w.from;
     let to = w.to;
-    let k = kind(&said[from..to]);
-    if k == 0 {
-        return Parsed::Bad(UNKNOWN);
-    }
-    call(said, k, words_from(said, to))
+    call(&said[from..to], said, to)
 }
 
 // A line without its line feed.
 pub fn parse_line(line: &[u8]) -> Parsed
-    ensures { λ r. ⌜ badOf r ≤ 10 ⌝ }
+    ensures { λ r. ⌜ r ≡ lineSays (now (line .entry)) ⌝ }
 {
     let end = said_end(line);
     parse(&line[..end])

@@ -1,26 +1,26 @@
-// Sets of groups as text: hex, or a list such as 0,3,5-7.
-ghost use Prim.Native.Nat.{_+_, _≤_};
-ghost use lib.ListN.{length};
-ghost use Rattle.load_text.specs.Bounds.{Fits, Steps, reasonOf};
+// Sets of groups as text: hex, or a list such as 0,3,5-7. What a word says is defined in specs/Parsing.antt.
+ghost use mathlib.Core.Path.{_≡_};
+ghost use Prim.Native.Nat.{_≤_};
+ghost use Rattle.load_text.specs.declared.words.Field.the-variants.{Value};
+ghost use Rattle.load_text.specs.Parsing.{groupIn, groupsIn, isList, itemIn, itemsIn, span, upTo, withItems};
 use crate::reasons::BACKWARD;
 use crate::reasons::NO_GROUPS;
 use crate::reasons::OVER_63;
 use crate::reasons::TOO_LARGE;
 use crate::words::Field;
-use crate::words::digits_end;
 use crate::words::number;
-
-// The place behind an item of a list, and its groups; or what is wrong with it.
-pub enum Step {
-    Next(usize, u64),
-    Refused(u8),
-}
+use crate::words::place;
 
 // Whether a word has a comma or a dash.
-fn is_list(word: &[u8]) -> bool {
+fn is_list(word: &[u8]) -> bool
+    ensures { λ r. ⌜ r ≡ isList (now (word .entry)) ⌝ }
+{
     let mut i: usize = 0;
     while i < word.len() {
-        if word[i] == b',' || word[i] == b'-' {
+        if word[i] == b',' {
+            return true;
+        }
+        if word[i] == b'-' {
             return true;
         }
         i += 1;
@@ -28,101 +28,78 @@ fn is_list(word: &[u8]) -> bool {
     false
 }
 
-// The groups from one to another; the numbers are taken modulo 64.
-fn span(low: u64, high: u64) -> u64 {
-    (u64::MAX << (low % 64)) & (u64::MAX >> (63 - high % 64))
+// The groups from one to another: the bits below 2^(high + 1) without those below 2^low.
+fn span(low: u64, high: u64) -> u64
+    requires { ⌜ (low ≤ high) × (high ≤ 63) ⌝ }
+    ensures { λ r. ⌜ r ≡ span low high ⌝ }
+{
+    let top = 1u64 << high;
+    (top - (1u64 << low)) + top
 }
 
 fn group(word: &[u8]) -> Field
-    ensures { λ r. ⌜ Fits 63 10 r ⌝ }
+    ensures { λ r. ⌜ r ≡ groupIn (now (word .entry)) ⌝ }
 {
     number(word, 10, 63, NO_GROUPS, OVER_63)
 }
 
-// The end of an item: the end of the word, or a comma.
-fn closed(word: &[u8], at: usize, groups: u64) -> Step
-    ensures { λ r. ⌜ Steps at (length (now (word .entry))) r ⌝ }
+// The groups from one to the one that a word says.
+fn range(low: u64, word: &[u8]) -> Field
+    ensures { λ r. ⌜ r ≡ upTo low (groupIn (now (word .entry))) ⌝ }
 {
-    if word.len() <= at {
-        return Step::Next(at, groups);
-    }
-    if word[at] == b',' {
-        return Step::Next(at + 1, groups);
-    }
-    Step::Refused(NO_GROUPS)
-}
-
-// The second number of a range, and its end.
-fn range(word: &[u8], at: usize, low: u64) -> Step
-    ensures { λ r. ⌜ Steps at (length (now (word .entry))) r ⌝ }
-{
-    if word.len() < at {
-        return Step::Refused(NO_GROUPS);
-    }
-    let end = digits_end(word, at, 10);
-    match group(&word[at..end]) {
+    match group(word) {
         Field::Value(high) => {
             if high < low {
-                return Step::Refused(BACKWARD);
+                return Field::Wrong(BACKWARD);
             }
-            closed(word, end, span(low, high))
+            Field::Value(span(low, high))
         }
-        Field::Wrong(n) => Step::Refused(n),
+        Field::Wrong(n) => Field::Wrong(n),
     }
 }
 
-// One item, `5` or `5-7`, with the comma behind it.
-fn item(word: &[u8], at: usize) -> Step
-    ensures { λ r. ⌜ Steps (at + 1) (length (now (word .entry))) r ⌝ }
+// One item, `5` or `5-7`.
+fn item(word: &[u8]) -> Field
+    ensures { λ r. ⌜ r ≡ itemIn (now (word .entry)) ⌝ }
 {
-    if word.len() <= at {
-        return Step::Refused(NO_GROUPS);
-    }
-    let end = digits_end(word, at, 10);
-    if end <= at {
-        return Step::Refused(NO_GROUPS);
-    }
-    match group(&word[at..end]) {
+    let end = place(word, b'-', 0);
+    match group(&word[..end]) {
         Field::Value(low) => {
-            if end < word.len() {
-                if word[end] == b'-' {
-                    return range(word, end + 1, low);
-                }
+            if word.len() <= end {
+                return Field::Value(span(low, low));
             }
-            closed(word, end, span(low, low))
+            range(low, &word[end + 1..])
         }
-        Field::Wrong(n) => Step::Refused(n),
+        Field::Wrong(n) => Field::Wrong(n),
     }
 }
 
 fn list(word: &[u8]) -> Field
-    ensures { λ r. ⌜ reasonOf r ≤ 10 ⌝ }
+    ensures { λ r. ⌜ r ≡ withItems (Value 0) (itemsIn (now (word .entry))) ⌝ }
 {
     let mut set: u64 = 0;
     let mut at: usize = 0;
     while at < word.len() {
-        match item(word, at) {
-            Step::Next(next, groups) => {
-                set = set | groups;
-                at = next;
+        let end = place(word, b',', at);
+        match item(&word[at..end]) {
+            Field::Value(g) => {
+                set = groups::union(set, g);
             }
-            Step::Refused(n) => {
+            Field::Wrong(n) => {
                 return Field::Wrong(n);
             }
         }
+        at = end + 1;
     }
     Field::Value(set)
 }
 
-// The set that a word says. A word without comma and dash is hex, of at most 16 digits.
-pub(crate) fn groups(word: &[u8]) -> Field
-    ensures { λ r. ⌜ reasonOf r ≤ 10 ⌝ }
+// The set that a word says. A word without comma and dash is hex.
+pub(crate) fn groups_of(word: &[u8]) -> Field
+    ensures { λ r. ⌜ r ≡ groupsIn (now (word .entry)) ⌝ }
 {
     if is_list(word) {
         return list(word);
-    }
-    if 16 < word.len() {
-        return number(word, 16, 0, NO_GROUPS, TOO_LARGE);
     }
     number(word, 16, u64::MAX, NO_GROUPS, TOO_LARGE)
 }

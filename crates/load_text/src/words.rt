@@ -1,9 +1,10 @@
 // The words of a line: where they stand, and the numbers that they say.
-// Every function takes any slice and any place; the ensures say how far an answer can go.
+// Every function takes any slice and any place. What they answer is defined in specs/Parsing.antt.
 ghost use mathlib.Core.Path.{_≡_};
-ghost use Prim.Native.Nat.{_≤_, _<_, max};
-ghost use lib.ListN.{length};
-ghost use Rattle.load_text.specs.Bounds.{Reach, Apart, Fits};
+ghost use mathlib.Core.Bool.{true};
+ghost use Prim.Native.Nat.{_<_};
+ghost use lib.Dec.{leb};
+ghost use Rattle.load_text.specs.Parsing.{FirstWord, digitOf, digitsIn, is, isBlank, isFull, isNumber, numberIn, placeOf, upToMost, valueIn};
 
 // A word of a line, from its first byte to behind its last. Both are equal where there is no word.
 pub struct Word {
@@ -23,13 +24,15 @@ fn wide(b: u8) -> u64
     b as u64
 }
 
-fn is_blank(b: u8) -> bool {
+fn is_blank(b: u8) -> bool
+    ensures { λ r. ⌜ r ≡ isBlank b ⌝ }
+{
     b == b' ' || b == b'\t'
 }
 
 // The first place from `at` on that is neither space nor tab.
 fn skip(line: &[u8], at: usize) -> usize
-    ensures { λ r. ⌜ Reach at (length (now (line .entry))) r ⌝ }
+    ensures { λ r. ⌜ r ≡ placeOf isFull (now (line .entry)) at ⌝ }
 {
     let mut i = at;
     while i < line.len() {
@@ -43,7 +46,7 @@ fn skip(line: &[u8], at: usize) -> usize
 
 // The first place from `at` on that is a space or a tab, or the end.
 fn word_end(line: &[u8], at: usize) -> usize
-    ensures { λ r. ⌜ Reach at (length (now (line .entry))) r ⌝ }
+    ensures { λ r. ⌜ r ≡ placeOf isBlank (now (line .entry)) at ⌝ }
 {
     let mut i = at;
     while i < line.len() {
@@ -55,22 +58,38 @@ fn word_end(line: &[u8], at: usize) -> usize
     i
 }
 
+// The first place from `at` on of a byte, or the end.
+pub(crate) fn place(text: &[u8], byte: u8, at: usize) -> usize
+    ensures { λ r. ⌜ r ≡ placeOf (is byte) (now (text .entry)) at ⌝ }
+{
+    let mut i = at;
+    while i < text.len() {
+        if text[i] == byte {
+            return i;
+        }
+        i += 1;
+    }
+    i
+}
+
 // The next word from a place on.
 pub(crate) fn next_word(line: &[u8], at: usize) -> Word
-    ensures { λ r. ⌜ Apart at (length (now (line .entry))) (r .from) (r .to) ⌝ }
+    ensures { λ r. ⌜ FirstWord (now (line .entry)) at (r .from) (r .to) ⌝ }
 {
     let from = skip(line, at);
     let to = word_end(line, from);
     Word { from: from, to: to }
 }
 
-pub(crate) fn is_empty(w: Word) -> bool {
+pub(crate) fn is_empty(w: Word) -> bool
+    ensures { λ r. ⌜ r ≡ leb (w .to) (w .from) ⌝ }
+{
     w.to <= w.from
 }
 
 // The value of a digit up to F in either case, 16 for any other byte.
 fn digit(b: u8) -> u64
-    ensures { λ r. ⌜ r ≤ 16 ⌝ }
+    ensures { λ r. ⌜ (r ≡ digitOf b) × (r < 17) ⌝ }
 {
     match b {
         b'0'..=b'9' => wide(b - 48),
@@ -80,31 +99,32 @@ fn digit(b: u8) -> u64
     }
 }
 
-// The first place from `at` on that is no digit of a base.
-pub(crate) fn digits_end(word: &[u8], at: usize, base: u64) -> usize
-    ensures { λ r. ⌜ Reach at (length (now (word .entry))) r ⌝ }
+// Whether a word has only digits of a base, and at least one.
+fn is_number(word: &[u8], base: u64) -> bool
+    ensures { λ r. ⌜ r ≡ isNumber base (now (word .entry)) ⌝ }
 {
-    let mut i = at;
+    if word.len() == 0 {
+        return false;
+    }
+    let mut i: usize = 0;
     while i < word.len() {
         if base <= digit(word[i]) {
-            return i;
+            return false;
         }
         i += 1;
     }
-    i
+    true
 }
 
-// The number that digits say, if it is at most `most`, else the reason `large`; `none` where a byte is no digit.
-fn value(word: &[u8], base: u64, most: u64, none: u8, large: u8) -> Field
-    ensures { λ r. ⌜ Fits most (max none large) r ⌝ }
+// The number that digits say, if it is at most `most`, else the reason `large`.
+fn value(word: &[u8], base: u64, most: u64, large: u8) -> Field
+    requires { ⌜ digitsIn base (now word) ≡ true ⌝ }
+    ensures { λ r. ⌜ r ≡ upToMost most large (valueIn base 0 (now (word .entry))) ⌝ }
 {
     let mut v: u64 = 0;
     let mut i: usize = 0;
     while i < word.len() {
         let d = digit(word[i]);
-        if base <= d {
-            return Field::Wrong(none);
-        }
         if most < d {
             return Field::Wrong(large);
         }
@@ -117,16 +137,12 @@ fn value(word: &[u8], base: u64, most: u64, none: u8, large: u8) -> Field
     Field::Value(v)
 }
 
-// The same for a whole word, in which a byte that is no digit goes before a number that is too large.
+// The number that a word says: `none` where it says none, which goes before `large`, where it is over `most`.
 pub(crate) fn number(word: &[u8], base: u64, most: u64, none: u8, large: u8) -> Field
-    ensures { λ r. ⌜ Fits most (max none large) r ⌝ }
+    ensures { λ r. ⌜ r ≡ numberIn base most none large (now (word .entry)) ⌝ }
 {
-    let size = word.len();
-    if size == 0 {
+    if !is_number(word, base) {
         return Field::Wrong(none);
     }
-    if digits_end(word, 0, base) < size {
-        return Field::Wrong(none);
-    }
-    value(word, base, most, none, large)
+    value(word, base, most, large)
 }

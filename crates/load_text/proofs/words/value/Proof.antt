@@ -1,56 +1,68 @@
--- The number never passes the most allowed: each digit is tested before it goes in.
-use Prim.Native.Nat.{_-_, _≤_}
-use lib.ListN.{length}
+use Prim.Native.Nat.{_-_, _≤_, _<_}
+use mathlib.Core.Path.{_≡_, refl, sym, ap, _∙_}
 use native.Mathlib.Omega.{arith}
+use lib.ListN.{length, drop}
 use borrow.Author.Needs.{needs}
-use Rattle.load_text.proofs.Numbers.{digit-more}
+use Rattle.load_text.proofs.Numbers.{Summing, sum-base, sum-over, sum-on, sum-end, digit-more, digit-over}
 use Rattle.load_text.proofs.words.value.Statement.{statement}
 use Rattle.load_text.proofs.words.value.Tie as tie
+use Rattle.load_text.proofs.words.value.Reads as reads
+use Rattle.load_text.proofs.words.value.Lts as lts
+use Rattle.load_text.proofs.words.digit.Reads as digit-reads
 
 abbrev Inv-loop : tie.InvT-loop
-Inv-loop word base most none large v₀ i₀ v i = (i ≤ length word) × (v ≤ most)
+Inv-loop word base most large v₀ i₀ v i = Summing base most word v i
 
 abbrev μ-loop : tie.MeasureT-loop
-μ-loop word base most none large v₀ i₀ v i = length word - i
+μ-loop word base most large v₀ i₀ v i = length word - i
 
+-- src/words.rt:126:5
 loop-holds : tie.Need-loop-holds Inv-loop μ-loop
-loop-holds c = search needs
+loop-holds c = record { room = omega arith; digits = c .before .pre; is = refl }
 
+-- src/words.rt:127:23
 shared-slice-read-digit : tie.Need-shared-slice-read-digit Inv-loop μ-loop
 shared-slice-read-digit c = search needs
 
+-- src/words.rt:127:13
 digit-requires : tie.Need-digit-requires Inv-loop μ-loop
 digit-requires c κs = search needs
 
+-- src/words.rt:129:13
 returns : tie.Need-returns Inv-loop μ-loop
-returns c = search needs
+returns c = sum-over _ _ _ _ _ (c .before .before .before .before .loop .inv) (omega arith) _ (c .before .digit .ensures .0) _ (omega arith)
 
+-- src/words.rt:131:12
+div-if2 : tie.Need-div-if2 Inv-loop μ-loop
+div-if2 c = sum-base _ _ _ _ _ (c .before .before .before .before .loop .inv) (omega arith) _ (c .before .digit .ensures .0)
+
+-- src/words.rt:132:13
 returns-2 : tie.Need-returns-2 Inv-loop μ-loop
-returns-2 c = search needs
+returns-2 c = let p = sum-base _ _ _ _ _ (c .before .before .before .before .before .loop .inv) (omega arith) _ (c .before .before .digit .ensures .0) in sum-over _ _ _ _ _ (c .before .before .before .before .before .loop .inv) (omega arith) _ (c .before .before .digit .ensures .0) _ (digit-over _ _ _ _ p (c .before .if1 .left) (c .if2 .taken))
 
-div-if3 : tie.Need-div-if3 Inv-loop μ-loop
-div-if3 c = search needs
-
-returns-3 : tie.Need-returns-3 Inv-loop μ-loop
-returns-3 c = search needs
-
+-- src/words.rt:134:13
 mul-v : tie.Need-mul-v Inv-loop μ-loop
-mul-v c = omega (arith, digit-more _ _ _ _ (c .before .if2 .left) (c .if3 .left))
+mul-v c = omega (arith, digit-more _ _ _ _ (c .before .if1 .left) (c .if2 .left))
 
+-- src/words.rt:134:13
 add-v : tie.Need-add-v Inv-loop μ-loop
-add-v c = omega (arith, digit-more _ _ _ _ (c .before .if2 .left) (c .if3 .left))
+add-v c = omega (arith, digit-more _ _ _ _ (c .before .if1 .left) (c .if2 .left))
 
+-- src/words.rt:135:9
 add-i : tie.Need-add-i Inv-loop μ-loop
 add-i c = search needs
 
+-- src/words.rt:126:5
 loop-less : tie.Need-loop-less Inv-loop μ-loop
 loop-less c = search needs
 
+-- src/words.rt:126:5
 loop-again : tie.Need-loop-again Inv-loop μ-loop
-loop-again c = (omega arith, digit-more _ _ _ _ (c .before .if2 .left) (c .if3 .left))
+loop-again c = sum-on _ _ _ _ _ (c .before .before .before .before .before .loop .inv) (omega arith) _ (c .before .before .digit .ensures .0) (digit-more _ _ _ _ (c .before .if1 .left) (c .if2 .left))
 
-returns-4 : tie.Need-returns-4 Inv-loop μ-loop
-returns-4 c = search needs
+-- src/words.rt:120:1
+returns-3 : tie.Need-returns-3 Inv-loop μ-loop
+returns-3 c = sum-end _ _ _ _ _ (c .before .loop .inv) _ (omega arith)
 
 pub value-spec : {M : Type 1} → statement M
 value-spec =
@@ -62,12 +74,11 @@ value-spec =
     shared-slice-read-digit
     digit-requires
     returns
+    div-if2
     returns-2
-    div-if3
-    returns-3
     mul-v
     add-v
     add-i
     loop-less
     loop-again
-    returns-4)
+    returns-3)
