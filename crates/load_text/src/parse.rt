@@ -1,7 +1,9 @@
 // A line of text to a call.
+ghost use mathlib.Core.Path.{_≡_};
 ghost use Prim.Native.Nat.{_≤_, max};
 ghost use lib.ListN.{length};
 ghost use Rattle.load_text.specs.Bounds.{Fits, badOf, reasonOf};
+ghost use Rattle.load_text.specs.Parsing.{lineSays};
 use crate::reasons::MISSING;
 use crate::reasons::NO_CLOCK;
 use crate::reasons::NO_GROUPS;
@@ -242,7 +244,7 @@ fn parse(said: &[u8]) -> Parsed
 
 // A line without its line feed.
 pub fn parse_line(line: &[u8]) -> Parsed
-    ensures { λ r. ⌜ badOf r ≤ 10 ⌝ }
+    ensures { λ r. ⌜ r ≡ lineSays (now (line .entry)) ⌝ }
 {
     let end = said_end(line);
     parse(&line[..end])
