@@ -2,15 +2,11 @@
 use Prim.Native.Nat.{ℕ, _≤_, max}
 use mathlib.Core.Path.{_≡_}
 use native.Mathlib.Omega.{arith}
-use Rattle.load.specs.declared.Written.{Written}
-use Rattle.load.specs.declared.Written.the-variants.{Length}
-use Rattle.load_text.specs.declared.Made.{Made}
-use Rattle.load_text.specs.declared.Made.the-variants.{Load}
 use Rattle.load_text.specs.declared.sets.Step.{Step}
 use Rattle.load_text.specs.declared.sets.Step.the-variants.{Next, Refused}
 use Rattle.load_text.specs.declared.words.Field.{Field}
 use Rattle.load_text.specs.declared.words.Field.the-variants.{Value, Wrong}
-use Rattle.load_text.specs.Bounds.{Fits, Steps, reasonOf, writtenOf, madeOf}
+use Rattle.load_text.specs.Bounds.{Fits, Steps, reasonOf}
 
 module _ (most top : ℕ) (f : Field) (h : Fits most top f) (n : ℕ) where
   pub value-held : f ≡ Value n → n ≤ most
@@ -33,9 +29,3 @@ module _ (at size : ℕ) (s : Step) (h : Steps at size s) (n : ℕ) where
 pub steps-from : (a b size : ℕ) (s : Step) → a ≤ b → b ≤ max a size → Steps b size s → Steps a size s
 steps-from a b size (Next n g) p q h = record { low = omega (arith, h .low); high = omega (arith, h .high); fault = h .fault }
 steps-from a b size (Refused n) p q h = record { low = omega arith; high = omega arith; fault = h .fault }
-
-pub length-held : (m n : ℕ) (w : Written) → writtenOf w ≤ m → w ≡ Length n → n ≤ m
-length-held m n w h e = rw e at h
-
-pub load-held : (m n : ℕ) (w : Made) → madeOf w ≤ m → w ≡ Load n → n ≤ m
-load-held m n w h e = rw e at h

@@ -31,6 +31,13 @@ answer-refusal : (k m n : ℕ) → answered k m ≡ Refusal n → (k ≡ n) × (
 answer-refusal zero m n e = let z : _≡_ {A = ℕ} 0 1 = cc in absurd (omega arith)
 answer-refusal (suc k) m n e = let q : suc k ≡ n = cc in (q, λ z. omega arith)
 
+-- The first bytes of the buffer are then the grown load.
+pub grown-first : (s : List ℕ) (c : Call) (out : List ℕ) (n : ℕ) → appendAnswer s c out ≡ Length n → take n (appendOut s c out) ≡ grown s c
+unfolding appendAnswer appendOut
+grown-first s c out n e =
+    let q = answer-length (appendNumber s c (length out)) (length (grown s c)) n e in
+    rw (q .0) (take-at (grown s c) (drop (length (grown s c)) out) n (q .1))
+
 -- ── a load grown in a buffer of 65,536 bytes ──
 -- No load is longer than that, so the tests of a call in such a buffer are those in any other but for the room.
 room-last : (s : List ℕ) (c : Call) (room : ℕ) → appendNumber s c room ≡ orElse (appendNumber s c 65536) (cond (ltb room (length (grown s c))) 15 0)
@@ -81,8 +88,7 @@ module _ (s : List ℕ) (c : Call) (g : List ℕ) (l : length g ≡ 65536) where
       grow-written g′ p h f w =
           let q = answer-length (appendNumber s c (length g)) (length (grown s c)) n e in
           let z : appendNumber s c (length out) ≡ 0 = number ∙ rw (le-ltb (length out) n h) in
-          let a : take n (lent (appendNumber s c (length g)) (grown s c ++ drop (length (grown s c)) g) g) ≡ grown s c = rw (q .0) (take-at (grown s c) (drop (length (grown s c)) g) n (q .1)) in
-          let b : take n g′ ≡ grown s c = ap (take n) f ∙ a in
+          let b : take n g′ ≡ grown s c = ap (take n) f ∙ grown-first s c g n e in
           rw z (ap Length (sym (q .1)), w ∙ ap (laid out 0) b ∙ laid-fits out (grown s c) (omega (arith, q .1)))
 
 -- ── a load at the start of a buffer ──

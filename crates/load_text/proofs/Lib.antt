@@ -5,3 +5,4 @@ pub mod Making
 pub mod Numbers
 pub mod Parts
 pub mod Showing
+pub mod Within

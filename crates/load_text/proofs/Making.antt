@@ -1,17 +1,24 @@
 -- The load of a text line by line: the loop of `make`, and that a load made so reads to its end.
 use Prim.Native.Nat.{ℕ, zero, suc, _+_, _-_, _≤_, _<_}
-use mathlib.Core.List.{List, [], _∷_, _++_}
+use mathlib.Core.List.{List, [], _∷_, _++_, append-nil}
 use mathlib.Core.Path.{_≡_, refl, sym, ap, _∙_}
 use native.Mathlib.Omega.{arith}
-use lib.ListN.{length, take, drop, set, length-set}
-use lib.Seq.{length-take-le, drop-set-lt}
+use lib.ListN.{length, take, drop, set, replicate, length-set, length-replicate}
+use lib.Seq.{length-take-le, drop-set-lt, append-snoc}
+use Rattle.load.specs.declared.Call.{Call}
 use Rattle.load.specs.declared.Written.{Written}
 use Rattle.load.specs.declared.Written.the-variants.{Length, Refusal}
+use Rattle.load.specs.Writing.{grown, appendNumber, appendAnswer, answered, lent}
+use Rattle.load.specs.RoundTrip.{Typed, Appended}
+use Rattle.load.proofs.RoundTrip.{written-reads}
 use Rattle.load_text.specs.declared.Made.the-variants.{Load, Mistake}
+use Rattle.load_text.specs.declared.parse.Parsed.{Parsed}
+use Rattle.load_text.specs.declared.parse.Parsed.the-variants.{Nothing, Said, Bad}
 use Rattle.load_text.specs.Parsing.{isFeed, placeOf, linesIn, lineSays}
-use Rattle.load_text.specs.Making.{Added, added, Making, onFrom, gathered, made, madeOf, atStart, madeOut}
+use Rattle.load_text.specs.Making.{Added, added, Making, onFrom, gathered, made, madeOf, atStart, madeOut, andSaid, callsIn, MadeReads}
 use Rattle.load_text.proofs.Parts.{place-low, place-high, parts-cut, parts-end}
-use Rattle.load_text.proofs.Growing.{start-own, start-take, start-length, start-over, added-longer, added-fits, added-length}
+use Rattle.load_text.proofs.Growing.{start-own, start-take, start-length, start-over, added-longer, added-fits, added-length, grown-first}
+use Rattle.load_text.proofs.Within.{says-typed}
 
 -- ── lines from a place on ──
 lines-cut : (text : List ℕ) (at e : ℕ) → at < length text → e ≡ placeOf isFeed text at
@@ -106,3 +113,63 @@ module _ (text o p : List ℕ) (size at line : ℕ) (g : Gathers text (set o 0 1
     gathers-wrong n z =
         let m : Making = record { load = a .load; answer = Mistake (line + 1) n } in
         ended text o q m (rw z at on) (omega (arith, longer, g .begun)) over
+
+-- ── a made load reads as its calls ──
+-- A call that the writer takes where there is room, taken.
+append-more : (cs : List Call) (s : List ℕ) (c : Call) (room : ℕ) → Appended 1 cs s → Typed c → appendNumber s c room ≡ 0 → Appended 1 (cs ++ (c ∷ [])) (grown s c)
+unfolding appendAnswer
+append-more cs s c room a t z =
+    let out : List ℕ = replicate room 0 in
+    let e : answered (appendNumber s c (length out)) (length (grown s c)) ≡ Length (length (grown s c)) = rw (length-replicate, z) in
+    rw (grown-first s c out (length (grown s c)) e) at (Appended.one c out (length (grown s c)) a t e)
+
+-- What lines make of a load, if it ends well.
+record Reads (cs : List Call) (m : Making) (n : ℕ) : Type 0 where
+  pub appended : Appended 1 cs (m .load)
+  pub is : length (m .load) ≡ n
+
+gathered-reads : (room k : ℕ) (ls : List (List ℕ)) (cs : List Call) (s : List ℕ) (n : ℕ) → Appended 1 cs s → gathered room k s ls .answer ≡ Load n → Reads (cs ++ callsIn ls) (gathered room k s ls) n
+unfolding gathered callsIn
+gathered-reads room k [] cs s n a e = record { appended = rw append-nil a; is = cc }
+gathered-reads room k (l ∷ ls) cs s n a e = go (lineSays l) refl e (λ ds r b. gathered-reads room (k + 1) ls ds r n b)
+  where
+    go : (p : Parsed) → lineSays l ≡ p → onFrom (λ r. gathered room (k + 1) r ls) (k + 1) (added s room p .load) (added s room p .answer) .answer ≡ Load n
+        → ((ds : List Call) (r : List ℕ) → Appended 1 ds r → gathered room (k + 1) r ls .answer ≡ Load n → Reads (ds ++ callsIn ls) (gathered room (k + 1) r ls) n)
+        → Reads (cs ++ andSaid p (callsIn ls)) (onFrom (λ r. gathered room (k + 1) r ls) (k + 1) (added s room p .load) (added s room p .answer)) n
+    go Nothing i e f = f cs s a e
+    go (Bad j) i e f = let z : _≡_ {A = ℕ} 0 1 = cc in absurd (omega arith)
+    go (Said c) i e f = call (appendNumber s c room) refl e
+      where
+        call : (j : ℕ) → appendNumber s c room ≡ j
+            → onFrom (λ r. gathered room (k + 1) r ls) (k + 1) (lent j (grown s c) s) (answered j (length (grown s c))) .answer ≡ Load n
+            → Reads (cs ++ (c ∷ callsIn ls)) (onFrom (λ r. gathered room (k + 1) r ls) (k + 1) (lent j (grown s c) s) (answered j (length (grown s c)))) n
+        call zero z e = rw (append-snoc cs c (callsIn ls)) at (f (cs ++ (c ∷ [])) (grown s c) (append-more cs s c room a (says-typed l c i) z) e)
+        call (suc j) z e = let y : _≡_ {A = ℕ} 0 1 = cc in absurd (omega arith)
+
+made-ends : (text : List ℕ) (room n : ℕ) → made text room .answer ≡ Load n → Reads (callsIn (linesIn text)) (made text room) n
+unfolding made
+made-ends text zero n e = let z : _≡_ {A = ℕ} 0 1 = cc in absurd (omega arith)
+made-ends text (suc room) n e = gathered-reads (suc room) 0 (linesIn text) [] (1 ∷ []) n (Appended.none refl) e
+
+gathered-fits : (room k : ℕ) (ls : List (List ℕ)) (s : List ℕ) → length s ≤ room → length (gathered room k s ls .load) ≤ room
+unfolding gathered
+gathered-fits room k [] s h = h
+gathered-fits room k (l ∷ ls) s h = go (added s room (lineSays l) .load) (added s room (lineSays l) .answer) (added-fits s room (lineSays l) h) (gathered-fits room (k + 1) ls)
+  where
+    go : (t : List ℕ) (w : Written) → length t ≤ room → ((r : List ℕ) → length r ≤ room → length (gathered room (k + 1) r ls .load) ≤ room)
+        → length (onFrom (λ r. gathered room (k + 1) r ls) (k + 1) t w .load) ≤ room
+    go t (Length n) i f = f t i
+    go t (Refusal n) i f = i
+
+made-fits : (text : List ℕ) (room : ℕ) → length (made text room .load) ≤ room
+unfolding made
+made-fits text zero = omega arith
+made-fits text (suc room) = gathered-fits (suc room) 0 (linesIn text) (1 ∷ []) (omega arith)
+
+pub made-reads : MadeReads
+unfolding madeOf madeOut
+made-reads text out n e =
+    let r = made-ends text (length out) n e in
+    let t : take n (atStart (made text (length out) .load) out) ≡ made text (length out) .load = start-take (made text (length out) .load) out n (r .is) in
+    let w = written-reads 1 _ _ (r .appended) in
+    (omega (arith, r .is, made-fits text (length out)), rw t (w .0), rw t (w .1))

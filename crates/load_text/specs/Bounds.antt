@@ -1,12 +1,5 @@
 -- How far the answers of the reader of lines can go.
 use Prim.Native.Nat.{ℕ, suc, _≤_, _<_, max}
-use mathlib.Core.List.{List}
-use lib.ListN.{take}
-use Rattle.load.specs.Reading.{loadNumber}
-use Rattle.load.specs.declared.Written.{Written}
-use Rattle.load.specs.declared.Written.the-variants.{Length, Refusal}
-use Rattle.load_text.specs.declared.Made.{Made}
-use Rattle.load_text.specs.declared.Made.the-variants.{Load, Mistake}
 use Rattle.load_text.specs.declared.parse.Parsed.{Parsed}
 use Rattle.load_text.specs.declared.parse.Parsed.the-variants.{Nothing, Said, Bad}
 use Rattle.load_text.specs.declared.sets.Step.{Step}
@@ -59,16 +52,3 @@ abbrev pub badOf : Parsed → ℕ
 badOf Nothing = 0
 badOf (Said c) = 0
 badOf (Bad n) = n
-
-abbrev pub writtenOf : Written → ℕ
-writtenOf (Length n) = n
-writtenOf (Refusal n) = 0
-
--- the length of a load that was made, 0 for none; and what the reader says of it
-abbrev pub madeOf : Made → ℕ
-madeOf (Load n) = n
-madeOf (Mistake l n) = 0
-
-abbrev pub numberOf : Made → List ℕ → ℕ
-numberOf (Load n) out = loadNumber (take n out)
-numberOf (Mistake l n) out = 0

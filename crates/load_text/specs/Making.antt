@@ -1,8 +1,8 @@
 -- The load that a text makes, line by line.
-use Prim.Native.Nat.{ℕ, zero, suc, _+_}
+use Prim.Native.Nat.{ℕ, zero, suc, _+_, _≤_}
 use mathlib.Core.List.{List, [], _∷_, _++_}
 use mathlib.Core.Path.{_≡_}
-use lib.ListN.{length, drop}
+use lib.ListN.{length, take, drop}
 use Rattle.load.specs.declared.Call.{Call}
 use Rattle.load.specs.declared.Written.{Written}
 use Rattle.load.specs.declared.Written.the-variants.{Length, Refusal}
@@ -60,3 +60,21 @@ atStart s out = s ++ drop (length s) out
 -- The buffer behind a text.
 unfoldable pub madeOut : List ℕ → List ℕ → List ℕ
 madeOut text out = atStart (made text (length out) .load) out
+
+-- ── what it reads as ──
+-- The calls that lines say.
+abbrev pub andSaid : Parsed → List Call → List Call
+andSaid Nothing cs = cs
+andSaid (Said c) cs = c ∷ cs
+andSaid (Bad n) cs = cs
+
+unfoldable pub callsIn : List (List ℕ) → List Call
+callsIn [] = []
+callsIn (l ∷ ls) = andSaid (lineSays l) (callsIn ls)
+
+-- A load that is answered with its length stands in the buffer's first bytes, and reads as the calls that the lines say, to its end.
+-- proofs/Making has the proof: made-reads.
+abbrev pub MadeReads : Type 0
+MadeReads = (text out : List ℕ) (n : ℕ) → madeOf text (length out) ≡ Load n
+    → (n ≤ length out) × (loadNumber (take n (madeOut text out)) ≡ 0)
+    × (walk (take n (madeOut text out)) 1 ≡ record { calls = callsIn (linesIn text); stop = 0 })
