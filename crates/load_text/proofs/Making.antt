@@ -166,10 +166,14 @@ unfolding made
 made-fits text zero = omega arith
 made-fits text (suc room) = gathered-fits (suc room) 0 (linesIn text) (1 ∷ []) (omega arith)
 
+pub made-bound : (text : List ℕ) (room n : ℕ) → madeOf text room ≡ Load n → n ≤ room
+unfolding madeOf
+made-bound text room n e = omega (arith, made-ends text room n e .is, made-fits text room)
+
 pub made-reads : MadeReads
 unfolding madeOf madeOut
 made-reads text out n e =
     let r = made-ends text (length out) n e in
     let t : take n (atStart (made text (length out) .load) out) ≡ made text (length out) .load = start-take (made text (length out) .load) out n (r .is) in
     let w = written-reads 1 _ _ (r .appended) in
-    (omega (arith, r .is, made-fits text (length out)), rw t (w .0), rw t (w .1))
+    (made-bound text (length out) n e, rw t (w .0), rw t (w .1))
