@@ -3,11 +3,11 @@
 use mathlib.Core.Path.{_≡_, refl, sym}
 use mathlib.Core.Bool.{Bool, true, false, cond}
 use mathlib.Core.List.{List, [], _∷_, _++_}
-use Prim.Native.Nat.{ℕ, zero, suc, _+_, _-_, _*_, _/_, _≤_, _<_}
+use Prim.Native.Nat.{ℕ, zero, suc, _+_, _-_, _*_, _/_, _^_, _≤_, _<_}
 use native.Mathlib.Omega.{arith}
 use lib.Dec.{ltb, leb, eqb}
-use borrow.Author.Tests.{le-leb}
-use lib.ListN.{length, take, drop, getD, length-append}
+use borrow.Author.Tests.{le-leb, ltb-false}
+use lib.ListN.{length, drop, length-append}
 use Rattle.rules.specs.Lists.{sum}
 use Rattle.rules.specs.Calls.{Model, Step, blank}
 use Rattle.load.specs.declared.Call.{Call}
@@ -82,6 +82,15 @@ listing-bounded s = go (ltb 65536 (length s)) refl
         let l = lines-length 1 (blank 0) (walk s 1 .calls) (walk s 1 .stop) in
         let b : length rest ≤ 47 + 129 * (length s / 11) = omega arith in
         rw e (omega (arith, stop-length (cond (eqb (length s) 0) 12 (cond (known (editionOf s)) 0 11)) 0 (47 + 129 * (length s / 11)) rest b (omega arith)))
+
+-- So its length is a usize.
+pub listing-short : (s : List ℕ) → length (listingOf s) < 2 ^ 64
+unfolding roomFor
+listing-short s = go (ltb 65536 (length s)) refl (listing-bounded s)
+  where
+    go : (b : Bool) → ltb 65536 (length s) ≡ b → length (listingOf s) ≤ cond b 71 (71 + 129 * (length s / 11)) → length (listingOf s) < 2 ^ 64
+    go true e h = omega arith
+    go false e h = omega (arith, ltb-false 65536 (length s) e)
 
 -- Where the room is that much, the listing goes in.
 pub goes-surely : (s : List ℕ) (n room : ℕ) → n ≡ roomFor (length s) → n ≤ room → true ≡ leb (length (listingOf s)) room

@@ -2,10 +2,9 @@
 use mathlib.Core.Path.{_≡_, refl, sym, ap, _∙_}
 use mathlib.Core.Bool.{Bool, true, false, cond}
 use mathlib.Core.List.{List, [], _++_}
-use Prim.Native.Nat.{ℕ, zero, suc, _+_, _*_, _≤_}
+use Prim.Native.Nat.{ℕ, zero, suc, _+_, _^_, _≤_, _<_}
 use native.Mathlib.Omega.{arith}
-use native.Mathlib.Nat.{zero-add}
-use lib.ListN.{length, take, length-append, length-take}
+use lib.ListN.{length, take}
 use lib.Dec.{leb}
 use borrow.Author.Tests.{leb-true}
 use Rattle.rules.specs.declared.Table.{Table}
@@ -13,7 +12,7 @@ use Rattle.rules.specs.Calls.{Model, Step, blank, new}
 use Rattle.rules.specs.Tables.{model}
 use Rattle.rules.proofs.Calls.{new-cases}
 use Rattle.claims.proofs.Rows.{pad-take}
-use Rattle.numerals.specs.Laid.{Put}
+use Rattle.numerals.specs.Laid.{laid, Put}
 use Rattle.numerals.proofs.Laying.{laid-fits}
 use Rattle.table.specs.declared.Outcome.{Outcome}
 use Rattle.table.specs.Valid.{Valid}
@@ -26,18 +25,11 @@ use Rattle.load.proofs.Reading.{walk-record, walk-end, walk-refused, step-refus
 use Rattle.listing.specs.Lines.{header, lineOf, onLines, stopLine}
 use Rattle.listing.specs.Text.{stepOf, entryOf, ending, stopOr, linesFrom, linesOf, listingOf, answerOf, bufferOf}
 use Rattle.listing.proofs.Counts.{record-counted}
-use Rattle.listing.proofs.Lines.{line-length, ons-length}
 use Rattle.numerals.proofs.Going.{Going, going-start, going-step, going-as, going-none, going-last}
 
 -- ── what an outcome prints ──
 abbrev pub shown : ℕ → Outcome → List ℕ
 shown k o = lineOf k (o .number) (o .ticket) (o .start) ++ onLines (o .table .clock) (take (o .granted) (o .grants))
-
-pub shown-length : (k : ℕ) (o : Outcome) → o .granted ≤ 64 → length (shown k o) ≤ 2964
-shown-length k o h =
-    let g = take (o .granted) (o .grants) in
-    let t = o .table .clock in
-    omega (arith, length-append (lineOf k (o .number) (o .ticket) (o .start)) (onLines t g), line-length k (o .number) (o .ticket) (o .start), ons-length t g, length-take (o .granted) (o .grants))
 
 shown-is : (k : ℕ) (s : Step) → entryOf k s ≡ shown k (outcome s)
 unfolding entryOf
@@ -109,19 +101,17 @@ pub record Turn (s o₀ : List ℕ) (from : ℕ) (o : List ℕ) (t : Table) (at 
   pub valid : Valid t
   pub inside : at ≤ 65536
   pub few : k ≤ at
-  pub near : n ≤ 24 + 4096 * at
   pub going : Going o₀ from (linesOf 1 (blank 0) (walk s 1)) o n (linesOf k (model t) (walk s at))
 
-pub turn-start : (s o : List ℕ) (from : ℕ) (r : Outcome) → from ≤ 24 → r ≡ outcome (new 0) → Valid (r .table) → Turn s o from o (r .table) 1 1 from
-turn-start s o from r h e v =
+pub turn-start : (s o : List ℕ) (from : ℕ) (r : Outcome) → length o < 2 ^ 64 → from < 2 ^ 64 → r ≡ outcome (new 0) → Valid (r .table) → Turn s o from o (r .table) 1 1 from
+turn-start s o from r h k e v =
     let b : new 0 .model ≡ blank 0 = new-cases (λ (x : Step). x .model ≡ blank 0) 0 (λ z. refl) (λ z. refl) in
     let q : model (r .table) ≡ blank 0 = model-is (r .table) (new 0 .model) (ap (λ (x : Outcome). x .table) e) ∙ b in
     record {
       valid = v;
       inside = omega arith;
       few = omega arith;
-      near = omega arith;
-      going = going-as o from _ o from _ _ (ap (λ (x : Model). linesOf 1 x (walk s 1)) (sym q)) (going-start o from (linesOf 1 (blank 0) (walk s 1)));
+      going = going-as o from _ o from _ _ (ap (λ (x : Model). linesOf 1 x (walk s 1)) (sym q)) (going-start o from (linesOf 1 (blank 0) (walk s 1)) h k);
     }
 
 pub turn-more : (s o₀ : List ℕ) (from : ℕ) (out : List ℕ) (t : Table) (at k n : ℕ) → Turn s o₀ from out t at k n → length s ≤ 65536
@@ -129,12 +119,10 @@ pub turn-more : (s o₀ : List ℕ) (from : ℕ) (out : List ℕ) (t : Table) (a
     → (x : ℕ) → x ≡ ending c (o .number) → x ≡ 0 → (r : ℕ) (p : List ℕ) → Put out n (shown k o) r p → Turn s o₀ from p (o .table) next (k + 1) r
 turn-more s o₀ from out t at k n u l c next e o h v x q y r p z =
     let i = step-next s at c next e in
-    let d = shown-length k o (few-granted (model t) c o h v) in
     record {
       valid = v;
       inside = omega (arith, i .1);
       few = omega (arith, i .0, u .few);
-      near = omega (arith, i .0, u .near, z .next, d);
       going = run-record s at (model t) k o₀ from (linesOf 1 (blank 0) (walk s 1)) out n (u .going) c next e o h x q r p y z;
     }
 
@@ -152,9 +140,9 @@ pub listing-none : (x out : List ℕ) → leb (length x) (length out) ≡ false 
 unfolding answerOf bufferOf
 listing-none x out e = rw e (refl, refl)
 
-pub listing-all : (x out : List ℕ) → leb (length x) (length out) ≡ true → (r : ℕ) (p : List ℕ) → Put out 0 x r p → (r ≡ answerOf x out) × (p ≡ bufferOf x out)
+pub listing-all : (x out : List ℕ) → leb (length x) (length out) ≡ true → (r : ℕ) (p : List ℕ) → (r ≡ length x) × (p ≡ laid out 0 x) → (r ≡ answerOf x out) × (p ≡ bufferOf x out)
 unfolding answerOf bufferOf
-listing-all x out e r p w = rw e (w .next ∙ zero-add (length x), w .is ∙ laid-fits out x (leb-true (length x) (length out) e))
+listing-all x out e r p w = rw e (w .0, w .1 ∙ laid-fits out x (leb-true (length x) (length out) e))
 
 -- The answer is a count of the buffer's bytes, where it has 15.
 pub answer-within : (x out p : List ℕ) (r : ℕ) → r ≡ answerOf x out → length p ≡ length out → 15 ≤ length out → r ≤ length p

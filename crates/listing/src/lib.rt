@@ -1,12 +1,12 @@
 // The listing of a load: the player's call. A load's records run on a table, and each prints what it answers.
 ghost use mathlib.Core.Path.{_≡_};
 ghost use mathlib.Core.List.{_++_};
-ghost use Prim.Native.Nat.{_+_, _^_, _≤_, _<_};
+ghost use Prim.Native.Nat.{_≤_};
 ghost use lib.Dec.{leb};
 ghost use lib.ListN.{length, take};
 ghost use Rattle.rules.specs.Calls.{blank};
 ghost use Rattle.rules.specs.Tables.{model};
-ghost use Rattle.numerals.specs.Laid.{Put};
+ghost use Rattle.numerals.specs.Laid.{laid, Put};
 ghost use Rattle.load.specs.Reading.{walk};
 ghost use Rattle.table.specs.Valid.{Valid};
 ghost use Rattle.table.specs.Outcomes.{outcome};
@@ -21,7 +21,6 @@ use table::Outcome;
 // ── lines: each is laid over a buffer from a place on, as far as that goes, and answers the place behind it ──
 
 fn put_column(out: &mut [u8], at: usize, value: u64, b: u8) -> usize
-    requires { ⌜ at + 21 < 2 ^ 64 ⌝ }
     ensures { λ r. ⌜ Put (now (out .entry)) at (column value b) r (now (out .exit)) ⌝ }
 {
     let m = numerals::put_decimal(out, at, value);
@@ -29,7 +28,6 @@ fn put_column(out: &mut [u8], at: usize, value: u64, b: u8) -> usize
 }
 
 fn put_pair(out: &mut [u8], at: usize, a: u64, b: u64, last: u8) -> usize
-    requires { ⌜ at + 42 < 2 ^ 64 ⌝ }
     ensures { λ r. ⌜ Put (now (out .entry)) at (column a 32 ++ column b last) r (now (out .exit)) ⌝ }
 {
     let m = put_column(out, at, a, 32);
@@ -37,7 +35,6 @@ fn put_pair(out: &mut [u8], at: usize, a: u64, b: u64, last: u8) -> usize
 }
 
 fn put_line(out: &mut [u8], at: usize, k: u64, number: u8, ticket: u16, start: u64) -> usize
-    requires { ⌜ at + 84 < 2 ^ 64 ⌝ }
     ensures { λ r. ⌜ Put (now (out .entry)) at (lineOf k number ticket start) r (now (out .exit)) ⌝ }
 {
     let m = put_pair(out, at, k, number as u64, 32);
@@ -45,7 +42,6 @@ fn put_line(out: &mut [u8], at: usize, k: u64, number: u8, ticket: u16, start: u
 }
 
 fn put_grant(out: &mut [u8], at: usize, clock: u64, ticket: u16) -> usize
-    requires { ⌜ at + 45 < 2 ^ 64 ⌝ }
     ensures { λ r. ⌜ Put (now (out .entry)) at (onLine clock ticket) r (now (out .exit)) ⌝ }
 {
     let m = numerals::put_bytes(out, at, b"on ");
@@ -53,7 +49,6 @@ fn put_grant(out: &mut [u8], at: usize, clock: u64, ticket: u16) -> usize
 }
 
 fn put_stop(out: &mut [u8], at: usize, number: u8, k: u64) -> usize
-    requires { ⌜ at + 47 < 2 ^ 64 ⌝ }
     ensures { λ r. ⌜ Put (now (out .entry)) at (stopLine number k) r (now (out .exit)) ⌝ }
 {
     let m = numerals::put_bytes(out, at, b"stop ");
@@ -61,7 +56,7 @@ fn put_stop(out: &mut [u8], at: usize, number: u8, k: u64) -> usize
 }
 
 fn put_grants(out: &mut [u8], at: usize, clock: u64, grants: [u16; 64], granted: usize) -> usize
-    requires { ⌜ (at + 2880 < 2 ^ 64) × (granted ≤ 64) ⌝ }
+    requires { ⌜ granted ≤ 64 ⌝ }
     ensures { λ r. ⌜ Put (now (out .entry)) at (onLines clock (take granted grants)) r (now (out .exit)) ⌝ }
 {
     let mut n = at;
@@ -75,7 +70,7 @@ fn put_grants(out: &mut [u8], at: usize, clock: u64, grants: [u16; 64], granted:
 }
 
 fn put_entry(out: &mut [u8], at: usize, k: u64, o: Outcome) -> usize
-    requires { ⌜ (at + 2964 < 2 ^ 64) × (o .granted ≤ 64) ⌝ }
+    requires { ⌜ o .granted ≤ 64 ⌝ }
     ensures { λ r. ⌜ Put (now (out .entry)) at (lineOf k (o .number) (o .ticket) (o .start) ++ onLines (o .table .clock) (take (o .granted) (o .grants))) r (now (out .exit)) ⌝ }
 {
     let m = put_line(out, at, k, o.number, o.ticket, o.start);
@@ -112,7 +107,7 @@ fn act(t: Table, call: Call) -> Outcome
 }
 
 fn records(load: &[u8], out: &mut [u8], from: usize) -> usize
-    requires { ⌜ (from ≤ 24) × (length (now load) ≤ 65536) ⌝ }
+    requires { ⌜ length (now load) ≤ 65536 ⌝ }
     ensures { λ r. ⌜ Put (now (out .entry)) from (linesOf 1 (blank 0) (walk (now (load .entry)) 1)) r (now (out .exit)) ⌝ }
 {
     let none = table::new(0);
@@ -145,7 +140,7 @@ fn records(load: &[u8], out: &mut [u8], from: usize) -> usize
 
 // The whole listing laid over a buffer, as far as that goes, and its length.
 fn run(load: &[u8], out: &mut [u8]) -> usize
-    ensures { λ r. ⌜ Put (now (out .entry)) 0 (listingOf (now (load .entry))) r (now (out .exit)) ⌝ }
+    ensures { λ r. ⌜ (r ≡ length (listingOf (now (load .entry)))) × (now (out .exit) ≡ laid (now (out .entry)) 0 (listingOf (now (load .entry)))) ⌝ }
 {
     let n = numerals::put_bytes(out, 0, b"rec answer ticket start\n");
     let number = load::open_number(load);

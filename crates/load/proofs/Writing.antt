@@ -4,12 +4,11 @@ use mathlib.Core.Bool.{Bool, true, false, not, _||_, cond}
 use mathlib.Core.List.{List, _∷_, _++_, append-nil}
 use mathlib.Core.Path.{_≡_, refl, sym, ap, _∙_}
 use native.Mathlib.Omega.{arith}
-use native.Mathlib.Nat.{zero-add}
 use lib.Dec.{ltb}
 use borrow.Author.Tests.{lt-ltb, le-ltb, ltb-false}
 use lib.ListN.{length, drop, length-append}
 use Rattle.numerals.specs.Laid.{Put}
-use Rattle.numerals.proofs.Laying.{laid-fits}
+use Rattle.numerals.proofs.Laying.{laid-fits, put-short}
 use Rattle.load.specs.declared.Call.{Call}
 use Rattle.load.specs.declared.Call.the-variants.{Rig, Claim, Release, Withdraw, Clock}
 use Rattle.load.specs.declared.Written.the-variants.{Length, Refusal}
@@ -118,8 +117,10 @@ unfolding appendAnswer appendOut grown
 append-written s c out p r h w =
     let k = append-known s c (length out) h in
     let g : s ++ recordBytes 1 c ≡ grown s c = rw (k .0) in
-    let n : r ≡ length (grown s c) = w .next ∙ zero-add (length (s ++ recordBytes 1 c)) ∙ ap length g in
-    rw h (ap Length n, w .is ∙ rw g (laid-fits out (grown s c) (k .2)))
+    let l = ap length g in
+    let b = grow-known s c (length out) (append-parts s c (length out) h .1) .bounded in
+    let e = put-short (omega arith) w in
+    rw h (ap Length (e .0 ∙ l), e .1 ∙ rw g (laid-fits out (grown s c) (k .2)))
 
 -- ── the pieces of a record ──
 abbrev pub fieldsPut : Call → List ℕ

@@ -2,8 +2,6 @@
 // All calls take any bytes and any values. A load is a slice of the caller's; nothing is copied to read it.
 ghost use mathlib.Core.Path.{_≡_};
 ghost use mathlib.Core.List.{_++_};
-ghost use Prim.Native.Nat.{_+_, _-_, _^_, _<_};
-ghost use lib.ListN.{length};
 ghost use Rattle.numerals.specs.Laid.{Put};
 ghost use Rattle.load.specs.Calls.{valuesOf, kindOf, lengthOf, callOf, widths};
 ghost use Rattle.load.specs.Bytes.{recordBytes, fieldBytes, big, fieldValues};
@@ -219,7 +217,6 @@ fn append_number(load: &[u8], call: Call, room: usize) -> u8
 
 // The fields of a release or a withdrawal.
 fn put_leave(out: &mut [u8], at: usize, clock: u64, ticket: u16) -> usize
-    requires { ⌜ at + 10 < 2 ^ 64 ⌝ }
     ensures { λ r. ⌜ Put (now (out .entry)) at (big 8 clock ++ big 2 ticket) r (now (out .exit)) ⌝ }
 {
     let m = numerals::put_big(out, at, 8, clock);
@@ -228,7 +225,6 @@ fn put_leave(out: &mut [u8], at: usize, clock: u64, ticket: u16) -> usize
 
 // The fields of a claim.
 fn put_claim(out: &mut [u8], at: usize, clock: u64, groups: u64, length: u32) -> usize
-    requires { ⌜ at + 20 < 2 ^ 64 ⌝ }
     ensures { λ r. ⌜ Put (now (out .entry)) at (big 8 clock ++ (big 8 groups ++ big 4 length)) r (now (out .exit)) ⌝ }
 {
     let a = numerals::put_big(out, at, 8, clock);
@@ -238,7 +234,6 @@ fn put_claim(out: &mut [u8], at: usize, clock: u64, groups: u64, length: u32) ->
 
 // The fields of a call, by its kind.
 fn put_fields(out: &mut [u8], at: usize, call: Call) -> usize
-    requires { ⌜ at + 20 < 2 ^ 64 ⌝ }
     ensures { λ r. ⌜ Put (now (out .entry)) at (fieldBytes (widths 1 (kindOf call)) (valuesOf 1 call)) r (now (out .exit)) ⌝ }
 {
     match call {
@@ -252,7 +247,6 @@ fn put_fields(out: &mut [u8], at: usize, call: Call) -> usize
 
 // A record of edition 1: length, kind, fields.
 fn put_record(out: &mut [u8], at: usize, call: Call) -> usize
-    requires { ⌜ at + 23 < 2 ^ 64 ⌝ }
     ensures { λ r. ⌜ Put (now (out .entry)) at (recordBytes 1 call) r (now (out .exit)) ⌝ }
 {
     let kind = kind_of(call);

@@ -1,17 +1,18 @@
 -- Bytes laid one behind the other over a buffer that may be too short: pieces join (`put-then`), and where there is room the buffer
 -- begins with them (`laid-fits`).
-use Prim.Native.Nat.{ℕ, zero, suc, _+_, _/_, _%_, _≤_, _<_}
+use Prim.Native.Nat.{ℕ, zero, suc, _+_, _-_, _/_, _%_, _^_, _≤_, _<_, min}
 use mathlib.Core.List.{List, [], _∷_, _++_}
 use mathlib.Core.Path.{_≡_, refl, sym, ap, _∙_}
 use native.Mathlib.Omega.{arith}
 use native.Mathlib.Numerals.{add-one}
 use native.Mathlib.Nat.{add-zero, zero-add}
-use lib.Dec.{ltb}
+use lib.Dec.{ltb, leb}
+use borrow.Author.Tests.{leb-true, leb-false}
 use mathlib.Core.Bool.{Bool, true, false, cond}
 use lib.ListN.{length, drop, getD, set, length-append}
-use lib.Seq.{sets, length-sets, sets-eq, set-comm, drop-cons, drop-length}
+use lib.Seq.{sets, length-sets, sets-eq, set-comm, set-out, drop-cons, drop-length}
 use Rattle.numerals.specs.Digits.{digits, decimalOf, widthOf, widthUpTo}
-use Rattle.numerals.specs.Laid.{laid, Put}
+use Rattle.numerals.specs.Laid.{behind, laid, Put}
 use Rattle.numerals.proofs.Numbers.{stored}
 use Rattle.numerals.proofs.BigEndian.{digits-length}
 
@@ -64,15 +65,73 @@ pub stored-laid : (b z at n v : ℕ) (o : List ℕ) → stored b z at n v o ≡ 
 unfolding laid
 stored-laid b z at n v o = stored-sets b z at n v o
 
+-- ── places ──
+pub behind-small : (at n : ℕ) → at + n < 2 ^ 64 → behind at n ≡ at + n
+unfolding behind
+behind-small at n h = omega arith
+
+pub behind-stops : (at n : ℕ) → 18446744073709551615 - at < n → 18446744073709551615 ≡ behind at n
+unfolding behind
+behind-stops at n h = omega arith
+
+pub behind-none : (at : ℕ) → at < 2 ^ 64 → behind at 0 ≡ at
+unfolding behind
+behind-none at h = omega arith
+
+pub behind-under : (at n : ℕ) → behind at n < 2 ^ 64
+unfolding behind
+behind-under at n = omega arith
+
+-- One place behind the other; in words of one list behind the other.
+pub behind-add : (at m n : ℕ) → behind (behind at m) n ≡ behind at (m + n)
+unfolding behind
+behind-add at m n = omega arith
+
+pub behind-append : (at : ℕ) (xs ys : List ℕ) → behind (behind at (length xs)) (length ys) ≡ behind at (length (xs ++ ys))
+behind-append at xs ys = behind-add at (length xs) (length ys) ∙ ap (behind at) (sym (length-append xs ys))
+
+-- Behind a buffer's end nothing is laid.
+sets-out : (xs o : List ℕ) (at : ℕ) → length o ≤ at → sets o at xs ≡ o
+sets-out [] o at h = refl
+sets-out (x ∷ xs) o at h = ap (λ r. sets r (suc at) xs) (set-out o at x h) ∙ sets-out xs o (suc at) (omega arith)
+
+pub laid-out : (o : List ℕ) (at : ℕ) (xs : List ℕ) → length o ≤ at → laid o at xs ≡ o
+unfolding laid
+laid-out o at xs h = sets-out xs o at h
+
+-- A place that stops is behind every buffer's end: there it makes no difference.
+pub laid-behind : (o : List ℕ) (at n : ℕ) (xs : List ℕ) → length o < 2 ^ 64 → laid o (behind at n) xs ≡ laid o (at + n) xs
+unfolding behind
+laid-behind o at n xs h = go (leb (at + n) 18446744073709551615) refl
+  where
+    go : (b : Bool) → leb (at + n) 18446744073709551615 ≡ b → laid o (min (at + n) 18446744073709551615) xs ≡ laid o (at + n) xs
+    go true p =
+        let k = leb-true (at + n) 18446744073709551615 p in
+        let e : min (at + n) 18446744073709551615 ≡ at + n = omega arith in
+        rw e
+    go false p =
+        let k = leb-false (at + n) 18446744073709551615 p in
+        laid-out o (min (at + n) 18446744073709551615) xs (omega arith) ∙ sym (laid-out o (at + n) xs (omega arith))
+
+-- ── pieces ──
+pub put : {o : List ℕ} {at : ℕ} {xs : List ℕ} {r : ℕ} {p : List ℕ} → (r ≡ behind at (length xs)) × (p ≡ laid o at xs) → Put o at xs r p
+put w = record { next = w .0; is = w .1 }
+
 -- One piece behind the other is one piece.
-pub put-then : (o : List ℕ) (at : ℕ) (xs ys : List ℕ) (m r : ℕ) (p q : List ℕ) → Put o at xs m p → Put p m ys r q → Put o at (xs ++ ys) r q
-put-then o at xs ys m r p q a b = record {
-  next = omega (arith, a .next, b .next, length-append xs ys);
-  is = b .is ∙ rw (a .is, a .next) (sym (laid-append o at xs ys));
-}
+pub put-then : (o : List ℕ) (at : ℕ) (xs ys : List ℕ) (m r : ℕ) (p q : List ℕ) → length o < 2 ^ 64 → Put o at xs m p → Put p m ys r q → Put o at (xs ++ ys) r q
+put-then o at xs ys m r p q h a b =
+    let l = laid-length o at xs in
+    record {
+      next = b .next ∙ rw (a .next) (behind-append at xs ys);
+      is = b .is ∙ rw (a .is, a .next) (laid-behind (laid o at xs) at (length xs) ys (omega arith) ∙ sym (laid-append o at xs ys));
+    }
 
 pub put-as : {o : List ℕ} {at : ℕ} (xs ys : List ℕ) {r : ℕ} {p : List ℕ} → xs ≡ ys → Put o at xs r p → Put o at ys r p
 put-as xs ys e w = rw e at w
+
+-- A piece laid at the start that is not too long for a usize: the place behind it is its length.
+pub put-short : {o xs : List ℕ} {r : ℕ} {p : List ℕ} → length xs < 2 ^ 64 → Put o 0 xs r p → (r ≡ length xs) × (p ≡ laid o 0 xs)
+put-short {xs = xs} h w = (w .next ∙ behind-small 0 (length xs) (omega arith) ∙ zero-add (length xs), w .is)
 
 -- One step of a copy.
 pub laid-turn : (o : List ℕ) (at i : ℕ) (s : List ℕ) → i < length s → laid (set o (at + i) (getD s i 0)) (at + (i + 1)) (drop (i + 1) s) ≡ laid o (at + i) (drop i s)
@@ -80,8 +139,16 @@ laid-turn o at i s h =
     let e : at + (i + 1) ≡ suc (at + i) = omega arith in
     rw (e, add-one, drop-cons s i 0 h) (sym (laid-cons o (at + i) (getD s i 0) (drop (suc i) s)))
 
-pub laid-done : (o : List ℕ) (at i : ℕ) (s : List ℕ) → i ≡ length s → laid o (at + i) (drop i s) ≡ o
+laid-done : (o : List ℕ) (at i : ℕ) (s : List ℕ) → i ≡ length s → laid o (at + i) (drop i s) ≡ o
 laid-done o at i s h = rw (h, drop-length s) (laid-none o (at + length s))
+
+-- A copy ends where the bytes end, or the buffer.
+pub laid-copied : (o : List ℕ) (at i : ℕ) (s : List ℕ) → i ≡ min (length s) (length o - at) → laid o (at + i) (drop i s) ≡ o
+laid-copied o at i s h = go (leb (length s) i) refl
+  where
+    go : (b : Bool) → leb (length s) i ≡ b → laid o (at + i) (drop i s) ≡ o
+    go true p = let k = leb-true (length s) i p in laid-done o at i s (omega arith)
+    go false p = let k = leb-false (length s) i p in laid-out o (at + i) (drop i s) (omega arith)
 
 -- A u64 has at most 20 decimal digits.
 width-up : (k v : ℕ) → widthUpTo k v ≤ suc k

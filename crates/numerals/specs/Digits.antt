@@ -1,8 +1,7 @@
 -- Numbers as digits: bytes "big-endian", as document 01 has them, and decimal digits in ASCII. One definition of digits serves both.
-use Prim.Native.Nat.{ℕ, zero, suc, _+_, _*_, _/_, _%_, _^_, _<_, min}
+use Prim.Native.Nat.{ℕ, zero, suc, _+_, _*_, _/_, _%_, min}
 use mathlib.Core.Bool.{cond}
 use mathlib.Core.List.{List, [], _∷_, _++_}
-use mathlib.Core.Path.{_≡_}
 use lib.Dec.{ltb}
 use lib.ListN.{take, drop}
 
@@ -14,11 +13,6 @@ numeral v (b ∷ bs) = numeral (v * 256 + b) bs
 -- The n bytes from a place on: fewer at the end of s, and never more than eight.
 abbrev pub bytesAt : List ℕ → ℕ → ℕ → List ℕ
 bytesAt s at n = take (min n 8) (drop at s)
-
--- r is the number that these bytes say; it goes into n bytes.
-pub record Read (r n : ℕ) (bs : List ℕ) : Type 0 where
-  pub is : r ≡ numeral 0 bs
-  pub below : r < 256 ^ n
 
 -- The n lowest digits of v in base b, the highest first, each raised by z.
 unfoldable pub digits : ℕ → ℕ → ℕ → ℕ → List ℕ

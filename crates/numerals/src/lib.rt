@@ -1,12 +1,12 @@
 // Numbers in bytes: read big-endian, and laid big-endian or in decimal into a lent buffer.
-// The readers take any place. The writers leave out what would go past the buffer's end, and answer the place behind what was laid:
-// they ask only that this place is a usize.
+// All take any place. The writers leave out what would go past the buffer's end, and answer the place behind what was laid, at most the
+// greatest usize: a buffer ends before it, so that nothing is laid there.
 ghost use mathlib.Core.Path.{_≡_};
 ghost use mathlib.Core.List.{[], _∷_};
 ghost use Prim.Native.Nat.{_+_, _-_, _^_, _<_, min};
 ghost use lib.ListN.{length, take, drop, set};
-ghost use Rattle.numerals.specs.Laid.{Put};
-ghost use Rattle.numerals.specs.Digits.{Read, bytesAt, numeral, digits, decimalOf, widthOf};
+ghost use Rattle.numerals.specs.Laid.{behind, laid};
+ghost use Rattle.numerals.specs.Digits.{bytesAt, numeral, digits, decimalOf, widthOf};
 
 // ---- reading
 fn wide(b: u8) -> u64
@@ -32,7 +32,7 @@ fn readable(size: usize, at: usize, n: usize) -> usize
 
 // The number that n bytes from a place on say, the highest first; behind the end of s, those that are left. At most eight bytes are read.
 pub fn number(s: &[u8], at: usize, n: usize) -> u64
-    ensures { λ r. ⌜ Read r n (bytesAt (now (s .entry)) at n) ⌝ }
+    ensures { λ r. ⌜ (r ≡ numeral 0 (bytesAt (now (s .entry)) at n)) × (r < 256 ^ n) ⌝ }
 {
     let m = readable(s.len(), at, n);
     let mut v: u64 = 0;
@@ -71,74 +71,94 @@ pub fn width(value: u64) -> usize
 }
 
 // ---- writing
-// One byte at a place, if there is such a place.
-fn store(out: &mut [u8], k: usize, b: u8)
-    ensures { λ _. ⌜ now (out .exit) ≡ set (now (out .entry)) k b ⌝ }
+// The place behind n bytes.
+fn behind(at: usize, n: usize) -> usize
+    ensures { λ r. ⌜ r ≡ behind at n ⌝ }
 {
-    if out.len() <= k {
+    if 18446744073709551615 - at < n {
+        return 18446744073709551615;
+    }
+    at + n
+}
+
+// How many of n bytes go into a buffer of a size from a place on.
+fn room(size: usize, at: usize, n: usize) -> usize
+    ensures { λ r. ⌜ r ≡ min n (size - at) ⌝ }
+{
+    if size <= at {
+        return 0;
+    }
+    let left = size - at;
+    if n < left { n } else { left }
+}
+
+// One byte i places behind a place, if there is such a place.
+fn store(out: &mut [u8], at: usize, i: usize, b: u8)
+    ensures { λ _. ⌜ now (out .exit) ≡ set (now (out .entry)) (at + i) b ⌝ }
+{
+    if out.len() <= at {
         return;
     }
-    out[k] = b;
+    if out.len() - at <= i {
+        return;
+    }
+    out[at + i] = b;
 }
 
 // One byte laid at a place.
 pub fn put_byte(out: &mut [u8], at: usize, b: u8) -> usize
-    requires { ⌜ at + 1 < 2 ^ 64 ⌝ }
-    ensures { λ r. ⌜ Put (now (out .entry)) at (b ∷ []) r (now (out .exit)) ⌝ }
+    ensures { λ r. ⌜ (r ≡ behind at (length (b ∷ []))) × (now (out .exit) ≡ laid (now (out .entry)) at (b ∷ [])) ⌝ }
 {
-    store(out, at, b);
-    at + 1
+    store(out, at, 0, b);
+    behind(at, 1)
 }
 
 // A number laid in n bytes from a place on, the highest first; one step for each byte.
 pub fn put_big(out: &mut [u8], at: usize, n: usize, value: u64) -> usize
-    requires { ⌜ at + n < 2 ^ 64 ⌝ }
-    ensures { λ r. ⌜ Put (now (out .entry)) at (digits 256 0 n value) r (now (out .exit)) ⌝ }
+    ensures { λ r. ⌜ (r ≡ behind at (length (digits 256 0 n value))) × (now (out .exit) ≡ laid (now (out .entry)) at (digits 256 0 n value)) ⌝ }
 {
     let mut v = value;
     let mut i = n;
     while 0 < i {
         i -= 1;
-        store(out, at + i, (v % 256) as u8);
+        store(out, at, i, (v % 256) as u8);
         v /= 256;
     }
-    at + n
+    behind(at, n)
 }
 
 // Its n lowest decimal digits laid so.
 fn put_digits(out: &mut [u8], at: usize, n: usize, value: u64) -> usize
-    requires { ⌜ at + n < 2 ^ 64 ⌝ }
-    ensures { λ r. ⌜ Put (now (out .entry)) at (digits 10 48 n value) r (now (out .exit)) ⌝ }
+    ensures { λ r. ⌜ (r ≡ behind at (length (digits 10 48 n value))) × (now (out .exit) ≡ laid (now (out .entry)) at (digits 10 48 n value)) ⌝ }
 {
     let mut v = value;
     let mut i = n;
     while 0 < i {
         i -= 1;
-        store(out, at + i, (v % 10) as u8 + 48);
+        store(out, at, i, (v % 10) as u8 + 48);
         v /= 10;
     }
-    at + n
+    behind(at, n)
 }
 
 // A number laid in decimal: at most 20 digits, a division for each to count them and one to lay them.
 pub fn put_decimal(out: &mut [u8], at: usize, value: u64) -> usize
-    requires { ⌜ at + 20 < 2 ^ 64 ⌝ }
-    ensures { λ r. ⌜ Put (now (out .entry)) at (decimalOf value) r (now (out .exit)) ⌝ }
+    ensures { λ r. ⌜ (r ≡ behind at (length (decimalOf value))) × (now (out .exit) ≡ laid (now (out .entry)) at (decimalOf value)) ⌝ }
 {
     let n = width(value);
     put_digits(out, at, n, value)
 }
 
-// Bytes laid from a place on; one step for each byte.
+// Bytes laid from a place on; one step for each byte that the buffer has room for.
 pub fn put_bytes(out: &mut [u8], at: usize, src: &[u8]) -> usize
-    requires { ⌜ at + length (now src) < 2 ^ 64 ⌝ }
-    ensures { λ r. ⌜ Put (now (out .entry)) at (now (src .entry)) r (now (out .exit)) ⌝ }
+    ensures { λ r. ⌜ (r ≡ behind at (length (now (src .entry)))) × (now (out .exit) ≡ laid (now (out .entry)) at (now (src .entry))) ⌝ }
 {
     let n = src.len();
+    let m = room(out.len(), at, n);
     let mut i: usize = 0;
-    while i < n {
-        store(out, at + i, src[i]);
+    while i < m {
+        out[at + i] = src[i];
         i += 1;
     }
-    at + n
+    behind(at, n)
 }

@@ -1,5 +1,4 @@
-use mathlib.Core.Path.{ap, _∙_}
-use native.Mathlib.Nat.{zero-add}
+use mathlib.Core.Path.{ap}
 use lib.Dec.{leb}
 use Rattle.listing.proofs.Sizes.{goes-surely}
 use borrow.Author.Needs.{needs}
@@ -23,7 +22,7 @@ run-requires : tie.Need-run-requires
 run-requires c κs = search needs
 
 returns-2 : tie.Need-returns-2
-returns-2 c = ap (λ n. leb n (c .before .before .before .before .before .before .args .room)) (c .before .run .ensures .next ∙ zero-add _)
+returns-2 c = ap (λ n. leb n (c .before .before .before .before .before .before .args .room)) (c .before .run .ensures .0)
 
 pub goes-into-spec : {M : Type 1} → statement M
 goes-into-spec =

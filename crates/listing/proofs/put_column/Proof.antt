@@ -1,5 +1,5 @@
 use native.Mathlib.Omega.{arith}
-use Rattle.numerals.proofs.Laying.{put-then, decimal-length, width-small}
+use Rattle.numerals.proofs.Laying.{put, put-then}
 use Rattle.listing.specs.Lines.{column}
 use borrow.Author.Needs.{needs}
 use Rattle.listing.proofs.put_column.Statement.{statement}
@@ -13,17 +13,14 @@ put-decimal-requires : tie.Need-put-decimal-requires
 put-decimal-requires c κs = search needs
 
 put-byte-requires : tie.Need-put-byte-requires
-put-byte-requires c κs =
-    let d = c .before .before .before in
-    let v = d .before .before .before .args .value in
-    omega (arith, d .put-decimal .ensures .next, decimal-length v, width-small v)
+put-byte-requires c κs = search needs
 
 same-length : tie.Need-same-length
 same-length c = search needs
 
 returns : tie.Need-returns
 unfolding column
-returns c = put-then _ _ _ _ _ _ _ _ (c .before .before .before .before .before .before .put-decimal .ensures) (c .before .before .put-byte .ensures)
+returns c = put-then _ _ _ _ _ _ _ _ (omega arith) (put (c .before .before .before .before .before .before .put-decimal .ensures)) (put (c .before .before .put-byte .ensures))
 
 pub put-column-spec : {M : Type 1} → statement M
 put-column-spec = tie.close (tie.spec put-decimal-requires put-byte-requires same-length returns)

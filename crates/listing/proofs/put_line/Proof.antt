@@ -1,6 +1,5 @@
 use native.Mathlib.Omega.{arith}
 use Rattle.numerals.proofs.Laying.{put-then}
-use Rattle.listing.proofs.Lines.{pair-length}
 use Rattle.listing.specs.Lines.{lineOf}
 use borrow.Author.Needs.{needs}
 use Rattle.listing.proofs.put_line.Statement.{statement}
@@ -13,17 +12,14 @@ put-pair-requires : tie.Need-put-pair-requires
 put-pair-requires c κs = search needs
 
 put-pair-requires-2 : tie.Need-put-pair-requires-2
-put-pair-requires-2 c κs =
-    let d = c .before .before .before in
-    let a = d .before .before .before .args in
-    omega (arith, d .put-pair .ensures .next, pair-length (a .k) 32 (a .number) 32)
+put-pair-requires-2 c κs = search needs
 
 same-length : tie.Need-same-length
 same-length c = search needs
 
 returns : tie.Need-returns
 unfolding lineOf
-returns c = put-then _ _ _ _ _ _ _ _ (c .before .before .before .before .before .before .put-pair .ensures) (c .before .before .put-pair2 .ensures)
+returns c = put-then _ _ _ _ _ _ _ _ (omega arith) (c .before .before .before .before .before .before .put-pair .ensures) (c .before .before .put-pair2 .ensures)
 
 pub put-line-spec : {M : Type 1} → statement M
 put-line-spec = tie.close (tie.spec put-pair-requires put-pair-requires-2 same-length returns)

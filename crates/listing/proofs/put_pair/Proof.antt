@@ -1,6 +1,5 @@
 use native.Mathlib.Omega.{arith}
 use Rattle.numerals.proofs.Laying.{put-then}
-use Rattle.listing.proofs.Lines.{column-length}
 use borrow.Author.Needs.{needs}
 use Rattle.listing.proofs.put_pair.Statement.{statement}
 use Rattle.listing.proofs.put_pair.Tie as tie
@@ -12,15 +11,13 @@ put-column-requires : tie.Need-put-column-requires
 put-column-requires c κs = search needs
 
 put-column-requires-2 : tie.Need-put-column-requires-2
-put-column-requires-2 c κs =
-    let d = c .before .before .before in
-    omega (arith, d .put-column .ensures .next, column-length (d .before .before .before .args .a) 32)
+put-column-requires-2 c κs = search needs
 
 same-length : tie.Need-same-length
 same-length c = search needs
 
 returns : tie.Need-returns
-returns c = put-then _ _ _ _ _ _ _ _ (c .before .before .before .before .before .before .put-column .ensures) (c .before .before .put-column2 .ensures)
+returns c = put-then _ _ _ _ _ _ _ _ (omega arith) (c .before .before .before .before .before .before .put-column .ensures) (c .before .before .put-column2 .ensures)
 
 pub put-pair-spec : {M : Type 1} → statement M
 put-pair-spec = tie.close (tie.spec put-column-requires put-column-requires-2 same-length returns)

@@ -1,4 +1,5 @@
-use Rattle.numerals.proofs.Laying.{put-then}
+use native.Mathlib.Omega.{arith}
+use Rattle.numerals.proofs.Laying.{put, put-then}
 use Rattle.listing.specs.Lines.{stopLine}
 use borrow.Author.Needs.{needs}
 use Rattle.listing.proofs.put_stop.Statement.{statement}
@@ -22,7 +23,7 @@ same-length c = search needs
 
 returns : tie.Need-returns
 unfolding stopLine
-returns c = put-then _ _ _ _ _ _ _ _ (c .before .before .before .before .before .before .put-bytes .ensures) (c .before .before .put-pair .ensures)
+returns c = put-then _ _ _ _ _ _ _ _ (omega arith) (put (c .before .before .before .before .before .before .put-bytes .ensures)) (c .before .before .put-pair .ensures)
 
 pub put-stop-spec : {M : Type 1} → statement M
 put-stop-spec =

@@ -26,7 +26,7 @@ new-requires : tie.Need-new-requires Inv-loop μ-loop
 new-requires c κs = search needs
 
 loop-holds : tie.Need-loop-holds Inv-loop μ-loop
-loop-holds c = turn-start _ _ _ _ (c .before .before .before .before .pre .0) (c .before .new .ensures .0) (c .before .new .ensures .1)
+loop-holds c = turn-start _ _ _ _ (omega arith) (omega arith) (c .before .new .ensures .0) (c .before .new .ensures .1)
 
 record-at-requires : tie.Need-record-at-requires Inv-loop μ-loop
 record-at-requires c κs = search needs
@@ -41,7 +41,7 @@ ending-of-requires : tie.Need-ending-of-requires Inv-loop μ-loop
 ending-of-requires c κs = search needs
 
 put-stop-requires : tie.Need-put-stop-requires Inv-loop μ-loop
-put-stop-requires c κs = let i = c .before .before .before .before .before .before .before .before .loop .inv in omega (arith, i .near, i .inside)
+put-stop-requires c κs = search needs
 
 same-length : tie.Need-same-length Inv-loop μ-loop
 same-length c = c .before .before .put-stop .kept .0 ∙ c .before .before .before .before .before .before .before .before .before .before .before .loop .inv .going .size
@@ -54,9 +54,8 @@ returns c =
 
 put-entry-requires : tie.Need-put-entry-requires Inv-loop μ-loop
 put-entry-requires c κs =
-    let i = c .before .before .before .before .before .before .before .before .loop .inv in
     let a = c .before .before .before .act .ensures in
-    (omega (arith, i .near, i .inside), few-granted _ _ _ (a .0) (a .1))
+    few-granted _ _ _ (a .0) (a .1)
 
 add-k : tie.Need-add-k Inv-loop μ-loop
 add-k c = let i = c .before .before .before .before .before .before .before .before .before .before .before .before .loop .inv in omega (arith, i .few, i .inside)
@@ -71,7 +70,7 @@ loop-again c =
     let e = c .before .before .before .before .before .before in
     let l = e .before .before .before .before .before in
     let a = e .before .act .ensures in
-    turn-more _ _ _ _ _ _ _ _ (l .before .loop .inv) (l .before .before .before .before .before .before .pre .1) _ _ (sym (l .record-at .ensures) ∙ e .before .before .before .call .given .1) _ (a .0) (a .1) _ (e .ending-of .ensures) (c .before .before .before .before .before .if1 .left) _ _ (c .before .before .before .put-entry .ensures)
+    turn-more _ _ _ _ _ _ _ _ (l .before .loop .inv) (l .before .before .before .before .before .before .pre) _ _ (sym (l .record-at .ensures) ∙ e .before .before .before .call .given .1) _ (a .0) (a .1) _ (e .ending-of .ensures) (c .before .before .before .before .before .if1 .left) _ _ (c .before .before .before .put-entry .ensures)
 
 enum-told : tie.Need-enum-told Inv-loop μ-loop
 enum-told c = search needs
@@ -86,7 +85,7 @@ enum-known-r : tie.Need-enum-known-r Inv-loop μ-loop
 enum-known-r c = search needs
 
 put-stop-requires-2 : tie.Need-put-stop-requires-2 Inv-loop μ-loop
-put-stop-requires-2 c κs = let i = c .before .before .before .before .before .loop .inv in omega (arith, i .near, i .inside)
+put-stop-requires-2 c κs = search needs
 
 same-length-3 : tie.Need-same-length-3 Inv-loop μ-loop
 same-length-3 c = c .before .before .put-stop2 .kept .0 ∙ c .before .before .before .before .before .before .before .before .loop .inv .going .size

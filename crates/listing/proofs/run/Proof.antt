@@ -1,8 +1,8 @@
 use native.Mathlib.Omega.{arith}
 use mathlib.Core.Path.{sym, _∙_}
-use Rattle.numerals.proofs.Laying.{put-then}
-use Rattle.numerals.proofs.Laying.{put-as}
+use Rattle.numerals.proofs.Laying.{put, put-then, put-as, put-short}
 use Rattle.load.proofs.Reading.{open-known}
+use Rattle.listing.proofs.Sizes.{listing-short}
 use Rattle.listing.proofs.Turns.{text-stopped, text-read}
 use borrow.Author.Needs.{needs}
 use Rattle.listing.proofs.run.Statement.{statement}
@@ -32,12 +32,10 @@ same-length c = search needs
 returns : tie.Need-returns
 returns c =
     let b = c .before .before .before .before in
-    put-as _ _ (text-stopped _ _ (b .before .open-number .ensures) (b .if1 .taken)) (put-then _ _ _ _ _ _ _ _ (b .before .before .before .before .put-bytes .ensures) (c .before .before .put-stop .ensures))
+    put-short (listing-short _) (put-as _ _ (text-stopped _ _ (b .before .open-number .ensures) (b .if1 .taken)) (put-then _ _ _ _ _ _ _ _ (omega arith) (put (b .before .before .before .before .put-bytes .ensures)) (c .before .before .put-stop .ensures)))
 
 records-requires : tie.Need-records-requires
-records-requires c κs =
-    let n = c .before .before in
-    (omega (arith, n .before .before .before .put-bytes .ensures .next), open-known _ (sym (n .open-number .ensures) ∙ c .before .if1 .left) .2)
+records-requires c κs = open-known _ (sym (c .before .before .open-number .ensures) ∙ c .before .if1 .left) .2
 
 same-length-2 : tie.Need-same-length-2
 same-length-2 c = search needs
@@ -45,7 +43,7 @@ same-length-2 c = search needs
 returns-2 : tie.Need-returns-2
 returns-2 c =
     let b = c .before .before .before .before in
-    put-as _ _ (text-read _ _ (b .before .open-number .ensures) (b .if1 .left)) (put-then _ _ _ _ _ _ _ _ (b .before .before .before .before .put-bytes .ensures) (c .before .before .records .ensures))
+    put-short (listing-short _) (put-as _ _ (text-read _ _ (b .before .open-number .ensures) (b .if1 .left)) (put-then _ _ _ _ _ _ _ _ (omega arith) (put (b .before .before .before .before .put-bytes .ensures)) (c .before .before .records .ensures)))
 
 pub run-spec : {M : Type 1} → statement M
 run-spec =

@@ -1,8 +1,8 @@
 -- `load::append` meets its contract: the tests come first; then the load and the record are laid one behind the other.
 use native.Mathlib.Omega.{arith}
 use mathlib.Core.Path.{sym, _∙_}
-use Rattle.numerals.proofs.Laying.{put-then}
-use Rattle.load.proofs.Writing.{append-refused, append-written, append-known}
+use Rattle.numerals.proofs.Laying.{put, put-then}
+use Rattle.load.proofs.Writing.{append-refused, append-written}
 use borrow.Author.Needs.{needs}
 use Rattle.load.proofs.append.Statement.{statement}
 use Rattle.load.proofs.append.Tie as tie
@@ -17,11 +17,7 @@ put-bytes-requires : tie.Need-put-bytes-requires
 put-bytes-requires c κs = search needs
 
 put-record-requires : tie.Need-put-record-requires
-put-record-requires c κs =
-    let p = c .before .before .before in
-    let o = p .before .before in
-    let k = append-known _ _ _ (sym (o .before .append-number .ensures) ∙ o .if1 .left) in
-    omega (arith, k .1, p .put-bytes .ensures .next)
+put-record-requires c κs = search needs
 
 same-length : tie.Need-same-length
 same-length c = search needs
@@ -32,7 +28,7 @@ returns-2 c =
     let p = r .before .before .before .before in
     let o = p .before .before in
     append-written _ _ _ _ _ (sym (o .before .append-number .ensures) ∙ o .if1 .left)
-    (put-then _ _ _ _ _ _ _ _ (p .put-bytes .ensures) (r .put-record .ensures))
+    (put-then _ _ _ _ _ _ _ _ (omega arith) (put (p .put-bytes .ensures)) (r .put-record .ensures))
 
 pub append-spec : {M : Type 1} → statement M
 append-spec =

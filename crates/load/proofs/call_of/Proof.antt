@@ -34,19 +34,19 @@ number-requires-6 : tie.Need-number-requires-6
 number-requires-6 c κs = search needs
 
 returns : tie.Need-returns
-returns c = rig-read _ _ _ (c .number .ensures .is) (c .before .match .keys1)
+returns c = rig-read _ _ _ (c .number .ensures .0) (c .before .match .keys1)
 
 returns-2 : tie.Need-returns-2
-returns-2 c = claim-read _ _ _ (c .before .before .number2 .ensures .is) _ _ (c .before .number3 .ensures .is) (c .be32 .ensures) (c .before .before .before .match .keys2)
+returns-2 c = claim-read _ _ _ (c .before .before .number2 .ensures .0) _ _ (c .before .number3 .ensures .0) (c .be32 .ensures) (c .before .before .before .match .keys2)
 
 returns-3 : tie.Need-returns-3
-returns-3 c = release-read _ _ _ (c .before .number4 .ensures .is) _ (c .be16 .ensures) (c .before .before .match .keys3)
+returns-3 c = release-read _ _ _ (c .before .number4 .ensures .0) _ (c .be16 .ensures) (c .before .before .match .keys3)
 
 returns-4 : tie.Need-returns-4
-returns-4 c = withdraw-read _ _ _ (c .before .number5 .ensures .is) _ (c .be162 .ensures) (c .before .before .match .keys4)
+returns-4 c = withdraw-read _ _ _ (c .before .number5 .ensures .0) _ (c .be162 .ensures) (c .before .before .match .keys4)
 
 returns-5 : tie.Need-returns-5
-returns-5 c = clock-read _ _ _ (c .number6 .ensures .is) (c .before .match .keys5)
+returns-5 c = clock-read _ _ _ (c .number6 .ensures .0) (c .before .match .keys5)
 
 returns-6 : tie.Need-returns-6
 unfolding callOf

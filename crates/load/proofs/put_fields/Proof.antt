@@ -1,6 +1,6 @@
 -- `load::put_fields` meets its contract: each kind's numbers are its fields.
 use Rattle.load.proofs.Writing.{rig-fields, claim-fields, release-fields, withdraw-fields, clock-fields}
-use Rattle.numerals.proofs.Laying.{put-as}
+use Rattle.numerals.proofs.Laying.{put, put-as}
 use borrow.Author.Needs.{needs}
 use Rattle.load.proofs.put_fields.Statement.{statement}
 use Rattle.load.proofs.put_fields.Tie as tie
@@ -39,7 +39,7 @@ same-length : tie.Need-same-length
 same-length c = search needs
 
 returns : tie.Need-returns
-returns c = put-as _ _ (rig-fields _ _ (c .before .before .before .before .before .call .given .1)) (c .before .before .put-big .ensures)
+returns c = put-as _ _ (rig-fields _ _ (c .before .before .before .before .before .call .given .1)) (put (c .before .before .put-big .ensures))
 
 same-length-2 : tie.Need-same-length-2
 same-length-2 c = search needs
@@ -63,7 +63,7 @@ same-length-5 : tie.Need-same-length-5
 same-length-5 c = search needs
 
 returns-5 : tie.Need-returns-5
-returns-5 c = put-as _ _ (clock-fields _ _ (c .before .before .before .before .before .call5 .given .1)) (c .before .before .put-big2 .ensures)
+returns-5 c = put-as _ _ (clock-fields _ _ (c .before .before .before .before .before .call5 .given .1)) (put (c .before .before .put-big2 .ensures))
 
 pub put-fields-spec : {M : Type 1} → statement M
 put-fields-spec =

@@ -1,7 +1,6 @@
 -- `load::put_leave` meets its contract: two numbers laid one behind the other.
 use native.Mathlib.Omega.{arith}
-use Rattle.numerals.proofs.BigEndian.{digits-length}
-use Rattle.numerals.proofs.Laying.{put-then}
+use Rattle.numerals.proofs.Laying.{put, put-then}
 use borrow.Author.Needs.{needs}
 use Rattle.load.proofs.put_leave.Statement.{statement}
 use Rattle.load.proofs.put_leave.Tie as tie
@@ -10,13 +9,13 @@ put-big-requires : tie.Need-put-big-requires
 put-big-requires c κs = search needs
 
 put-big-requires-2 : tie.Need-put-big-requires-2
-put-big-requires-2 c κs = omega (arith, c .before .before .before .put-big .ensures .next, digits-length 256 0 8 (c .before .before .before .before .before .before .args .clock))
+put-big-requires-2 c κs = search needs
 
 same-length : tie.Need-same-length
 same-length c = search needs
 
 returns : tie.Need-returns
-returns c = put-then _ _ _ _ _ _ _ _ (c .before .before .before .before .before .before .put-big .ensures) (c .before .before .put-big2 .ensures)
+returns c = put-then _ _ _ _ _ _ _ _ (omega arith) (put (c .before .before .before .before .before .before .put-big .ensures)) (put (c .before .before .put-big2 .ensures))
 
 pub put-leave-spec : {M : Type 1} → statement M
 put-leave-spec = tie.close (tie.spec put-big-requires put-big-requires-2 same-length returns)

@@ -1,8 +1,7 @@
 -- `load::put_record` meets its contract: length, kind and fields laid one behind the other.
 use native.Mathlib.Omega.{arith}
-use Rattle.numerals.proofs.BigEndian.{digits-length}
 use Rattle.load.proofs.Writing.{record-pieces}
-use Rattle.numerals.proofs.Laying.{put-then, put-as}
+use Rattle.numerals.proofs.Laying.{put, put-then, put-as}
 use borrow.Author.Needs.{needs}
 use Rattle.load.proofs.put_record.Statement.{statement}
 use Rattle.load.proofs.put_record.Tie as tie
@@ -17,15 +16,10 @@ put-big-requires : tie.Need-put-big-requires
 put-big-requires c κs = search needs
 
 put-byte-requires : tie.Need-put-byte-requires
-put-byte-requires c κs =
-    let a = c .before .before .before in
-    omega (arith, a .put-big .ensures .next, digits-length 256 0 2 (a .before .before .length-of .result))
+put-byte-requires c κs = search needs
 
 put-fields-requires : tie.Need-put-fields-requires
-put-fields-requires c κs =
-    let b = c .before .before .before in
-    let a = b .before .before .before .before in
-    omega (arith, a .put-big .ensures .next, digits-length 256 0 2 (a .before .before .length-of .result), b .put-byte .ensures .next)
+put-fields-requires c κs = search needs
 
 same-length : tie.Need-same-length
 same-length c = search needs
@@ -37,7 +31,7 @@ returns c =
     let a = b .before .before .before .before in
     let n = a .before .before in
     put-as _ _ (record-pieces _ _ _ (n .length-of .ensures) (n .before .kind-of .ensures))
-    (put-then _ _ _ _ _ _ _ _ (a .put-big .ensures) (put-then _ _ _ _ _ _ _ _ (b .put-byte .ensures) (f .put-fields .ensures)))
+    (put-then _ _ _ _ _ _ _ _ (omega arith) (put (a .put-big .ensures)) (put-then _ _ _ _ _ _ _ _ (omega arith) (put (b .put-byte .ensures)) (f .put-fields .ensures)))
 
 pub put-record-spec : {M : Type 1} → statement M
 put-record-spec =

@@ -66,7 +66,7 @@ returns c =
     let m = r .readable .result in
     let i : l .loop .i ≡ m = omega arith in
     let w = rw (prefix-end (drop (a .at) (a .s .now)) m (l .loop .i) (c .loop-test .left)) at (l .loop .inv .2) in
-    record { is = rw (take-readable (a .s .now) (a .at) (a .n) m (r .readable .ensures)) at w; below = below-more (l .loop .v) m (a .n) (omega (arith, r .readable .ensures)) (rw i at (l .loop .inv .1)) }
+    (rw (take-readable (a .s .now) (a .at) (a .n) m (r .readable .ensures)) at w, below-more (l .loop .v) m (a .n) (omega (arith, r .readable .ensures)) (rw i at (l .loop .inv .1)))
 
 pub number-spec : {M : Type 1} → statement M
 number-spec =

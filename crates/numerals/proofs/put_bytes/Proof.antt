@@ -1,32 +1,35 @@
 -- `numerals::put_bytes` meets its contract: what is copied so far, with the bytes left, is the whole laid.
-use native.Mathlib.Nat.{add-zero}
-use borrow.Author.Needs.{needs}
 use native.Mathlib.Omega.{arith}
+use native.Mathlib.Nat.{add-zero}
 use mathlib.Core.Path.{_≡_, refl, sym, _∙_}
 use Prim.Native.Nat.{_≤_, _-_, _+_}
-use lib.ListN.{length, drop}
+use lib.ListN.{length, drop, length-set}
 use Rattle.numerals.specs.Laid.{laid}
-use Rattle.numerals.proofs.Laying.{laid-turn, laid-done}
+use Rattle.numerals.proofs.Laying.{laid-turn, laid-copied}
+use borrow.Author.Needs.{needs}
 use Rattle.numerals.proofs.put_bytes.Statement.{statement}
 use Rattle.numerals.proofs.put_bytes.Tie as tie
 
 abbrev Inv-loop : tie.InvT-loop
-Inv-loop out₀ at src n i₀ out i = (i ≤ n) × (length out ≡ length out₀) × (laid out (at + i) (drop i src) ≡ laid out₀ at src)
+Inv-loop out₀ at src n m i₀ out i = (i ≤ m) × (length out ≡ length out₀) × (laid out (at + i) (drop i src) ≡ laid out₀ at src)
 
 abbrev μ-loop : tie.MeasureT-loop
-μ-loop out₀ at src n i₀ out i = n - i
+μ-loop out₀ at src n m i₀ out i = m - i
+
+room-requires : tie.Need-room-requires Inv-loop μ-loop
+room-requires c κs = search needs
 
 loop-holds : tie.Need-loop-holds Inv-loop μ-loop
 loop-holds c = (omega arith, refl, rw add-zero)
 
-add-store : tie.Need-add-store Inv-loop μ-loop
-add-store c = omega arith
+shared-slice-read-out : tie.Need-shared-slice-read-out Inv-loop μ-loop
+shared-slice-read-out c = omega (arith, c .before .before .before .room .ensures)
 
-shared-slice-read-store : tie.Need-shared-slice-read-store Inv-loop μ-loop
-shared-slice-read-store c = omega arith
+add-out : tie.Need-add-out Inv-loop μ-loop
+add-out c = omega (arith, c .before .before .before .room .ensures)
 
-store-requires : tie.Need-store-requires Inv-loop μ-loop
-store-requires c κs = search needs
+slice-write-out : tie.Need-slice-write-out Inv-loop μ-loop
+slice-write-out c = omega (arith, c .before .before .before .room .ensures)
 
 add-i : tie.Need-add-i Inv-loop μ-loop
 add-i c = omega arith
@@ -36,20 +39,19 @@ loop-less c = omega arith
 
 loop-again : tie.Need-loop-again Inv-loop μ-loop
 loop-again c =
-    let s = c .before .before in
-    let l = s .before .before .before .before in
-    (omega arith, s .store .kept .0 ∙ l .loop .inv .1, rw (s .store .ensures) (laid-turn (l .loop .out) _ (l .loop .i) _ (omega arith)) ∙ l .loop .inv .2)
+    let l = c .before .before in
+    (omega arith, simp length-set (l .loop .inv .1), laid-turn (l .loop .out) _ (l .loop .i) _ (omega (arith, l .before .room .ensures)) ∙ l .loop .inv .2)
 
-add-result : tie.Need-add-result Inv-loop μ-loop
-add-result c = omega arith
+behind-requires : tie.Need-behind-requires Inv-loop μ-loop
+behind-requires c κs = search needs
 
 same-length : tie.Need-same-length Inv-loop μ-loop
-same-length c = c .before .loop .inv .1
+same-length c = c .before .before .loop .inv .1
 
 returns : tie.Need-returns Inv-loop μ-loop
 returns c =
-    let l = c .before in
-    record { next = refl; is = sym (laid-done _ _ (l .loop .i) _ (omega arith)) ∙ l .loop .inv .2 }
+    let l = c .before .before in
+    (c .behind .ensures, sym (laid-copied _ _ (l .loop .i) _ (omega (arith, l .before .room .ensures))) ∙ l .loop .inv .2)
 
 pub put-bytes-spec : {M : Type 1} → statement M
 put-bytes-spec =
@@ -57,13 +59,14 @@ put-bytes-spec =
     (tie.spec
     Inv-loop
     μ-loop
+    room-requires
     loop-holds
-    add-store
-    shared-slice-read-store
-    store-requires
+    shared-slice-read-out
+    add-out
+    slice-write-out
     add-i
     loop-less
     loop-again
-    add-result
+    behind-requires
     same-length
     returns)

@@ -1,7 +1,5 @@
 -- `numerals::put_decimal` meets its contract: as many digits as the number has.
-use native.Mathlib.Omega.{arith}
 use Rattle.numerals.specs.Digits.{decimalOf}
-use Rattle.numerals.proofs.Laying.{width-small}
 use borrow.Author.Needs.{needs}
 use Rattle.numerals.proofs.put_decimal.Statement.{statement}
 use Rattle.numerals.proofs.put_decimal.Tie as tie
@@ -10,7 +8,7 @@ width-requires : tie.Need-width-requires
 width-requires c κs = search needs
 
 put-digits-requires : tie.Need-put-digits-requires
-put-digits-requires c κs = omega (arith, width-small (c .before .before .before .args .value), c .before .width .ensures)
+put-digits-requires c κs = search needs
 
 same-length : tie.Need-same-length
 same-length c = search needs
