@@ -41,9 +41,7 @@ slice-aggregate-put-bytes c =
     simp length-take (omega (arith, grow-bound _ _ _ (search needs) _ (sym (a .append .ensures .0) ∙ c .before .before .before .before .w .given .1), a .append .kept .1 .1 .0))
 
 put-bytes-requires : tie.Need-put-bytes-requires
-put-bytes-requires c κs =
-    let a = c .before .before .before .before .before .before .before in
-    simp length-take (omega (arith, grow-bound _ _ _ (search needs) _ (sym (a .append .ensures .0) ∙ c .before .before .before .before .w .given .1), a .append .kept .1 .1 .0))
+put-bytes-requires c κs = search needs
 
 enum-known-w-2 : tie.Need-enum-known-w-2
 enum-known-w-2 c = search needs
@@ -56,7 +54,7 @@ returns-2 c =
     let p = c .before .before in
     let w = p .before .before .before .before .before in
     let a = w .before .before .before in
-    grow-written _ _ _ (search needs) _ _ (sym (a .append .ensures .0) ∙ w .w .given .1) _ _ (p .before .before .before .if1 .left) (a .append .ensures .1) (p .put-bytes .ensures .is)
+    grow-written _ _ _ (search needs) _ _ (sym (a .append .ensures .0) ∙ w .w .given .1) _ _ (p .before .before .before .if1 .left) (a .append .ensures .1) (p .put-bytes .ensures .1)
 
 same-length-3 : tie.Need-same-length-3
 same-length-3 c = search needs
