@@ -62,7 +62,7 @@ unfoldable pub madeOut : List ℕ → List ℕ → List ℕ
 madeOut text out = atStart (made text (length out) .load) out
 
 -- ── what it reads as ──
--- The calls that lines say.
+-- The calls that lines say. (A wrong line says none, and no load is made of a text that has one.)
 abbrev pub andSaid : Parsed → List Call → List Call
 andSaid Nothing cs = cs
 andSaid (Said c) cs = c ∷ cs

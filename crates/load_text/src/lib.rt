@@ -75,7 +75,7 @@ fn add(out: &mut [u8], size: usize, line: &[u8]) -> Written
     }
 }
 
-// The load that a text says line by line, at the start of a buffer. It reads to its end: proofs/Making, made-reads.
+// The load that a text says line by line, at the start of a buffer. It reads as the calls that the lines say: MadeReads in specs/Making.antt.
 pub fn make(text: &[u8], out: &mut [u8]) -> Made
     ensures answer { λ r. ⌜ r ≡ madeOf (now (text .entry)) (length (now (out .entry))) ⌝ }
     ensures buffer { λ _. ⌜ now (out .exit) ≡ madeOut (now (text .entry)) (now (out .entry)) ⌝ }
