@@ -3,48 +3,22 @@
 use mathlib.Core.Path.{_≡_, refl, sym}
 use mathlib.Core.Bool.{Bool, true, false, cond}
 use mathlib.Core.List.{List, [], _∷_, _++_}
-use Prim.Native.Nat.{ℕ, zero, suc, _+_, _-_, _*_, _/_, _^_, _≤_, _<_}
+use Prim.Native.Nat.{ℕ, zero, suc, _+_, _*_, _/_, _^_, _≤_, _<_}
 use native.Mathlib.Omega.{arith}
 use lib.Dec.{ltb, leb, eqb}
 use borrow.Author.Tests.{le-leb, ltb-false}
-use lib.ListN.{length, drop, length-append}
+use lib.ListN.{length, length-append}
 use Rattle.rules.specs.Lists.{sum}
 use Rattle.rules.specs.Calls.{Model, Step, blank}
 use Rattle.load.specs.declared.Call.{Call}
-use Rattle.load.specs.declared.Item.{Item}
-use Rattle.load.specs.declared.Item.the-variants.{Record, End, Refused}
-use Rattle.load.specs.Calls.{widths, widths1, total, lengthIn, lengthOf, known}
-use Rattle.load.specs.Reading.{lengthField, kindField, editionOf, itemAt, follow, walkIn, walk, openNumber}
-use Rattle.load.proofs.Calls.{kinds}
-use Rattle.load.proofs.Reading.{stands, misfit-not, step-next}
+use Rattle.load.specs.Calls.{known}
+use Rattle.load.specs.Reading.{editionOf, walk, openNumber}
+use Rattle.load.proofs.Reading.{walk-few}
 use Rattle.listing.specs.Lines.{lineOf, onLines, stopLine}
 use Rattle.listing.specs.Text.{stepOf, entryOf, ending, stopOr, linesFrom, linesOf, listingOf}
 use Rattle.listing.specs.Room.{roomFor}
 use Rattle.listing.proofs.Counts.{waiting, record-counted}
 use Rattle.listing.proofs.Lines.{pair-length, line-length, ons-length}
-
--- ── records ──
-least-length : (e k : ℕ) → 0 < lengthOf e k → 9 ≤ lengthOf e k
-unfolding lengthOf lengthIn widths widths1 total
-least-length e k h = kinds (λ e k. 9 ≤ lengthOf e k) e k h (omega arith) (omega arith) (omega arith) (omega arith) (omega arith)
-
-record-size : (s : List ℕ) (at : ℕ) (c : Call) (next : ℕ) → itemAt s at ≡ Record c next → at + 11 ≤ next
-record-size s at c next h =
-    let r = stands s at c next h in
-    let n = lengthField (drop at s) in
-    let k = kindField (drop at s) in
-    let f = misfit-not (editionOf s) at n k (r .fits) in
-    omega (arith, r .behind, f .0, f .1, least-length (editionOf s) k (omega (arith, f .0, f .1)))
-
-calls-few : (k : ℕ) (s : List ℕ) (at : ℕ) → 11 * length (walkIn k s at .calls) ≤ length s - at
-unfolding walkIn
-calls-few zero s at = omega arith
-calls-few (suc k) s at = go (calls-few k s) (itemAt s at) refl
-  where
-    go : ((n : ℕ) → 11 * length (walkIn k s n .calls) ≤ length s - n) → (x : Item) → itemAt s at ≡ x → 11 * length (follow (λ n. walkIn k s n) x .calls) ≤ length s - at
-    go ih (Record c n) e = omega (arith, ih n, record-size s at c n e, step-next s at c n e .1)
-    go ih End e = omega arith
-    go ih (Refused n) e = omega arith
 
 -- ── lines ──
 stop-length : (n k b : ℕ) (lines : List ℕ) → length lines ≤ b → 47 ≤ b → length (stopOr n k lines) ≤ b
@@ -71,14 +45,14 @@ lines-length k m (c ∷ cs) n =
     (omega arith)
 
 pub listing-bounded : (s : List ℕ) → length (listingOf s) ≤ roomFor (length s)
-unfolding listingOf linesOf roomFor openNumber walk waiting sum
+unfolding listingOf linesOf roomFor openNumber waiting sum
 listing-bounded s = go (ltb 65536 (length s)) refl
   where
     go : (b : Bool) → ltb 65536 (length s) ≡ b → length (listingOf s) ≤ roomFor (length s)
     go true e = rw e (omega (arith, stop-length 14 0 47 [] (omega arith) (omega arith)))
     go false e =
         let rest = linesFrom 1 (blank 0) (walk s 1 .calls) (walk s 1 .stop) in
-        let c = calls-few (suc (length s)) s 1 in
+        let c = walk-few s 1 in
         let l = lines-length 1 (blank 0) (walk s 1 .calls) (walk s 1 .stop) in
         let b : length rest ≤ 47 + 129 * (length s / 11) = omega arith in
         rw e (omega (arith, stop-length (cond (eqb (length s) 0) 12 (cond (known (editionOf s)) 0 11)) 0 (47 + 129 * (length s / 11)) rest b (omega arith)))

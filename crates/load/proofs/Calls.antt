@@ -1,6 +1,6 @@
 -- The tables of kinds, there and back: a call's kind and values give the call, and the other way round. `kinds` is the only law that goes
 -- through them case by case.
-use Prim.Native.Nat.{ℕ, zero, suc, _^_, _<_}
+use Prim.Native.Nat.{ℕ, zero, suc, _^_, _≤_, _<_}
 use mathlib.Core.Bool.{Bool, true, false, cond, and-eq-true-iff}
 use mathlib.Core.List.{List, [], _∷_}
 use mathlib.Core.Path.{_≡_, refl, sym}
@@ -56,6 +56,11 @@ length-small e k = go (ltb 0 (lengthOf e k)) refl
 -- So it goes into two bytes.
 pub length-under : (e k n : ℕ) → n ≡ lengthOf e k → n < 65536
 length-under e k n p = omega (arith, p, length-small e k)
+
+-- A kind byte and eight bytes at least.
+pub length-least : (e k : ℕ) → 0 < lengthOf e k → 9 ≤ lengthOf e k
+unfolding lengthOf lengthIn widths widths1 total
+length-least e k h = kinds (λ e k. 9 ≤ lengthOf e k) e k h (omega arith) (omega arith) (omega arith) (omega arith) (omega arith)
 
 pub length-total : (e k : ℕ) → 0 < lengthOf e k → lengthOf e k ≡ suc (total (widths e k))
 unfolding lengthOf lengthIn

@@ -1,5 +1,5 @@
 -- Laws of the reader: what stands at a position, by cases; a walk without its count of items; what the tests of a load say.
-use Prim.Native.Nat.{ℕ, zero, suc, _+_, _≤_, _<_}
+use Prim.Native.Nat.{ℕ, zero, suc, _+_, _-_, _*_, _≤_, _<_}
 use mathlib.Core.Bool.{Bool, true, false, not, _||_, cond, true≢false}
 use mathlib.Core.List.{List, [], _∷_}
 use mathlib.Core.Path.{_≡_, refl, ap}
@@ -13,6 +13,7 @@ use Rattle.load.specs.declared.Item.the-variants.{Record, End, Refused}
 use Rattle.load.specs.Calls.{known, widths, lengthOf, callOf}
 use Rattle.load.specs.Bytes.{fieldValues, loadBytes}
 use Rattle.load.specs.Reading.{inPlace, lengthField, kindField, short, misfit, readAt, editionOf, itemAt, openNumber, ended, onto, follow, walkIn, walk, orElse, loadNumber}
+use Rattle.load.proofs.Calls.{length-least}
 
 -- ── what stands at a position ──
 -- The call that bytes say, where they are a record.
@@ -147,6 +148,29 @@ walk-end s at e = rw e
 pub walk-refused : (s : List ℕ) (at n : ℕ) → itemAt s at ≡ Refused n → walk s at ≡ ended n
 unfolding walk walkIn
 walk-refused s at n e = rw e
+
+-- A record has 11 bytes at least, so that a load has few of them.
+record-size : (s : List ℕ) (at : ℕ) (c : Call) (next : ℕ) → itemAt s at ≡ Record c next → at + 11 ≤ next
+record-size s at c next h =
+    let r = stands s at c next h in
+    let n = lengthField (drop at s) in
+    let k = kindField (drop at s) in
+    let f = misfit-not (editionOf s) at n k (r .fits) in
+    omega (arith, r .behind, f .0, f .1, length-least (editionOf s) k (omega (arith, f .0, f .1)))
+
+walk-in-few : (k : ℕ) (s : List ℕ) (at : ℕ) → 11 * length (walkIn k s at .calls) ≤ length s - at
+unfolding walkIn
+walk-in-few zero s at = omega arith
+walk-in-few (suc k) s at = go (walk-in-few k s) (itemAt s at) refl
+  where
+    go : ((n : ℕ) → 11 * length (walkIn k s n .calls) ≤ length s - n) → (x : Item) → itemAt s at ≡ x → 11 * length (follow (λ n. walkIn k s n) x .calls) ≤ length s - at
+    go ih (Record c n) e = omega (arith, ih n, record-size s at c n e, step-next s at c n e .1)
+    go ih End e = omega arith
+    go ih (Refused n) e = omega arith
+
+pub walk-few : (s : List ℕ) (at : ℕ) → 11 * length (walk s at .calls) ≤ length s - at
+unfolding walk
+walk-few s at = walk-in-few (suc (length s)) s at
 
 -- ── the tests of a load ──
 pub or-else : (k n : ℕ) → orElse k n ≡ 0 → (k ≡ 0) × (n ≡ 0)

@@ -1,17 +1,17 @@
 -- Laws of lines: hex digit by digit, and lengths, none of which is long.
-use Prim.Native.Nat.{ℕ, zero, suc, _+_, _-_, _/_, _%_, _≤_, _<_}
-use mathlib.Core.Bool.{Bool, true, false}
+use Prim.Native.Nat.{ℕ, zero, suc, _+_, _-_, _/_, _%_, _^_, _≤_, _<_}
+use mathlib.Core.Bool.{Bool, true, false, cond}
 use mathlib.Core.List.{List, [], _∷_, _++_}
-use mathlib.Core.Path.{_≡_, refl, sym, ap, _∙_}
+use mathlib.Core.Path.{_≡_, refl}
 use native.Mathlib.Omega.{arith}
-use lib.Dec.{ltb}
+use lib.Dec.{ltb, eqb}
 use lib.ListN.{length, length-append}
-use borrow.Author.Tests.{lt-ltb, le-ltb}
+use borrow.Author.Tests.{lt-ltb, le-ltb, ne-eqb}
 use Rattle.numerals.specs.Digits.{decimalOf}
 use Rattle.numerals.proofs.Laying.{width-small, decimal-length}
 use Rattle.load.specs.declared.Call.{Call}
 use Rattle.load.specs.declared.Call.the-variants.{Rig, Claim, Release, Withdraw, Clock}
-use Rattle.load_text.specs.Lines.{pick, pickText, glyphOf, hexUpTo, setOf, fieldOf, pairOf, lineOf, stopLine}
+use Rattle.load_text.specs.Lines.{pickText, glyphOf, hexUpTo, setOf, fieldOf, pairOf, lineOf, stopLine, reasonText, reportOf}
 
 -- ── hex ──
 pub glyph-low : (v : ℕ) → v % 16 < 10 → 48 + v % 16 ≡ glyphOf v
@@ -67,6 +67,50 @@ line-length (Claim c g l) = omega (arith, length-append (fieldOf c 32) (setOf g 
 line-length (Release c t) = omega (arith, pair-length c t)
 line-length (Withdraw c t) = omega (arith, pair-length c t)
 line-length (Clock c) = omega (arith, field-length c 10)
+
+pub line-short : (c : Call) → length (lineOf c) < 2 ^ 64
+line-short c = omega (arith, line-length c)
+
+pub stop-length : (n k : ℕ) → length (stopLine n k) ≤ 49
+unfolding stopLine
+stop-length n k = omega (arith, pair-length n k)
+
+-- ── reports ──
+shorter : (b : Bool) (x y : List ℕ) (m : ℕ) → length x ≤ m → length y ≤ m → length (cond b x y) ≤ m
+shorter true x y m h k = h
+shorter false x y m h k = k
+
+reason-length : (n : ℕ) → length (reasonText n) ≤ 29
+unfolding reasonText
+reason-length n =
+    shorter (eqb n 1) _ _ 29 (omega arith)
+    (shorter (eqb n 2) _ _ 29 (omega arith)
+    (shorter (eqb n 3) _ _ 29 (omega arith)
+    (shorter (eqb n 4) _ _ 29 (omega arith)
+    (shorter (eqb n 5) _ _ 29 (omega arith)
+    (shorter (eqb n 6) _ _ 29 (omega arith)
+    (shorter (eqb n 7) _ _ 29 (omega arith)
+    (shorter (eqb n 8) _ _ 29 (omega arith)
+    (shorter (eqb n 9) _ _ 29 (omega arith)
+    (shorter (eqb n 10) _ _ 29 (omega arith)
+    (shorter (eqb n 13) _ _ 29 (omega arith)
+    (shorter (eqb n 14) _ _ 29 (omega arith)
+    (omega arith))))))))))))
+
+report-length : (line n : ℕ) → length (reportOf line n) ≤ 56
+unfolding reportOf
+report-length line n = omega (arith, length-append (decimalOf line) (58 ∷ 32 ∷ reasonText n), decimal-length line, width-small line, reason-length n)
+
+pub report-within : (line n r : ℕ) → r ≡ length (reportOf line n) → r ≤ 56
+report-within line n r e = omega (arith, report-length line n)
+
+pub report-short : (line n : ℕ) → length (reportOf line n) < 2 ^ 64
+report-short line n = omega (arith, report-length line n)
+
+-- A number that is no reason by itself.
+pub reason-else : (n : ℕ) → (n ≡ 1 → ⊥) → (n ≡ 2 → ⊥) → (n ≡ 3 → ⊥) → (n ≡ 4 → ⊥) → (n ≡ 5 → ⊥) → (n ≡ 6 → ⊥) → (n ≡ 7 → ⊥) → (n ≡ 8 → ⊥) → (n ≡ 9 → ⊥) → (n ≡ 10 → ⊥) → (n ≡ 13 → ⊥) → (n ≡ 14 → ⊥) → reasonText 0 ≡ reasonText n
+unfolding reasonText
+reason-else n a b c d e f g h i j k l = rw (ne-eqb n 1 a, ne-eqb n 2 b, ne-eqb n 3 c, ne-eqb n 4 d, ne-eqb n 5 e, ne-eqb n 6 f, ne-eqb n 7 g, ne-eqb n 8 h, ne-eqb n 9 i, ne-eqb n 10 j, ne-eqb n 13 k, ne-eqb n 14 l)
 
 -- ── lines by kind ──
 pub rig-line : (c : Call) (g : ℕ) → c ≡ Rig g → (114 ∷ 105 ∷ 103 ∷ 32 ∷ []) ++ setOf g 10 ≡ lineOf c

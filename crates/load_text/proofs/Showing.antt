@@ -1,16 +1,16 @@
 -- A turn of the loop over a load's records: a line, and the ways out.
-use Prim.Native.Nat.{ℕ, zero, suc, _+_, _*_, _≤_, _<_}
+use Prim.Native.Nat.{ℕ, zero, suc, _+_, _*_, _^_, _≤_, _<_}
 use mathlib.Core.List.{List, [], _∷_, _++_}
 use mathlib.Core.Path.{_≡_, refl, sym, ap, _∙_}
 use native.Mathlib.Omega.{arith}
-use lib.ListN.{length}
+use lib.ListN.{length, length-append}
 use Rattle.numerals.specs.Laid.{Put}
 use Rattle.load.specs.declared.Call.{Call}
 use Rattle.load.specs.declared.Item.the-variants.{Record, End, Refused}
 use Rattle.load.specs.Reading.{itemAt, walk, openNumber}
-use Rattle.load.proofs.Reading.{walk-record, walk-end, walk-refused, step-refused, step-next}
+use Rattle.load.proofs.Reading.{walk-record, walk-end, walk-refused, step-refused, step-next, walk-few, open-known}
 use Rattle.load_text.specs.Lines.{lineOf, stopLine, stopped, linesOf, restOf, header, opened, textOf}
-use Rattle.load_text.proofs.Lines.{line-length}
+use Rattle.load_text.proofs.Lines.{line-length, stop-length}
 use Rattle.numerals.proofs.Going.{Going, going-start, going-step, going-as, going-none, going-last}
 
 module _ (s : List ℕ) (at k : ℕ) where
@@ -34,11 +34,10 @@ module _ (s : List ℕ) (at k : ℕ) where
 pub record Turn (s o₀ : List ℕ) (from : ℕ) (o : List ℕ) (at k n : ℕ) : Type 0 where
   pub inside : at ≤ 65536
   pub few : k ≤ at
-  pub near : n ≤ 12 + 66 * at
   pub going : Going o₀ from (restOf 1 (walk s 1)) o n (restOf k (walk s at))
 
-pub turn-start : (s o : List ℕ) (from : ℕ) → from ≤ 12 → Turn s o from o 1 1 from
-turn-start s o from h = record { inside = omega arith; few = omega arith; near = omega arith; going = going-start o from (restOf 1 (walk s 1)) }
+pub turn-start : (s o : List ℕ) (from : ℕ) → length o < 2 ^ 64 → from < 2 ^ 64 → Turn s o from o 1 1 from
+turn-start s o from h k = record { inside = omega arith; few = omega arith; going = going-start o from (restOf 1 (walk s 1)) h k }
 
 module _ (s o₀ : List ℕ) (from : ℕ) (o : List ℕ) (at k n : ℕ) (t : Turn s o₀ from o at k n) (m : ℕ) (p : List ℕ) where
   pub turn-more : length s ≤ 65536 → (c : Call) (next : ℕ) → itemAt s at ≡ Record c next → Put o n (lineOf c) m p → Turn s o₀ from p next (k + 1) m
@@ -47,7 +46,6 @@ module _ (s o₀ : List ℕ) (from : ℕ) (o : List ℕ) (at k n : ℕ) (t : Tur
       record {
         inside = omega (arith, i .1);
         few = omega (arith, i .0, t .few);
-        near = omega (arith, i .0, t .near, z .next, line-length c);
         going = going-step o₀ from _ o n (lineOf c) _ p m (going-as o₀ from _ o n _ _ (rest-record s at k c next e) (t .going)) z;
       }
 
@@ -69,3 +67,18 @@ text-open s n p q = go (openNumber s) p
 pub text-read : (s : List ℕ) (n : ℕ) → n ≡ openNumber s → n ≡ 0 → header ++ restOf 1 (walk s 1) ≡ textOf s
 unfolding textOf
 text-read s n p q = rw (sym p ∙ q)
+
+-- A line has at most 65 bytes, and a load few records: the text's length is a usize.
+lines-length : (k : ℕ) (cs : List Call) (stop : ℕ) → length (linesOf k cs stop) ≤ 49 + 65 * length cs
+unfolding linesOf
+lines-length k [] zero = omega arith
+lines-length k [] (suc n) = omega (arith, stop-length (suc n) k)
+lines-length k (c ∷ cs) stop = omega (arith, length-append (lineOf c) (linesOf (k + 1) cs stop), line-length c, lines-length (k + 1) cs stop)
+
+pub text-short : (s : List ℕ) → length (textOf s) < 2 ^ 64
+unfolding textOf restOf
+text-short s = go (openNumber s) refl
+  where
+    go : (m : ℕ) → openNumber s ≡ m → length (opened m (linesOf 1 (walk s 1 .calls) (walk s 1 .stop))) < 2 ^ 64
+    go zero e = omega (arith, open-known s e .2, walk-few s 1, lines-length 1 (walk s 1 .calls) (walk s 1 .stop))
+    go (suc m) e = omega (arith, stop-length (suc m) 0)

@@ -1,11 +1,11 @@
 // Calls, refusals and reports as lines, laid into a lent buffer as far as that goes.
 ghost use mathlib.Core.Path.{_≡_};
 ghost use mathlib.Core.List.{[], _∷_, _++_};
-ghost use Prim.Native.Nat.{_+_, _^_, _≤_, _<_};
+ghost use Prim.Native.Nat.{_≤_};
 ghost use lib.ListN.{length};
-ghost use Rattle.numerals.specs.Laid.{Put};
+ghost use Rattle.numerals.specs.Laid.{laid, Put};
 ghost use Rattle.load.specs.Reading.{walk};
-ghost use Rattle.load_text.specs.Lines.{glyphOf, hexUpTo, setOf, fieldOf, pairOf, lineOf, stopLine, restOf, textOf};
+ghost use Rattle.load_text.specs.Lines.{glyphOf, hexUpTo, setOf, fieldOf, pairOf, lineOf, stopLine, restOf, textOf, reasonText, reportOf};
 use load::Call;
 use load::Item;
 
@@ -22,7 +22,6 @@ fn glyph(d: u64) -> u8
 
 // A number in hex without zeros in front, at most k + 1 digits.
 fn put_digits(out: &mut [u8], at: usize, value: u64, k: usize) -> usize
-    requires { ⌜ at + (k + 1) < 2 ^ 64 ⌝ }
     ensures { λ r. ⌜ Put (now (out .entry)) at (hexUpTo k value) r (now (out .exit)) ⌝ }
 {
     if k == 0 {
@@ -37,7 +36,6 @@ fn put_digits(out: &mut [u8], at: usize, value: u64, k: usize) -> usize
 
 // A set of groups in hex, and the byte behind it.
 fn put_set(out: &mut [u8], at: usize, groups: u64, b: u8) -> usize
-    requires { ⌜ at + 17 < 2 ^ 64 ⌝ }
     ensures { λ r. ⌜ Put (now (out .entry)) at (setOf groups b) r (now (out .exit)) ⌝ }
 {
     let m = put_digits(out, at, groups, 15);
@@ -46,7 +44,6 @@ fn put_set(out: &mut [u8], at: usize, groups: u64, b: u8) -> usize
 
 // A number, and the byte behind it.
 fn put_field(out: &mut [u8], at: usize, value: u64, b: u8) -> usize
-    requires { ⌜ at + 21 < 2 ^ 64 ⌝ }
     ensures { λ r. ⌜ Put (now (out .entry)) at (fieldOf value b) r (now (out .exit)) ⌝ }
 {
     let m = numerals::put_decimal(out, at, value);
@@ -54,7 +51,6 @@ fn put_field(out: &mut [u8], at: usize, value: u64, b: u8) -> usize
 }
 
 fn put_pair(out: &mut [u8], at: usize, a: u64, b: u64) -> usize
-    requires { ⌜ at + 42 < 2 ^ 64 ⌝ }
     ensures { λ r. ⌜ Put (now (out .entry)) at (pairOf a b) r (now (out .exit)) ⌝ }
 {
     let m = put_field(out, at, a, 32);
@@ -62,7 +58,6 @@ fn put_pair(out: &mut [u8], at: usize, a: u64, b: u64) -> usize
 }
 
 fn put_claim(out: &mut [u8], at: usize, clock: u64, groups: u64, length: u32) -> usize
-    requires { ⌜ at + 59 < 2 ^ 64 ⌝ }
     ensures { λ r. ⌜ Put (now (out .entry)) at (fieldOf clock 32 ++ (setOf groups 32 ++ fieldOf length 10)) r (now (out .exit)) ⌝ }
 {
     let a = put_field(out, at, clock, 32);
@@ -72,7 +67,6 @@ fn put_claim(out: &mut [u8], at: usize, clock: u64, groups: u64, length: u32) ->
 
 // A call as a line.
 fn put_call(out: &mut [u8], at: usize, call: Call) -> usize
-    requires { ⌜ at + 66 < 2 ^ 64 ⌝ }
     ensures { λ r. ⌜ Put (now (out .entry)) at (lineOf call) r (now (out .exit)) ⌝ }
 {
     match call {
@@ -101,13 +95,12 @@ fn put_call(out: &mut [u8], at: usize, call: Call) -> usize
 
 // The same at the start of a buffer, for any caller.
 pub fn put_line(call: Call, out: &mut [u8]) -> usize
-    ensures { λ r. ⌜ Put (now (out .entry)) 0 (lineOf call) r (now (out .exit)) ⌝ }
+    ensures { λ r. ⌜ (r ≡ length (lineOf call)) × (now (out .exit) ≡ laid (now (out .entry)) 0 (lineOf call)) ⌝ }
 {
     put_call(out, 0, call)
 }
 
 fn put_stop(out: &mut [u8], at: usize, number: u8, k: u64) -> usize
-    requires { ⌜ at + 50 < 2 ^ 64 ⌝ }
     ensures { λ r. ⌜ Put (now (out .entry)) at (stopLine number k) r (now (out .exit)) ⌝ }
 {
     let m = numerals::put_bytes(out, at, b"# stop ");
@@ -116,7 +109,7 @@ fn put_stop(out: &mut [u8], at: usize, number: u8, k: u64) -> usize
 
 // The records of a load that opens, to its end or to the first that is refused.
 fn put_records(out: &mut [u8], from: usize, load: &[u8]) -> usize
-    requires { ⌜ (from ≤ 12) × (length (now load) ≤ 65536) ⌝ }
+    requires { ⌜ length (now load) ≤ 65536 ⌝ }
     ensures { λ r. ⌜ Put (now (out .entry)) from (restOf 1 (walk (now (load .entry)) 1)) r (now (out .exit)) ⌝ }
 {
     let mut at: usize = 1;
@@ -141,7 +134,7 @@ fn put_records(out: &mut [u8], from: usize, load: &[u8]) -> usize
 
 // A load as text, and the text's length.
 pub fn show(load: &[u8], out: &mut [u8]) -> usize
-    ensures { λ r. ⌜ Put (now (out .entry)) 0 (textOf (now (load .entry))) r (now (out .exit)) ⌝ }
+    ensures { λ r. ⌜ (r ≡ length (textOf (now (load .entry)))) × (now (out .exit) ≡ laid (now (out .entry)) 0 (textOf (now (load .entry)))) ⌝ }
 {
     let number = load::open_number(load);
     if number != 0 {
@@ -151,9 +144,9 @@ pub fn show(load: &[u8], out: &mut [u8]) -> usize
     put_records(out, n, load)
 }
 
+// What is wrong, by number.
 fn put_reason(out: &mut [u8], at: usize, reason: u8) -> usize
-    requires { ⌜ at + 32 < 2 ^ 64 ⌝ }
-    ensures { λ r. ⌜ r ≤ at + 32 ⌝ }
+    ensures { λ r. ⌜ Put (now (out .entry)) at (reasonText reason) r (now (out .exit)) ⌝ }
 {
     match reason {
         1 => numerals::put_bytes(out, at, b"unknown call\n"),
@@ -174,7 +167,7 @@ fn put_reason(out: &mut [u8], at: usize, reason: u8) -> usize
 
 // A line that says what is wrong with a line of text.
 pub fn report(line: u64, reason: u8, out: &mut [u8]) -> usize
-    ensures { λ r. ⌜ r ≤ 64 ⌝ }
+    ensures { λ r. ⌜ (r ≡ length (reportOf line reason)) × (now (out .exit) ≡ laid (now (out .entry)) 0 (reportOf line reason)) ⌝ }
 {
     let a = numerals::put_bytes(out, 0, b"line ");
     let b = numerals::put_decimal(out, a, line);

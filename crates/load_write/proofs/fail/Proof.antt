@@ -2,6 +2,7 @@
 use lib.ListN.{length-take}
 use native.Mathlib.Omega.{arith}
 use borrow.Author.Needs.{needs}
+use Rattle.load_text.proofs.Lines.{report-within}
 use Rattle.load_write.proofs.fail.Statement.{statement}
 use Rattle.load_write.proofs.fail.Tie as tie
 
@@ -12,10 +13,10 @@ report-requires : tie.Need-report-requires
 report-requires c κs = search needs
 
 array-share-prefix-text : tie.Need-array-share-prefix-text
-array-share-prefix-text c = search needs
+array-share-prefix-text c = omega (arith, report-within _ _ _ (c .before .report .ensures .0))
 
 slice-aggregate-write-all : tie.Need-slice-aggregate-write-all
-slice-aggregate-write-all c = simp length-take (omega (arith, c .before .before .report .ensures, c .before .before .report .kept .1 .1 .0))
+slice-aggregate-write-all c = simp length-take (omega (arith, report-within _ _ _ (c .before .before .report .ensures .0), c .before .before .report .kept .1 .1 .0))
 
 write-all-requires : tie.Need-write-all-requires
 write-all-requires c κs = search needs

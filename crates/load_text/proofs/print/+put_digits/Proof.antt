@@ -1,12 +1,11 @@
 -- Hex is that of the higher digits, then the lowest digit. The measure is the number of digits allowed.
-use Prim.Native.Nat.{ℕ, _-_, _/_, _<_}
+use Prim.Native.Nat.{ℕ, _<_}
 use native.Mathlib.Omega.{arith}
 use borrow.Author.Needs.{needs}
 use borrow.Fn.Kinds.{In}
 use borrow.Fn.PlainCycle.{Measures, is, falls, and}
-use Rattle.load_text.proofs.Lines.{hex-one, hex-last, hex-more, hex-length}
-use Rattle.numerals.proofs.Laying.{put-as}
-use Rattle.numerals.proofs.Laying.{put-then}
+use Rattle.load_text.proofs.Lines.{hex-one, hex-last, hex-more}
+use Rattle.numerals.proofs.Laying.{put, put-as, put-then}
 use Rattle.numerals.proofs.put_byte.Reads as put-byte-reads
 use Rattle.load_text.proofs.print.+put_digits.{statement}
 use Rattle.load_text.proofs.print.+put_digits.Tie.{close}
@@ -44,7 +43,7 @@ put-digits-put-byte-requires : (t : ℕ) → put-digits-lts.Need-put-byte-requir
   put-digits-below t,
   put-digits.Post,
 ) (put-digits-at t) put-digits.Post
-put-digits-put-byte-requires t c κs = omega (arith, c .before .before .before .before .pre .1)
+put-digits-put-byte-requires t c κs = search needs
 
 put-digits-same-length : (t : ℕ) → put-digits-lts.Need-same-length (
   glyph-reads.Asked,
@@ -64,7 +63,7 @@ put-digits-returns : (t : ℕ) → put-digits-lts.Need-returns (
   put-digits-below t,
   put-digits.Post,
 ) (put-digits-at t) put-digits.Post
-put-digits-returns t c = put-as _ _ (hex-one _ _ _ (c .before .before .before .glyph .ensures) (c .before .before .before .before .before .if1 .taken)) (c .before .before .put-byte .ensures)
+put-digits-returns t c = put-as _ _ (hex-one _ _ _ (c .before .before .before .glyph .ensures) (c .before .before .before .before .before .if1 .taken)) (put (c .before .before .put-byte .ensures))
 
 put-digits-glyph-requires-2 : (t : ℕ) → put-digits-lts.Need-glyph-requires-2 (
   glyph-reads.Asked,
@@ -84,7 +83,7 @@ put-digits-put-byte-requires-2 : (t : ℕ) → put-digits-lts.Need-put-byte-requ
   put-digits-below t,
   put-digits.Post,
 ) (put-digits-at t) put-digits.Post
-put-digits-put-byte-requires-2 t c κs = omega (arith, c .before .before .before .before .before .pre .1)
+put-digits-put-byte-requires-2 t c κs = search needs
 
 put-digits-same-length-2 : (t : ℕ) → put-digits-lts.Need-same-length-2 (
   glyph-reads.Asked,
@@ -104,7 +103,7 @@ put-digits-returns-2 : (t : ℕ) → put-digits-lts.Need-returns-2 (
   put-digits-below t,
   put-digits.Post,
 ) (put-digits-at t) put-digits.Post
-put-digits-returns-2 t c = put-as _ _ (hex-last _ _ _ (c .before .before .before .glyph2 .ensures) (c .before .before .before .before .before .if2 .taken)) (c .before .before .put-byte2 .ensures)
+put-digits-returns-2 t c = put-as _ _ (hex-last _ _ _ (c .before .before .before .glyph2 .ensures) (c .before .before .before .before .before .if2 .taken)) (put (c .before .before .put-byte2 .ensures))
 
 put-digits-sub-put-digits : (t : ℕ) → put-digits-lts.Need-sub-put-digits (
   glyph-reads.Asked,
@@ -124,7 +123,7 @@ put-digits-put-digits-requires : (t : ℕ) → put-digits-lts.Need-put-digits-re
   put-digits-below t,
   put-digits.Post,
 ) (put-digits-at t) put-digits.Post
-put-digits-put-digits-requires t c κs = (omega (arith, c .before .before .before .before .pre .0, c .before .before .if1 .left), omega (arith, c .before .before .before .before .pre .1, c .before .before .if1 .left))
+put-digits-put-digits-requires t c κs = (omega (arith, c .before .before .before .before .pre .0, c .before .before .if1 .left), tt)
 
 put-digits-glyph-requires-3 : (t : ℕ) → put-digits-lts.Need-glyph-requires-3 (
   glyph-reads.Asked,
@@ -144,7 +143,7 @@ put-digits-put-byte-requires-3 : (t : ℕ) → put-digits-lts.Need-put-byte-requ
   put-digits-below t,
   put-digits.Post,
 ) (put-digits-at t) put-digits.Post
-put-digits-put-byte-requires-3 t c κs = omega (arith, c .before .before .before .before .before .before .before .before .before .pre .1, c .before .before .before .before .put-digits .ensures .next, hex-length (c .before .before .before .before .before .before .before .before .before .args .k - 1) (c .before .before .before .before .before .before .before .before .before .args .value / 16), c .before .before .before .before .before .before .before .if1 .left)
+put-digits-put-byte-requires-3 t c κs = search needs
 
 put-digits-same-length-3 : (t : ℕ) → put-digits-lts.Need-same-length-3 (
   glyph-reads.Asked,
@@ -164,7 +163,7 @@ put-digits-returns-3 : (t : ℕ) → put-digits-lts.Need-returns-3 (
   put-digits-below t,
   put-digits.Post,
 ) (put-digits-at t) put-digits.Post
-put-digits-returns-3 t c = put-as _ _ (hex-more _ _ _ (c .before .before .before .glyph3 .ensures) (c .before .before .before .before .before .before .before .before .before .before .if1 .left) (c .before .before .before .before .before .before .before .before .before .if2 .left)) (put-then _ _ _ _ _ _ _ _ (c .before .before .before .before .before .before .before .put-digits .ensures) (c .before .before .put-byte3 .ensures))
+put-digits-returns-3 t c = put-as _ _ (hex-more _ _ _ (c .before .before .before .glyph3 .ensures) (c .before .before .before .before .before .before .before .before .before .before .if1 .left) (c .before .before .before .before .before .before .before .before .before .if2 .left)) (put-then _ _ _ _ _ _ _ _ (omega arith) (c .before .before .before .before .before .before .before .put-digits .ensures) (put (c .before .before .put-byte3 .ensures)))
 
 pub +put-digits-spec : {M : Type 1} → statement M
 +put-digits-spec = close μ-put-digits λ t. put-digits-lts.spec (

@@ -1,8 +1,8 @@
 -- A line is its word and then its numbers.
+use native.Mathlib.Omega.{arith}
 use borrow.Author.Needs.{needs}
 use Rattle.load_text.proofs.Lines.{rig-line, claim-line, release-line, withdraw-line, clock-line}
-use Rattle.numerals.proofs.Laying.{put-as}
-use Rattle.numerals.proofs.Laying.{put-then}
+use Rattle.numerals.proofs.Laying.{put, put-then, put-as}
 use Rattle.load_text.proofs.print.put_call.Statement.{statement}
 use Rattle.load_text.proofs.print.put_call.Tie as tie
 
@@ -76,31 +76,31 @@ same-length : tie.Need-same-length
 same-length c = search needs
 
 returns : tie.Need-returns
-returns c = put-as _ _ (rig-line _ _ (c .before .before .before .before .before .before .before .before .before .before .call .given .1)) (put-then _ _ _ _ _ _ _ _ (c .before .before .before .before .before .before .put-bytes .ensures) (c .before .before .put-set .ensures))
+returns c = put-as _ _ (rig-line _ _ (c .before .before .before .before .before .before .before .before .before .before .call .given .1)) (put-then _ _ _ _ _ _ _ _ (omega arith) (put (c .before .before .before .before .before .before .put-bytes .ensures)) (c .before .before .put-set .ensures))
 
 same-length-2 : tie.Need-same-length-2
 same-length-2 c = search needs
 
 returns-2 : tie.Need-returns-2
-returns-2 c = put-as _ _ (claim-line _ _ _ _ (c .before .before .before .before .before .before .before .before .before .before .call2 .given .1)) (put-then _ _ _ _ _ _ _ _ (c .before .before .before .before .before .before .put-bytes2 .ensures) (c .before .before .put-claim .ensures))
+returns-2 c = put-as _ _ (claim-line _ _ _ _ (c .before .before .before .before .before .before .before .before .before .before .call2 .given .1)) (put-then _ _ _ _ _ _ _ _ (omega arith) (put (c .before .before .before .before .before .before .put-bytes2 .ensures)) (c .before .before .put-claim .ensures))
 
 same-length-3 : tie.Need-same-length-3
 same-length-3 c = search needs
 
 returns-3 : tie.Need-returns-3
-returns-3 c = put-as _ _ (release-line _ _ _ (c .before .before .before .before .before .before .before .before .before .before .call3 .given .1)) (put-then _ _ _ _ _ _ _ _ (c .before .before .before .before .before .before .put-bytes3 .ensures) (c .before .before .put-pair .ensures))
+returns-3 c = put-as _ _ (release-line _ _ _ (c .before .before .before .before .before .before .before .before .before .before .call3 .given .1)) (put-then _ _ _ _ _ _ _ _ (omega arith) (put (c .before .before .before .before .before .before .put-bytes3 .ensures)) (c .before .before .put-pair .ensures))
 
 same-length-4 : tie.Need-same-length-4
 same-length-4 c = search needs
 
 returns-4 : tie.Need-returns-4
-returns-4 c = put-as _ _ (withdraw-line _ _ _ (c .before .before .before .before .before .before .before .before .before .before .call4 .given .1)) (put-then _ _ _ _ _ _ _ _ (c .before .before .before .before .before .before .put-bytes4 .ensures) (c .before .before .put-pair2 .ensures))
+returns-4 c = put-as _ _ (withdraw-line _ _ _ (c .before .before .before .before .before .before .before .before .before .before .call4 .given .1)) (put-then _ _ _ _ _ _ _ _ (omega arith) (put (c .before .before .before .before .before .before .put-bytes4 .ensures)) (c .before .before .put-pair2 .ensures))
 
 same-length-5 : tie.Need-same-length-5
 same-length-5 c = search needs
 
 returns-5 : tie.Need-returns-5
-returns-5 c = put-as _ _ (clock-line _ _ (c .before .before .before .before .before .before .before .before .before .before .call5 .given .1)) (put-then _ _ _ _ _ _ _ _ (c .before .before .before .before .before .before .put-bytes5 .ensures) (c .before .before .put-field .ensures))
+returns-5 c = put-as _ _ (clock-line _ _ (c .before .before .before .before .before .before .before .before .before .before .call5 .given .1)) (put-then _ _ _ _ _ _ _ _ (omega arith) (put (c .before .before .before .before .before .before .put-bytes5 .ensures)) (c .before .before .put-field .ensures))
 
 pub put-call-spec : {M : Type 1} → statement M
 put-call-spec =

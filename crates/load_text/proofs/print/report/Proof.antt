@@ -1,7 +1,9 @@
--- A report is at most 64 bytes.
+-- A report is its pieces laid one behind the other.
 use native.Mathlib.Omega.{arith}
+use Rattle.numerals.proofs.Laying.{put, put-then, put-short}
+use Rattle.load_text.specs.Lines.{reportOf}
+use Rattle.load_text.proofs.Lines.{report-short}
 use borrow.Author.Needs.{needs}
-use Rattle.numerals.proofs.Laying.{decimal-length, width-small}
 use Rattle.load_text.proofs.print.report.Statement.{statement}
 use Rattle.load_text.proofs.print.report.Tie as tie
 
@@ -18,16 +20,27 @@ slice-aggregate-put-bytes-2 : tie.Need-slice-aggregate-put-bytes-2
 slice-aggregate-put-bytes-2 c = search needs
 
 put-bytes-requires-2 : tie.Need-put-bytes-requires-2
-put-bytes-requires-2 c κs = omega (arith, c .before .before .before .before .put-decimal .ensures .next, decimal-length (c .before .before .before .before .before .before .before .before .before .before .before .before .args .line), width-small (c .before .before .before .before .before .before .before .before .before .before .before .before .args .line))
+put-bytes-requires-2 c κs = search needs
 
 put-reason-requires : tie.Need-put-reason-requires
-put-reason-requires c κs = omega (arith, c .before .before .before .before .before .before .before .before .put-decimal .ensures .next, decimal-length (c .before .before .before .before .before .before .before .before .before .before .before .before .before .before .before .before .args .line), width-small (c .before .before .before .before .before .before .before .before .before .before .before .before .before .before .before .before .args .line), c .before .before .before .put-bytes2 .ensures .next)
+put-reason-requires c κs = search needs
 
 same-length : tie.Need-same-length
 same-length c = search needs
 
 returns : tie.Need-returns
-returns c = omega (arith, c .before .before .before .before .before .before .before .before .before .before .before .put-decimal .ensures .next, decimal-length (c .before .before .before .before .before .before .before .before .before .before .before .before .before .before .before .before .before .before .before .args .line), width-small (c .before .before .before .before .before .before .before .before .before .before .before .before .before .before .before .before .before .before .before .args .line), c .before .before .before .before .before .before .put-bytes2 .ensures .next, c .before .before .put-reason .ensures)
+unfolding reportOf
+returns c =
+    let r = c .before .before in
+    let b = r .before .before .before .before in
+    let d = b .before .before .before .before .before in
+    let a = d .before .before .before .before in
+    let k = a .before .before .before .before .good .1 .1 .0 in
+    let l = a .put-bytes .kept .0 in
+    let m = d .put-decimal .kept .0 in
+    put-short (report-short _ _)
+    (put-then _ _ _ _ _ _ _ _ (omega (arith, k)) (put (a .put-bytes .ensures))
+    (put-then _ _ _ _ _ _ _ _ (omega (arith, k, l)) (put (d .put-decimal .ensures)) (put-then _ _ _ _ _ _ _ _ (omega (arith, k, l, m)) (put (b .put-bytes2 .ensures)) (r .put-reason .ensures))))
 
 pub report-spec : {M : Type 1} → statement M
 report-spec =

@@ -2,10 +2,9 @@
 use mathlib.Core.Path.{sym, _∙_}
 use native.Mathlib.Omega.{arith}
 use borrow.Author.Needs.{needs}
-use Rattle.load_text.proofs.Showing.{text-open, text-read}
-use Rattle.numerals.proofs.Laying.{put-as}
+use Rattle.load_text.proofs.Showing.{text-open, text-read, text-short}
 use Rattle.load.proofs.Reading.{open-known}
-use Rattle.numerals.proofs.Laying.{put-then}
+use Rattle.numerals.proofs.Laying.{put, put-then, put-as, put-short}
 use Rattle.load_text.proofs.print.show.Statement.{statement}
 use Rattle.load_text.proofs.print.show.Tie as tie
 
@@ -19,7 +18,7 @@ same-length : tie.Need-same-length
 same-length c = search needs
 
 returns : tie.Need-returns
-returns c = put-as _ _ (text-open _ _ (c .before .before .before .before .before .open-number .ensures) (c .before .before .before .before .if1 .taken)) (c .before .before .put-stop .ensures)
+returns c = put-short (text-short _) (put-as _ _ (text-open _ _ (c .before .before .before .before .before .open-number .ensures) (c .before .before .before .before .if1 .taken)) (c .before .before .put-stop .ensures))
 
 slice-aggregate-put-bytes : tie.Need-slice-aggregate-put-bytes
 slice-aggregate-put-bytes c = search needs
@@ -28,13 +27,13 @@ put-bytes-requires : tie.Need-put-bytes-requires
 put-bytes-requires c κs = search needs
 
 put-records-requires : tie.Need-put-records-requires
-put-records-requires c κs = let q = open-known _ (sym (c .before .before .before .before .before .before .before .open-number .ensures) ∙ c .before .before .before .before .before .before .if1 .left) in (omega (arith, c .before .before .before .put-bytes .ensures .next), q .2)
+put-records-requires c κs = open-known _ (sym (c .before .before .before .before .before .before .before .open-number .ensures) ∙ c .before .before .before .before .before .before .if1 .left) .2
 
 same-length-2 : tie.Need-same-length-2
 same-length-2 c = search needs
 
 returns-2 : tie.Need-returns-2
-returns-2 c = put-as _ _ (text-read _ _ (c .before .before .before .before .before .before .before .before .before .before .open-number .ensures) (c .before .before .before .before .before .before .before .before .before .if1 .left)) (put-then _ _ _ _ _ _ _ _ (c .before .before .before .before .before .before .put-bytes .ensures) (c .before .before .put-records .ensures))
+returns-2 c = put-short (text-short _) (put-as _ _ (text-read _ _ (c .before .before .before .before .before .before .before .before .before .before .open-number .ensures) (c .before .before .before .before .before .before .before .before .before .if1 .left)) (put-then _ _ _ _ _ _ _ _ (omega arith) (put (c .before .before .before .before .before .before .put-bytes .ensures)) (c .before .before .put-records .ensures)))
 
 pub show-spec : {M : Type 1} → statement M
 show-spec =
