@@ -1,9 +1,10 @@
 pub mod Calls
-pub mod Fields
 pub mod Growing
 pub mod Lines
+pub mod Making
 pub mod Numbers
 pub mod Parts
 pub mod Reading
 pub mod Showing
 pub mod Spans
+pub mod Within

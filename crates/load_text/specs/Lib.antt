@@ -1,3 +1,3 @@
-pub mod Bounds
 pub mod Lines
+pub mod Making
 pub mod Parsing

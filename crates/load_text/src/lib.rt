@@ -1,9 +1,12 @@
 // Loads as text, a line for each call: `make` has a text to a load, `show` a load to its text, `parse_line` and `put_line` one line.
-// No function asks anything of its slices. What the lines are is defined in specs/Lines.antt, and how far answers go in specs/Bounds.antt.
+// No public function asks anything of its slices. What a line says is defined in specs/Parsing.antt, the load that lines make in
+// specs/Making.antt, and the lines of a load in specs/Lines.antt.
 ghost use mathlib.Core.Path.{_≡_};
-ghost use Prim.Native.Nat.{_≤_, max};
-ghost use lib.ListN.{length};
-ghost use Rattle.load_text.specs.Bounds.{Reach, writtenOf, madeOf, numberOf};
+ghost use Prim.Native.Nat.{_≤_};
+ghost use lib.ListN.{length, take};
+ghost use Rattle.load.specs.Writing.{appendAnswer, appendOut};
+ghost use Rattle.load_text.specs.Parsing.{isFeed, placeOf, lineSays};
+ghost use Rattle.load_text.specs.Making.{added, atStart, madeOf, madeOut};
 
 mod parse;
 mod print;
@@ -27,7 +30,7 @@ pub enum Made {
 
 // Where the line ends that begins at a place.
 fn line_end(text: &[u8], at: usize) -> usize
-    ensures { λ r. ⌜ Reach at (length (now (text .entry))) r ⌝ }
+    ensures { λ r. ⌜ r ≡ placeOf isFeed (now (text .entry)) at ⌝ }
 {
     let mut i = at;
     while i < text.len() {
@@ -39,13 +42,12 @@ fn line_end(text: &[u8], at: usize) -> usize
     i
 }
 
-// One record more behind the load in a buffer's first bytes.
+// One record more behind the load in a buffer's first bytes: the writer's answer, and its buffer.
 fn grow(out: &mut [u8], size: usize, call: Call) -> Written
-    ensures { λ r. ⌜ writtenOf r ≤ length (now (out .entry)) ⌝ }
+    requires { ⌜ size ≤ length (now out) ⌝ }
+    ensures answer { λ r. ⌜ r ≡ appendAnswer (take size (now (out .entry))) call (now (out .entry)) ⌝ }
+    ensures buffer { λ _. ⌜ now (out .exit) ≡ appendOut (take size (now (out .entry))) call (now (out .entry)) ⌝ }
 {
-    if out.len() < size {
-        return Written::Refusal(15);
-    }
     let mut grown = [0u8; 65536];
     let w = load::append(&out[..size], call, &mut grown);
     match w {
@@ -60,9 +62,11 @@ fn grow(out: &mut [u8], size: usize, call: Call) -> Written
     }
 }
 
-// The load with what a line says.
+// The load in a buffer's first bytes with what a line says.
 fn add(out: &mut [u8], size: usize, line: &[u8]) -> Written
-    ensures { λ r. ⌜ writtenOf r ≤ max size (length (now (out .entry))) ⌝ }
+    requires { ⌜ size ≤ length (now out) ⌝ }
+    ensures answer { λ r. ⌜ r ≡ added (take size (now (out .entry))) (length (now (out .entry))) (lineSays (now (line .entry))) .answer ⌝ }
+    ensures buffer { λ _. ⌜ now (out .exit) ≡ atStart (added (take size (now (out .entry))) (length (now (out .entry))) (lineSays (now (line .entry))) .load) (now (out .entry)) ⌝ }
 {
     match parse::parse_line(line) {
         Parsed::Nothing => Written::Length(size),
@@ -71,9 +75,10 @@ fn add(out: &mut [u8], size: usize, line: &[u8]) -> Written
     }
 }
 
-// The load that a text says line by line.
-fn gather(text: &[u8], out: &mut [u8]) -> Made
-    ensures { λ r. ⌜ madeOf r ≤ length (now (out .entry)) ⌝ }
+// The load that a text says line by line, at the start of a buffer. It reads as the calls that the lines say: MadeReads in specs/Making.antt.
+pub fn make(text: &[u8], out: &mut [u8]) -> Made
+    ensures answer { λ r. ⌜ r ≡ madeOf (now (text .entry)) (length (now (out .entry))) ⌝ }
+    ensures buffer { λ _. ⌜ now (out .exit) ≡ madeOut (now (text .entry)) (now (out .entry)) ⌝ }
 {
     if out.len() == 0 {
         return Made::Mistake(0, 15);
@@ -93,28 +98,7 @@ fn gather(text: &[u8], out: &mut [u8]) -> Made
                 return Made::Mistake(line, n);
             }
         }
-        if text.len() <= end {
-            return Made::Load(size);
-        }
         at = end + 1;
     }
     Made::Load(size)
-}
-
-// The load that a text says, at the start of a buffer: one that the reader reads to its end.
-pub fn make(text: &[u8], out: &mut [u8]) -> Made
-    ensures size { λ r. ⌜ madeOf r ≤ length (now (out .exit)) ⌝ }
-    ensures good { λ r. ⌜ numberOf r (now (out .exit)) ≡ 0 ⌝ }
-{
-    let m = gather(text, out);
-    match m {
-        Made::Load(n) => {
-            let number = load::load_number(&out[..n]);
-            if number != 0 {
-                return Made::Mistake(0, number);
-            }
-            Made::Load(n)
-        }
-        Made::Mistake(line, reason) => Made::Mistake(line, reason),
-    }
 }

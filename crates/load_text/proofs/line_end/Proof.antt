@@ -1,24 +1,28 @@
--- The end of a line lies between its start and the text's end.
-use Prim.Native.Nat.{_-_, _≤_, max}
+-- The place is the first from where the loop stands.
+use mathlib.Core.Path.{_≡_, refl, sym, _∙_}
+use Prim.Native.Nat.{_-_}
 use lib.ListN.{length}
 use borrow.Author.Needs.{needs}
+use borrow.Author.Tests.{eq-eqb, ne-eqb}
+use Rattle.load_text.specs.Parsing.{isFeed, placeOf}
+use Rattle.load_text.proofs.Parts.{place-here, place-on, place-end}
 use Rattle.load_text.proofs.line_end.Statement.{statement}
 use Rattle.load_text.proofs.line_end.Tie as tie
 
 abbrev Inv-loop : tie.InvT-loop
-Inv-loop text at i₀ i = (at ≤ i) × (i ≤ max at (length text))
+Inv-loop text at i₀ i = placeOf isFeed text i ≡ placeOf isFeed text at
 
 abbrev μ-loop : tie.MeasureT-loop
 μ-loop text at i₀ i = length text - i
 
 loop-holds : tie.Need-loop-holds Inv-loop μ-loop
-loop-holds c = search needs
+loop-holds c = refl
 
 shared-slice-read-if1 : tie.Need-shared-slice-read-if1 Inv-loop μ-loop
 shared-slice-read-if1 c = search needs
 
 returns : tie.Need-returns Inv-loop μ-loop
-returns c = search needs
+returns c = sym (place-here isFeed _ _ (c .before .before .loop-test .taken) (eq-eqb _ 10 (c .if1 .taken))) ∙ c .before .before .before .loop .inv
 
 add-i : tie.Need-add-i Inv-loop μ-loop
 add-i c = search needs
@@ -27,10 +31,10 @@ loop-less : tie.Need-loop-less Inv-loop μ-loop
 loop-less c = search needs
 
 loop-again : tie.Need-loop-again Inv-loop μ-loop
-loop-again c = search needs
+loop-again c = sym (place-on isFeed _ _ (c .before .before .loop-test .taken) (ne-eqb _ 10 (c .if1 .left))) ∙ c .before .before .before .loop .inv
 
 returns-2 : tie.Need-returns-2 Inv-loop μ-loop
-returns-2 c = search needs
+returns-2 c = sym (place-end isFeed _ _ (c .loop-test .left)) ∙ c .before .loop .inv
 
 pub line-end-spec : {M : Type 1} → statement M
 line-end-spec =

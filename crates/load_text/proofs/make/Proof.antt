@@ -1,61 +1,108 @@
--- A load is handed out only where the reader's own test gave 0.
-use lib.ListN.{length-take}
-use mathlib.Core.Path.{sym, _∙_}
+-- Line by line the buffer's first bytes are the load of the lines so far.
+use Prim.Native.Nat.{_-_}
+use mathlib.Core.Path.{_∙_}
 use native.Mathlib.Omega.{arith}
+use lib.ListN.{length, length-set}
 use borrow.Author.Needs.{needs}
-use Rattle.load_text.proofs.Fields.{load-held}
+use Rattle.load_text.proofs.Making.{Gathers, line-reach, made-none, gathers-start, gathers-more, gathers-wrong, gathers-end}
 use Rattle.load_text.proofs.make.Statement.{statement}
 use Rattle.load_text.proofs.make.Tie as tie
 
-gather-requires : tie.Need-gather-requires
-gather-requires c κs = search needs
+abbrev Inv-loop : tie.InvT-loop
+Inv-loop text out₀ size₀ at₀ line₀ out size at line = Gathers text out₀ out size at line
 
-enum-known-m : tie.Need-enum-known-m
-enum-known-m c = search needs
+abbrev μ-loop : tie.MeasureT-loop
+μ-loop text out₀ size₀ at₀ line₀ out size at line = length text - at
 
-slice-reshare-prefix-load-number : tie.Need-slice-reshare-prefix-load-number
-slice-reshare-prefix-load-number c = omega (arith, load-held _ _ _ (c .before .before .before .before .before .gather .ensures) (c .before .m .given .1), c .before .before .before .before .before .gather .kept .1 .0)
+returns : tie.Need-returns Inv-loop μ-loop
+returns c = made-none _ _ (c .if1 .taken)
 
-slice-aggregate-load-number : tie.Need-slice-aggregate-load-number
-slice-aggregate-load-number c = simp length-take (omega (arith, load-held _ _ _ (c .before .before .before .before .before .before .gather .ensures) (c .before .before .m .given .1), c .before .before .before .before .before .before .gather .kept .1 .0))
+slice-write-out : tie.Need-slice-write-out Inv-loop μ-loop
+slice-write-out c = search needs
 
-load-number-requires : tie.Need-load-number-requires
-load-number-requires c κs = search needs
+loop-holds : tie.Need-loop-holds Inv-loop μ-loop
+loop-holds c = gathers-start _ (c .before .before .before .args .out .now) (c .if1 .left)
 
-same-length : tie.Need-same-length
-same-length c = search needs
+add-line : tie.Need-add-line Inv-loop μ-loop
+add-line c = omega (arith, c .before .loop .inv .few)
 
-returns : tie.Need-returns
-returns c = search needs
+line-end-requires : tie.Need-line-end-requires Inv-loop μ-loop
+line-end-requires c κs = search needs
 
-enum-known-m-2 : tie.Need-enum-known-m-2
-enum-known-m-2 c = search needs
+sub-add : tie.Need-sub-add Inv-loop μ-loop
+sub-add c = line-reach _ _ _ (c .before .before .loop-test .taken) (c .before .line-end .ensures) .0
 
-same-length-2 : tie.Need-same-length-2
-same-length-2 c = search needs
+part-add-start : tie.Need-part-add-start Inv-loop μ-loop
+part-add-start c = line-reach _ _ _ (c .before .before .loop-test .taken) (c .before .line-end .ensures) .0
 
-returns-2 : tie.Need-returns-2
-returns-2 c = (omega (arith, load-held _ _ _ (c .before .before .before .before .before .before .before .before .gather .ensures) (c .before .before .before .before .m .given .1), c .before .before .before .before .before .before .before .before .gather .kept .1 .0), sym (c .before .load-number .ensures) ∙ c .if1 .left)
+part-add-end : tie.Need-part-add-end Inv-loop μ-loop
+part-add-end c = line-reach _ _ _ (c .before .before .loop-test .taken) (c .before .line-end .ensures) .1
 
-same-length-3 : tie.Need-same-length-3
-same-length-3 c = search needs
+add-requires : tie.Need-add-requires Inv-loop μ-loop
+add-requires c κs = c .before .before .before .before .loop .inv .held
 
-returns-3 : tie.Need-returns-3
-returns-3 c = search needs
+enum-known-n : tie.Need-enum-known-n Inv-loop μ-loop
+enum-known-n c = search needs
+
+enum-known-n-2 : tie.Need-enum-known-n-2 Inv-loop μ-loop
+enum-known-n-2 c = search needs
+
+same-length : tie.Need-same-length Inv-loop μ-loop
+same-length c =
+    let a = c .before .before .before .before .before in
+    a .add .kept .0 ∙ a .before .before .before .before .before .loop .inv .same ∙ simp length-set
+
+returns-2 : tie.Need-returns-2 Inv-loop μ-loop
+returns-2 c =
+    let a = c .before .before .before .before .before in
+    let l = a .before .before .before in
+    let o = l .before .before .before .before .before .before in
+    gathers-wrong _ (o .args .out .now) _ _ _ _ (l .before .before .loop .inv) (l .before .loop-test .taken) _ (l .line-end .ensures) _ _ (a .add .ensures .0) (a .add .ensures .1) _ (c .before .n2 .given .1)
+
+add-at : tie.Need-add-at Inv-loop μ-loop
+add-at c =
+    let l = c .before .before .before .before .before .before .before .before in
+    omega (arith, line-reach _ _ _ (l .before .loop-test .taken) (l .line-end .ensures) .1)
+
+loop-less : tie.Need-loop-less Inv-loop μ-loop
+loop-less c =
+    let l = c .before .before .before .before .before .before .before .before in
+    omega (arith, line-reach _ _ _ (l .before .loop-test .taken) (l .line-end .ensures) .0)
+
+loop-again : tie.Need-loop-again Inv-loop μ-loop
+loop-again c =
+    let a = c .before .before .before .before .before in
+    let l = a .before .before .before in
+    let o = l .before .before .before .before .before .before in
+    gathers-more _ (o .args .out .now) _ _ _ _ (l .before .before .loop .inv) (l .before .loop-test .taken) _ (l .line-end .ensures) _ _ (a .add .ensures .0) (a .add .ensures .1) _ (c .before .n .given .1)
+
+same-length-2 : tie.Need-same-length-2 Inv-loop μ-loop
+same-length-2 c = c .before .loop .inv .same ∙ simp length-set
+
+returns-3 : tie.Need-returns-3 Inv-loop μ-loop
+returns-3 c = gathers-end _ (c .before .before .before .before .before .args .out .now) _ _ _ _ (c .before .loop .inv) (c .loop-test .left)
 
 pub make-spec : {M : Type 1} → statement M
 make-spec =
     tie.close
     (tie.spec
-    gather-requires
-    enum-known-m
-    slice-reshare-prefix-load-number
-    slice-aggregate-load-number
-    load-number-requires
-    same-length
+    Inv-loop
+    μ-loop
     returns
-    enum-known-m-2
-    same-length-2
+    slice-write-out
+    loop-holds
+    add-line
+    line-end-requires
+    sub-add
+    part-add-start
+    part-add-end
+    add-requires
+    enum-known-n
+    enum-known-n-2
+    same-length
     returns-2
-    same-length-3
+    add-at
+    loop-less
+    loop-again
+    same-length-2
     returns-3)

@@ -1,16 +1,8 @@
-use mathlib.Core.Path.{_≡_, refl, sym, ap, _∙_}
-use native.Mathlib.Omega.{arith}
+use mathlib.Core.Path.{_∙_}
 use Rattle.load_text.proofs.Calls.{word-test, call-rig, call-claim, call-release, call-withdraw, call-clock, call-none}
 use borrow.Author.Needs.{needs}
 use Rattle.load_text.proofs.parse.call.Statement.{statement}
 use Rattle.load_text.proofs.parse.call.Tie as tie
-use Rattle.load_text.proofs.parse.call.Reads as reads
-use Rattle.load_text.proofs.parse.call.Lts as lts
-use Rattle.check.proofs.same.Reads as same-reads
-use Rattle.load_text.proofs.parse.claim.Reads as claim-reads
-use Rattle.load_text.proofs.parse.clock.Reads as clock-reads
-use Rattle.load_text.proofs.parse.leave.Reads as leave-reads
-use Rattle.load_text.proofs.parse.rig.Reads as rig-reads
 
 -- src/parse.rt:177:26
 slice-aggregate-same : tie.Need-slice-aggregate-same

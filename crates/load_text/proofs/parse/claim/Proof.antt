@@ -1,4 +1,4 @@
-use mathlib.Core.Path.{_≡_, refl, sym, ap, _∙_}
+use mathlib.Core.Path.{sym, ap, _∙_}
 use native.Mathlib.Omega.{arith}
 use borrow.Author.Tests.{not-true, not-false}
 use Rattle.load_text.specs.Parsing.{claimIn}
@@ -7,13 +7,6 @@ use Rattle.load_text.proofs.Calls.{word-in, before, less-three, triple,
 use borrow.Author.Needs.{needs}
 use Rattle.load_text.proofs.parse.claim.Statement.{statement}
 use Rattle.load_text.proofs.parse.claim.Tie as tie
-use Rattle.load_text.proofs.parse.claim.Reads as reads
-use Rattle.load_text.proofs.parse.claim.Lts as lts
-use Rattle.load_text.proofs.parse.clock_at.Reads as clock-at-reads
-use Rattle.load_text.proofs.parse.groups_at.Reads as groups-at-reads
-use Rattle.load_text.proofs.parse.length_at.Reads as length-at-reads
-use Rattle.load_text.proofs.words.is_empty.Reads as is-empty-reads
-use Rattle.load_text.proofs.words.next_word.Reads as next-word-reads
 
 -- src/parse.rt:151:9
 next-word-requires : tie.Need-next-word-requires

@@ -1,16 +1,10 @@
-use mathlib.Core.Path.{_≡_, refl, sym, ap, _∙_}
-use native.Mathlib.Omega.{arith}
+use mathlib.Core.Path.{sym, ap, _∙_}
 use borrow.Author.Tests.{not-true, not-false}
 use Rattle.load_text.specs.Parsing.{clockCallIn}
 use Rattle.load_text.proofs.Calls.{word-none, word-in, one, two, clock-none, clock-many, clock-said, clock-wrong}
 use borrow.Author.Needs.{needs}
 use Rattle.load_text.proofs.parse.clock.Statement.{statement}
 use Rattle.load_text.proofs.parse.clock.Tie as tie
-use Rattle.load_text.proofs.parse.clock.Reads as reads
-use Rattle.load_text.proofs.parse.clock.Lts as lts
-use Rattle.load_text.proofs.parse.clock_at.Reads as clock-at-reads
-use Rattle.load_text.proofs.words.is_empty.Reads as is-empty-reads
-use Rattle.load_text.proofs.words.next_word.Reads as next-word-reads
 
 -- src/parse.rt:108:9
 next-word-requires : tie.Need-next-word-requires
