@@ -7,7 +7,7 @@ use native.Mathlib.Nat.{add-zero, zero-add, div-one}
 use native.Mathlib.Omega.{arith}
 use lib.Dec.{eqb}
 use lib.Pow.{shr-shr}
-use borrow.Author.Tests.{eq-eqb, ne-eqb, not-true, not-false}
+use borrow.Author.Tests.{not-true, not-false}
 use Rattle.groups.specs.Groups.{has, someFrom, someGroup, shares, empty, within, setFrom, setWhere, union}
 
 -- Group j + 1 from g on is group j from the next one on.

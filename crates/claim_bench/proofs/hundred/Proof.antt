@@ -2,11 +2,6 @@ use Prim.Native.Nat.{_-_, _≤_}
 use borrow.Author.Needs.{needs}
 use Rattle.claim_bench.proofs.hundred.Statement.{statement}
 use Rattle.claim_bench.proofs.hundred.Tie as tie
-use Rattle.claim_bench.proofs.hundred.Reads as reads
-use Rattle.claim_bench.proofs.hundred.Lts as lts
-use Rattle.claim_bench.proofs.pair.Reads as pair-reads
-use Rattle.std.proofs.num.wrapping_add_u64.Reads as wrapping-add-u64-reads
-use Rattle.table.proofs.claim.Reads as claim-reads
 
 abbrev Inv-loop : tie.InvT-loop
 Inv-loop t clock from sum₀ i₀ sum i = i ≤ 100

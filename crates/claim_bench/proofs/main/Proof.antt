@@ -3,13 +3,6 @@ use borrow.Author.Needs.{needs}
 use Rattle.table.specs.Valid.{Valid}
 use Rattle.claim_bench.proofs.main.Statement.{statement}
 use Rattle.claim_bench.proofs.main.Tie as tie
-use Rattle.claim_bench.proofs.main.Reads as reads
-use Rattle.claim_bench.proofs.main.Lts as lts
-use Rattle.claim_bench.proofs.hundred.Reads as hundred-reads
-use Rattle.claim_bench.proofs.pending.Reads as pending-reads
-use Rattle.io.proofs.print_decimal.Reads as print-decimal-reads
-use Rattle.io.proofs.read_full.Reads as read-full-reads
-use Rattle.io.proofs.write_all.Reads as write-all-reads
 
 abbrev Inv-loop : tie.InvT-loop
 Inv-loop bytes t clock sum₀ i₀ t7 sum i = (i ≤ bytes) × Valid t

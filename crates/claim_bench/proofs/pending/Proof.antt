@@ -3,11 +3,6 @@ use borrow.Author.Needs.{needs}
 use Rattle.table.specs.Valid.{Valid}
 use Rattle.claim_bench.proofs.pending.Statement.{statement}
 use Rattle.claim_bench.proofs.pending.Tie as tie
-use Rattle.claim_bench.proofs.pending.Reads as reads
-use Rattle.claim_bench.proofs.pending.Lts as lts
-use Rattle.claim_bench.proofs.pair.Reads as pair-reads
-use Rattle.table.proofs.claim.Reads as claim-reads
-use Rattle.table.proofs.new.Reads as new-reads
 
 abbrev Inv-loop : tie.InvT-loop
 Inv-loop t₀ i₀ t i = (i ≤ 63) × Valid t

@@ -3,8 +3,6 @@ use mathlib.Core.Path.{sym}
 use lib.ListN.{length-replicate}
 use Rattle.cue.proofs.listing_buffer.Statement.{statement}
 use Rattle.cue.proofs.listing_buffer.Tie as tie
-use Rattle.cue.proofs.listing_buffer.Reads as reads
-use Rattle.cue.proofs.listing_buffer.Lts as lts
 
 returns : tie.Need-returns
 returns c = sym (length-replicate {0} {A = ℕ} 1048576 0)

@@ -5,11 +5,6 @@ use Rattle.listing.proofs.Turns.{answer-within}
 use borrow.Author.Needs.{needs}
 use Rattle.cue.proofs.print.Statement.{statement}
 use Rattle.cue.proofs.print.Tie as tie
-use Rattle.cue.proofs.print.Reads as reads
-use Rattle.cue.proofs.print.Lts as lts
-use Rattle.cue.proofs.listing_buffer.Reads as listing-buffer-reads
-use Rattle.io.proofs.write_all.Reads as write-all-reads
-use Rattle.listing.proofs.belgwyth_listing.Reads as belgwyth-listing-reads
 
 listing-buffer-requires : tie.Need-listing-buffer-requires
 listing-buffer-requires c κs = search needs

@@ -2,13 +2,6 @@ use borrow.Author.Needs.{needs}
 use Rattle.listing.specs.Text.{stepOf}
 use Rattle.listing.proofs.act.Statement.{statement}
 use Rattle.listing.proofs.act.Tie as tie
-use Rattle.listing.proofs.act.Reads as reads
-use Rattle.listing.proofs.act.Lts as lts
-use Rattle.table.proofs.claim.Reads as claim-reads
-use Rattle.table.proofs.clock.Reads as clock-reads
-use Rattle.table.proofs.new.Reads as new-reads
-use Rattle.table.proofs.release.Reads as release-reads
-use Rattle.table.proofs.withdraw.Reads as withdraw-reads
 
 enum-known-call : tie.Need-enum-known-call
 enum-known-call c = search needs

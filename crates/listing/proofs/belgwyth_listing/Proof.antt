@@ -3,10 +3,6 @@ use Rattle.listing.proofs.Turns.{listing-none, listing-all}
 use borrow.Author.Needs.{needs}
 use Rattle.listing.proofs.belgwyth_listing.Statement.{statement}
 use Rattle.listing.proofs.belgwyth_listing.Tie as tie
-use Rattle.listing.proofs.belgwyth_listing.Reads as reads
-use Rattle.listing.proofs.belgwyth_listing.Lts as lts
-use Rattle.listing.proofs.goes_into.Reads as goes-into-reads
-use Rattle.listing.proofs.run.Reads as run-reads
 
 goes-into-requires : tie.Need-goes-into-requires
 goes-into-requires c κs = search needs

@@ -1,8 +1,6 @@
 use borrow.Author.Needs.{needs}
 use Rattle.listing.proofs.ending_of.Statement.{statement}
 use Rattle.listing.proofs.ending_of.Tie as tie
-use Rattle.listing.proofs.ending_of.Reads as reads
-use Rattle.listing.proofs.ending_of.Lts as lts
 
 enum-known-call : tie.Need-enum-known-call
 enum-known-call c = search needs

@@ -4,10 +4,6 @@ use Rattle.listing.proofs.Sizes.{goes-surely}
 use borrow.Author.Needs.{needs}
 use Rattle.listing.proofs.goes_into.Statement.{statement}
 use Rattle.listing.proofs.goes_into.Tie as tie
-use Rattle.listing.proofs.goes_into.Reads as reads
-use Rattle.listing.proofs.goes_into.Lts as lts
-use Rattle.listing.proofs.room_for.Reads as room-for-reads
-use Rattle.listing.proofs.run.Reads as run-reads
 
 room-for-requires : tie.Need-room-for-requires
 room-for-requires c κs = search needs

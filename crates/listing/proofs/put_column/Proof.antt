@@ -4,10 +4,6 @@ use Rattle.listing.specs.Lines.{column}
 use borrow.Author.Needs.{needs}
 use Rattle.listing.proofs.put_column.Statement.{statement}
 use Rattle.listing.proofs.put_column.Tie as tie
-use Rattle.listing.proofs.put_column.Reads as reads
-use Rattle.listing.proofs.put_column.Lts as lts
-use Rattle.numerals.proofs.put_byte.Reads as put-byte-reads
-use Rattle.numerals.proofs.put_decimal.Reads as put-decimal-reads
 
 put-decimal-requires : tie.Need-put-decimal-requires
 put-decimal-requires c κs = search needs

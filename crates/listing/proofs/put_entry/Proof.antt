@@ -3,10 +3,6 @@ use Rattle.numerals.proofs.Laying.{put-then}
 use borrow.Author.Needs.{needs}
 use Rattle.listing.proofs.put_entry.Statement.{statement}
 use Rattle.listing.proofs.put_entry.Tie as tie
-use Rattle.listing.proofs.put_entry.Reads as reads
-use Rattle.listing.proofs.put_entry.Lts as lts
-use Rattle.listing.proofs.put_grants.Reads as put-grants-reads
-use Rattle.listing.proofs.put_line.Reads as put-line-reads
 
 put-line-requires : tie.Need-put-line-requires
 put-line-requires c κs = search needs

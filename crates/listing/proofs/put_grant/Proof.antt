@@ -4,10 +4,6 @@ use Rattle.listing.specs.Lines.{onLine}
 use borrow.Author.Needs.{needs}
 use Rattle.listing.proofs.put_grant.Statement.{statement}
 use Rattle.listing.proofs.put_grant.Tie as tie
-use Rattle.listing.proofs.put_grant.Reads as reads
-use Rattle.listing.proofs.put_grant.Lts as lts
-use Rattle.listing.proofs.put_pair.Reads as put-pair-reads
-use Rattle.numerals.proofs.put_bytes.Reads as put-bytes-reads
 
 slice-aggregate-put-bytes : tie.Need-slice-aggregate-put-bytes
 slice-aggregate-put-bytes c = search needs

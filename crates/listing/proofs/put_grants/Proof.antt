@@ -8,9 +8,6 @@ use Rattle.listing.proofs.Lines.{ons-step, ons-end}
 use Rattle.numerals.proofs.Going.{Going, going-start, going-step, going-as, going-none}
 use Rattle.listing.proofs.put_grants.Statement.{statement}
 use Rattle.listing.proofs.put_grants.Tie as tie
-use Rattle.listing.proofs.put_grants.Reads as reads
-use Rattle.listing.proofs.put_grants.Lts as lts
-use Rattle.listing.proofs.put_grant.Reads as put-grant-reads
 
 abbrev Inv-loop : tie.InvT-loop
 Inv-loop out₀ at clock granted grants n₀ i₀ out n i = (i ≤ granted) × Going out₀ at (onLines clock (take granted grants)) out n (onLines clock (drop i (take granted grants)))

@@ -4,9 +4,6 @@ use Rattle.listing.specs.Lines.{lineOf}
 use borrow.Author.Needs.{needs}
 use Rattle.listing.proofs.put_line.Statement.{statement}
 use Rattle.listing.proofs.put_line.Tie as tie
-use Rattle.listing.proofs.put_line.Reads as reads
-use Rattle.listing.proofs.put_line.Lts as lts
-use Rattle.listing.proofs.put_pair.Reads as put-pair-reads
 
 put-pair-requires : tie.Need-put-pair-requires
 put-pair-requires c κs = search needs

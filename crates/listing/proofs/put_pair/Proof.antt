@@ -3,9 +3,6 @@ use Rattle.numerals.proofs.Laying.{put-then}
 use borrow.Author.Needs.{needs}
 use Rattle.listing.proofs.put_pair.Statement.{statement}
 use Rattle.listing.proofs.put_pair.Tie as tie
-use Rattle.listing.proofs.put_pair.Reads as reads
-use Rattle.listing.proofs.put_pair.Lts as lts
-use Rattle.listing.proofs.put_column.Reads as put-column-reads
 
 put-column-requires : tie.Need-put-column-requires
 put-column-requires c κs = search needs

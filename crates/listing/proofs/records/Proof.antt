@@ -7,14 +7,6 @@ use Rattle.load.proofs.Reading.{step-next}
 use Rattle.listing.proofs.Turns.{Turn, turn-start, turn-more, run-end, run-refused, run-stop, few-granted}
 use Rattle.listing.proofs.records.Statement.{statement}
 use Rattle.listing.proofs.records.Tie as tie
-use Rattle.listing.proofs.records.Reads as reads
-use Rattle.listing.proofs.records.Lts as lts
-use Rattle.listing.proofs.act.Reads as act-reads
-use Rattle.listing.proofs.ending_of.Reads as ending-of-reads
-use Rattle.listing.proofs.put_entry.Reads as put-entry-reads
-use Rattle.listing.proofs.put_stop.Reads as put-stop-reads
-use Rattle.load.proofs.record_at.Reads as record-at-reads
-use Rattle.table.proofs.new.Reads as new-reads
 
 abbrev Inv-loop : tie.InvT-loop
 Inv-loop load out₀ from t₀ at₀ k₀ n₀ out t at k n = Turn load out₀ from out t at k n

@@ -3,8 +3,6 @@ use Rattle.listing.specs.Room.{roomFor}
 use borrow.Author.Needs.{needs}
 use Rattle.listing.proofs.room_for.Statement.{statement}
 use Rattle.listing.proofs.room_for.Tie as tie
-use Rattle.listing.proofs.room_for.Reads as reads
-use Rattle.listing.proofs.room_for.Lts as lts
 
 returns : tie.Need-returns
 unfolding roomFor

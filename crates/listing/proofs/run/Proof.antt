@@ -7,12 +7,6 @@ use Rattle.listing.proofs.Turns.{text-stopped, text-read}
 use borrow.Author.Needs.{needs}
 use Rattle.listing.proofs.run.Statement.{statement}
 use Rattle.listing.proofs.run.Tie as tie
-use Rattle.listing.proofs.run.Reads as reads
-use Rattle.listing.proofs.run.Lts as lts
-use Rattle.listing.proofs.put_stop.Reads as put-stop-reads
-use Rattle.listing.proofs.records.Reads as records-reads
-use Rattle.load.proofs.open_number.Reads as open-number-reads
-use Rattle.numerals.proofs.put_bytes.Reads as put-bytes-reads
 
 slice-aggregate-put-bytes : tie.Need-slice-aggregate-put-bytes
 slice-aggregate-put-bytes c = search needs

@@ -3,10 +3,6 @@ use borrow.Author.Needs.{needs}
 use Rattle.table.specs.Valid.{Valid}
 use Rattle.scenarios.proofs.full.Statement.{statement}
 use Rattle.scenarios.proofs.full.Tie as tie
-use Rattle.scenarios.proofs.full.Reads as reads
-use Rattle.scenarios.proofs.full.Lts as lts
-use Rattle.scenarios.proofs.quiet.Reads as quiet-reads
-use Rattle.scenarios.proofs.rig.Reads as rig-reads
 
 abbrev Inv-loop : tie.InvT-loop
 Inv-loop t₀ i₀ t i = (i ≤ 64) × Valid t

@@ -2,10 +2,6 @@ use Prim.Native.Nat.{_-_, _≤_}
 use borrow.Author.Needs.{needs}
 use Rattle.scenarios.proofs.grants.Statement.{statement}
 use Rattle.scenarios.proofs.grants.Tie as tie
-use Rattle.scenarios.proofs.grants.Reads as reads
-use Rattle.scenarios.proofs.grants.Lts as lts
-use Rattle.io.proofs.write_all.Reads as write-all-reads
-use Rattle.scenarios.proofs.number.Reads as number-reads
 
 abbrev Inv-loop : tie.InvT-loop
 Inv-loop r granted i₀ i = i ≤ 64

@@ -3,11 +3,6 @@ use borrow.Author.Needs.{needs}
 use Rattle.table.specs.Valid.{Valid}
 use Rattle.tickets.proofs.exhausted.Statement.{statement}
 use Rattle.tickets.proofs.exhausted.Tie as tie
-use Rattle.tickets.proofs.exhausted.Reads as reads
-use Rattle.tickets.proofs.exhausted.Lts as lts
-use Rattle.table.proofs.claim.Reads as claim-reads
-use Rattle.table.proofs.new.Reads as new-reads
-use Rattle.table.proofs.release.Reads as release-reads
 
 abbrev Inv-loop : tie.InvT-loop
 Inv-loop t₀ i₀ t i = (i ≤ 65535) × Valid t

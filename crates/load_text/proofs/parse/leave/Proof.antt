@@ -1,4 +1,4 @@
-use mathlib.Core.Path.{_≡_, refl, sym, ap, _∙_}
+use mathlib.Core.Path.{sym, ap, _∙_}
 use native.Mathlib.Omega.{arith}
 use borrow.Author.Tests.{not-true, not-false}
 use mathlib.Core.Bool.{cond}
@@ -10,12 +10,6 @@ use Rattle.load_text.proofs.Calls.{word-in, before, less-two, pair, thr
 use borrow.Author.Needs.{needs}
 use Rattle.load_text.proofs.parse.leave.Statement.{statement}
 use Rattle.load_text.proofs.parse.leave.Tie as tie
-use Rattle.load_text.proofs.parse.leave.Reads as reads
-use Rattle.load_text.proofs.parse.leave.Lts as lts
-use Rattle.load_text.proofs.parse.clock_at.Reads as clock-at-reads
-use Rattle.load_text.proofs.parse.ticket_at.Reads as ticket-at-reads
-use Rattle.load_text.proofs.words.is_empty.Reads as is-empty-reads
-use Rattle.load_text.proofs.words.next_word.Reads as next-word-reads
 
 -- src/parse.rt:125:9
 next-word-requires : tie.Need-next-word-requires

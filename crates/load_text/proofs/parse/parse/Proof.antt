@@ -1,15 +1,9 @@
-use mathlib.Core.Path.{_≡_, refl, sym, ap, _∙_}
-use native.Mathlib.Omega.{arith}
+use mathlib.Core.Path.{sym, ap, _∙_}
 use Rattle.load_text.specs.Parsing.{callIn}
-use Rattle.load_text.proofs.Calls.{word-none, word-some, word-in, said-none, said-first}
+use Rattle.load_text.proofs.Calls.{word-none, word-some, said-none, said-first}
 use borrow.Author.Needs.{needs}
 use Rattle.load_text.proofs.parse.parse.Statement.{statement}
 use Rattle.load_text.proofs.parse.parse.Tie as tie
-use Rattle.load_text.proofs.parse.parse.Reads as reads
-use Rattle.load_text.proofs.parse.parse.Lts as lts
-use Rattle.load_text.proofs.parse.call.Reads as call-reads
-use Rattle.load_text.proofs.words.is_empty.Reads as is-empty-reads
-use Rattle.load_text.proofs.words.next_word.Reads as next-word-reads
 
 -- src/parse.rt:199:9
 next-word-requires : tie.Need-next-word-requires

@@ -1,4 +1,4 @@
-use mathlib.Core.Path.{_≡_, refl, sym, ap, _∙_}
+use mathlib.Core.Path.{ap, _∙_}
 use native.Mathlib.Omega.{arith}
 use lib.ListN.{take, length-take}
 use Rattle.load_text.specs.Parsing.{callIn, wordsIn, lineSays}
@@ -6,10 +6,6 @@ use Rattle.load_text.proofs.Reading.{said-take, said-within}
 use borrow.Author.Needs.{needs}
 use Rattle.load_text.proofs.parse.parse_line.Statement.{statement}
 use Rattle.load_text.proofs.parse.parse_line.Tie as tie
-use Rattle.load_text.proofs.parse.parse_line.Reads as reads
-use Rattle.load_text.proofs.parse.parse_line.Lts as lts
-use Rattle.load_text.proofs.parse.parse.Reads as parse-reads
-use Rattle.load_text.proofs.parse.said_end.Reads as said-end-reads
 
 -- src/parse.rt:212:9
 said-end-requires : tie.Need-said-end-requires

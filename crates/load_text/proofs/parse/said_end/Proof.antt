@@ -1,4 +1,4 @@
-use Prim.Native.Nat.{_+_, _-_, _≤_, _<_}
+use Prim.Native.Nat.{_+_, _-_, _≤_}
 use mathlib.Core.Path.{_≡_}
 use mathlib.Core.Logic.{⊎-elim}
 use native.Mathlib.Omega.{arith}
@@ -8,8 +8,6 @@ use Rattle.load_text.specs.Parsing.{said}
 use Rattle.load_text.proofs.Reading.{read-end, read-hash, read-return, read-on}
 use Rattle.load_text.proofs.parse.said_end.Statement.{statement}
 use Rattle.load_text.proofs.parse.said_end.Tie as tie
-use Rattle.load_text.proofs.parse.said_end.Reads as reads
-use Rattle.load_text.proofs.parse.said_end.Lts as lts
 
 abbrev Inv-loop : tie.InvT-loop
 Inv-loop line size i₀ i = (i ≤ length line) × (i + length (said (drop i line)) ≡ length (said line))

@@ -3,11 +3,6 @@ use Rattle.load_text.proofs.Spans.{groups-list, groups-hex}
 use borrow.Author.Needs.{needs}
 use Rattle.load_text.proofs.sets.groups_of.Statement.{statement}
 use Rattle.load_text.proofs.sets.groups_of.Tie as tie
-use Rattle.load_text.proofs.sets.groups_of.Reads as reads
-use Rattle.load_text.proofs.sets.groups_of.Lts as lts
-use Rattle.load_text.proofs.sets.is_list.Reads as is-list-reads
-use Rattle.load_text.proofs.sets.list.Reads as list-reads
-use Rattle.load_text.proofs.words.number.Reads as number-reads
 
 -- src/sets.rt:98:8
 is-list-requires : tie.Need-is-list-requires

@@ -1,14 +1,12 @@
-use Prim.Native.Nat.{suc, _+_, _-_, _≤_, _<_}
-use mathlib.Core.Path.{_≡_, refl, sym, ap, _∙_}
+use Prim.Native.Nat.{_-_}
+use mathlib.Core.Path.{_≡_, refl, sym, _∙_}
 use native.Mathlib.Omega.{arith}
-use lib.ListN.{length, drop, length-take}
+use lib.ListN.{length, drop}
 use borrow.Author.Needs.{needs}
 use Rattle.load_text.specs.Parsing.{isList}
 use Rattle.load_text.proofs.Spans.{list-end, list-comma, list-dash, list-on}
 use Rattle.load_text.proofs.sets.is_list.Statement.{statement}
 use Rattle.load_text.proofs.sets.is_list.Tie as tie
-use Rattle.load_text.proofs.sets.is_list.Reads as reads
-use Rattle.load_text.proofs.sets.is_list.Lts as lts
 
 abbrev Inv-loop : tie.InvT-loop
 Inv-loop word i₀ i = isList (drop i word) ≡ isList word

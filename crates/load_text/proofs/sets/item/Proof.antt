@@ -1,7 +1,7 @@
-use Prim.Native.Nat.{suc, _+_, _-_, _≤_, _<_}
-use mathlib.Core.Path.{_≡_, refl, sym, ap, _∙_}
+use Prim.Native.Nat.{_-_}
+use mathlib.Core.Path.{sym, ap, _∙_}
 use native.Mathlib.Omega.{arith}
-use lib.ListN.{length, drop, length-take}
+use lib.ListN.{length-take}
 use Rattle.load_text.specs.declared.words.Field.the-variants.{Value}
 use Rattle.load_text.specs.Parsing.{isDash}
 use Rattle.load_text.proofs.Numbers.{number-most}
@@ -10,12 +10,6 @@ use Rattle.load_text.proofs.Spans.{item-one, item-range, item-wrong}
 use borrow.Author.Needs.{needs}
 use Rattle.load_text.proofs.sets.item.Statement.{statement}
 use Rattle.load_text.proofs.sets.item.Tie as tie
-use Rattle.load_text.proofs.sets.item.Reads as reads
-use Rattle.load_text.proofs.sets.item.Lts as lts
-use Rattle.load_text.proofs.sets.group.Reads as group-reads
-use Rattle.load_text.proofs.sets.range.Reads as range-reads
-use Rattle.load_text.proofs.sets.span.Reads as span-reads
-use Rattle.load_text.proofs.words.place.Reads as place-reads
 
 -- src/sets.rt:62:9
 place-requires : tie.Need-place-requires

@@ -1,19 +1,14 @@
 use borrow.Author.Needs.{needs}
-use Prim.Native.Nat.{suc, _+_, _-_, _≤_, _<_}
+use Prim.Native.Nat.{_+_, _-_, _≤_}
 use mathlib.Core.Path.{_≡_, refl, sym, ap, _∙_}
 use native.Mathlib.Omega.{arith}
-use lib.ListN.{length, drop, length-take}
+use lib.ListN.{length, drop}
 use Rattle.load_text.specs.declared.words.Field.the-variants.{Value}
 use Rattle.load_text.specs.Parsing.{isComma, itemsIn, withItems}
 use Rattle.load_text.proofs.Parts.{place-low, place-high}
 use Rattle.load_text.proofs.Spans.{items-end, items-on, items-stop}
 use Rattle.load_text.proofs.sets.list.Statement.{statement}
 use Rattle.load_text.proofs.sets.list.Tie as tie
-use Rattle.load_text.proofs.sets.list.Reads as reads
-use Rattle.load_text.proofs.sets.list.Lts as lts
-use Rattle.groups.proofs.union.Reads as union-reads
-use Rattle.load_text.proofs.sets.item.Reads as item-reads
-use Rattle.load_text.proofs.words.place.Reads as place-reads
 
 abbrev Inv-loop : tie.InvT-loop
 Inv-loop word set₀ at₀ set at = (at ≤ length word + 1) × (withItems (Value set) (itemsIn (drop at word)) ≡ withItems (Value 0) (itemsIn word))

@@ -1,17 +1,11 @@
-use Prim.Native.Nat.{suc, _+_, _-_, _≤_, _<_}
-use mathlib.Core.Path.{_≡_, refl, sym, ap, _∙_}
-use native.Mathlib.Omega.{arith}
-use lib.ListN.{length, drop, length-take}
+use Prim.Native.Nat.{_-_}
+use mathlib.Core.Path.{sym, ap, _∙_}
 use Rattle.load_text.specs.declared.words.Field.the-variants.{Value}
 use Rattle.load_text.proofs.Numbers.{number-most}
 use Rattle.load_text.proofs.Spans.{up-backward, up-span, up-wrong}
 use borrow.Author.Needs.{needs}
 use Rattle.load_text.proofs.sets.range.Statement.{statement}
 use Rattle.load_text.proofs.sets.range.Tie as tie
-use Rattle.load_text.proofs.sets.range.Reads as reads
-use Rattle.load_text.proofs.sets.range.Lts as lts
-use Rattle.load_text.proofs.sets.group.Reads as group-reads
-use Rattle.load_text.proofs.sets.span.Reads as span-reads
 
 -- src/sets.rt:47:11
 group-requires : tie.Need-group-requires

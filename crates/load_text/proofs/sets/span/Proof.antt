@@ -1,14 +1,10 @@
 use lib.Pow.{pow-pos}
-use Prim.Native.Nat.{suc, _+_, _-_, _≤_, _<_}
-use mathlib.Core.Path.{_≡_, refl, sym, ap, _∙_}
+use Prim.Native.Nat.{_-_}
 use native.Mathlib.Omega.{arith}
-use lib.ListN.{length, drop, length-take}
 use Rattle.load_text.proofs.Spans.{shifted, span-order, span-top, span-value}
 use borrow.Author.Needs.{needs}
 use Rattle.load_text.proofs.sets.span.Statement.{statement}
 use Rattle.load_text.proofs.sets.span.Tie as tie
-use Rattle.load_text.proofs.sets.span.Reads as reads
-use Rattle.load_text.proofs.sets.span.Lts as lts
 
 -- src/sets.rt:33:15
 shl-top : tie.Need-shl-top

@@ -4,9 +4,6 @@ use Rattle.load_text.proofs.Numbers.{digit-ten, digit-upper, digit-lowe
 use borrow.Author.Needs.{needs}
 use Rattle.load_text.proofs.words.digit.Statement.{statement}
 use Rattle.load_text.proofs.words.digit.Tie as tie
-use Rattle.load_text.proofs.words.digit.Reads as reads
-use Rattle.load_text.proofs.words.digit.Lts as lts
-use Rattle.load_text.proofs.words.wide.Reads as wide-reads
 
 -- src/words.rt:95:24
 wide-requires : tie.Need-wide-requires

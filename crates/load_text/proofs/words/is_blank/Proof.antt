@@ -1,8 +1,6 @@
 use Rattle.load_text.proofs.Reading.{blank-first, blank-second}
 use Rattle.load_text.proofs.words.is_blank.Statement.{statement}
 use Rattle.load_text.proofs.words.is_blank.Tie as tie
-use Rattle.load_text.proofs.words.is_blank.Reads as reads
-use Rattle.load_text.proofs.words.is_blank.Lts as lts
 
 -- src/words.rt:27:1
 returns : tie.Need-returns

@@ -1,5 +1,5 @@
-use Prim.Native.Nat.{_-_, _≤_, _<_}
-use mathlib.Core.Path.{_≡_, refl, sym, ap, _∙_}
+use Prim.Native.Nat.{_-_, _<_}
+use mathlib.Core.Path.{_≡_, refl, sym, _∙_}
 use native.Mathlib.Omega.{arith}
 use lib.ListN.{length, drop}
 use borrow.Author.Needs.{needs}
@@ -7,9 +7,6 @@ use Rattle.load_text.specs.Parsing.{digitsIn}
 use Rattle.load_text.proofs.Numbers.{no-number, digits-number, digits-on, digits-fail, digits-end}
 use Rattle.load_text.proofs.words.is_number.Statement.{statement}
 use Rattle.load_text.proofs.words.is_number.Tie as tie
-use Rattle.load_text.proofs.words.is_number.Reads as reads
-use Rattle.load_text.proofs.words.is_number.Lts as lts
-use Rattle.load_text.proofs.words.digit.Reads as digit-reads
 
 abbrev Inv-loop : tie.InvT-loop
 Inv-loop word base i₀ i = (0 < length word) × (digitsIn base (drop i word) ≡ digitsIn base word)

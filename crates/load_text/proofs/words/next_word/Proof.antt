@@ -2,10 +2,6 @@ use Rattle.load_text.proofs.Reading.{first-word}
 use borrow.Author.Needs.{needs}
 use Rattle.load_text.proofs.words.next_word.Statement.{statement}
 use Rattle.load_text.proofs.words.next_word.Tie as tie
-use Rattle.load_text.proofs.words.next_word.Reads as reads
-use Rattle.load_text.proofs.words.next_word.Lts as lts
-use Rattle.load_text.proofs.words.skip.Reads as skip-reads
-use Rattle.load_text.proofs.words.word_end.Reads as word-end-reads
 
 -- src/words.rt:79:9
 skip-requires : tie.Need-skip-requires

@@ -4,10 +4,6 @@ use Rattle.load_text.proofs.Numbers.{number-none, number-is, number-dig
 use borrow.Author.Needs.{needs}
 use Rattle.load_text.proofs.words.number.Statement.{statement}
 use Rattle.load_text.proofs.words.number.Tie as tie
-use Rattle.load_text.proofs.words.number.Reads as reads
-use Rattle.load_text.proofs.words.number.Lts as lts
-use Rattle.load_text.proofs.words.is_number.Reads as is-number-reads
-use Rattle.load_text.proofs.words.value.Reads as value-reads
 
 -- src/words.rt:144:9
 is-number-requires : tie.Need-is-number-requires

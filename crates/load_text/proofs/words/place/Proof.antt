@@ -1,15 +1,13 @@
 use Prim.Native.Nat.{_-_}
-use mathlib.Core.Path.{_≡_, refl, sym, ap, _∙_}
+use mathlib.Core.Path.{_≡_, refl, sym, _∙_}
 use native.Mathlib.Omega.{arith}
 use lib.ListN.{length}
 use borrow.Author.Needs.{needs}
 use borrow.Author.Tests.{eq-eqb, ne-eqb}
-use Rattle.load_text.specs.Parsing.{placeOf, is, isBlank, isFull}
+use Rattle.load_text.specs.Parsing.{placeOf, is}
 use Rattle.load_text.proofs.Parts.{place-here, place-on, place-end}
 use Rattle.load_text.proofs.words.place.Statement.{statement}
 use Rattle.load_text.proofs.words.place.Tie as tie
-use Rattle.load_text.proofs.words.place.Reads as reads
-use Rattle.load_text.proofs.words.place.Lts as lts
 
 abbrev Inv-loop : tie.InvT-loop
 Inv-loop text byte at i₀ i = placeOf (is byte) text i ≡ placeOf (is byte) text at

@@ -1,14 +1,11 @@
-use Prim.Native.Nat.{_-_, _≤_, _<_}
-use mathlib.Core.Path.{_≡_, refl, sym, ap, _∙_}
+use Prim.Native.Nat.{_-_}
+use mathlib.Core.Path.{refl}
 use native.Mathlib.Omega.{arith}
-use lib.ListN.{length, drop}
+use lib.ListN.{length}
 use borrow.Author.Needs.{needs}
 use Rattle.load_text.proofs.Numbers.{Summing, sum-base, sum-over, sum-on, sum-end, digit-more, digit-over}
 use Rattle.load_text.proofs.words.value.Statement.{statement}
 use Rattle.load_text.proofs.words.value.Tie as tie
-use Rattle.load_text.proofs.words.value.Reads as reads
-use Rattle.load_text.proofs.words.value.Lts as lts
-use Rattle.load_text.proofs.words.digit.Reads as digit-reads
 
 abbrev Inv-loop : tie.InvT-loop
 Inv-loop word base most large v₀ i₀ v i = Summing base most word v i

@@ -1,16 +1,12 @@
 use Prim.Native.Nat.{_-_}
-use mathlib.Core.Path.{_≡_, refl, sym, ap, _∙_}
+use mathlib.Core.Path.{_≡_, refl, sym, _∙_}
 use native.Mathlib.Omega.{arith}
 use lib.ListN.{length}
 use borrow.Author.Needs.{needs}
-use borrow.Author.Tests.{eq-eqb, ne-eqb}
-use Rattle.load_text.specs.Parsing.{placeOf, is, isBlank, isFull}
+use Rattle.load_text.specs.Parsing.{placeOf, isBlank}
 use Rattle.load_text.proofs.Parts.{place-here, place-on, place-end}
 use Rattle.load_text.proofs.words.word_end.Statement.{statement}
 use Rattle.load_text.proofs.words.word_end.Tie as tie
-use Rattle.load_text.proofs.words.word_end.Reads as reads
-use Rattle.load_text.proofs.words.word_end.Lts as lts
-use Rattle.load_text.proofs.words.is_blank.Reads as is-blank-reads
 
 abbrev Inv-loop : tie.InvT-loop
 Inv-loop line at i₀ i = placeOf isBlank line i ≡ placeOf isBlank line at
