@@ -5,7 +5,7 @@ ghost use mathlib.Core.Path.{_≡_};
 ghost use Prim.Native.Nat.{_≤_};
 ghost use lib.ListN.{length, take};
 ghost use Rattle.load.specs.Writing.{appendAnswer, appendOut};
-ghost use Rattle.load_text.specs.Parsing.{isFeed, placeOf, lineSays};
+ghost use Rattle.load_text.specs.Parsing.{lineSays};
 ghost use Rattle.load_text.specs.Making.{added, atStart, madeOf, madeOut};
 
 mod parse;
@@ -26,20 +26,6 @@ pub use print::show;
 pub enum Made {
     Load(usize),
     Mistake(u64, u8),
-}
-
-// Where the line ends that begins at a place.
-fn line_end(text: &[u8], at: usize) -> usize
-    ensures { λ r. ⌜ r ≡ placeOf isFeed (now (text .entry)) at ⌝ }
-{
-    let mut i = at;
-    while i < text.len() {
-        if text[i] == 10 {
-            return i;
-        }
-        i += 1;
-    }
-    i
 }
 
 // One record more behind the load in a buffer's first bytes: the writer's answer, and its buffer.
@@ -89,7 +75,7 @@ pub fn make(text: &[u8], out: &mut [u8]) -> Made
     let mut line: u64 = 0;
     while at < text.len() {
         line += 1;
-        let end = line_end(text, at);
+        let end = words::place(text, 10, at);
         match add(out, size, &text[at..end]) {
             Written::Length(n) => {
                 size = n;

@@ -26,17 +26,17 @@ loop-holds c = gathers-start _ (c .before .before .before .args .out .now) (c .i
 add-line : tie.Need-add-line Inv-loop μ-loop
 add-line c = omega (arith, c .before .loop .inv .few)
 
-line-end-requires : tie.Need-line-end-requires Inv-loop μ-loop
-line-end-requires c κs = search needs
+place-requires : tie.Need-place-requires Inv-loop μ-loop
+place-requires c κs = search needs
 
 sub-add : tie.Need-sub-add Inv-loop μ-loop
-sub-add c = line-reach _ _ _ (c .before .before .loop-test .taken) (c .before .line-end .ensures) .0
+sub-add c = line-reach _ _ _ (c .before .before .loop-test .taken) (c .before .place .ensures) .0
 
 part-add-start : tie.Need-part-add-start Inv-loop μ-loop
-part-add-start c = line-reach _ _ _ (c .before .before .loop-test .taken) (c .before .line-end .ensures) .0
+part-add-start c = line-reach _ _ _ (c .before .before .loop-test .taken) (c .before .place .ensures) .0
 
 part-add-end : tie.Need-part-add-end Inv-loop μ-loop
-part-add-end c = line-reach _ _ _ (c .before .before .loop-test .taken) (c .before .line-end .ensures) .1
+part-add-end c = line-reach _ _ _ (c .before .before .loop-test .taken) (c .before .place .ensures) .1
 
 add-requires : tie.Need-add-requires Inv-loop μ-loop
 add-requires c κs = c .before .before .before .before .loop .inv .held
@@ -57,24 +57,24 @@ returns-2 c =
     let a = c .before .before .before .before .before in
     let l = a .before .before .before in
     let o = l .before .before .before .before .before .before in
-    gathers-wrong _ (o .args .out .now) _ _ _ _ (l .before .before .loop .inv) (l .before .loop-test .taken) _ (l .line-end .ensures) _ _ (a .add .ensures .0) (a .add .ensures .1) _ (c .before .n2 .given .1)
+    gathers-wrong _ (o .args .out .now) _ _ _ _ (l .before .before .loop .inv) (l .before .loop-test .taken) _ (l .place .ensures) _ _ (a .add .ensures .0) (a .add .ensures .1) _ (c .before .n2 .given .1)
 
 add-at : tie.Need-add-at Inv-loop μ-loop
 add-at c =
     let l = c .before .before .before .before .before .before .before .before in
-    omega (arith, line-reach _ _ _ (l .before .loop-test .taken) (l .line-end .ensures) .1)
+    omega (arith, line-reach _ _ _ (l .before .loop-test .taken) (l .place .ensures) .1)
 
 loop-less : tie.Need-loop-less Inv-loop μ-loop
 loop-less c =
     let l = c .before .before .before .before .before .before .before .before in
-    omega (arith, line-reach _ _ _ (l .before .loop-test .taken) (l .line-end .ensures) .0)
+    omega (arith, line-reach _ _ _ (l .before .loop-test .taken) (l .place .ensures) .0)
 
 loop-again : tie.Need-loop-again Inv-loop μ-loop
 loop-again c =
     let a = c .before .before .before .before .before in
     let l = a .before .before .before in
     let o = l .before .before .before .before .before .before in
-    gathers-more _ (o .args .out .now) _ _ _ _ (l .before .before .loop .inv) (l .before .loop-test .taken) _ (l .line-end .ensures) _ _ (a .add .ensures .0) (a .add .ensures .1) _ (c .before .n .given .1)
+    gathers-more _ (o .args .out .now) _ _ _ _ (l .before .before .loop .inv) (l .before .loop-test .taken) _ (l .place .ensures) _ _ (a .add .ensures .0) (a .add .ensures .1) _ (c .before .n .given .1)
 
 same-length-2 : tie.Need-same-length-2 Inv-loop μ-loop
 same-length-2 c = c .before .loop .inv .same ∙ simp length-set
@@ -92,7 +92,7 @@ make-spec =
     slice-write-out
     loop-holds
     add-line
-    line-end-requires
+    place-requires
     sub-add
     part-add-start
     part-add-end
