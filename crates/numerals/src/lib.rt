@@ -3,7 +3,7 @@
 // greatest usize: a buffer ends before it, so that nothing is laid there.
 ghost use mathlib.Core.Path.{_≡_};
 ghost use mathlib.Core.List.{[], _∷_};
-ghost use Prim.Native.Nat.{_+_, _-_, _^_, _<_, min};
+ghost use Prim.Native.Nat.{_+_, _-_, _^_, _≤_, _<_, min};
 ghost use lib.ListN.{length, take, drop, set};
 ghost use Rattle.numerals.specs.Laid.{behind, laid};
 ghost use Rattle.numerals.specs.Digits.{bytesAt, numeral, digits, decimalOf, widthOf};
@@ -116,32 +116,26 @@ pub fn put_byte(out: &mut [u8], at: usize, b: u8) -> usize
     at + 1
 }
 
-// A number laid in n bytes from a place on, the highest first; one step for each byte.
-pub fn put_big(out: &mut [u8], at: usize, n: usize, value: u64) -> usize
-    ensures { λ r. ⌜ (r ≡ behind at n) × (now (out .exit) ≡ laid (now (out .entry)) at (digits 256 0 n value)) ⌝ }
+// The n lowest digits of a number in a base, each raised by `zero`, laid from a place on, the highest first; one step for each.
+fn put_digits(out: &mut [u8], at: usize, n: usize, value: u64, base: u64, zero: u8) -> usize
+    requires { ⌜ (1 ≤ base) × (base + zero ≤ 256) ⌝ }
+    ensures { λ r. ⌜ (r ≡ behind at n) × (now (out .exit) ≡ laid (now (out .entry)) at (digits base zero n value)) ⌝ }
 {
     let mut v = value;
     let mut i = n;
     while 0 < i {
         i -= 1;
-        store(out, at, i, (v % 256) as u8);
-        v /= 256;
+        store(out, at, i, (v % base) as u8 + zero);
+        v /= base;
     }
     behind(at, n)
 }
 
-// Its n lowest decimal digits laid so.
-fn put_digits(out: &mut [u8], at: usize, n: usize, value: u64) -> usize
-    ensures { λ r. ⌜ (r ≡ behind at n) × (now (out .exit) ≡ laid (now (out .entry)) at (digits 10 48 n value)) ⌝ }
+// A number laid in n bytes from a place on, the highest first; one step for each byte.
+pub fn put_big(out: &mut [u8], at: usize, n: usize, value: u64) -> usize
+    ensures { λ r. ⌜ (r ≡ behind at n) × (now (out .exit) ≡ laid (now (out .entry)) at (digits 256 0 n value)) ⌝ }
 {
-    let mut v = value;
-    let mut i = n;
-    while 0 < i {
-        i -= 1;
-        store(out, at, i, (v % 10) as u8 + 48);
-        v /= 10;
-    }
-    behind(at, n)
+    put_digits(out, at, n, value, 256, 0)
 }
 
 // A number laid in decimal: at most 20 digits, a division for each to count them and one to lay them.
@@ -149,7 +143,7 @@ pub fn put_decimal(out: &mut [u8], at: usize, value: u64) -> usize
     ensures { λ r. ⌜ (r ≡ behind at (length (decimalOf value))) × (now (out .exit) ≡ laid (now (out .entry)) at (decimalOf value)) ⌝ }
 {
     let n = width(value);
-    put_digits(out, at, n, value)
+    put_digits(out, at, n, value, 10, 48)
 }
 
 // Bytes laid from a place on; one step for each byte that the buffer has room for.

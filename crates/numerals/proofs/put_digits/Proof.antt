@@ -2,6 +2,7 @@
 use native.Mathlib.Omega.{arith}
 use mathlib.Core.Path.{_≡_, refl, sym, _∙_}
 use Prim.Native.Nat.{_≤_}
+use native.Mathlib.Nat.{mod-lt}
 use lib.ListN.{length}
 use Rattle.numerals.proofs.Numbers.{stored, stored-turn, stored-none}
 use Rattle.numerals.proofs.Laying.{stored-laid}
@@ -10,10 +11,10 @@ use Rattle.numerals.proofs.put_digits.Statement.{statement}
 use Rattle.numerals.proofs.put_digits.Tie as tie
 
 abbrev Inv-loop : tie.InvT-loop
-Inv-loop out₀ at n value v₀ i₀ out v i = (i ≤ n) × (length out ≡ length out₀) × (stored 10 48 at i v out ≡ stored 10 48 at n value out₀)
+Inv-loop out₀ at n value base zero v₀ i₀ out v i = (i ≤ n) × (length out ≡ length out₀) × (stored base zero at i v out ≡ stored base zero at n value out₀)
 
 abbrev μ-loop : tie.MeasureT-loop
-μ-loop out₀ at n value v₀ i₀ out v i = i
+μ-loop out₀ at n value base zero v₀ i₀ out v i = i
 
 loop-holds : tie.Need-loop-holds Inv-loop μ-loop
 loop-holds c = (omega arith, refl, refl)
@@ -21,14 +22,26 @@ loop-holds c = (omega arith, refl, refl)
 sub-i : tie.Need-sub-i Inv-loop μ-loop
 sub-i c = omega arith
 
+rem-store : tie.Need-rem-store Inv-loop μ-loop
+rem-store c = omega (arith, c .before .before .before .before .pre .0)
+
 cast-store : tie.Need-cast-store Inv-loop μ-loop
-cast-store c = omega arith
+cast-store c =
+    let l = c .before .before in
+    let p = l .before .before .pre in
+    omega (arith, mod-lt (l .loop .v) (p .0), p .1)
 
 add-store : tie.Need-add-store Inv-loop μ-loop
-add-store c = omega arith
+add-store c =
+    let l = c .before .before in
+    let p = l .before .before .pre in
+    omega (arith, mod-lt (l .loop .v) (p .0), p .1)
 
 store-requires : tie.Need-store-requires Inv-loop μ-loop
 store-requires c κs = search needs
+
+div-v : tie.Need-div-v Inv-loop μ-loop
+div-v c = omega (arith, c .before .before .before .before .before .before .before .pre .0)
 
 loop-less : tie.Need-loop-less Inv-loop μ-loop
 loop-less c = omega arith
@@ -37,8 +50,13 @@ loop-again : tie.Need-loop-again Inv-loop μ-loop
 loop-again c =
     let s = c .before .before in
     let l = s .before .before .before in
-    let a = l .before .before .args in
-    (omega arith, s .store .kept .0 ∙ l .loop .inv .1, rw (s .store .ensures) (stored-turn 10 48 (a .at) (l .loop .i) (l .loop .v) _ (l .loop .out) (s .before .before .loop-test .taken) (omega arith)) ∙ l .loop .inv .2)
+    let b = l .before .before in
+    let a = b .args in
+    let d = mod-lt (l .loop .v) (b .pre .0) in (
+      omega arith,
+      s .store .kept .0 ∙ l .loop .inv .1,
+      rw (s .store .ensures) (stored-turn (a .base) (a .zero) (a .at) (l .loop .i) (l .loop .v) _ (l .loop .out) (s .before .before .loop-test .taken) (omega (arith, d, b .pre .1))) ∙ l .loop .inv .2,
+    )
 
 behind-requires : tie.Need-behind-requires Inv-loop μ-loop
 behind-requires c κs = search needs
@@ -50,7 +68,7 @@ returns : tie.Need-returns Inv-loop μ-loop
 returns c =
     let l = c .before .before in
     let a = l .before .before .args in
-    (c .behind .ensures, sym (stored-none 10 48 (a .at) (l .loop .i) (l .loop .v) (l .loop .out) (c .before .loop-test .left)) ∙ l .loop .inv .2 ∙ stored-laid 10 48 (a .at) (a .n) (a .value) (a .out .now))
+    (c .behind .ensures, sym (stored-none (a .base) (a .zero) (a .at) (l .loop .i) (l .loop .v) (l .loop .out) (c .before .loop-test .left)) ∙ l .loop .inv .2 ∙ stored-laid (a .base) (a .zero) (a .at) (a .n) (a .value) (a .out .now))
 
 pub put-digits-spec : {M : Type 1} → statement M
 put-digits-spec =
@@ -60,9 +78,11 @@ put-digits-spec =
     μ-loop
     loop-holds
     sub-i
+    rem-store
     cast-store
     add-store
     store-requires
+    div-v
     loop-less
     loop-again
     behind-requires
