@@ -17,7 +17,8 @@ use Rattle.numerals.proofs.Laying.{laid-fits}
 use Rattle.table.specs.declared.Outcome.{Outcome}
 use Rattle.table.specs.Valid.{Valid}
 use Rattle.table.specs.Outcomes.{outcome}
-use Rattle.table.proofs.Ranges.{model-is, formed-few}
+use Rattle.table.proofs.Ranges.{formed-few}
+use Rattle.table.proofs.Runs.{table-of}
 use Rattle.load.specs.declared.Call.{Call}
 use Rattle.load.specs.declared.Item.the-variants.{Record, End, Refused}
 use Rattle.load.specs.Reading.{itemAt, walk, openNumber}
@@ -49,9 +50,6 @@ module _ (m : Model) (c : Call) (o : Outcome) (p : o ≡ outcome (stepOf m c)) w
   entry-is : (k : ℕ) → entryOf k (stepOf m c) ≡ shown k o
   entry-is k = shown-is k (stepOf m c) ∙ ap (shown k) (sym p)
 
-  next-is : model (o .table) ≡ stepOf m c .model
-  next-is = model-is (o .table) (stepOf m c .model) (ap (λ (x : Outcome). x .table) p)
-
 -- ── the lines left ──
 stop-some : (n k : ℕ) (lines : List ℕ) → (n ≡ 0 → ⊥) → stopOr n k lines ≡ stopLine n k
 stop-some zero k lines h = absurd (h refl)
@@ -80,7 +78,7 @@ module _ (s : List ℕ) (at : ℕ) (m : Model) (k : ℕ) where
 
     lines-record : n ≡ 0 → linesOf k m (walk s at) ≡ shown k o ++ linesOf (k + 1) (model (o .table)) (walk s next)
     unfolding linesOf linesFrom
-    lines-record z = rw (walk-record s at c next e, sym ends-as, next-is m c o p, sym (entry-is m c o p k)) (stop-none n k _ z)
+    lines-record z = rw (walk-record s at c next e, sym ends-as, table-of o (stepOf m c) p, sym (entry-is m c o p k)) (stop-none n k _ z)
 
   module _ (o₀ : List ℕ) (at₀ : ℕ) (w out : List ℕ) (n : ℕ) (g : Going o₀ at₀ w out n (linesOf k m (walk s at))) where
     pub run-end : itemAt s at ≡ End → Put o₀ at₀ w n out
@@ -106,7 +104,7 @@ pub record Turn (s o₀ : List ℕ) (from : ℕ) (o : List ℕ) (t : Table) (at 
 pub turn-start : (s o : List ℕ) (from : ℕ) (r : Outcome) → length o < 2 ^ 64 → from < 2 ^ 64 → r ≡ outcome (new 0) → Valid (r .table) → Turn s o from o (r .table) 1 1 from
 turn-start s o from r h k e v =
     let b : new 0 .model ≡ blank 0 = new-cases (λ (x : Step). x .model ≡ blank 0) 0 (λ z. refl) (λ z. refl) in
-    let q : model (r .table) ≡ blank 0 = model-is (r .table) (new 0 .model) (ap (λ (x : Outcome). x .table) e) ∙ b in
+    let q : model (r .table) ≡ blank 0 = table-of r (new 0) e ∙ b in
     record {
       valid = v;
       inside = omega arith;

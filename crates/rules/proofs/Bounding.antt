@@ -2,21 +2,19 @@
 -- a claim rules out only so many. Proved once for intervals.
 use mathlib.Core.Path.{_≡_, refl}
 use mathlib.Core.Logic.{_⊎_, inl, inr}
-use mathlib.Core.Bool.{Bool, true, false, not, _&&_, _||_, cond}
+use mathlib.Core.Bool.{Bool, true, false, cond}
 use mathlib.Core.List.{List}
 use Prim.Native.Nat.{ℕ, zero, suc, _+_, _-_, _≤_, _<_, min}
 use native.Mathlib.Omega.{arith}
-use lib.Dec.{leb}
-use borrow.Author.Tests.{leb-false, not-false}
 use Rattle.rules.specs.declared.Claim.{Claim}
 use Rattle.rules.specs.Lists.{_∈_, sum}
 use Rattle.rules.specs.Claims.{Setting, on, at, conflicts, endOf, remaining}
 use Rattle.rules.specs.Order.{rivals}
 use Rattle.rules.specs.Placing.{clear, fits, place, contention, startBound}
-use Rattle.rules.proofs.Bools.{split, or-fl, or-fr}
+use Rattle.rules.proofs.Bools.{split}
 use Rattle.rules.proofs.Lists.{sum-le, sum-gap, sum-add, all-not, keep-i}
 use Rattle.rules.proofs.Claims.{end-wait}
-use Rattle.rules.proofs.Placing.{fits-e, place-least}
+use Rattle.rules.proofs.Placing.{barred, fits-e, place-least}
 
 -- Where each x from a on, n of them, lies in a claim's interval, n is at most the sum of the intervals' parts below a + n.
 cover : (lo hi : Claim → ℕ) (l : List Claim) (a n : ℕ)
@@ -43,16 +41,12 @@ module _ (v : Setting) (ps : List Claim) (w : Claim) where
   from c = cond (on c) (v .clock) (suc (at c) - w .length)
 
   ruled-by : (x : ℕ) → v .clock ≤ x → (c : Claim) → clear v w x c ≡ false → (conflicts c w ≡ true) × (from c ≤ x) × (x < endOf v c)
-  unfolding clear from
-  ruled-by x h c e =
-      let s : conflicts c w ≡ true = not-false (conflicts c w) (or-fl (not (conflicts c w)) _ e) in
-      let r = or-fr (not (conflicts c w)) (leb (endOf v c) x || (not (on c) && leb (x + w .length) (at c))) e in
-      let p : x < endOf v c = leb-false (endOf v c) x (or-fl (leb (endOf v c) x) _ r) in
-      (s, go (on c) (or-fr (leb (endOf v c) x) (not (on c) && leb (x + w .length) (at c)) r), p)
+  unfolding from
+  ruled-by x h c e = let b = barred v w x c e in (b .0, go (on c) (b .2), b .1)
     where
-      go : (b : Bool) → (not b && leb (x + w .length) (at c)) ≡ false → cond b (v .clock) (suc (at c) - w .length) ≤ x
+      go : (t : Bool) → (t ≡ false → at c < x + w .length) → cond t (v .clock) (suc (at c) - w .length) ≤ x
       go true q = h
-      go false q = omega (arith, leb-false)
+      go false q = omega (arith, q refl)
 
   ruled-out : (x : ℕ) → v .clock ≤ x → fits v ps w x ≡ false → (c : Claim) × c ∈ rivals ps w × (from c ≤ x) × (x < endOf v c)
   unfolding fits

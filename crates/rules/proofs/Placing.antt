@@ -3,17 +3,29 @@ use mathlib.Core.Path.{_≡_, refl, sym, subst}
 use mathlib.Core.Logic.{_⊎_, inl, inr}
 use mathlib.Core.Bool.{Bool, true, false, not, _&&_, _||_, cond}
 use mathlib.Core.List.{List, List·Memᴰ·head, List·Memᴰ·tail}
-use Prim.Native.Nat.{ℕ, _+_, _≤_, max}
+use Prim.Native.Nat.{ℕ, _+_, _≤_, _<_, max}
 use native.Mathlib.Omega.{arith}
 use lib.Dec.{leb}
-use borrow.Author.Tests.{leb-true, le-leb, not-true}
+use borrow.Author.Tests.{leb-true, leb-false, le-leb, not-true, not-false}
 use Rattle.rules.specs.declared.Claim.{Claim}
 use Rattle.rules.specs.Lists.{_∈_, greatest}
 use Rattle.rules.specs.Claims.{Setting, on, at, conflicts, endOf}
 use Rattle.rules.specs.Placing.{clear, fits, candidates, seek, place}
 use Rattle.rules.specs.Plans.{Room, Fits}
-use Rattle.rules.proofs.Bools.{split, clash, and-l, and-r, or-e, or-r}
+use Rattle.rules.proofs.Bools.{split, clash, and-l, and-r, or-e, or-r, or-fl, or-fr}
 use Rattle.rules.proofs.Lists.{Each, here, there, greatest-base, greatest-ge, greatest-le, greatest-is, all-e, all-i, map-i, map-each, least-le, least-passes, least-low}
+
+-- A claim that leaves no room at s conflicts with w and ends after s; if it waits, w would still run at its start.
+pub barred : (v : Setting) (w : Claim) (s : ℕ) (c : Claim) → clear v w s c ≡ false → (conflicts c w ≡ true) × (s < endOf v c) × (on c ≡ false → at c < s + w .length)
+unfolding clear
+barred v w s c e =
+    let waits = not (on c) && leb (s + w .length) (at c) in
+    let r = or-fr (not (conflicts c w)) (leb (endOf v c) s || waits) e in
+    let q = or-fr (leb (endOf v c) s) waits r in (
+      not-false (conflicts c w) (or-fl (not (conflicts c w)) _ e),
+      leb-false _ _ (or-fl (leb (endOf v c) s) _ r),
+      λ o. leb-false _ _ (rw o at q),
+    )
 
 -- ── the anchor of a start: the greatest of the clock and the ends, up to it, of the claims that matter ──
 endUpTo : Setting → (Claim → Bool) → ℕ → Claim → ℕ

@@ -27,7 +27,7 @@ answered-is s =
 answer-of : (r : Outcome) (s : Step) → r ≡ outcome s → answered r ≡ s .answer
 answer-of r s e = ap answered e ∙ answered-is s
 
-table-of : (r : Outcome) (s : Step) → r ≡ outcome s → model (r .table) ≡ s .model
+pub table-of : (r : Outcome) (s : Step) → r ≡ outcome s → model (r .table) ≡ s .model
 table-of r s e = model-is (r .table) (s .model) (ap (λ (x : Outcome). x .table) e)
 
 looked-is : (m : Model) (k : ℕ) (s : Standing) → s ≡ standingIn (standingOf k (m .pending)) → looked s ≡ step m (lookup k) .answer

@@ -13,9 +13,8 @@ use Rattle.rules.specs.Claims.{Setting, on, at, endOf}
 use Rattle.rules.specs.Placing.{clear, fits, place}
 use Rattle.rules.specs.Plans.{Room}
 use Rattle.rules.specs.Tables.{vacant}
-use Rattle.rules.proofs.Placing.{fits-e, place-fits, place-least}
+use Rattle.rules.proofs.Placing.{barred, fits-e, place-fits, place-least}
 use Rattle.table.proofs.Rows.{prefix-step, prefix-end}
-use Rattle.table.proofs.Clearing.{barred}
 
 module _ (v : Setting) (w : Claim) (s : ℕ) where
   -- ── a pass over the first n claims of a row ──
