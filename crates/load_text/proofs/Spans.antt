@@ -1,12 +1,12 @@
 -- Laws of sets of groups as text: a list's items, a range, and the value of the groups from one to another.
 use Prim.Native.Nat.{ℕ, zero, suc, _+_, _-_, _*_, _^_, _%_, _≤_, _<_}
 use mathlib.Core.Path.{_≡_, refl, sym, ap, _∙_}
-use mathlib.Core.Bool.{Bool, true, false, _&&_, _||_, cond}
+use mathlib.Core.Bool.{Bool, true, false, _&&_}
 use mathlib.Core.List.{List, [], _∷_}
-use native.Mathlib.Nat.{two-pow-succ, sub-zero, mod-eq-of-lt}
+use native.Mathlib.Nat.{two-pow-succ, sub-zero}
 use native.Mathlib.Numerals.{add-one}
 use native.Mathlib.Omega.{arith}
-use lib.Dec.{eqb, leb, ltb}
+use lib.Dec.{leb}
 use lib.ListN.{length, getD, take, drop, drop-of-length-le, length-drop}
 use lib.Seq.{drop-cons, take-all}
 use lib.Pow.{pow-mono}
@@ -14,7 +14,7 @@ use borrow.Author.Tests.{eq-eqb, ne-eqb, le-leb, lt-leb, lt-ltb, le-ltb}
 use Rattle.groups.specs.Groups.{setFrom, union}
 use Rattle.load_text.specs.declared.words.Field.{Field}
 use Rattle.load_text.specs.declared.words.Field.the-variants.{Value, Wrong}
-use Rattle.load_text.specs.Parsing.{until, since, placeOf, parts, is, isComma, isDash, isList, span, groupIn, upTo, rangeIn, itemIn, itemsIn, joined, withItems, wordAt, numberIn, groupsIn}
+use Rattle.load_text.specs.Parsing.{until, since, placeOf, parts, isComma, isDash, isList, span, groupIn, upTo, rangeIn, itemIn, itemsIn, joined, withItems, wordAt, numberIn, groupsIn}
 use Rattle.load_text.proofs.Parts.{until-take, since-drop, parts-cut}
 
 -- ── the groups from one to another ──

@@ -1,6 +1,6 @@
 -- What a text says. Bytes are ASCII: 9 is a tab, 10 a line feed, 13 a carriage return, 32 a space, 35 '#', 44 ',', 45 '-'.
 -- The reasons are those of src/reasons.rt.
-use Prim.Native.Nat.{ℕ, zero, suc, _+_, _-_, _*_, _≤_, max}
+use Prim.Native.Nat.{ℕ, _+_, _-_, _*_, _≤_, max}
 use mathlib.Core.Path.{_≡_}
 use mathlib.Core.Bool.{Bool, true, false, not, _&&_, _||_, cond}
 use mathlib.Core.List.{List, [], _∷_}
