@@ -11,14 +11,17 @@ use borrow.Author.Tests.{eqb-true, ltb-true, ltb-false, lt-ltb, le-leb}
 use Rattle.numerals.specs.Digits.{digits, widthUpTo, widthOf, decimalOf}
 use Rattle.load.specs.declared.Call.{Call}
 use Rattle.load.specs.declared.Call.the-variants.{Rig, Claim, Release, Withdraw, Clock}
-use Rattle.load.specs.RoundTrip.{Typed}
+use Rattle.load.specs.Reading.{walk, openNumber}
+use Rattle.load.specs.RoundTrip.{Typed, Appended}
+use Rattle.load.proofs.Reading.{load-parts}
+use Rattle.load.proofs.RoundTrip.{read-written}
 use Rattle.load_text.specs.declared.parse.Parsed.{Parsed}
-use Rattle.load_text.specs.declared.parse.Parsed.the-variants.{Said}
+use Rattle.load_text.specs.declared.parse.Parsed.the-variants.{Nothing, Said}
 use Rattle.load_text.specs.declared.words.Field.{Field}
 use Rattle.load_text.specs.declared.words.Field.the-variants.{Value, Wrong}
-use Rattle.load_text.specs.Lines.{glyphOf, hexUpTo, setOf, fieldOf, pairOf, lineOf, pick, pickText}
+use Rattle.load_text.specs.Lines.{glyphOf, hexUpTo, setOf, fieldOf, pairOf, lineOf, linesOf, stopped, restOf, header, opened, textOf, pick, pickText}
 use Rattle.load_text.specs.Parsing.{parts, inFront, full, is, isFeed, isBlank, linesIn, wordsIn, said, digitOf, digitsIn, isNumber, valueIn, numberIn, isList, groupsIn, clockIn, ticketIn, lengthIn, rigWord, claimWord, releaseWord, withdrawWord, clockWord, isWord, callIn, lineSays}
-use Rattle.load_text.specs.ReadBack.{ReadBack}
+use Rattle.load_text.specs.ReadBack.{LineReadBack, TextReadBack}
 use Rattle.load_text.proofs.Numbers.{digit-ten, digit-upper, digits-number, number-is, fits}
 use Rattle.load_text.proofs.Spans.{groups-hex}
 use Rattle.load_text.proofs.Calls.{rig-said, clock-said, leave-said, claim-said, call-rig, call-claim, call-release, call-withdraw, call-clock, said-first}
@@ -320,15 +323,15 @@ module _ (c : Call) (w : List ℕ) (ws : List (List ℕ)) (rest : List ℕ) wher
       → map lineSays (linesIn (lineOf c ++ rest)) ≡ Said c ∷ map lineSays (linesIn rest)
   line-said e h hs k = ap (λ t. map lineSays (linesIn t)) e ∙ says w ws rest h hs ∙ ap (λ x. x ∷ map lineSays (linesIn rest)) (sym k)
 
-pub read-back : ReadBack
+pub line-read-back : LineReadBack
 unfolding lineOf setOf fieldOf pairOf spaced isWord
-read-back (Rig g) h rest =
+line-read-back (Rig g) h rest =
     let s = hexUpTo 15 g in
     line-said (Rig g) rigWord (s ∷ []) rest
     (ap (λ t. rigWord ++ 32 ∷ t) (field-last s rest))
     rig-plain (also (set-plain g h) nil)
     (rig-said refl g (groups-said g h) ∙ call-rig rigWord (s ∷ []) refl ∙ sym (said-first rigWord (s ∷ [])))
-read-back (Claim c g l) h rest =
+line-read-back (Claim c g l) h rest =
     let t = decimalOf c in
     let s = hexUpTo 15 g in
     let n = decimalOf l in
@@ -337,7 +340,7 @@ read-back (Claim c g l) h rest =
     (ap (λ x. claimWord ++ 32 ∷ x) (field-on t rest _ (s ++ 32 ∷ n) (field-on s rest _ n (field-last n rest))))
     claim-plain (also (decimal-plain c (h .0)) (also (set-plain g (h .1)) (also (decimal-plain l (omega (arith, h .2))) nil)))
     (claim-said refl c (clock-value c (h .0)) g (groups-said g (h .1)) l (length-value l (h .2)) ∙ call-claim claimWord ws refl refl ∙ sym (said-first claimWord ws))
-read-back (Release c k) h rest =
+line-read-back (Release c k) h rest =
     let t = decimalOf c in
     let n = decimalOf k in
     let ws = t ∷ n ∷ [] in
@@ -345,7 +348,7 @@ read-back (Release c k) h rest =
     (ap (λ x. releaseWord ++ 32 ∷ x) (field-on t rest _ n (field-last n rest)))
     release-plain (also (decimal-plain c (h .0)) (also (decimal-plain k (omega (arith, h .1))) nil))
     (leave-said Release refl c (clock-value c (h .0)) k (ticket-value k (h .1)) ∙ call-release releaseWord ws refl refl refl ∙ sym (said-first releaseWord ws))
-read-back (Withdraw c k) h rest =
+line-read-back (Withdraw c k) h rest =
     let t = decimalOf c in
     let n = decimalOf k in
     let ws = t ∷ n ∷ [] in
@@ -353,9 +356,41 @@ read-back (Withdraw c k) h rest =
     (ap (λ x. withdrawWord ++ 32 ∷ x) (field-on t rest _ n (field-last n rest)))
     withdraw-plain (also (decimal-plain c (h .0)) (also (decimal-plain k (omega (arith, h .1))) nil))
     (leave-said Withdraw refl c (clock-value c (h .0)) k (ticket-value k (h .1)) ∙ call-withdraw withdrawWord ws refl refl refl refl ∙ sym (said-first withdrawWord ws))
-read-back (Clock c) h rest =
+line-read-back (Clock c) h rest =
     let t = decimalOf c in
     line-said (Clock c) clockWord (t ∷ []) rest
     (ap (λ x. clockWord ++ 32 ∷ x) (field-last t rest))
     clock-plain (also (decimal-plain c h) nil)
     (clock-said refl c (clock-value c h) ∙ call-clock clockWord (t ∷ []) refl refl refl refl refl ∙ sym (said-first clockWord (t ∷ [])))
+
+-- ── the text of a load ──
+data Typeds : List Call → Type 0 where
+  nil : Typeds []
+  more : {c : Call} {cs : List Call} → Typed c → Typeds cs → Typeds (c ∷ cs)
+
+typed-snoc : (cs : List Call) (c : Call) → Typeds cs → Typed c → Typeds (cs ++ (c ∷ []))
+typed-snoc [] c h k = more k nil
+typed-snoc (b ∷ cs) c (more h hs) k = more h (typed-snoc cs c hs k)
+
+appended-typed : (e : ℕ) (cs : List Call) (s : List ℕ) → Appended e cs s → Typeds cs
+appended-typed e cs s (Appended.none k) = nil
+appended-typed e cs s (Appended.one {cs = ds} {s = r} c out n a t h) = typed-snoc ds c (appended-typed e ds r a) t
+
+lines-read-back : (k : ℕ) (cs : List Call) → Typeds cs → map lineSays (linesIn (linesOf k cs 0)) ≡ map Said cs
+unfolding linesOf linesIn parts
+lines-read-back k [] h = refl
+lines-read-back k (c ∷ cs) (more h hs) = line-read-back c h (linesOf (k + 1) cs 0) ∙ ap (λ l. Said c ∷ l) (lines-read-back (k + 1) cs hs)
+
+header-says : (t : List ℕ) → map lineSays (linesIn (header ++ t)) ≡ Nothing ∷ map lineSays (linesIn t)
+unfolding lineSays said wordsIn linesIn parts callIn
+header-says t = refl
+
+pub text-read-back : TextReadBack
+unfolding textOf restOf
+text-read-back s b e =
+    let h = load-parts s e in
+    let cs = walk s 1 .calls in
+    ap (λ n. map lineSays (linesIn (opened n (linesOf 1 cs (walk s 1 .stop))))) (h .0)
+    ∙ ap (λ n. map lineSays (linesIn (header ++ linesOf 1 cs n))) (h .1)
+    ∙ header-says (linesOf 1 cs 0)
+    ∙ ap (λ l. Nothing ∷ l) (lines-read-back 1 cs (appended-typed _ cs s (read-written s b e .1)))
