@@ -1,28 +1,27 @@
 -- The line that a call is printed as says that call: its words are the call's name and its numbers in digits, and digits read back.
-use Prim.Native.Nat.{ℕ, zero, suc, _+_, _-_, _*_, _/_, _%_, _^_, _≤_, _<_}
+use Prim.Native.Nat.{ℕ, zero, suc, _+_, _*_, _/_, _%_, _^_, _≤_, _<_}
 use mathlib.Core.Path.{_≡_, refl, sym, ap, _∙_}
-use mathlib.Core.Bool.{Bool, true, false, not, _&&_, _||_, cond}
+use mathlib.Core.Bool.{Bool, true, false, not, _&&_, _||_, cond, false≢true}
 use mathlib.Core.List.{List, [], _∷_, _++_, map, append-assoc}
 use native.Mathlib.Nat.{pow-suc}
 use native.Mathlib.Omega.{arith}
-use lib.Dec.{eqb, ltb, leb}
+use lib.Dec.{ltb, leb}
 use lib.ListN.{length, length-append}
-use borrow.Author.Tests.{eqb-true, ltb-true, ltb-false, lt-ltb, le-leb}
+use borrow.Author.Tests.{eqb-true, ltb-true, ltb-false, lt-ltb}
 use Rattle.numerals.specs.Digits.{digits, widthUpTo, widthOf, decimalOf}
 use Rattle.load.specs.declared.Call.{Call}
 use Rattle.load.specs.declared.Call.the-variants.{Rig, Claim, Release, Withdraw, Clock}
-use Rattle.load.specs.Reading.{walk, openNumber}
+use Rattle.load.specs.Reading.{walk}
 use Rattle.load.specs.RoundTrip.{Typed, Appended}
 use Rattle.load.proofs.Reading.{load-parts}
 use Rattle.load.proofs.RoundTrip.{read-written}
-use Rattle.load_text.specs.declared.parse.Parsed.{Parsed}
 use Rattle.load_text.specs.declared.parse.Parsed.the-variants.{Nothing, Said}
-use Rattle.load_text.specs.declared.words.Field.{Field}
 use Rattle.load_text.specs.declared.words.Field.the-variants.{Value, Wrong}
-use Rattle.load_text.specs.Lines.{glyphOf, hexUpTo, setOf, fieldOf, pairOf, lineOf, linesOf, stopped, restOf, header, opened, textOf, pick, pickText}
-use Rattle.load_text.specs.Parsing.{parts, inFront, full, is, isFeed, isBlank, linesIn, wordsIn, said, digitOf, digitsIn, isNumber, valueIn, numberIn, isList, groupsIn, clockIn, ticketIn, lengthIn, rigWord, claimWord, releaseWord, withdrawWord, clockWord, isWord, callIn, lineSays}
+use Rattle.load_text.specs.Lines.{glyphOf, hexUpTo, setOf, fieldOf, pairOf, lineOf, linesOf, restOf, header, opened, textOf, pick, pickText}
+use Rattle.load_text.specs.Parsing.{parts, inFront, full, is, isFeed, isBlank, linesIn, wordsIn, said, digitOf, digitsIn, valueIn, numberIn, isList, groupsIn, clockIn, ticketIn, lengthIn, rigWord, claimWord, releaseWord, withdrawWord, clockWord, isWord, callIn, lineSays}
 use Rattle.load_text.specs.ReadBack.{LineReadBack, TextReadBack}
 use Rattle.load_text.proofs.Numbers.{digit-ten, digit-upper, digits-number, number-is, fits}
+use Rattle.load_text.proofs.Reading.{full-cons}
 use Rattle.load_text.proofs.Spans.{groups-hex}
 use Rattle.load_text.proofs.Calls.{rig-said, clock-said, leave-said, claim-said, call-rig, call-claim, call-release, call-withdraw, call-clock, said-first}
 
@@ -49,7 +48,7 @@ module _ (p : ℕ → Bool) where
     where
       go : (none p x ≡ true → p e ≡ true → parts p (x ++ e ∷ l) ≡ x ∷ parts p l) → (t : Bool) → (not t && none p x) ≡ true
           → cond t ([] ∷ parts p (x ++ e ∷ l)) (inFront b (parts p (x ++ e ∷ l))) ≡ (b ∷ x) ∷ parts p l
-      go f true h = let z : _≡_ {A = ℕ} 0 1 = cc in absurd (omega arith)
+      go f true h = absurd (false≢true h)
       go f false h = ap (inFront b) (f h k)
 
   parts-last : (x : List ℕ) → 0 < length x → none p x ≡ true → parts p x ≡ x ∷ []
@@ -58,18 +57,14 @@ module _ (p : ℕ → Bool) where
   parts-last (b ∷ []) q h = go (p b) h
     where
       go : (t : Bool) → (not t && true) ≡ true → cond t ([] ∷ []) (inFront b []) ≡ (b ∷ []) ∷ []
-      go true h = let z : _≡_ {A = ℕ} 0 1 = cc in absurd (omega arith)
+      go true h = absurd (false≢true h)
       go false h = refl
   parts-last (b ∷ c ∷ x) q h = go (parts-last (c ∷ x) (omega arith)) (p b) h
     where
       go : (none p (c ∷ x) ≡ true → parts p (c ∷ x) ≡ (c ∷ x) ∷ []) → (t : Bool) → (not t && none p (c ∷ x)) ≡ true
           → cond t ([] ∷ parts p (c ∷ x)) (inFront b (parts p (c ∷ x))) ≡ (b ∷ c ∷ x) ∷ []
-      go f true h = let z : _≡_ {A = ℕ} 0 1 = cc in absurd (omega arith)
+      go f true h = absurd (false≢true h)
       go f false h = ap (inFront b) (f h)
-
-full-word : (w : List ℕ) (ws : List (List ℕ)) → 0 < length w → full (w ∷ ws) ≡ w ∷ full ws
-full-word [] ws h = absurd (omega arith)
-full-word (b ∷ w) ws h = refl
 
 -- ── a line of words with a space between them ──
 spaced : List ℕ → List (List ℕ) → List ℕ
@@ -92,10 +87,10 @@ data Plains : List (List ℕ) → Type 0 where
 
 words-spaced : (w : List ℕ) (ws : List (List ℕ)) → Plain w → Plains ws → wordsIn (spaced w ws) ≡ w ∷ ws
 unfolding wordsIn spaced
-words-spaced w [] h hs = ap full (parts-last isBlank w (h .some) (h .blank)) ∙ full-word w [] (h .some)
+words-spaced w [] h hs = ap full (parts-last isBlank w (h .some) (h .blank)) ∙ full-cons w [] (h .some)
 words-spaced w (v ∷ vs) h (also k ks) =
     ap full (parts-front isBlank w 32 (spaced v vs) (h .blank) refl)
-    ∙ full-word w (parts isBlank (spaced v vs)) (h .some)
+    ∙ full-cons w (parts isBlank (spaced v vs)) (h .some)
     ∙ ap (λ ws. w ∷ ws) (words-spaced v vs k ks)
 
 module _ (p : ℕ → Bool) (q : p 32 ≡ false) (plain : (w : List ℕ) → Plain w → none p w ≡ true) where
@@ -110,14 +105,14 @@ said-whole [] h = refl
 said-whole (b ∷ []) h = go (is 35 b || is 13 b) h
   where
     go : (t : Bool) → (not t && true) ≡ true → cond t [] (b ∷ []) ≡ b ∷ []
-    go true h = let z : _≡_ {A = ℕ} 0 1 = cc in absurd (omega arith)
+    go true h = absurd (false≢true h)
     go false h = refl
 said-whole (b ∷ c ∷ l) h = go (said-whole (c ∷ l)) (is 35 b) (is 13 b) h
   where
     go : (none isEnd (c ∷ l) ≡ true → said (c ∷ l) ≡ c ∷ l) → (t u : Bool) → (not (t || u) && none isEnd (c ∷ l)) ≡ true
         → cond t [] (b ∷ said (c ∷ l)) ≡ b ∷ c ∷ l
-    go f true u h = let z : _≡_ {A = ℕ} 0 1 = cc in absurd (omega arith)
-    go f false true h = let z : _≡_ {A = ℕ} 0 1 = cc in absurd (omega arith)
+    go f true u h = absurd (false≢true h)
+    go f false true h = absurd (false≢true h)
     go f false false h = ap (λ k. b ∷ k) (f h)
 
 -- What a line of plain words says, in front of other lines.
@@ -147,16 +142,16 @@ module _ (p : ℕ → Bool) (fails : (b : ℕ) → digitOf b < 16 → p b ≡ fa
     where
       go : (digitsIn 16 w ≡ true → none p w ≡ true) → (t : Bool) → ltb (digitOf b) 16 ≡ t → (t && digitsIn 16 w) ≡ true → (not (p b) && none p w) ≡ true
       go f true q h = rw (fails b (ltb-true _ _ q)) (f h)
-      go f false q h = let z : _≡_ {A = ℕ} 0 1 = cc in absurd (omega arith)
+      go f false q h = absurd (false≢true h)
 
 digits-plain : (w : List ℕ) → 0 < length w → digitsIn 16 w ≡ true → Plain w
 unfolding digitOf
-digits-plain w h k = record
-  { some = h
-  ; blank = none-digits isBlank (λ b q. rw (no-is 32 b refl q, no-is 9 b refl q)) w k
-  ; feed = none-digits isFeed (λ b q. no-is 10 b refl q) w k
-  ; end = none-digits isEnd (λ b q. rw (no-is 35 b refl q, no-is 13 b refl q)) w k
-  }
+digits-plain w h k = record {
+  some = h;
+  blank = none-digits isBlank (λ b q. rw (no-is 32 b refl q, no-is 9 b refl q)) w k;
+  feed = none-digits isFeed (λ b q. no-is 10 b refl q) w k;
+  end = none-digits isEnd (λ b q. rw (no-is 35 b refl q, no-is 13 b refl q)) w k;
+}
 
 digits-no-list : (w : List ℕ) → digitsIn 16 w ≡ true → isList w ≡ false
 unfolding digitsIn isList digitOf
@@ -165,7 +160,7 @@ digits-no-list (b ∷ w) h = go (digits-no-list w) (ltb (digitOf b) 16) refl h
   where
     go : (digitsIn 16 w ≡ true → isList w ≡ false) → (t : Bool) → ltb (digitOf b) 16 ≡ t → (t && digitsIn 16 w) ≡ true → (is 44 b || is 45 b || isList w) ≡ false
     go f true q h = rw (no-is 44 b refl (ltb-true _ _ q), no-is 45 b refl (ltb-true _ _ q)) (f h)
-    go f false q h = let z : _≡_ {A = ℕ} 0 1 = cc in absurd (omega arith)
+    go f false q h = absurd (false≢true h)
 
 module _ (base : ℕ) where
   digits-snoc : (w : List ℕ) (b : ℕ) → digitsIn base w ≡ true → digitOf b < base → digitsIn base (w ++ (b ∷ [])) ≡ true
@@ -194,11 +189,11 @@ unfolding digitsIn valueIn
 says-one base v b h e = record { some = omega arith; digit = rw (lt-ltb (digitOf b) base h); value = omega (arith, e) }
 
 says-more : (base u v b : ℕ) (w : List ℕ) → Says base u w → digitOf b < base → u * base + digitOf b ≡ v → Says base v (w ++ (b ∷ []))
-says-more base u v b w s h e = record
-  { some = omega (arith, length-append w (b ∷ []), s .some)
-  ; digit = digits-snoc base w b (s .digit) h
-  ; value = value-snoc base 0 w b ∙ ap (λ n. n * base + digitOf b) (s .value) ∙ e
-  }
+says-more base u v b w s h e = record {
+  some = omega (arith, length-append w (b ∷ []), s .some);
+  digit = digits-snoc base w b (s .digit) h;
+  value = value-snoc base 0 w b ∙ ap (λ n. n * base + digitOf b) (s .value) ∙ e;
+}
 
 number-said : (base most lack large v : ℕ) (w : List ℕ) → Says base v w → v ≤ most → numberIn base most lack large w ≡ Value v
 number-said base most lack large v w s h =
@@ -267,7 +262,7 @@ ten-sixteen (b ∷ w) h = go (ten-sixteen w) (ltb (digitOf b) 10) refl h
   where
     go : (digitsIn 10 w ≡ true → digitsIn 16 w ≡ true) → (t : Bool) → ltb (digitOf b) 10 ≡ t → (t && digitsIn 10 w) ≡ true → (ltb (digitOf b) 16 && digitsIn 16 w) ≡ true
     go f true e h = let q = ltb-true (digitOf b) 10 e in rw (lt-ltb (digitOf b) 16 (omega arith)) (f h)
-    go f false e h = let z : _≡_ {A = ℕ} 0 1 = cc in absurd (omega arith)
+    go f false e h = absurd (false≢true h)
 
 clock-value : (v : ℕ) → v < 2 ^ 64 → clockIn (decimalOf v) ≡ Value v
 clock-value v h = number-said 10 18446744073709551615 4 8 v (decimalOf v) (decimal-says v h) (omega arith)

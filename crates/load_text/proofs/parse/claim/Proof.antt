@@ -5,9 +5,20 @@ use borrow.Author.Tests.{not-true, not-false}
 use borrow.Author.Needs.{needs}
 use Rattle.load_text.specs.Parsing.{claimIn}
 use Rattle.load_text.proofs.Numbers.{number-most}
-use Rattle.load_text.proofs.Calls.{word-in, before, less-three, triple, four, claim-many, claim-clock, claim-groups, claim-length, claim-said}
+use Rattle.load_text.proofs.Calls.{Three, three, less-three, over-three, claim-many, claim-clock, claim-groups, claim-length, claim-said}
 use Rattle.load_text.proofs.parse.claim.Statement.{statement}
 use Rattle.load_text.proofs.parse.claim.Tie as tie
+
+-- Behind both tests there are three words.
+counted : (e : tie.Else2) →
+    let z = e .before .before .before .before in
+    let a = z .before .before .before .next-word .result in
+    let b = z .before .before .next-word2 .result in
+    let c = z .before .next-word3 .result in
+    Three (z .before .before .before .before .before .args .said .now) (z .before .before .before .before .before .args .at) (a .from) (a .to) (b .from) (b .to) (c .from) (c .to)
+counted e =
+    let z = e .before .before .before .before in
+    three (z .before .before .before .next-word .ensures) (z .before .before .next-word2 .ensures) (z .before .next-word3 .ensures) (z .next-word4 .ensures) (sym (e .before .before .before .is-empty .ensures) ∙ e .before .before .if1 .left) (sym (e .before .is-empty2 .ensures) ∙ not-false _ (e .if2 .left))
 
 next-word-requires : tie.Need-next-word-requires
 next-word-requires c κs = search needs
@@ -27,10 +38,7 @@ is-empty-requires c κs = search needs
 returns : tie.Need-returns
 returns c =
     let z = c .before .before in
-    let first = z .before .before .before .next-word .ensures in
-    let second = z .before .before .next-word2 .ensures in
-    let third = z .before .next-word3 .ensures in
-    less-three first second third (sym (c .before .is-empty .ensures) ∙ c .if1 .taken)
+    less-three (z .before .before .before .next-word .ensures) (z .before .before .next-word2 .ensures) (z .before .next-word3 .ensures) (sym (c .before .is-empty .ensures) ∙ c .if1 .taken)
 
 is-empty-requires-2 : tie.Need-is-empty-requires-2
 is-empty-requires-2 c κs = search needs
@@ -38,44 +46,22 @@ is-empty-requires-2 c κs = search needs
 returns-2 : tie.Need-returns-2
 returns-2 c =
     let z = c .before .before .before .before in
-    let first = z .before .before .before .next-word .ensures in
-    let second = z .before .before .next-word2 .ensures in
-    let third = z .before .next-word3 .ensures in
-    let fourth = z .next-word4 .ensures in
-    sym (ap claimIn (four first second third fourth (sym (c .before .is-empty2 .ensures) ∙ not-true _ (c .if2 .taken))) ∙ claim-many _ _ _ _ _)
+    sym (ap claimIn (over-three (z .before .before .before .next-word .ensures) (z .before .before .next-word2 .ensures) (z .before .next-word3 .ensures) (z .next-word4 .ensures) (sym (c .before .is-empty2 .ensures) ∙ not-true _ (c .if2 .taken))) ∙ claim-many _ _ _ _ _)
 
 clock-at-requires : tie.Need-clock-at-requires
-clock-at-requires c κs =
-    let e = c in
-    let z = e .before .before .before .before in
-    let first = z .before .before .before .next-word .ensures in
-    let second = z .before .before .next-word2 .ensures in
-    let third = z .before .next-word3 .ensures in
-    let some = sym (e .before .before .before .is-empty .ensures) ∙ e .before .before .if1 .left in
-    word-in first (before first second (before second third some))
+clock-at-requires c κs = counted c .first
 
 enum-known-t : tie.Need-enum-known-t
 enum-known-t c = search needs
 
 groups-at-requires : tie.Need-groups-at-requires
-groups-at-requires c κs =
-    let e = c .before .before .before .before in
-    let z = e .before .before .before .before in
-    let second = z .before .before .next-word2 .ensures in
-    let third = z .before .next-word3 .ensures in
-    let some = sym (e .before .before .before .is-empty .ensures) ∙ e .before .before .if1 .left in
-    word-in second (before second third some)
+groups-at-requires c κs = counted (c .before .before .before .before) .second
 
 enum-known-g : tie.Need-enum-known-g
 enum-known-g c = search needs
 
 length-at-requires : tie.Need-length-at-requires
-length-at-requires c κs =
-    let e = c .before .before .before .before .before .before .before .before in
-    let z = e .before .before .before .before in
-    let third = z .before .next-word3 .ensures in
-    let some = sym (e .before .before .before .is-empty .ensures) ∙ e .before .before .if1 .left in
-    word-in third some
+length-at-requires c κs = counted (c .before .before .before .before .before .before .before .before) .third
 
 enum-known-l : tie.Need-enum-known-l
 enum-known-l c = search needs
@@ -94,51 +80,19 @@ enum-known-n-3 c = search needs
 
 returns-3 : tie.Need-returns-3
 returns-3 c =
-    let e = c .before .before .before .before .before .before .before .before .before .before .before .before in
-    let z = e .before .before .before .before in
-    let first = z .before .before .before .next-word .ensures in
-    let second = z .before .before .next-word2 .ensures in
-    let third = z .before .next-word3 .ensures in
-    let fourth = z .next-word4 .ensures in
-    let some = sym (e .before .before .before .is-empty .ensures) ∙ e .before .before .if1 .left in
-    let no-more = sym (e .before .is-empty2 .ensures) ∙ not-false _ (e .if2 .left) in
-    claim-said (triple first second third fourth some no-more) _ (sym (c .before .before .before .before .before .before .before .before .before .before .before .clock-at .ensures) ∙ c .before .before .before .before .before .before .before .before .before .t .given .1) _ (sym (c .before .before .before .before .before .before .before .groups-at .ensures) ∙ c .before .before .before .before .before .g .given .1) _ (sym (c .before .before .before .length-at .ensures) ∙ c .before .l .given .1)
+    claim-said (counted (c .before .before .before .before .before .before .before .before .before .before .before .before) .words) _ (sym (c .before .before .before .before .before .before .before .before .before .before .before .clock-at .ensures) ∙ c .before .before .before .before .before .before .before .before .before .t .given .1) _ (sym (c .before .before .before .before .before .before .before .groups-at .ensures) ∙ c .before .before .before .before .before .g .given .1) _ (sym (c .before .before .before .length-at .ensures) ∙ c .before .l .given .1)
 
 returns-4 : tie.Need-returns-4
 returns-4 c =
-    let e = c .before .before .before .before .before .before .before .before .before .before .before .before in
-    let z = e .before .before .before .before in
-    let first = z .before .before .before .next-word .ensures in
-    let second = z .before .before .next-word2 .ensures in
-    let third = z .before .next-word3 .ensures in
-    let fourth = z .next-word4 .ensures in
-    let some = sym (e .before .before .before .is-empty .ensures) ∙ e .before .before .if1 .left in
-    let no-more = sym (e .before .is-empty2 .ensures) ∙ not-false _ (e .if2 .left) in
-    claim-length (triple first second third fourth some no-more) _ (sym (c .before .before .before .before .before .before .before .before .before .before .before .clock-at .ensures) ∙ c .before .before .before .before .before .before .before .before .before .t .given .1) _ (sym (c .before .before .before .before .before .before .before .groups-at .ensures) ∙ c .before .before .before .before .before .g .given .1) _ (sym (c .before .before .before .length-at .ensures) ∙ c .before .n .given .1)
+    claim-length (counted (c .before .before .before .before .before .before .before .before .before .before .before .before) .words) _ (sym (c .before .before .before .before .before .before .before .before .before .before .before .clock-at .ensures) ∙ c .before .before .before .before .before .before .before .before .before .t .given .1) _ (sym (c .before .before .before .before .before .before .before .groups-at .ensures) ∙ c .before .before .before .before .before .g .given .1) _ (sym (c .before .before .before .length-at .ensures) ∙ c .before .n .given .1)
 
 returns-5 : tie.Need-returns-5
 returns-5 c =
-    let e = c .before .before .before .before .before .before .before .before in
-    let z = e .before .before .before .before in
-    let first = z .before .before .before .next-word .ensures in
-    let second = z .before .before .next-word2 .ensures in
-    let third = z .before .next-word3 .ensures in
-    let fourth = z .next-word4 .ensures in
-    let some = sym (e .before .before .before .is-empty .ensures) ∙ e .before .before .if1 .left in
-    let no-more = sym (e .before .is-empty2 .ensures) ∙ not-false _ (e .if2 .left) in
-    claim-groups (triple first second third fourth some no-more) _ (sym (c .before .before .before .before .before .before .before .clock-at .ensures) ∙ c .before .before .before .before .before .t .given .1) _ (sym (c .before .before .before .groups-at .ensures) ∙ c .before .n2 .given .1)
+    claim-groups (counted (c .before .before .before .before .before .before .before .before) .words) _ (sym (c .before .before .before .before .before .before .before .clock-at .ensures) ∙ c .before .before .before .before .before .t .given .1) _ (sym (c .before .before .before .groups-at .ensures) ∙ c .before .n2 .given .1)
 
 returns-6 : tie.Need-returns-6
 returns-6 c =
-    let e = c .before .before .before .before in
-    let z = e .before .before .before .before in
-    let first = z .before .before .before .next-word .ensures in
-    let second = z .before .before .next-word2 .ensures in
-    let third = z .before .next-word3 .ensures in
-    let fourth = z .next-word4 .ensures in
-    let some = sym (e .before .before .before .is-empty .ensures) ∙ e .before .before .if1 .left in
-    let no-more = sym (e .before .is-empty2 .ensures) ∙ not-false _ (e .if2 .left) in
-    claim-clock (triple first second third fourth some no-more) _ (sym (c .before .before .before .clock-at .ensures) ∙ c .before .n3 .given .1)
+    claim-clock (counted (c .before .before .before .before) .words) _ (sym (c .before .before .before .clock-at .ensures) ∙ c .before .n3 .given .1)
 
 pub claim-spec : {M : Type 1} → statement M
 claim-spec =

@@ -8,9 +8,19 @@ use borrow.Author.Needs.{needs}
 use Rattle.load.specs.declared.Call.the-variants.{Release, Withdraw}
 use Rattle.load_text.specs.Parsing.{leaveIn, wordsIn}
 use Rattle.load_text.proofs.Numbers.{number-most}
-use Rattle.load_text.proofs.Calls.{word-in, before, less-two, pair, three, leave-many, leave-clock, leave-ticket, leave-said}
+use Rattle.load_text.proofs.Calls.{Two, two, less-two, over-two, leave-many, leave-clock, leave-ticket, leave-said}
 use Rattle.load_text.proofs.parse.leave.Statement.{statement}
 use Rattle.load_text.proofs.parse.leave.Tie as tie
+
+-- Behind both tests there are two words.
+counted : (e : tie.Else2) →
+    let z = e .before .before .before .before in
+    let a = z .before .before .next-word .result in
+    let b = z .before .next-word2 .result in
+    Two (z .before .before .before .before .args .said .now) (z .before .before .before .before .args .at) (a .from) (a .to) (b .from) (b .to)
+counted e =
+    let z = e .before .before .before .before in
+    two (z .before .before .next-word .ensures) (z .before .next-word2 .ensures) (z .next-word3 .ensures) (sym (e .before .before .before .is-empty .ensures) ∙ e .before .before .if1 .left) (sym (e .before .is-empty2 .ensures) ∙ not-false _ (e .if2 .left))
 
 next-word-requires : tie.Need-next-word-requires
 next-word-requires c κs = search needs
@@ -27,9 +37,7 @@ is-empty-requires c κs = search needs
 returns : tie.Need-returns
 returns c =
     let z = c .before .before in
-    let first = z .before .before .next-word .ensures in
-    let second = z .before .next-word2 .ensures in
-    less-two first second (sym (c .before .is-empty .ensures) ∙ c .if1 .taken) _
+    less-two (z .before .before .next-word .ensures) (z .before .next-word2 .ensures) (sym (c .before .is-empty .ensures) ∙ c .if1 .taken) _
 
 is-empty-requires-2 : tie.Need-is-empty-requires-2
 is-empty-requires-2 c κs = search needs
@@ -37,30 +45,16 @@ is-empty-requires-2 c κs = search needs
 returns-2 : tie.Need-returns-2
 returns-2 c =
     let z = c .before .before .before .before in
-    let first = z .before .before .next-word .ensures in
-    let second = z .before .next-word2 .ensures in
-    let third = z .next-word3 .ensures in
-    sym (ap (leaveIn _) (three first second third (sym (c .before .is-empty2 .ensures) ∙ not-true _ (c .if2 .taken))) ∙ leave-many _ _ _ _ _)
+    sym (ap (leaveIn _) (over-two (z .before .before .next-word .ensures) (z .before .next-word2 .ensures) (z .next-word3 .ensures) (sym (c .before .is-empty2 .ensures) ∙ not-true _ (c .if2 .taken))) ∙ leave-many _ _ _ _ _)
 
 clock-at-requires : tie.Need-clock-at-requires
-clock-at-requires c κs =
-    let e = c in
-    let z = e .before .before .before .before in
-    let first = z .before .before .next-word .ensures in
-    let second = z .before .next-word2 .ensures in
-    let some = sym (e .before .before .before .is-empty .ensures) ∙ e .before .before .if1 .left in
-    word-in first (before first second some)
+clock-at-requires c κs = counted c .first
 
 enum-known-t : tie.Need-enum-known-t
 enum-known-t c = search needs
 
 ticket-at-requires : tie.Need-ticket-at-requires
-ticket-at-requires c κs =
-    let e = c .before .before .before .before in
-    let z = e .before .before .before .before in
-    let second = z .before .next-word2 .ensures in
-    let some = sym (e .before .before .before .is-empty .ensures) ∙ e .before .before .if1 .left in
-    word-in second some
+ticket-at-requires c κs = counted (c .before .before .before .before) .second
 
 enum-known-k : tie.Need-enum-known-k
 enum-known-k c = search needs
@@ -70,14 +64,8 @@ cast-t19 c = omega (arith, number-most _ _ _ _ _ _ (sym (c .before .before .befo
 
 returns-3 : tie.Need-returns-3
 returns-3 c =
-    let e = c .before .before .before .before .before .before .before .before .before in
-    let z = e .before .before .before .before in
-    let first = z .before .before .next-word .ensures in
-    let second = z .before .next-word2 .ensures in
-    let third = z .next-word3 .ensures in
-    let some = sym (e .before .before .before .is-empty .ensures) ∙ e .before .before .if1 .left in
-    let no-more = sym (e .before .is-empty2 .ensures) ∙ not-false _ (e .if2 .left) in
-    leave-said Release (pair first second third some no-more) _ (sym (c .before .before .before .before .before .before .before .before .clock-at .ensures) ∙ c .before .before .before .before .before .before .t .given .1) _ (sym (c .before .before .before .before .ticket-at .ensures) ∙ c .before .before .k .given .1) ∙ ap (λ b. leaveIn (cond b Release Withdraw) (wordsIn (drop (z .before .before .before .before .args .at) (z .before .before .before .before .args .said .now)))) (sym (c .if3 .taken))
+    let a = c .before .before .before .before .before .before .before .before .before .before .before .before .before .before .before .before .before .args in
+    leave-said Release (counted (c .before .before .before .before .before .before .before .before .before) .words) _ (sym (c .before .before .before .before .before .before .before .before .clock-at .ensures) ∙ c .before .before .before .before .before .before .t .given .1) _ (sym (c .before .before .before .before .ticket-at .ensures) ∙ c .before .before .k .given .1) ∙ ap (λ b. leaveIn (cond b Release Withdraw) (wordsIn (drop (a .at) (a .said .now)))) (sym (c .if3 .taken))
 
 cast-t21 : tie.Need-cast-t21
 cast-t21 c = omega (arith, number-most _ _ _ _ _ _ (sym (c .before .before .before .before .ticket-at .ensures) ∙ c .before .before .k .given .1))
@@ -90,36 +78,16 @@ enum-known-n-2 c = search needs
 
 returns-4 : tie.Need-returns-4
 returns-4 c =
-    let e = c .before .before .before .before .before .before .before .before .before in
-    let z = e .before .before .before .before in
-    let first = z .before .before .next-word .ensures in
-    let second = z .before .next-word2 .ensures in
-    let third = z .next-word3 .ensures in
-    let some = sym (e .before .before .before .is-empty .ensures) ∙ e .before .before .if1 .left in
-    let no-more = sym (e .before .is-empty2 .ensures) ∙ not-false _ (e .if2 .left) in
-    leave-said Withdraw (pair first second third some no-more) _ (sym (c .before .before .before .before .before .before .before .before .clock-at .ensures) ∙ c .before .before .before .before .before .before .t .given .1) _ (sym (c .before .before .before .before .ticket-at .ensures) ∙ c .before .before .k .given .1) ∙ ap (λ b. leaveIn (cond b Release Withdraw) (wordsIn (drop (z .before .before .before .before .args .at) (z .before .before .before .before .args .said .now)))) (sym (c .if3 .left))
+    let a = c .before .before .before .before .before .before .before .before .before .before .before .before .before .before .before .before .before .args in
+    leave-said Withdraw (counted (c .before .before .before .before .before .before .before .before .before) .words) _ (sym (c .before .before .before .before .before .before .before .before .clock-at .ensures) ∙ c .before .before .before .before .before .before .t .given .1) _ (sym (c .before .before .before .before .ticket-at .ensures) ∙ c .before .before .k .given .1) ∙ ap (λ b. leaveIn (cond b Release Withdraw) (wordsIn (drop (a .at) (a .said .now)))) (sym (c .if3 .left))
 
 returns-5 : tie.Need-returns-5
 returns-5 c =
-    let e = c .before .before .before .before .before .before .before .before in
-    let z = e .before .before .before .before in
-    let first = z .before .before .next-word .ensures in
-    let second = z .before .next-word2 .ensures in
-    let third = z .next-word3 .ensures in
-    let some = sym (e .before .before .before .is-empty .ensures) ∙ e .before .before .if1 .left in
-    let no-more = sym (e .before .is-empty2 .ensures) ∙ not-false _ (e .if2 .left) in
-    leave-ticket _ (pair first second third some no-more) _ (sym (c .before .before .before .before .before .before .before .clock-at .ensures) ∙ c .before .before .before .before .before .t .given .1) _ (sym (c .before .before .before .ticket-at .ensures) ∙ c .before .n .given .1)
+    leave-ticket _ (counted (c .before .before .before .before .before .before .before .before) .words) _ (sym (c .before .before .before .before .before .before .before .clock-at .ensures) ∙ c .before .before .before .before .before .t .given .1) _ (sym (c .before .before .before .ticket-at .ensures) ∙ c .before .n .given .1)
 
 returns-6 : tie.Need-returns-6
 returns-6 c =
-    let e = c .before .before .before .before in
-    let z = e .before .before .before .before in
-    let first = z .before .before .next-word .ensures in
-    let second = z .before .next-word2 .ensures in
-    let third = z .next-word3 .ensures in
-    let some = sym (e .before .before .before .is-empty .ensures) ∙ e .before .before .if1 .left in
-    let no-more = sym (e .before .is-empty2 .ensures) ∙ not-false _ (e .if2 .left) in
-    leave-clock _ (pair first second third some no-more) _ (sym (c .before .before .before .clock-at .ensures) ∙ c .before .n2 .given .1)
+    leave-clock _ (counted (c .before .before .before .before) .words) _ (sym (c .before .before .before .clock-at .ensures) ∙ c .before .n2 .given .1)
 
 pub leave-spec : {M : Type 1} → statement M
 leave-spec =

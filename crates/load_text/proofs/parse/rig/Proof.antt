@@ -3,9 +3,18 @@ use mathlib.Core.Path.{sym, ap, _∙_}
 use borrow.Author.Tests.{not-true, not-false}
 use borrow.Author.Needs.{needs}
 use Rattle.load_text.specs.Parsing.{rigIn}
-use Rattle.load_text.proofs.Calls.{word-none, word-in, one, two, rig-none, rig-many, rig-said, rig-wrong}
+use Rattle.load_text.proofs.Calls.{One, word-none, one, over-one, rig-none, rig-many, rig-said, rig-wrong}
 use Rattle.load_text.proofs.parse.rig.Statement.{statement}
 use Rattle.load_text.proofs.parse.rig.Tie as tie
+
+-- Behind both tests there is one word.
+counted : (e : tie.Else2) →
+    let z = e .before .before .before .before .before in
+    let a = z .next-word .result in
+    One (z .before .before .args .said .now) (z .before .before .args .at) (a .from) (a .to)
+counted e =
+    let z = e .before .before .before .before in
+    one (z .before .next-word .ensures) (z .next-word2 .ensures) (sym (e .before .before .before .is-empty .ensures) ∙ e .before .before .if1 .left) (sym (e .before .is-empty2 .ensures) ∙ not-false _ (e .if2 .left))
 
 next-word-requires : tie.Need-next-word-requires
 next-word-requires c κs = search needs
@@ -27,12 +36,10 @@ is-empty-requires-2 c κs = search needs
 returns-2 : tie.Need-returns-2
 returns-2 c =
     let z = c .before .before .before .before in
-    sym (ap rigIn (two (z .before .next-word .ensures) (z .next-word2 .ensures) (sym (c .before .is-empty2 .ensures) ∙ not-true _ (c .if2 .taken))) ∙ rig-many _ _ _)
+    sym (ap rigIn (over-one (z .before .next-word .ensures) (z .next-word2 .ensures) (sym (c .before .is-empty2 .ensures) ∙ not-true _ (c .if2 .taken))) ∙ rig-many _ _ _)
 
 groups-at-requires : tie.Need-groups-at-requires
-groups-at-requires c κs =
-    let z = c .before .before .before .before in
-    word-in (z .before .next-word .ensures) (sym (c .before .before .before .is-empty .ensures) ∙ c .before .before .if1 .left)
+groups-at-requires c κs = counted c .first
 
 enum-known-g : tie.Need-enum-known-g
 enum-known-g c = search needs
@@ -42,15 +49,11 @@ enum-known-n c = search needs
 
 returns-3 : tie.Need-returns-3
 returns-3 c =
-    let e = c .before .before .before .before in
-    let z = e .before .before .before .before in
-    rig-said (one (z .before .next-word .ensures) (z .next-word2 .ensures) (sym (e .before .before .before .is-empty .ensures) ∙ e .before .before .if1 .left) (sym (e .before .is-empty2 .ensures) ∙ not-false _ (e .if2 .left))) _ (sym (c .before .before .before .groups-at .ensures) ∙ c .before .g .given .1)
+    rig-said (counted (c .before .before .before .before) .words) _ (sym (c .before .before .before .groups-at .ensures) ∙ c .before .g .given .1)
 
 returns-4 : tie.Need-returns-4
 returns-4 c =
-    let e = c .before .before .before .before in
-    let z = e .before .before .before .before in
-    rig-wrong (one (z .before .next-word .ensures) (z .next-word2 .ensures) (sym (e .before .before .before .is-empty .ensures) ∙ e .before .before .if1 .left) (sym (e .before .is-empty2 .ensures) ∙ not-false _ (e .if2 .left))) _ (sym (c .before .before .before .groups-at .ensures) ∙ c .before .n .given .1)
+    rig-wrong (counted (c .before .before .before .before) .words) _ (sym (c .before .before .before .groups-at .ensures) ∙ c .before .n .given .1)
 
 pub rig-spec : {M : Type 1} → statement M
 rig-spec =
