@@ -70,57 +70,82 @@ claim-two t g = refl
 -- ── the words of a line, by whether each is empty ──
 module _ {l : List ℕ} {at f t : ℕ} (a : FirstWord l at f t) where
   pub word-none : leb t f ≡ true → wordsIn (drop at l) ≡ []
-  word-none e = a .is ∙ ap (λ b. cond b (wordAt l f t ∷ wordsIn (drop t l)) []) (le-ltb f t (leb-true t f e))
+  word-none e = a .words ∙ ap (λ b. cond b (wordAt l f t ∷ wordsIn (drop t l)) []) (le-ltb f t (leb-true t f e))
 
   pub word-some : leb t f ≡ false → wordsIn (drop at l) ≡ wordAt l f t ∷ wordsIn (drop t l)
-  word-some e = a .is ∙ ap (λ b. cond b (wordAt l f t ∷ wordsIn (drop t l)) []) (lt-ltb f t (leb-false t f e))
+  word-some e = a .words ∙ ap (λ b. cond b (wordAt l f t ∷ wordsIn (drop t l)) []) (lt-ltb f t (leb-false t f e))
 
-  pub word-in : leb t f ≡ false → (f ≤ t) × (t ≤ length l)
+  word-in : leb t f ≡ false → (f ≤ t) × (t ≤ length l)
   word-in e = (a .order, omega (arith, leb-false t f e, a .low, a .high))
+
+-- The words of a line where they are as many as a call wants, each within the line.
+pub record One (l : List ℕ) (at f t : ℕ) : Type 0 where
+  pub words : wordsIn (drop at l) ≡ wordAt l f t ∷ []
+  pub first : (f ≤ t) × (t ≤ length l)
+
+pub record Two (l : List ℕ) (at f t f₂ t₂ : ℕ) : Type 0 where
+  pub words : wordsIn (drop at l) ≡ wordAt l f t ∷ wordAt l f₂ t₂ ∷ []
+  pub first : (f ≤ t) × (t ≤ length l)
+  pub second : (f₂ ≤ t₂) × (t₂ ≤ length l)
+
+pub record Three (l : List ℕ) (at f t f₂ t₂ f₃ t₃ : ℕ) : Type 0 where
+  pub words : wordsIn (drop at l) ≡ wordAt l f t ∷ wordAt l f₂ t₂ ∷ wordAt l f₃ t₃ ∷ []
+  pub first : (f ≤ t) × (t ≤ length l)
+  pub second : (f₂ ≤ t₂) × (t₂ ≤ length l)
+  pub third : (f₃ ≤ t₃) × (t₃ ≤ length l)
 
 module _ {l : List ℕ} {at f t f₂ t₂ : ℕ} (a : FirstWord l at f t) (b : FirstWord l t f₂ t₂) where
   -- A word stands in front of each word.
-  pub before : leb t₂ f₂ ≡ false → leb t f ≡ false
+  before : leb t₂ f₂ ≡ false → leb t f ≡ false
   before e = go (leb t f) refl
     where
       go : (u : Bool) → leb t f ≡ u → leb t f ≡ false
       go true q = absurd (omega (arith, a .none (leb-true t f q), leb-false t₂ f₂ e, b .low, b .high))
       go false q = q
 
-  pub one : leb t f ≡ false → leb t₂ f₂ ≡ true → wordsIn (drop at l) ≡ wordAt l f t ∷ []
-  one e k = word-some a e ∙ ap (λ ws. wordAt l f t ∷ ws) (word-none b k)
+  pub one : leb t f ≡ false → leb t₂ f₂ ≡ true → One l at f t
+  one e k = record { words = word-some a e ∙ ap (λ ws. wordAt l f t ∷ ws) (word-none b k); first = word-in a e }
 
-  pub two : leb t₂ f₂ ≡ false → wordsIn (drop at l) ≡ wordAt l f t ∷ wordAt l f₂ t₂ ∷ wordsIn (drop t₂ l)
-  two e = word-some a (before e) ∙ ap (λ ws. wordAt l f t ∷ ws) (word-some b e)
+  pub over-one : leb t₂ f₂ ≡ false → wordsIn (drop at l) ≡ wordAt l f t ∷ wordAt l f₂ t₂ ∷ wordsIn (drop t₂ l)
+  over-one e = word-some a (before e) ∙ ap (λ ws. wordAt l f t ∷ ws) (word-some b e)
 
   pub less-two : leb t₂ f₂ ≡ true → (leave : ℕ → ℕ → Call) → Bad 2 ≡ leaveIn leave (wordsIn (drop at l))
   less-two e leave = go (leb t f) refl
     where
       go : (u : Bool) → leb t f ≡ u → Bad 2 ≡ leaveIn leave (wordsIn (drop at l))
       go true q = sym (ap (leaveIn leave) (word-none a q) ∙ leave-none leave)
-      go false q = sym (ap (leaveIn leave) (one q e) ∙ leave-one leave (wordAt l f t))
+      go false q = sym (ap (leaveIn leave) (one q e .words) ∙ leave-one leave (wordAt l f t))
 
 module _ {l : List ℕ} {at f t f₂ t₂ f₃ t₃ : ℕ} (a : FirstWord l at f t) (b : FirstWord l t f₂ t₂) (c : FirstWord l t₂ f₃ t₃) where
-  pub pair : leb t₂ f₂ ≡ false → leb t₃ f₃ ≡ true → wordsIn (drop at l) ≡ wordAt l f t ∷ wordAt l f₂ t₂ ∷ []
-  pair e k = word-some a (before a b e) ∙ ap (λ ws. wordAt l f t ∷ ws) (one b c e k)
+  pub two : leb t₂ f₂ ≡ false → leb t₃ f₃ ≡ true → Two l at f t f₂ t₂
+  two e k = record {
+    words = word-some a (before a b e) ∙ ap (λ ws. wordAt l f t ∷ ws) (one b c e k .words);
+    first = word-in a (before a b e);
+    second = word-in b e;
+  }
 
-  pub three : leb t₃ f₃ ≡ false → wordsIn (drop at l) ≡ wordAt l f t ∷ wordAt l f₂ t₂ ∷ wordAt l f₃ t₃ ∷ wordsIn (drop t₃ l)
-  three e = word-some a (before a b (before b c e)) ∙ ap (λ ws. wordAt l f t ∷ ws) (two b c e)
+  pub over-two : leb t₃ f₃ ≡ false → wordsIn (drop at l) ≡ wordAt l f t ∷ wordAt l f₂ t₂ ∷ wordAt l f₃ t₃ ∷ wordsIn (drop t₃ l)
+  over-two e = word-some a (before a b (before b c e)) ∙ ap (λ ws. wordAt l f t ∷ ws) (over-one b c e)
 
   pub less-three : leb t₃ f₃ ≡ true → Bad 2 ≡ claimIn (wordsIn (drop at l))
   less-three e = go (leb t₂ f₂) (leb t f) refl refl
     where
       go : (u v : Bool) → leb t₂ f₂ ≡ u → leb t f ≡ v → Bad 2 ≡ claimIn (wordsIn (drop at l))
       go u true q r = sym (ap claimIn (word-none a r) ∙ claim-none)
-      go true false q r = sym (ap claimIn (one a b r q) ∙ claim-one (wordAt l f t))
-      go false false q r = sym (ap claimIn (pair q e) ∙ claim-two (wordAt l f t) (wordAt l f₂ t₂))
+      go true false q r = sym (ap claimIn (one a b r q .words) ∙ claim-one (wordAt l f t))
+      go false false q r = sym (ap claimIn (two q e .words) ∙ claim-two (wordAt l f t) (wordAt l f₂ t₂))
 
   module _ {f₄ t₄ : ℕ} (d : FirstWord l t₃ f₄ t₄) where
-    pub triple : leb t₃ f₃ ≡ false → leb t₄ f₄ ≡ true → wordsIn (drop at l) ≡ wordAt l f t ∷ wordAt l f₂ t₂ ∷ wordAt l f₃ t₃ ∷ []
-    triple e k = three e ∙ ap (λ ws. wordAt l f t ∷ wordAt l f₂ t₂ ∷ wordAt l f₃ t₃ ∷ ws) (word-none d k)
+    pub three : leb t₃ f₃ ≡ false → leb t₄ f₄ ≡ true → Three l at f t f₂ t₂ f₃ t₃
+    three e k = record {
+      words = over-two e ∙ ap (λ ws. wordAt l f t ∷ wordAt l f₂ t₂ ∷ wordAt l f₃ t₃ ∷ ws) (word-none d k);
+      first = word-in a (before a b (before b c e));
+      second = word-in b (before b c e);
+      third = word-in c e;
+    }
 
-    pub four : leb t₄ f₄ ≡ false → wordsIn (drop at l) ≡ wordAt l f t ∷ wordAt l f₂ t₂ ∷ wordAt l f₃ t₃ ∷ wordAt l f₄ t₄ ∷ wordsIn (drop t₄ l)
-    four e = three (before c d e) ∙ ap (λ ws. wordAt l f t ∷ wordAt l f₂ t₂ ∷ wordAt l f₃ t₃ ∷ ws) (word-some d e)
+    pub over-three : leb t₄ f₄ ≡ false → wordsIn (drop at l) ≡ wordAt l f t ∷ wordAt l f₂ t₂ ∷ wordAt l f₃ t₃ ∷ wordAt l f₄ t₄ ∷ wordsIn (drop t₄ l)
+    over-three e = over-two (before c d e) ∙ ap (λ ws. wordAt l f t ∷ wordAt l f₂ t₂ ∷ wordAt l f₃ t₃ ∷ ws) (word-some d e)
 
 -- ── what a call makes of its words ──
 module _ {ws : List (List ℕ)} {g : List ℕ} (e : ws ≡ g ∷ []) where

@@ -4,6 +4,7 @@ pub mod Lines
 pub mod Making
 pub mod Numbers
 pub mod Parts
+pub mod ReadBack
 pub mod Reading
 pub mod Showing
 pub mod Spans

@@ -1,7 +1,7 @@
 -- Laws of digits and of the numbers that they say, as the code reads them.
 use Prim.Native.Nat.{ℕ, suc, _+_, _-_, _*_, _/_, _≤_, _<_}
 use mathlib.Core.Path.{_≡_, refl, sym, ap, _∙_}
-use mathlib.Core.Bool.{Bool, true, false, _&&_, cond}
+use mathlib.Core.Bool.{Bool, true, false, _&&_, cond, false≢true}
 use mathlib.Core.List.{List, [], _∷_}
 use native.Mathlib.Nat.{mul-le-mul-right, mul-le-mul-left, div-mul-le-self, suc-mul, mod-lt, div-add-mod'}
 use native.Mathlib.Numerals.{add-one}
@@ -80,7 +80,7 @@ module _ (base : ℕ) (w : List ℕ) (i : ℕ) (h : i < length w) where
       go : (t : Bool) → ltb (digitOf (getD w i 0)) base ≡ t → (t && digitsIn base (drop (i + 1) w)) ≡ true
           → (digitOf (getD w i 0) < base) × (digitsIn base (drop (i + 1) w) ≡ true)
       go true k q = (ltb-true _ _ k, q)
-      go false k q = let z : _≡_ {A = ℕ} 0 1 = cc in absurd (omega arith)
+      go false k q = absurd (false≢true q)
 
   pub value-on : (v : ℕ) → valueIn base v (drop i w) ≡ valueIn base (v * base + digitOf (getD w i 0)) (drop (i + 1) w)
   unfolding valueIn

@@ -29,7 +29,7 @@ words-since (b ∷ l) = go (words-since l) (isBlank b) refl
     go h true e = rw e h
     go h false e = refl
 
-full-cons : (w : List ℕ) (ws : List (List ℕ)) → 0 < length w → full (w ∷ ws) ≡ w ∷ full ws
+pub full-cons : (w : List ℕ) (ws : List (List ℕ)) → 0 < length w → full (w ∷ ws) ≡ w ∷ full ws
 full-cons [] ws h = absurd (omega arith)
 full-cons (b ∷ w) ws h = refl
 
@@ -79,7 +79,7 @@ module _ (l : List ℕ) (at from to : ℕ) (e : from ≡ placeOf isFull l at) (f
     order = omega (arith, f, place-low isBlank l from);
     high = omega (arith, e, f, place-high isFull l at, place-high isBlank l from);
     none = ended (ltb from (length l)) refl;
-    is = words-since (drop at l) ∙ ap wordsIn (since-drop isFull l at ∙ ap (λ k. drop k l) (sym e)) ∙ is-first (ltb from (length l)) refl;
+    words = words-since (drop at l) ∙ ap wordsIn (since-drop isFull l at ∙ ap (λ k. drop k l) (sym e)) ∙ is-first (ltb from (length l)) refl;
   }
 
 -- ── a line before its comment ──

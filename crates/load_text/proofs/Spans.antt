@@ -14,7 +14,7 @@ use borrow.Author.Tests.{eq-eqb, ne-eqb, le-leb, lt-leb, lt-ltb, le-ltb}
 use Rattle.groups.specs.Groups.{setFrom, union}
 use Rattle.load_text.specs.declared.words.Field.{Field}
 use Rattle.load_text.specs.declared.words.Field.the-variants.{Value, Wrong}
-use Rattle.load_text.specs.Parsing.{until, since, placeOf, parts, is, isComma, isDash, isList, span, groupIn, upTo, rangeIn, itemIn, itemsIn, joined, withItems, wordAt, numberIn, groupsIn}
+use Rattle.load_text.specs.Parsing.{until, since, placeOf, parts, isComma, isDash, isList, span, groupIn, upTo, rangeIn, itemIn, itemsIn, joined, withItems, wordAt, numberIn, groupsIn}
 use Rattle.load_text.proofs.Parts.{until-take, since-drop, parts-cut}
 
 -- ── the groups from one to another ──

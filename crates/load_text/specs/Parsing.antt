@@ -71,16 +71,17 @@ wordsIn l = full (parts isBlank l)
 unfoldable pub itemsIn : List ℕ → List (List ℕ)
 itemsIn l = parts isComma l
 
+-- The bytes from one place to another.
 abbrev pub wordAt : List ℕ → ℕ → ℕ → List ℕ
 wordAt l from to = take (to - from) (drop from l)
 
--- The first word from `at` on: from its first byte to behind its last, both the text's end where there is none.
+-- What the code finds of the first word from `at` on: its first byte and the place behind its last, both the text's end where there is none.
 pub record FirstWord (l : List ℕ) (at from to : ℕ) : Type 0 where
   pub low : at ≤ from
   pub order : from ≤ to
   pub high : to ≤ max at (length l)
   pub none : to ≤ from → length l ≤ to
-  pub is : wordsIn (drop at l) ≡ cond (ltb from to) (wordAt l from to ∷ wordsIn (drop to l)) []
+  pub words : wordsIn (drop at l) ≡ cond (ltb from to) (wordAt l from to ∷ wordsIn (drop to l)) []
 
 -- A line before its comment, and before a carriage return that ends it.
 unfoldable pub said : List ℕ → List ℕ

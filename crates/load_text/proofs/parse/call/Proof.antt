@@ -1,90 +1,70 @@
+-- `parse::call` meets its contract: each name is tested before the next.
 use mathlib.Core.Path.{_∙_}
-use Rattle.load_text.proofs.Calls.{word-test, call-rig, call-claim, call-release, call-withdraw, call-clock, call-none}
 use borrow.Author.Needs.{needs}
+use Rattle.load_text.proofs.Calls.{word-test, call-rig, call-claim, call-release, call-withdraw, call-clock, call-none}
 use Rattle.load_text.proofs.parse.call.Statement.{statement}
 use Rattle.load_text.proofs.parse.call.Tie as tie
 
--- src/parse.rt:177:26
 slice-aggregate-same : tie.Need-slice-aggregate-same
 slice-aggregate-same c = search needs
 
--- src/parse.rt:177:8
 same-requires : tie.Need-same-requires
 same-requires c κs = search needs
 
--- src/parse.rt:178:9
 rig-requires : tie.Need-rig-requires
 rig-requires c κs = search needs
 
--- src/parse.rt:178:9
 returns : tie.Need-returns
 returns c = c .rig .ensures ∙ call-rig _ _ (word-test _ _ _ (c .before .before .same .ensures) ∙ c .before .if1 .taken)
 
--- src/parse.rt:180:26
 slice-aggregate-same-2 : tie.Need-slice-aggregate-same-2
 slice-aggregate-same-2 c = search needs
 
--- src/parse.rt:180:8
 same-requires-2 : tie.Need-same-requires-2
 same-requires-2 c κs = search needs
 
--- src/parse.rt:181:9
 claim-requires : tie.Need-claim-requires
 claim-requires c κs = search needs
 
--- src/parse.rt:181:9
 returns-2 : tie.Need-returns-2
 returns-2 c = c .claim .ensures ∙ call-claim _ _ (word-test _ _ _ (c .before .before .before .before .before .same .ensures) ∙ c .before .before .before .before .if1 .left) (word-test _ _ _ (c .before .before .same2 .ensures) ∙ c .before .if2 .taken)
 
--- src/parse.rt:183:26
 slice-aggregate-same-3 : tie.Need-slice-aggregate-same-3
 slice-aggregate-same-3 c = search needs
 
--- src/parse.rt:183:8
 same-requires-3 : tie.Need-same-requires-3
 same-requires-3 c κs = search needs
 
--- src/parse.rt:184:9
 leave-requires : tie.Need-leave-requires
 leave-requires c κs = search needs
 
--- src/parse.rt:184:9
 returns-3 : tie.Need-returns-3
 returns-3 c = c .leave .ensures ∙ call-release _ _ (word-test _ _ _ (c .before .before .before .before .before .before .before .before .same .ensures) ∙ c .before .before .before .before .before .before .before .if1 .left) (word-test _ _ _ (c .before .before .before .before .before .same2 .ensures) ∙ c .before .before .before .before .if2 .left) (word-test _ _ _ (c .before .before .same3 .ensures) ∙ c .before .if3 .taken)
 
--- src/parse.rt:186:26
 slice-aggregate-same-4 : tie.Need-slice-aggregate-same-4
 slice-aggregate-same-4 c = search needs
 
--- src/parse.rt:186:8
 same-requires-4 : tie.Need-same-requires-4
 same-requires-4 c κs = search needs
 
--- src/parse.rt:187:9
 leave-requires-2 : tie.Need-leave-requires-2
 leave-requires-2 c κs = search needs
 
--- src/parse.rt:187:9
 returns-4 : tie.Need-returns-4
 returns-4 c = c .leave2 .ensures ∙ call-withdraw _ _ (word-test _ _ _ (c .before .before .before .before .before .before .before .before .before .before .before .same .ensures) ∙ c .before .before .before .before .before .before .before .before .before .before .if1 .left) (word-test _ _ _ (c .before .before .before .before .before .before .before .before .same2 .ensures) ∙ c .before .before .before .before .before .before .before .if2 .left) (word-test _ _ _ (c .before .before .before .before .before .same3 .ensures) ∙ c .before .before .before .before .if3 .left) (word-test _ _ _ (c .before .before .same4 .ensures) ∙ c .before .if4 .taken)
 
--- src/parse.rt:189:26
 slice-aggregate-same-5 : tie.Need-slice-aggregate-same-5
 slice-aggregate-same-5 c = search needs
 
--- src/parse.rt:189:8
 same-requires-5 : tie.Need-same-requires-5
 same-requires-5 c κs = search needs
 
--- src/parse.rt:190:9
 clock-requires : tie.Need-clock-requires
 clock-requires c κs = search needs
 
--- src/parse.rt:190:9
 returns-5 : tie.Need-returns-5
 returns-5 c = c .clock .ensures ∙ call-clock _ _ (word-test _ _ _ (c .before .before .before .before .before .before .before .before .before .before .before .before .before .before .same .ensures) ∙ c .before .before .before .before .before .before .before .before .before .before .before .before .before .if1 .left) (word-test _ _ _ (c .before .before .before .before .before .before .before .before .before .before .before .same2 .ensures) ∙ c .before .before .before .before .before .before .before .before .before .before .if2 .left) (word-test _ _ _ (c .before .before .before .before .before .before .before .before .same3 .ensures) ∙ c .before .before .before .before .before .before .before .if3 .left) (word-test _ _ _ (c .before .before .before .before .before .same4 .ensures) ∙ c .before .before .before .before .if4 .left) (word-test _ _ _ (c .before .before .same5 .ensures) ∙ c .before .if5 .taken)
 
--- src/parse.rt:174:1
 returns-6 : tie.Need-returns-6
 returns-6 c = call-none _ _ (word-test _ _ _ (c .before .before .before .before .before .before .before .before .before .before .before .before .before .same .ensures) ∙ c .before .before .before .before .before .before .before .before .before .before .before .before .if1 .left) (word-test _ _ _ (c .before .before .before .before .before .before .before .before .before .before .same2 .ensures) ∙ c .before .before .before .before .before .before .before .before .before .if2 .left) (word-test _ _ _ (c .before .before .before .before .before .before .before .same3 .ensures) ∙ c .before .before .before .before .before .before .if3 .left) (word-test _ _ _ (c .before .before .before .before .same4 .ensures) ∙ c .before .before .before .if4 .left) (word-test _ _ _ (c .before .same5 .ensures) ∙ c .if5 .left)
 

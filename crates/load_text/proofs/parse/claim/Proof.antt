@@ -1,100 +1,98 @@
+-- `parse::claim` meets its contract: the words are counted, then each return is a law of the call.
 use mathlib.Core.Path.{sym, ap, _∙_}
 use native.Mathlib.Omega.{arith}
 use borrow.Author.Tests.{not-true, not-false}
+use borrow.Author.Needs.{needs}
 use Rattle.load_text.specs.Parsing.{claimIn}
 use Rattle.load_text.proofs.Numbers.{number-most}
-use Rattle.load_text.proofs.Calls.{word-in, before, less-three, triple, four, claim-many, claim-clock, claim-groups, claim-length, claim-said}
-use borrow.Author.Needs.{needs}
+use Rattle.load_text.proofs.Calls.{Three, three, less-three, over-three, claim-many, claim-clock, claim-groups, claim-length, claim-said}
 use Rattle.load_text.proofs.parse.claim.Statement.{statement}
 use Rattle.load_text.proofs.parse.claim.Tie as tie
 
--- src/parse.rt:151:9
+-- Behind both tests there are three words.
+counted : (e : tie.Else2) →
+    let z = e .before .before .before .before in
+    let a = z .before .before .before .next-word .result in
+    let b = z .before .before .next-word2 .result in
+    let c = z .before .next-word3 .result in
+    Three (z .before .before .before .before .before .args .said .now) (z .before .before .before .before .before .args .at) (a .from) (a .to) (b .from) (b .to) (c .from) (c .to)
+counted e =
+    let z = e .before .before .before .before in
+    three (z .before .before .before .next-word .ensures) (z .before .before .next-word2 .ensures) (z .before .next-word3 .ensures) (z .next-word4 .ensures) (sym (e .before .before .before .is-empty .ensures) ∙ e .before .before .if1 .left) (sym (e .before .is-empty2 .ensures) ∙ not-false _ (e .if2 .left))
+
 next-word-requires : tie.Need-next-word-requires
 next-word-requires c κs = search needs
 
--- src/parse.rt:152:9
 next-word-requires-2 : tie.Need-next-word-requires-2
 next-word-requires-2 c κs = search needs
 
--- src/parse.rt:153:9
 next-word-requires-3 : tie.Need-next-word-requires-3
 next-word-requires-3 c κs = search needs
 
--- src/parse.rt:154:9
 next-word-requires-4 : tie.Need-next-word-requires-4
 next-word-requires-4 c κs = search needs
 
--- src/parse.rt:155:8
 is-empty-requires : tie.Need-is-empty-requires
 is-empty-requires c κs = search needs
 
--- src/parse.rt:156:9
 returns : tie.Need-returns
-returns c = let z = c .before .before in less-three (z .before .before .before .next-word .ensures) (z .before .before .next-word2 .ensures) (z .before .next-word3 .ensures) (sym (c .before .is-empty .ensures) ∙ c .if1 .taken)
+returns c =
+    let z = c .before .before in
+    less-three (z .before .before .before .next-word .ensures) (z .before .before .next-word2 .ensures) (z .before .next-word3 .ensures) (sym (c .before .is-empty .ensures) ∙ c .if1 .taken)
 
--- src/parse.rt:158:9
 is-empty-requires-2 : tie.Need-is-empty-requires-2
 is-empty-requires-2 c κs = search needs
 
--- src/parse.rt:159:9
 returns-2 : tie.Need-returns-2
-returns-2 c = let z = c .before .before .before .before in sym (ap claimIn (four (z .before .before .before .next-word .ensures) (z .before .before .next-word2 .ensures) (z .before .next-word3 .ensures) (z .next-word4 .ensures) (sym (c .before .is-empty2 .ensures) ∙ not-true _ (c .if2 .taken))) ∙ claim-many _ _ _ _ _)
+returns-2 c =
+    let z = c .before .before .before .before in
+    sym (ap claimIn (over-three (z .before .before .before .next-word .ensures) (z .before .before .next-word2 .ensures) (z .before .next-word3 .ensures) (z .next-word4 .ensures) (sym (c .before .is-empty2 .ensures) ∙ not-true _ (c .if2 .taken))) ∙ claim-many _ _ _ _ _)
 
--- src/parse.rt:161:11
 clock-at-requires : tie.Need-clock-at-requires
-clock-at-requires c κs = let e = c in let z = e .before .before .before .before in let some = sym (e .before .before .before .is-empty .ensures) ∙ e .before .before .if1 .left in let no-more = sym (e .before .is-empty2 .ensures) ∙ not-false _ (e .if2 .left) in word-in (z .before .before .before .next-word .ensures) (before (z .before .before .before .next-word .ensures) (z .before .before .next-word2 .ensures) (before (z .before .before .next-word2 .ensures) (z .before .next-word3 .ensures) some))
+clock-at-requires c κs = counted c .first
 
--- src/parse.rt:162:22
 enum-known-t : tie.Need-enum-known-t
 enum-known-t c = search needs
 
--- src/parse.rt:162:34
 groups-at-requires : tie.Need-groups-at-requires
-groups-at-requires c κs = let e = c .before .before .before .before in let z = e .before .before .before .before in let some = sym (e .before .before .before .is-empty .ensures) ∙ e .before .before .if1 .left in let no-more = sym (e .before .is-empty2 .ensures) ∙ not-false _ (e .if2 .left) in word-in (z .before .before .next-word2 .ensures) (before (z .before .before .next-word2 .ensures) (z .before .next-word3 .ensures) some)
+groups-at-requires c κs = counted (c .before .before .before .before) .second
 
--- src/parse.rt:163:26
 enum-known-g : tie.Need-enum-known-g
 enum-known-g c = search needs
 
--- src/parse.rt:163:38
 length-at-requires : tie.Need-length-at-requires
-length-at-requires c κs = let e = c .before .before .before .before .before .before .before .before in let z = e .before .before .before .before in let some = sym (e .before .before .before .is-empty .ensures) ∙ e .before .before .if1 .left in let no-more = sym (e .before .is-empty2 .ensures) ∙ not-false _ (e .if2 .left) in word-in (z .before .next-word3 .ensures) some
+length-at-requires c κs = counted (c .before .before .before .before .before .before .before .before) .third
 
--- src/parse.rt:164:30
 enum-known-l : tie.Need-enum-known-l
 enum-known-l c = search needs
 
--- src/parse.rt:164:67
 cast-t22 : tie.Need-cast-t22
 cast-t22 c = omega (arith, number-most _ _ _ _ _ _ (sym (c .before .before .before .length-at .ensures) ∙ c .before .l .given .1))
 
--- src/parse.rt:165:30
 enum-known-n : tie.Need-enum-known-n
 enum-known-n c = search needs
 
--- src/parse.rt:167:26
 enum-known-n-2 : tie.Need-enum-known-n-2
 enum-known-n-2 c = search needs
 
--- src/parse.rt:169:22
 enum-known-n-3 : tie.Need-enum-known-n-3
 enum-known-n-3 c = search needs
 
--- src/parse.rt:148:1
 returns-3 : tie.Need-returns-3
-returns-3 c = let e = c .before .before .before .before .before .before .before .before .before .before .before .before in let z = e .before .before .before .before in let some = sym (e .before .before .before .is-empty .ensures) ∙ e .before .before .if1 .left in let no-more = sym (e .before .is-empty2 .ensures) ∙ not-false _ (e .if2 .left) in claim-said (triple (z .before .before .before .next-word .ensures) (z .before .before .next-word2 .ensures) (z .before .next-word3 .ensures) (z .next-word4 .ensures) some no-more) _ (sym (c .before .before .before .before .before .before .before .before .before .before .before .clock-at .ensures) ∙ c .before .before .before .before .before .before .before .before .before .t .given .1) _ (sym (c .before .before .before .before .before .before .before .groups-at .ensures) ∙ c .before .before .before .before .before .g .given .1) _ (sym (c .before .before .before .length-at .ensures) ∙ c .before .l .given .1)
+returns-3 c =
+    claim-said (counted (c .before .before .before .before .before .before .before .before .before .before .before .before) .words) _ (sym (c .before .before .before .before .before .before .before .before .before .before .before .clock-at .ensures) ∙ c .before .before .before .before .before .before .before .before .before .t .given .1) _ (sym (c .before .before .before .before .before .before .before .groups-at .ensures) ∙ c .before .before .before .before .before .g .given .1) _ (sym (c .before .before .before .length-at .ensures) ∙ c .before .l .given .1)
 
--- src/parse.rt:148:1
 returns-4 : tie.Need-returns-4
-returns-4 c = let e = c .before .before .before .before .before .before .before .before .before .before .before .before in let z = e .before .before .before .before in let some = sym (e .before .before .before .is-empty .ensures) ∙ e .before .before .if1 .left in let no-more = sym (e .before .is-empty2 .ensures) ∙ not-false _ (e .if2 .left) in claim-length (triple (z .before .before .before .next-word .ensures) (z .before .before .next-word2 .ensures) (z .before .next-word3 .ensures) (z .next-word4 .ensures) some no-more) _ (sym (c .before .before .before .before .before .before .before .before .before .before .before .clock-at .ensures) ∙ c .before .before .before .before .before .before .before .before .before .t .given .1) _ (sym (c .before .before .before .before .before .before .before .groups-at .ensures) ∙ c .before .before .before .before .before .g .given .1) _ (sym (c .before .before .before .length-at .ensures) ∙ c .before .n .given .1)
+returns-4 c =
+    claim-length (counted (c .before .before .before .before .before .before .before .before .before .before .before .before) .words) _ (sym (c .before .before .before .before .before .before .before .before .before .before .before .clock-at .ensures) ∙ c .before .before .before .before .before .before .before .before .before .t .given .1) _ (sym (c .before .before .before .before .before .before .before .groups-at .ensures) ∙ c .before .before .before .before .before .g .given .1) _ (sym (c .before .before .before .length-at .ensures) ∙ c .before .n .given .1)
 
--- src/parse.rt:148:1
 returns-5 : tie.Need-returns-5
-returns-5 c = let e = c .before .before .before .before .before .before .before .before in let z = e .before .before .before .before in let some = sym (e .before .before .before .is-empty .ensures) ∙ e .before .before .if1 .left in let no-more = sym (e .before .is-empty2 .ensures) ∙ not-false _ (e .if2 .left) in claim-groups (triple (z .before .before .before .next-word .ensures) (z .before .before .next-word2 .ensures) (z .before .next-word3 .ensures) (z .next-word4 .ensures) some no-more) _ (sym (c .before .before .before .before .before .before .before .clock-at .ensures) ∙ c .before .before .before .before .before .t .given .1) _ (sym (c .before .before .before .groups-at .ensures) ∙ c .before .n2 .given .1)
+returns-5 c =
+    claim-groups (counted (c .before .before .before .before .before .before .before .before) .words) _ (sym (c .before .before .before .before .before .before .before .clock-at .ensures) ∙ c .before .before .before .before .before .t .given .1) _ (sym (c .before .before .before .groups-at .ensures) ∙ c .before .n2 .given .1)
 
--- src/parse.rt:148:1
 returns-6 : tie.Need-returns-6
-returns-6 c = let e = c .before .before .before .before in let z = e .before .before .before .before in let some = sym (e .before .before .before .is-empty .ensures) ∙ e .before .before .if1 .left in let no-more = sym (e .before .is-empty2 .ensures) ∙ not-false _ (e .if2 .left) in claim-clock (triple (z .before .before .before .next-word .ensures) (z .before .before .next-word2 .ensures) (z .before .next-word3 .ensures) (z .next-word4 .ensures) some no-more) _ (sym (c .before .before .before .clock-at .ensures) ∙ c .before .n3 .given .1)
+returns-6 c =
+    claim-clock (counted (c .before .before .before .before) .words) _ (sym (c .before .before .before .clock-at .ensures) ∙ c .before .n3 .given .1)
 
 pub claim-spec : {M : Type 1} → statement M
 claim-spec =

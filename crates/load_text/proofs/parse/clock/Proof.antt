@@ -1,54 +1,59 @@
+-- `parse::clock` meets its contract: the words are counted, then each return is a law of the call.
 use mathlib.Core.Path.{sym, ap, _∙_}
 use borrow.Author.Tests.{not-true, not-false}
-use Rattle.load_text.specs.Parsing.{clockCallIn}
-use Rattle.load_text.proofs.Calls.{word-none, word-in, one, two, clock-none, clock-many, clock-said, clock-wrong}
 use borrow.Author.Needs.{needs}
+use Rattle.load_text.specs.Parsing.{clockCallIn}
+use Rattle.load_text.proofs.Calls.{One, word-none, one, over-one, clock-none, clock-many, clock-said, clock-wrong}
 use Rattle.load_text.proofs.parse.clock.Statement.{statement}
 use Rattle.load_text.proofs.parse.clock.Tie as tie
 
--- src/parse.rt:108:9
+-- Behind both tests there is one word.
+counted : (e : tie.Else2) →
+    let z = e .before .before .before .before .before in
+    let a = z .next-word .result in
+    One (z .before .before .args .said .now) (z .before .before .args .at) (a .from) (a .to)
+counted e =
+    let z = e .before .before .before .before in
+    one (z .before .next-word .ensures) (z .next-word2 .ensures) (sym (e .before .before .before .is-empty .ensures) ∙ e .before .before .if1 .left) (sym (e .before .is-empty2 .ensures) ∙ not-false _ (e .if2 .left))
+
 next-word-requires : tie.Need-next-word-requires
 next-word-requires c κs = search needs
 
--- src/parse.rt:109:9
 next-word-requires-2 : tie.Need-next-word-requires-2
 next-word-requires-2 c κs = search needs
 
--- src/parse.rt:110:8
 is-empty-requires : tie.Need-is-empty-requires
 is-empty-requires c κs = search needs
 
--- src/parse.rt:111:9
 returns : tie.Need-returns
-returns c = let z = c .before .before in sym (ap clockCallIn (word-none (z .before .next-word .ensures) (sym (c .before .is-empty .ensures) ∙ c .if1 .taken)) ∙ clock-none)
+returns c =
+    let z = c .before .before in
+    sym (ap clockCallIn (word-none (z .before .next-word .ensures) (sym (c .before .is-empty .ensures) ∙ c .if1 .taken)) ∙ clock-none)
 
--- src/parse.rt:113:9
 is-empty-requires-2 : tie.Need-is-empty-requires-2
 is-empty-requires-2 c κs = search needs
 
--- src/parse.rt:114:9
 returns-2 : tie.Need-returns-2
-returns-2 c = let z = c .before .before .before .before in sym (ap clockCallIn (two (z .before .next-word .ensures) (z .next-word2 .ensures) (sym (c .before .is-empty2 .ensures) ∙ not-true _ (c .if2 .taken))) ∙ clock-many _ _ _)
+returns-2 c =
+    let z = c .before .before .before .before in
+    sym (ap clockCallIn (over-one (z .before .next-word .ensures) (z .next-word2 .ensures) (sym (c .before .is-empty2 .ensures) ∙ not-true _ (c .if2 .taken))) ∙ clock-many _ _ _)
 
--- src/parse.rt:116:11
 clock-at-requires : tie.Need-clock-at-requires
-clock-at-requires c κs = let z = c .before .before .before .before in word-in (z .before .next-word .ensures) (sym (c .before .before .before .is-empty .ensures) ∙ c .before .before .if1 .left)
+clock-at-requires c κs = counted c .first
 
--- src/parse.rt:117:22
 enum-known-t : tie.Need-enum-known-t
 enum-known-t c = search needs
 
--- src/parse.rt:118:22
 enum-known-n : tie.Need-enum-known-n
 enum-known-n c = search needs
 
--- src/parse.rt:105:1
 returns-3 : tie.Need-returns-3
-returns-3 c = let e = c .before .before .before .before in let z = e .before .before .before .before in clock-said (one (z .before .next-word .ensures) (z .next-word2 .ensures) (sym (e .before .before .before .is-empty .ensures) ∙ e .before .before .if1 .left) (sym (e .before .is-empty2 .ensures) ∙ not-false _ (e .if2 .left))) _ (sym (c .before .before .before .clock-at .ensures) ∙ c .before .t .given .1)
+returns-3 c =
+    clock-said (counted (c .before .before .before .before) .words) _ (sym (c .before .before .before .clock-at .ensures) ∙ c .before .t .given .1)
 
--- src/parse.rt:105:1
 returns-4 : tie.Need-returns-4
-returns-4 c = let e = c .before .before .before .before in let z = e .before .before .before .before in clock-wrong (one (z .before .next-word .ensures) (z .next-word2 .ensures) (sym (e .before .before .before .is-empty .ensures) ∙ e .before .before .if1 .left) (sym (e .before .is-empty2 .ensures) ∙ not-false _ (e .if2 .left))) _ (sym (c .before .before .before .clock-at .ensures) ∙ c .before .n .given .1)
+returns-4 c =
+    clock-wrong (counted (c .before .before .before .before) .words) _ (sym (c .before .before .before .clock-at .ensures) ∙ c .before .n .given .1)
 
 pub clock-spec : {M : Type 1} → statement M
 clock-spec =

@@ -1,91 +1,93 @@
+-- `parse::leave` meets its contract: the words are counted, then each return is a law of the call.
 use mathlib.Core.Path.{sym, ap, _∙_}
-use native.Mathlib.Omega.{arith}
-use borrow.Author.Tests.{not-true, not-false}
 use mathlib.Core.Bool.{cond}
+use native.Mathlib.Omega.{arith}
 use lib.ListN.{drop}
+use borrow.Author.Tests.{not-true, not-false}
+use borrow.Author.Needs.{needs}
 use Rattle.load.specs.declared.Call.the-variants.{Release, Withdraw}
 use Rattle.load_text.specs.Parsing.{leaveIn, wordsIn}
 use Rattle.load_text.proofs.Numbers.{number-most}
-use Rattle.load_text.proofs.Calls.{word-in, before, less-two, pair, three, leave-many, leave-clock, leave-ticket, leave-said}
-use borrow.Author.Needs.{needs}
+use Rattle.load_text.proofs.Calls.{Two, two, less-two, over-two, leave-many, leave-clock, leave-ticket, leave-said}
 use Rattle.load_text.proofs.parse.leave.Statement.{statement}
 use Rattle.load_text.proofs.parse.leave.Tie as tie
 
--- src/parse.rt:125:9
+-- Behind both tests there are two words.
+counted : (e : tie.Else2) →
+    let z = e .before .before .before .before in
+    let a = z .before .before .next-word .result in
+    let b = z .before .next-word2 .result in
+    Two (z .before .before .before .before .args .said .now) (z .before .before .before .before .args .at) (a .from) (a .to) (b .from) (b .to)
+counted e =
+    let z = e .before .before .before .before in
+    two (z .before .before .next-word .ensures) (z .before .next-word2 .ensures) (z .next-word3 .ensures) (sym (e .before .before .before .is-empty .ensures) ∙ e .before .before .if1 .left) (sym (e .before .is-empty2 .ensures) ∙ not-false _ (e .if2 .left))
+
 next-word-requires : tie.Need-next-word-requires
 next-word-requires c κs = search needs
 
--- src/parse.rt:126:9
 next-word-requires-2 : tie.Need-next-word-requires-2
 next-word-requires-2 c κs = search needs
 
--- src/parse.rt:127:9
 next-word-requires-3 : tie.Need-next-word-requires-3
 next-word-requires-3 c κs = search needs
 
--- src/parse.rt:128:8
 is-empty-requires : tie.Need-is-empty-requires
 is-empty-requires c κs = search needs
 
--- src/parse.rt:129:9
 returns : tie.Need-returns
-returns c = let z = c .before .before in less-two (z .before .before .next-word .ensures) (z .before .next-word2 .ensures) (sym (c .before .is-empty .ensures) ∙ c .if1 .taken) _
+returns c =
+    let z = c .before .before in
+    less-two (z .before .before .next-word .ensures) (z .before .next-word2 .ensures) (sym (c .before .is-empty .ensures) ∙ c .if1 .taken) _
 
--- src/parse.rt:131:9
 is-empty-requires-2 : tie.Need-is-empty-requires-2
 is-empty-requires-2 c κs = search needs
 
--- src/parse.rt:132:9
 returns-2 : tie.Need-returns-2
-returns-2 c = let z = c .before .before .before .before in sym (ap (leaveIn _) (three (z .before .before .next-word .ensures) (z .before .next-word2 .ensures) (z .next-word3 .ensures) (sym (c .before .is-empty2 .ensures) ∙ not-true _ (c .if2 .taken))) ∙ leave-many _ _ _ _ _)
+returns-2 c =
+    let z = c .before .before .before .before in
+    sym (ap (leaveIn _) (over-two (z .before .before .next-word .ensures) (z .before .next-word2 .ensures) (z .next-word3 .ensures) (sym (c .before .is-empty2 .ensures) ∙ not-true _ (c .if2 .taken))) ∙ leave-many _ _ _ _ _)
 
--- src/parse.rt:134:11
 clock-at-requires : tie.Need-clock-at-requires
-clock-at-requires c κs = let e = c in let z = e .before .before .before .before in let some = sym (e .before .before .before .is-empty .ensures) ∙ e .before .before .if1 .left in let no-more = sym (e .before .is-empty2 .ensures) ∙ not-false _ (e .if2 .left) in word-in (z .before .before .next-word .ensures) (before (z .before .before .next-word .ensures) (z .before .next-word2 .ensures) some)
+clock-at-requires c κs = counted c .first
 
--- src/parse.rt:135:22
 enum-known-t : tie.Need-enum-known-t
 enum-known-t c = search needs
 
--- src/parse.rt:135:34
 ticket-at-requires : tie.Need-ticket-at-requires
-ticket-at-requires c κs = let e = c .before .before .before .before in let z = e .before .before .before .before in let some = sym (e .before .before .before .is-empty .ensures) ∙ e .before .before .if1 .left in let no-more = sym (e .before .is-empty2 .ensures) ∙ not-false _ (e .if2 .left) in word-in (z .before .next-word2 .ensures) some
+ticket-at-requires c κs = counted (c .before .before .before .before) .second
 
--- src/parse.rt:136:26
 enum-known-k : tie.Need-enum-known-k
 enum-known-k c = search needs
 
--- src/parse.rt:138:58
 cast-t19 : tie.Need-cast-t19
 cast-t19 c = omega (arith, number-most _ _ _ _ _ _ (sym (c .before .before .before .before .ticket-at .ensures) ∙ c .before .before .k .given .1))
 
--- src/parse.rt:138:21
 returns-3 : tie.Need-returns-3
-returns-3 c = let e = c .before .before .before .before .before .before .before .before .before in let z = e .before .before .before .before in let some = sym (e .before .before .before .is-empty .ensures) ∙ e .before .before .if1 .left in let no-more = sym (e .before .is-empty2 .ensures) ∙ not-false _ (e .if2 .left) in leave-said Release (pair (z .before .before .next-word .ensures) (z .before .next-word2 .ensures) (z .next-word3 .ensures) some no-more) _ (sym (c .before .before .before .before .before .before .before .before .clock-at .ensures) ∙ c .before .before .before .before .before .before .t .given .1) _ (sym (c .before .before .before .before .ticket-at .ensures) ∙ c .before .before .k .given .1) ∙ ap (λ b. leaveIn (cond b Release Withdraw) (wordsIn (drop (z .before .before .before .before .args .at) (z .before .before .before .before .args .said .now)))) (sym (c .if3 .taken))
+returns-3 c =
+    let a = c .before .before .before .before .before .before .before .before .before .before .before .before .before .before .before .before .before .args in
+    leave-said Release (counted (c .before .before .before .before .before .before .before .before .before) .words) _ (sym (c .before .before .before .before .before .before .before .before .clock-at .ensures) ∙ c .before .before .before .before .before .before .t .given .1) _ (sym (c .before .before .before .before .ticket-at .ensures) ∙ c .before .before .k .given .1) ∙ ap (λ b. leaveIn (cond b Release Withdraw) (wordsIn (drop (a .at) (a .said .now)))) (sym (c .if3 .taken))
 
--- src/parse.rt:140:48
 cast-t21 : tie.Need-cast-t21
 cast-t21 c = omega (arith, number-most _ _ _ _ _ _ (sym (c .before .before .before .before .ticket-at .ensures) ∙ c .before .before .k .given .1))
 
--- src/parse.rt:142:26
 enum-known-n : tie.Need-enum-known-n
 enum-known-n c = search needs
 
--- src/parse.rt:144:22
 enum-known-n-2 : tie.Need-enum-known-n-2
 enum-known-n-2 c = search needs
 
--- src/parse.rt:122:1
 returns-4 : tie.Need-returns-4
-returns-4 c = let e = c .before .before .before .before .before .before .before .before .before in let z = e .before .before .before .before in let some = sym (e .before .before .before .is-empty .ensures) ∙ e .before .before .if1 .left in let no-more = sym (e .before .is-empty2 .ensures) ∙ not-false _ (e .if2 .left) in leave-said Withdraw (pair (z .before .before .next-word .ensures) (z .before .next-word2 .ensures) (z .next-word3 .ensures) some no-more) _ (sym (c .before .before .before .before .before .before .before .before .clock-at .ensures) ∙ c .before .before .before .before .before .before .t .given .1) _ (sym (c .before .before .before .before .ticket-at .ensures) ∙ c .before .before .k .given .1) ∙ ap (λ b. leaveIn (cond b Release Withdraw) (wordsIn (drop (z .before .before .before .before .args .at) (z .before .before .before .before .args .said .now)))) (sym (c .if3 .left))
+returns-4 c =
+    let a = c .before .before .before .before .before .before .before .before .before .before .before .before .before .before .before .before .before .args in
+    leave-said Withdraw (counted (c .before .before .before .before .before .before .before .before .before) .words) _ (sym (c .before .before .before .before .before .before .before .before .clock-at .ensures) ∙ c .before .before .before .before .before .before .t .given .1) _ (sym (c .before .before .before .before .ticket-at .ensures) ∙ c .before .before .k .given .1) ∙ ap (λ b. leaveIn (cond b Release Withdraw) (wordsIn (drop (a .at) (a .said .now)))) (sym (c .if3 .left))
 
--- src/parse.rt:122:1
 returns-5 : tie.Need-returns-5
-returns-5 c = let e = c .before .before .before .before .before .before .before .before in let z = e .before .before .before .before in let some = sym (e .before .before .before .is-empty .ensures) ∙ e .before .before .if1 .left in let no-more = sym (e .before .is-empty2 .ensures) ∙ not-false _ (e .if2 .left) in leave-ticket _ (pair (z .before .before .next-word .ensures) (z .before .next-word2 .ensures) (z .next-word3 .ensures) some no-more) _ (sym (c .before .before .before .before .before .before .before .clock-at .ensures) ∙ c .before .before .before .before .before .t .given .1) _ (sym (c .before .before .before .ticket-at .ensures) ∙ c .before .n .given .1)
+returns-5 c =
+    leave-ticket _ (counted (c .before .before .before .before .before .before .before .before) .words) _ (sym (c .before .before .before .before .before .before .before .clock-at .ensures) ∙ c .before .before .before .before .before .t .given .1) _ (sym (c .before .before .before .ticket-at .ensures) ∙ c .before .n .given .1)
 
--- src/parse.rt:122:1
 returns-6 : tie.Need-returns-6
-returns-6 c = let e = c .before .before .before .before in let z = e .before .before .before .before in let some = sym (e .before .before .before .is-empty .ensures) ∙ e .before .before .if1 .left in let no-more = sym (e .before .is-empty2 .ensures) ∙ not-false _ (e .if2 .left) in leave-clock _ (pair (z .before .before .next-word .ensures) (z .before .next-word2 .ensures) (z .next-word3 .ensures) some no-more) _ (sym (c .before .before .before .clock-at .ensures) ∙ c .before .n2 .given .1)
+returns-6 c =
+    leave-clock _ (counted (c .before .before .before .before) .words) _ (sym (c .before .before .before .clock-at .ensures) ∙ c .before .n2 .given .1)
 
 pub leave-spec : {M : Type 1} → statement M
 leave-spec =

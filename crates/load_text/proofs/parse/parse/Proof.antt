@@ -1,39 +1,32 @@
+-- `parse::parse` meets its contract: the first word names the call.
 use mathlib.Core.Path.{sym, ap, _∙_}
+use borrow.Author.Needs.{needs}
 use Rattle.load_text.specs.Parsing.{callIn}
 use Rattle.load_text.proofs.Calls.{word-none, word-some, said-none, said-first}
-use borrow.Author.Needs.{needs}
 use Rattle.load_text.proofs.parse.parse.Statement.{statement}
 use Rattle.load_text.proofs.parse.parse.Tie as tie
 
--- src/parse.rt:199:9
 next-word-requires : tie.Need-next-word-requires
 next-word-requires c κs = search needs
 
--- src/parse.rt:200:8
 is-empty-requires : tie.Need-is-empty-requires
 is-empty-requires c κs = search needs
 
--- src/parse.rt:201:9
 returns : tie.Need-returns
 returns c = sym (ap callIn (word-none (c .before .before .next-word .ensures) (sym (c .before .is-empty .ensures) ∙ c .if1 .taken)) ∙ said-none)
 
--- src/parse.rt:205:10
 sub-call : tie.Need-sub-call
 sub-call c = search needs
 
--- src/parse.rt:205:10
 part-call-start : tie.Need-part-call-start
 part-call-start c = search needs
 
--- src/parse.rt:205:10
 part-call-end : tie.Need-part-call-end
 part-call-end c = search needs
 
--- src/parse.rt:205:5
 call-requires : tie.Need-call-requires
 call-requires c κs = search needs
 
--- src/parse.rt:196:1
 returns-2 : tie.Need-returns-2
 returns-2 c = c .call .ensures ∙ sym (ap callIn (word-some (c .before .before .before .before .next-word .ensures) (sym (c .before .before .before .is-empty .ensures) ∙ c .before .before .if1 .left)) ∙ said-first _ _)
 

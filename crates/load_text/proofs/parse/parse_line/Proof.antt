@@ -1,28 +1,27 @@
+-- `parse::parse_line` meets its contract: what is read is the line before its comment.
 use mathlib.Core.Path.{ap, _∙_}
 use native.Mathlib.Omega.{arith}
 use lib.ListN.{take, length-take}
+use borrow.Author.Needs.{needs}
 use Rattle.load_text.specs.Parsing.{callIn, wordsIn, lineSays}
 use Rattle.load_text.proofs.Reading.{said-take, said-within}
-use borrow.Author.Needs.{needs}
 use Rattle.load_text.proofs.parse.parse_line.Statement.{statement}
 use Rattle.load_text.proofs.parse.parse_line.Tie as tie
 
--- src/parse.rt:212:9
 said-end-requires : tie.Need-said-end-requires
 said-end-requires c κs = search needs
 
--- src/parse.rt:213:11
 slice-aggregate-parse : tie.Need-slice-aggregate-parse
 slice-aggregate-parse c = simp length-take (omega (arith, c .before .said-end .ensures, said-within (c .before .before .before .args .line .now)))
 
--- src/parse.rt:213:5
 parse-requires : tie.Need-parse-requires
 parse-requires c κs = search needs
 
--- src/parse.rt:209:1
 returns : tie.Need-returns
 unfolding lineSays
-returns c = let l = c .before .before .before .before .args .line .now in c .parse .ensures ∙ ap (λ s. callIn (wordsIn s)) (ap (λ n. take n l) (c .before .before .said-end .ensures) ∙ said-take l)
+returns c =
+    let l = c .before .before .before .before .args .line .now in
+    c .parse .ensures ∙ ap (λ s. callIn (wordsIn s)) (ap (λ n. take n l) (c .before .before .said-end .ensures) ∙ said-take l)
 
 pub parse-line-spec : {M : Type 1} → statement M
 parse-line-spec =

@@ -1,54 +1,59 @@
+-- `parse::rig` meets its contract: the words are counted, then each return is a law of the call.
 use mathlib.Core.Path.{sym, ap, _∙_}
 use borrow.Author.Tests.{not-true, not-false}
-use Rattle.load_text.specs.Parsing.{rigIn}
-use Rattle.load_text.proofs.Calls.{word-none, word-in, one, two, rig-none, rig-many, rig-said, rig-wrong}
 use borrow.Author.Needs.{needs}
+use Rattle.load_text.specs.Parsing.{rigIn}
+use Rattle.load_text.proofs.Calls.{One, word-none, one, over-one, rig-none, rig-many, rig-said, rig-wrong}
 use Rattle.load_text.proofs.parse.rig.Statement.{statement}
 use Rattle.load_text.proofs.parse.rig.Tie as tie
 
--- src/parse.rt:91:9
+-- Behind both tests there is one word.
+counted : (e : tie.Else2) →
+    let z = e .before .before .before .before .before in
+    let a = z .next-word .result in
+    One (z .before .before .args .said .now) (z .before .before .args .at) (a .from) (a .to)
+counted e =
+    let z = e .before .before .before .before in
+    one (z .before .next-word .ensures) (z .next-word2 .ensures) (sym (e .before .before .before .is-empty .ensures) ∙ e .before .before .if1 .left) (sym (e .before .is-empty2 .ensures) ∙ not-false _ (e .if2 .left))
+
 next-word-requires : tie.Need-next-word-requires
 next-word-requires c κs = search needs
 
--- src/parse.rt:92:9
 next-word-requires-2 : tie.Need-next-word-requires-2
 next-word-requires-2 c κs = search needs
 
--- src/parse.rt:93:8
 is-empty-requires : tie.Need-is-empty-requires
 is-empty-requires c κs = search needs
 
--- src/parse.rt:94:9
 returns : tie.Need-returns
-returns c = let z = c .before .before in sym (ap rigIn (word-none (z .before .next-word .ensures) (sym (c .before .is-empty .ensures) ∙ c .if1 .taken)) ∙ rig-none)
+returns c =
+    let z = c .before .before in
+    sym (ap rigIn (word-none (z .before .next-word .ensures) (sym (c .before .is-empty .ensures) ∙ c .if1 .taken)) ∙ rig-none)
 
--- src/parse.rt:96:9
 is-empty-requires-2 : tie.Need-is-empty-requires-2
 is-empty-requires-2 c κs = search needs
 
--- src/parse.rt:97:9
 returns-2 : tie.Need-returns-2
-returns-2 c = let z = c .before .before .before .before in sym (ap rigIn (two (z .before .next-word .ensures) (z .next-word2 .ensures) (sym (c .before .is-empty2 .ensures) ∙ not-true _ (c .if2 .taken))) ∙ rig-many _ _ _)
+returns-2 c =
+    let z = c .before .before .before .before in
+    sym (ap rigIn (over-one (z .before .next-word .ensures) (z .next-word2 .ensures) (sym (c .before .is-empty2 .ensures) ∙ not-true _ (c .if2 .taken))) ∙ rig-many _ _ _)
 
--- src/parse.rt:99:11
 groups-at-requires : tie.Need-groups-at-requires
-groups-at-requires c κs = let z = c .before .before .before .before in word-in (z .before .next-word .ensures) (sym (c .before .before .before .is-empty .ensures) ∙ c .before .before .if1 .left)
+groups-at-requires c κs = counted c .first
 
--- src/parse.rt:100:22
 enum-known-g : tie.Need-enum-known-g
 enum-known-g c = search needs
 
--- src/parse.rt:101:22
 enum-known-n : tie.Need-enum-known-n
 enum-known-n c = search needs
 
--- src/parse.rt:88:1
 returns-3 : tie.Need-returns-3
-returns-3 c = let e = c .before .before .before .before in let z = e .before .before .before .before in rig-said (one (z .before .next-word .ensures) (z .next-word2 .ensures) (sym (e .before .before .before .is-empty .ensures) ∙ e .before .before .if1 .left) (sym (e .before .is-empty2 .ensures) ∙ not-false _ (e .if2 .left))) _ (sym (c .before .before .before .groups-at .ensures) ∙ c .before .g .given .1)
+returns-3 c =
+    rig-said (counted (c .before .before .before .before) .words) _ (sym (c .before .before .before .groups-at .ensures) ∙ c .before .g .given .1)
 
--- src/parse.rt:88:1
 returns-4 : tie.Need-returns-4
-returns-4 c = let e = c .before .before .before .before in let z = e .before .before .before .before in rig-wrong (one (z .before .next-word .ensures) (z .next-word2 .ensures) (sym (e .before .before .before .is-empty .ensures) ∙ e .before .before .if1 .left) (sym (e .before .is-empty2 .ensures) ∙ not-false _ (e .if2 .left))) _ (sym (c .before .before .before .groups-at .ensures) ∙ c .before .n .given .1)
+returns-4 c =
+    rig-wrong (counted (c .before .before .before .before) .words) _ (sym (c .before .before .before .groups-at .ensures) ∙ c .before .n .given .1)
 
 pub rig-spec : {M : Type 1} → statement M
 rig-spec =

@@ -1,3 +1,4 @@
+-- `parse::said_end` meets its contract: the bytes passed, with those read of the rest, are all that are read.
 use Prim.Native.Nat.{_+_, _-_, _≤_}
 use mathlib.Core.Path.{_≡_}
 use mathlib.Core.Logic.{⊎-elim}
@@ -15,43 +16,41 @@ Inv-loop line size i₀ i = (i ≤ length line) × (i + length (said (drop i lin
 abbrev μ-loop : tie.MeasureT-loop
 μ-loop line size i₀ i = length line - i
 
--- src/parse.rt:34:5
 loop-holds : tie.Need-loop-holds Inv-loop μ-loop
 loop-holds c = (omega arith, omega arith)
 
--- src/parse.rt:35:12
 shared-slice-read-if1 : tie.Need-shared-slice-read-if1 Inv-loop μ-loop
 shared-slice-read-if1 c = search needs
 
--- src/parse.rt:36:13
 returns : tie.Need-returns Inv-loop μ-loop
-returns c = let l = c .before .before .before .loop in omega (arith, l .inv .1, read-hash (c .before .before .before .before .args .line .now) (l .i) (omega arith) (c .if1 .taken))
+returns c =
+    let l = c .before .before .before .loop in
+    omega (arith, l .inv .1, read-hash (c .before .before .before .before .args .line .now) (l .i) (omega arith) (c .if1 .taken))
 
--- src/parse.rt:38:12
 shared-slice-read-if2 : tie.Need-shared-slice-read-if2 Inv-loop μ-loop
 shared-slice-read-if2 c = search needs
 
--- src/parse.rt:38:29
 add-if3 : tie.Need-add-if3 Inv-loop μ-loop
 add-if3 c = search needs
 
--- src/parse.rt:39:13
 returns-2 : tie.Need-returns-2 Inv-loop μ-loop
-returns-2 c = let l = c .before .before .before .before .before .before .loop in let s = c .before .before .before .before .before .before .before .args .line .now in omega (arith, l .inv .1, read-return s (l .i) (omega arith) (c .before .if2 .taken) (c .if3 .taken))
+returns-2 c =
+    let l = c .before .before .before .before .before .before .loop in
+    let s = c .before .before .before .before .before .before .before .args .line .now in
+    omega (arith, l .inv .1, read-return s (l .i) (omega arith) (c .before .if2 .taken) (c .if3 .taken))
 
--- src/parse.rt:41:9
 add-i : tie.Need-add-i Inv-loop μ-loop
 add-i c = search needs
 
--- src/parse.rt:34:5
 loop-less : tie.Need-loop-less Inv-loop μ-loop
 loop-less c = search needs
 
--- src/parse.rt:34:5
 loop-again : tie.Need-loop-again Inv-loop μ-loop
-loop-again c = let l = c .before .before .before .before .before .loop in let s = c .before .before .before .before .before .before .args .line .now in (omega arith, omega (arith, l .inv .1, read-on s (l .i) (omega arith) (c .before .before .if1 .left) (λ e k. ⊎-elim (λ b. b .1 .left k) (λ b. b .left e) (c .if2 .came))))
+loop-again c =
+    let l = c .before .before .before .before .before .loop in
+    let s = c .before .before .before .before .before .before .args .line .now in
+    (omega arith, omega (arith, l .inv .1, read-on s (l .i) (omega arith) (c .before .before .if1 .left) (λ e k. ⊎-elim (λ b. b .1 .left k) (λ b. b .left e) (c .if2 .came))))
 
--- src/parse.rt:29:1
 returns-3 : tie.Need-returns-3 Inv-loop μ-loop
 returns-3 c = let l = c .before .loop in omega (arith, l .inv .1, read-end (c .before .before .args .line .now) (l .i) (omega arith))
 

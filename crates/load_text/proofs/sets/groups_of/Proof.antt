@@ -1,26 +1,22 @@
+-- `sets::groups_of` meets its contract: a list or hex.
 use mathlib.Core.Path.{sym, _∙_}
-use Rattle.load_text.proofs.Spans.{groups-list, groups-hex}
 use borrow.Author.Needs.{needs}
+use Rattle.load_text.proofs.Spans.{groups-list, groups-hex}
 use Rattle.load_text.proofs.sets.groups_of.Statement.{statement}
 use Rattle.load_text.proofs.sets.groups_of.Tie as tie
 
--- src/sets.rt:98:8
 is-list-requires : tie.Need-is-list-requires
 is-list-requires c κs = search needs
 
--- src/sets.rt:99:9
 list-requires : tie.Need-list-requires
 list-requires c κs = search needs
 
--- src/sets.rt:99:9
 returns : tie.Need-returns
 returns c = c .list .ensures ∙ groups-list _ (sym (c .before .before .is-list .ensures) ∙ c .before .if1 .taken)
 
--- src/sets.rt:101:5
 number-requires : tie.Need-number-requires
 number-requires c κs = search needs
 
--- src/sets.rt:95:1
 returns-2 : tie.Need-returns-2
 returns-2 c = c .number .ensures ∙ groups-hex _ (sym (c .before .before .is-list .ensures) ∙ c .before .if1 .left)
 

@@ -1,3 +1,4 @@
+-- `sets::is_list` meets its contract: a comma or a dash is left exactly where there is one.
 use Prim.Native.Nat.{_-_}
 use mathlib.Core.Path.{_≡_, refl, sym, _∙_}
 use native.Mathlib.Omega.{arith}
@@ -14,39 +15,36 @@ Inv-loop word i₀ i = isList (drop i word) ≡ isList word
 abbrev μ-loop : tie.MeasureT-loop
 μ-loop word i₀ i = length word - i
 
--- src/sets.rt:19:5
 loop-holds : tie.Need-loop-holds Inv-loop μ-loop
 loop-holds c = refl
 
--- src/sets.rt:20:12
 shared-slice-read-if1 : tie.Need-shared-slice-read-if1 Inv-loop μ-loop
 shared-slice-read-if1 c = search needs
 
--- src/sets.rt:21:13
 returns : tie.Need-returns Inv-loop μ-loop
-returns c = let l = c .before .before .before .loop in sym (list-comma (c .before .before .before .before .args .word .now) (l .i) (omega arith) (c .if1 .taken)) ∙ l .inv
+returns c =
+    let l = c .before .before .before .loop in
+    sym (list-comma (c .before .before .before .before .args .word .now) (l .i) (omega arith) (c .if1 .taken)) ∙ l .inv
 
--- src/sets.rt:23:12
 shared-slice-read-if2 : tie.Need-shared-slice-read-if2 Inv-loop μ-loop
 shared-slice-read-if2 c = search needs
 
--- src/sets.rt:24:13
 returns-2 : tie.Need-returns-2 Inv-loop μ-loop
-returns-2 c = let l = c .before .before .before .before .before .loop in sym (list-dash (c .before .before .before .before .before .before .args .word .now) (l .i) (omega arith) (c .before .before .if1 .left) (c .if2 .taken)) ∙ l .inv
+returns-2 c =
+    let l = c .before .before .before .before .before .loop in
+    sym (list-dash (c .before .before .before .before .before .before .args .word .now) (l .i) (omega arith) (c .before .before .if1 .left) (c .if2 .taken)) ∙ l .inv
 
--- src/sets.rt:26:9
 add-i : tie.Need-add-i Inv-loop μ-loop
 add-i c = search needs
 
--- src/sets.rt:19:5
 loop-less : tie.Need-loop-less Inv-loop μ-loop
 loop-less c = search needs
 
--- src/sets.rt:19:5
 loop-again : tie.Need-loop-again Inv-loop μ-loop
-loop-again c = let l = c .before .before .before .before .before .loop in sym (list-on (c .before .before .before .before .before .before .args .word .now) (l .i) (omega arith) (c .before .before .if1 .left) (c .if2 .left)) ∙ l .inv
+loop-again c =
+    let l = c .before .before .before .before .before .loop in
+    sym (list-on (c .before .before .before .before .before .before .args .word .now) (l .i) (omega arith) (c .before .before .if1 .left) (c .if2 .left)) ∙ l .inv
 
--- src/sets.rt:15:1
 returns-3 : tie.Need-returns-3 Inv-loop μ-loop
 returns-3 c = let l = c .before .loop in sym (list-end (c .before .before .args .word .now) (l .i) (omega arith)) ∙ l .inv
 

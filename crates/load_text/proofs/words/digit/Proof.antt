@@ -1,55 +1,44 @@
+-- `words::digit` meets its contract: each range of bytes by its law.
 use mathlib.Core.Path.{_∙_}
 use native.Mathlib.Omega.{arith}
-use Rattle.load_text.proofs.Numbers.{digit-ten, digit-upper, digit-lower, none-below, none-upper, none-lower, none-above}
 use borrow.Author.Needs.{needs}
+use Rattle.load_text.proofs.Numbers.{digit-ten, digit-upper, digit-lower, none-below, none-upper, none-lower, none-above}
 use Rattle.load_text.proofs.words.digit.Statement.{statement}
 use Rattle.load_text.proofs.words.digit.Tie as tie
 
--- src/words.rt:95:24
 wide-requires : tie.Need-wide-requires
 wide-requires c κs = search needs
 
--- src/words.rt:96:29
 sub-wide : tie.Need-sub-wide
 sub-wide c = search needs
 
--- src/words.rt:96:24
 wide-requires-2 : tie.Need-wide-requires-2
 wide-requires-2 c κs = search needs
 
--- src/words.rt:97:29
 sub-wide-2 : tie.Need-sub-wide-2
 sub-wide-2 c = search needs
 
--- src/words.rt:97:24
 wide-requires-3 : tie.Need-wide-requires-3
 wide-requires-3 c κs = search needs
 
--- src/words.rt:91:1
 returns : tie.Need-returns
 returns c = (c .wide .ensures .0 ∙ digit-ten _ (omega arith) (omega arith), omega arith)
 
--- src/words.rt:91:1
 returns-2 : tie.Need-returns-2
 returns-2 c = (c .wide2 .ensures .0 ∙ digit-upper _ (omega arith) (omega arith), omega arith)
 
--- src/words.rt:91:1
 returns-3 : tie.Need-returns-3
 returns-3 c = (c .wide3 .ensures .0 ∙ digit-lower _ (omega arith) (omega arith), omega arith)
 
--- src/words.rt:91:1
 returns-4 : tie.Need-returns-4
 returns-4 c = (none-below _ (omega arith), omega arith)
 
--- src/words.rt:91:1
 returns-5 : tie.Need-returns-5
 returns-5 c = (none-upper _ (omega arith) (omega arith), omega arith)
 
--- src/words.rt:91:1
 returns-6 : tie.Need-returns-6
 returns-6 c = (none-lower _ (omega arith) (omega arith), omega arith)
 
--- src/words.rt:91:1
 returns-7 : tie.Need-returns-7
 returns-7 c = (none-above _ (omega arith), omega arith)
 

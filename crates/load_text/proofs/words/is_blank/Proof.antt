@@ -1,12 +1,11 @@
+-- `words::is_blank` meets its contract: each test by its law.
 use Rattle.load_text.proofs.Reading.{blank-first, blank-second}
 use Rattle.load_text.proofs.words.is_blank.Statement.{statement}
 use Rattle.load_text.proofs.words.is_blank.Tie as tie
 
--- src/words.rt:27:1
 returns : tie.Need-returns
 returns c = blank-first _ (c .if1 .taken)
 
--- src/words.rt:27:1
 returns-2 : tie.Need-returns-2
 returns-2 c = blank-second _ (c .if1 .left)
 

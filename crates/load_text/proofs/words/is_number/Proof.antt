@@ -1,3 +1,4 @@
+-- `words::is_number` meets its contract: the bytes left are digits exactly where all are.
 use Prim.Native.Nat.{_-_, _<_}
 use mathlib.Core.Path.{_≡_, refl, sym, _∙_}
 use native.Mathlib.Omega.{arith}
@@ -14,41 +15,41 @@ Inv-loop word base i₀ i = (0 < length word) × (digitsIn base (drop i word) �
 abbrev μ-loop : tie.MeasureT-loop
 μ-loop word base i₀ i = length word - i
 
--- src/words.rt:107:9
 returns : tie.Need-returns Inv-loop μ-loop
 returns c = no-number _ _ (c .if1 .taken)
 
--- src/words.rt:110:5
 loop-holds : tie.Need-loop-holds Inv-loop μ-loop
 loop-holds c = (omega arith, refl)
 
--- src/words.rt:111:26
 shared-slice-read-digit : tie.Need-shared-slice-read-digit Inv-loop μ-loop
 shared-slice-read-digit c = search needs
 
--- src/words.rt:111:20
 digit-requires : tie.Need-digit-requires Inv-loop μ-loop
 digit-requires c κs = search needs
 
--- src/words.rt:112:13
 returns-2 : tie.Need-returns-2 Inv-loop μ-loop
-returns-2 c = let l = c .before .before .before .before .loop in let a = c .before .before .before .before .before .before .before .args in sym (digits-fail (a .base) (a .word .now) (l .i) (omega arith) (omega (arith, c .before .digit .ensures .0))) ∙ l .inv .1 ∙ digits-number _ _ (l .inv .0)
+returns-2 c =
+    let l = c .before .before .before .before .loop in
+    let a = c .before .before .before .before .before .before .before .args in
+    sym (digits-fail (a .base) (a .word .now) (l .i) (omega arith) (omega (arith, c .before .digit .ensures .0))) ∙ l .inv .1 ∙ digits-number _ _ (l .inv .0)
 
--- src/words.rt:114:9
 add-i : tie.Need-add-i Inv-loop μ-loop
 add-i c = search needs
 
--- src/words.rt:110:5
 loop-less : tie.Need-loop-less Inv-loop μ-loop
 loop-less c = search needs
 
--- src/words.rt:110:5
 loop-again : tie.Need-loop-again Inv-loop μ-loop
-loop-again c = let l = c .before .before .before .before .loop in let a = c .before .before .before .before .before .before .before .args in (l .inv .0, sym (digits-on (a .base) (a .word .now) (l .i) (omega arith) (omega (arith, c .before .digit .ensures .0))) ∙ l .inv .1)
+loop-again c =
+    let l = c .before .before .before .before .loop in
+    let a = c .before .before .before .before .before .before .before .args in
+    (l .inv .0, sym (digits-on (a .base) (a .word .now) (l .i) (omega arith) (omega (arith, c .before .digit .ensures .0))) ∙ l .inv .1)
 
--- src/words.rt:103:1
 returns-3 : tie.Need-returns-3 Inv-loop μ-loop
-returns-3 c = let l = c .before .loop in let a = c .before .before .before .before .args in sym (digits-end (a .base) (a .word .now) (l .i) (omega arith)) ∙ l .inv .1 ∙ digits-number _ _ (l .inv .0)
+returns-3 c =
+    let l = c .before .loop in
+    let a = c .before .before .before .before .args in
+    sym (digits-end (a .base) (a .word .now) (l .i) (omega arith)) ∙ l .inv .1 ∙ digits-number _ _ (l .inv .0)
 
 pub is-number-spec : {M : Type 1} → statement M
 is-number-spec =

@@ -1,17 +1,15 @@
-use Rattle.load_text.proofs.Reading.{first-word}
+-- `words::next_word` meets its contract: the first word stands between the two places found.
 use borrow.Author.Needs.{needs}
+use Rattle.load_text.proofs.Reading.{first-word}
 use Rattle.load_text.proofs.words.next_word.Statement.{statement}
 use Rattle.load_text.proofs.words.next_word.Tie as tie
 
--- src/words.rt:79:9
 skip-requires : tie.Need-skip-requires
 skip-requires c κs = search needs
 
--- src/words.rt:80:9
 word-end-requires : tie.Need-word-end-requires
 word-end-requires c κs = search needs
 
--- src/words.rt:76:1
 returns : tie.Need-returns
 returns c = first-word _ _ _ _ (c .before .skip .ensures) (c .word-end .ensures)
 

@@ -1,3 +1,4 @@
+-- `words::place` meets its contract: the first such byte from i on is the first from `at` on.
 use Prim.Native.Nat.{_-_}
 use mathlib.Core.Path.{_≡_, refl, sym, _∙_}
 use native.Mathlib.Omega.{arith}
@@ -15,31 +16,24 @@ Inv-loop text byte at i₀ i = placeOf (is byte) text i ≡ placeOf (is byte) te
 abbrev μ-loop : tie.MeasureT-loop
 μ-loop text byte at i₀ i = length text - i
 
--- src/words.rt:66:5
 loop-holds : tie.Need-loop-holds Inv-loop μ-loop
 loop-holds c = refl
 
--- src/words.rt:67:12
 shared-slice-read-if1 : tie.Need-shared-slice-read-if1 Inv-loop μ-loop
 shared-slice-read-if1 c = search needs
 
--- src/words.rt:68:13
 returns : tie.Need-returns Inv-loop μ-loop
 returns c = sym (place-here (is _) _ _ (omega arith) (eq-eqb _ _ (c .if1 .taken))) ∙ c .before .before .before .loop .inv
 
--- src/words.rt:70:9
 add-i : tie.Need-add-i Inv-loop μ-loop
 add-i c = search needs
 
--- src/words.rt:66:5
 loop-less : tie.Need-loop-less Inv-loop μ-loop
 loop-less c = search needs
 
--- src/words.rt:66:5
 loop-again : tie.Need-loop-again Inv-loop μ-loop
 loop-again c = sym (place-on (is _) _ _ (omega arith) (ne-eqb _ _ (c .if1 .left))) ∙ c .before .before .before .loop .inv
 
--- src/words.rt:62:1
 returns-2 : tie.Need-returns-2 Inv-loop μ-loop
 returns-2 c = sym (place-end (is _) _ _ (omega arith)) ∙ c .before .loop .inv
 

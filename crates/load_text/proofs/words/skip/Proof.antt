@@ -1,5 +1,6 @@
-use mathlib.Core.Bool.{not}
+-- `words::skip` meets its contract: the first byte from i on that is no blank is the first from `at` on.
 use Prim.Native.Nat.{_-_}
+use mathlib.Core.Bool.{not}
 use mathlib.Core.Path.{_≡_, refl, sym, ap, _∙_}
 use native.Mathlib.Omega.{arith}
 use lib.ListN.{length}
@@ -15,35 +16,27 @@ Inv-loop line at i₀ i = placeOf isFull line i ≡ placeOf isFull line at
 abbrev μ-loop : tie.MeasureT-loop
 μ-loop line at i₀ i = length line - i
 
--- src/words.rt:38:5
 loop-holds : tie.Need-loop-holds Inv-loop μ-loop
 loop-holds c = refl
 
--- src/words.rt:39:22
 shared-slice-read-is-blank : tie.Need-shared-slice-read-is-blank Inv-loop μ-loop
 shared-slice-read-is-blank c = search needs
 
--- src/words.rt:39:13
 is-blank-requires : tie.Need-is-blank-requires Inv-loop μ-loop
 is-blank-requires c κs = search needs
 
--- src/words.rt:40:13
 returns : tie.Need-returns Inv-loop μ-loop
 returns c = sym (place-here isFull _ _ (omega arith) (ap not (sym (c .before .is-blank .ensures)) ∙ c .if1 .taken)) ∙ c .before .before .before .before .loop .inv
 
--- src/words.rt:42:9
 add-i : tie.Need-add-i Inv-loop μ-loop
 add-i c = search needs
 
--- src/words.rt:38:5
 loop-less : tie.Need-loop-less Inv-loop μ-loop
 loop-less c = search needs
 
--- src/words.rt:38:5
 loop-again : tie.Need-loop-again Inv-loop μ-loop
 loop-again c = sym (place-on isFull _ _ (omega arith) (ap not (sym (c .before .is-blank .ensures)) ∙ c .if1 .left)) ∙ c .before .before .before .before .loop .inv
 
--- src/words.rt:34:1
 returns-2 : tie.Need-returns-2 Inv-loop μ-loop
 returns-2 c = sym (place-end isFull _ _ (omega arith)) ∙ c .before .loop .inv
 

@@ -1,3 +1,4 @@
+-- `words::value` meets its contract: what is read so far, with the digits left, is the number.
 use Prim.Native.Nat.{_-_}
 use mathlib.Core.Path.{refl}
 use native.Mathlib.Omega.{arith}
@@ -13,51 +14,41 @@ Inv-loop word base most large v₀ i₀ v i = Summing base most word v i
 abbrev μ-loop : tie.MeasureT-loop
 μ-loop word base most large v₀ i₀ v i = length word - i
 
--- src/words.rt:126:5
 loop-holds : tie.Need-loop-holds Inv-loop μ-loop
 loop-holds c = record { room = omega arith; digits = c .before .pre; is = refl }
 
--- src/words.rt:127:23
 shared-slice-read-digit : tie.Need-shared-slice-read-digit Inv-loop μ-loop
 shared-slice-read-digit c = search needs
 
--- src/words.rt:127:13
 digit-requires : tie.Need-digit-requires Inv-loop μ-loop
 digit-requires c κs = search needs
 
--- src/words.rt:129:13
 returns : tie.Need-returns Inv-loop μ-loop
 returns c = sum-over _ _ _ _ _ (c .before .before .before .before .loop .inv) (omega arith) _ (c .before .digit .ensures .0) _ (omega arith)
 
--- src/words.rt:131:12
 div-if2 : tie.Need-div-if2 Inv-loop μ-loop
 div-if2 c = sum-base _ _ _ _ _ (c .before .before .before .before .loop .inv) (omega arith) _ (c .before .digit .ensures .0)
 
--- src/words.rt:132:13
 returns-2 : tie.Need-returns-2 Inv-loop μ-loop
-returns-2 c = let p = sum-base _ _ _ _ _ (c .before .before .before .before .before .loop .inv) (omega arith) _ (c .before .before .digit .ensures .0) in sum-over _ _ _ _ _ (c .before .before .before .before .before .loop .inv) (omega arith) _ (c .before .before .digit .ensures .0) _ (digit-over _ _ _ _ p (c .before .if1 .left) (c .if2 .taken))
+returns-2 c =
+    let p = sum-base _ _ _ _ _ (c .before .before .before .before .before .loop .inv) (omega arith) _ (c .before .before .digit .ensures .0) in
+    sum-over _ _ _ _ _ (c .before .before .before .before .before .loop .inv) (omega arith) _ (c .before .before .digit .ensures .0) _ (digit-over _ _ _ _ p (c .before .if1 .left) (c .if2 .taken))
 
--- src/words.rt:134:13
 mul-v : tie.Need-mul-v Inv-loop μ-loop
 mul-v c = omega (arith, digit-more _ _ _ _ (c .before .if1 .left) (c .if2 .left))
 
--- src/words.rt:134:13
 add-v : tie.Need-add-v Inv-loop μ-loop
 add-v c = omega (arith, digit-more _ _ _ _ (c .before .if1 .left) (c .if2 .left))
 
--- src/words.rt:135:9
 add-i : tie.Need-add-i Inv-loop μ-loop
 add-i c = search needs
 
--- src/words.rt:126:5
 loop-less : tie.Need-loop-less Inv-loop μ-loop
 loop-less c = search needs
 
--- src/words.rt:126:5
 loop-again : tie.Need-loop-again Inv-loop μ-loop
 loop-again c = sum-on _ _ _ _ _ (c .before .before .before .before .before .loop .inv) (omega arith) _ (c .before .before .digit .ensures .0) (digit-more _ _ _ _ (c .before .if1 .left) (c .if2 .left))
 
--- src/words.rt:120:1
 returns-3 : tie.Need-returns-3 Inv-loop μ-loop
 returns-3 c = sum-end _ _ _ _ _ (c .before .loop .inv) _ (omega arith)
 

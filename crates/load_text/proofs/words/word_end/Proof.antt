@@ -1,3 +1,4 @@
+-- `words::word_end` meets its contract: the first blank from i on is the first from `at` on.
 use Prim.Native.Nat.{_-_}
 use mathlib.Core.Path.{_≡_, refl, sym, _∙_}
 use native.Mathlib.Omega.{arith}
@@ -14,35 +15,27 @@ Inv-loop line at i₀ i = placeOf isBlank line i ≡ placeOf isBlank line at
 abbrev μ-loop : tie.MeasureT-loop
 μ-loop line at i₀ i = length line - i
 
--- src/words.rt:52:5
 loop-holds : tie.Need-loop-holds Inv-loop μ-loop
 loop-holds c = refl
 
--- src/words.rt:53:21
 shared-slice-read-is-blank : tie.Need-shared-slice-read-is-blank Inv-loop μ-loop
 shared-slice-read-is-blank c = search needs
 
--- src/words.rt:53:12
 is-blank-requires : tie.Need-is-blank-requires Inv-loop μ-loop
 is-blank-requires c κs = search needs
 
--- src/words.rt:54:13
 returns : tie.Need-returns Inv-loop μ-loop
 returns c = sym (place-here isBlank _ _ (omega arith) (sym (c .before .is-blank .ensures) ∙ c .if1 .taken)) ∙ c .before .before .before .before .loop .inv
 
--- src/words.rt:56:9
 add-i : tie.Need-add-i Inv-loop μ-loop
 add-i c = search needs
 
--- src/words.rt:52:5
 loop-less : tie.Need-loop-less Inv-loop μ-loop
 loop-less c = search needs
 
--- src/words.rt:52:5
 loop-again : tie.Need-loop-again Inv-loop μ-loop
 loop-again c = sym (place-on isBlank _ _ (omega arith) (sym (c .before .is-blank .ensures) ∙ c .if1 .left)) ∙ c .before .before .before .before .loop .inv
 
--- src/words.rt:48:1
 returns-2 : tie.Need-returns-2 Inv-loop μ-loop
 returns-2 c = sym (place-end isBlank _ _ (omega arith)) ∙ c .before .loop .inv
 
