@@ -94,19 +94,28 @@ pub written-reads : WrittenReads
 written-reads e cs s a = good-reads e cs s (appended-good e cs s a)
 
 -- ── a load that reads to its end is what the writer makes ──
--- One call more is one that the writer takes, in a buffer of just that length.
-append-one : (e : ℕ) (ds : List Call) (c : Call) → known e ≡ true → Loadable e true ds → Sound e (none? ds) c → length (loadBytes e (ds ++ (c ∷ []))) ≤ 65536
-    → Appended e ds (loadBytes e ds) → Appended e (ds ++ (c ∷ [])) (loadBytes e (ds ++ (c ∷ [])))
-unfolding appendAnswer appendNumber
-append-one e ds c k l v b a =
+-- One call more is one that the writer takes, where there is room for it.
+pub next-taken : (e : ℕ) (ds : List Call) (c : Call) (room : ℕ) → known e ≡ true → Loadable e true ds → Sound e (none? ds) c
+    → length (loadBytes e (ds ++ (c ∷ []))) ≤ 65536 → length (loadBytes e (ds ++ (c ∷ []))) ≤ room
+    → (appendNumber (loadBytes e ds) c room ≡ 0) × (grown (loadBytes e ds) c ≡ loadBytes e (ds ++ (c ∷ [])))
+unfolding appendNumber
+next-taken e ds c room k l v b h =
     let s = loadBytes e ds in
     let g : Good e ds s = record { edition = k; is = refl; calls = l; bound = omega (arith, load-longer e ds (c ∷ [])) } in
     let i : grown s c ≡ loadBytes e (ds ++ (c ∷ [])) = grown-is e ds s g c in
-    let out = grown s c in
-    let w : Grows s c (length out) = record { place = rw (first-is e ds s g) (v .place); carried = rw (edition-is e ds s g) (v .carried); bounded = rw i b; goes-in = omega arith } in
-    let z : appendNumber s c (length out) ≡ 0 = rw (good-reads e ds s g .0) (grows s c (length out) w) in
+    let w : Grows s c room = record { place = rw (first-is e ds s g) (v .place); carried = rw (edition-is e ds s g) (v .carried); bounded = rw i b; goes-in = rw i h } in
+    (rw (good-reads e ds s g .0) (grows s c room w), i)
+
+-- .. as in a buffer of just that length.
+append-one : (e : ℕ) (ds : List Call) (c : Call) → known e ≡ true → Loadable e true ds → Sound e (none? ds) c → length (loadBytes e (ds ++ (c ∷ []))) ≤ 65536
+    → Appended e ds (loadBytes e ds) → Appended e (ds ++ (c ∷ [])) (loadBytes e (ds ++ (c ∷ [])))
+unfolding appendAnswer
+append-one e ds c k l v b a =
+    let s = loadBytes e ds in
+    let out = loadBytes e (ds ++ (c ∷ [])) in
+    let n = next-taken e ds c (length out) k l v b (omega arith) in
     let t : Typed c = fits-typed c (rw (eqb-true e 1 k) at (v .fit)) in
-    rw (appended-is s c out z ∙ i) at (Appended.one c out (length (grown s c)) a t (rw z))
+    rw (appended-is s c out (n .0) ∙ n .1) at (Appended.one c out (length (grown s c)) a t (rw (n .0)))
 
 append-all : (e : ℕ) (cs ds : List Call) → known e ≡ true → Loadable e true (ds ++ cs) → length (loadBytes e (ds ++ cs)) ≤ 65536
     → Appended e ds (loadBytes e ds) → Appended e (ds ++ cs) (loadBytes e (ds ++ cs))

@@ -5,6 +5,7 @@ pub mod Making
 pub mod Numbers
 pub mod Parts
 pub mod ReadBack
+pub mod Remaking
 pub mod Reading
 pub mod Showing
 pub mod Spans
