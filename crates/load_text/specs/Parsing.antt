@@ -38,11 +38,13 @@ unfoldable pub parts : (ℕ → Bool) → List ℕ → List (List ℕ)
 parts p [] = []
 parts p (b ∷ l) = cond (p b) ([] ∷ parts p l) (inFront b (parts p l))
 
+-- The parts that are not empty.
 abbrev pub full : List (List ℕ) → List (List ℕ)
 full [] = []
 full ([] ∷ ws) = full ws
 full ((b ∷ w) ∷ ws) = (b ∷ w) ∷ full ws
 
+-- A byte is a; a line feed, a space or a tab, any other byte, a comma, a dash.
 abbrev pub is : ℕ → ℕ → Bool
 is a b = eqb b a
 

@@ -10,55 +10,42 @@ Inv-loop bytes t clock sum₀ i₀ t7 sum i = (i ≤ bytes) × Valid t
 abbrev μ-loop : tie.MeasureT-loop
 μ-loop bytes t clock sum₀ i₀ t7 sum i = bytes - i
 
--- src/main.rt:42:34
 slice-aggregate-read-full : tie.Need-slice-aggregate-read-full Inv-loop μ-loop
 slice-aggregate-read-full c = search needs
 
--- src/main.rt:42:9
 read-full-requires : tie.Need-read-full-requires Inv-loop μ-loop
 read-full-requires c κs = search needs
 
--- src/main.rt:43:9
 pending-requires : tie.Need-pending-requires Inv-loop μ-loop
 pending-requires c κs = search needs
 
--- src/main.rt:45:8
 array-read-if1 : tie.Need-array-read-if1 Inv-loop μ-loop
 array-read-if1 c = search needs
 
--- src/main.rt:50:5
 loop-holds : tie.Need-loop-holds Inv-loop μ-loop
 loop-holds c = search needs
 
--- src/main.rt:51:9
 hundred-requires : tie.Need-hundred-requires Inv-loop μ-loop
 hundred-requires c κs = search needs
 
--- src/main.rt:52:9
 add-i : tie.Need-add-i Inv-loop μ-loop
 add-i c = search needs
 
--- src/main.rt:50:5
 loop-less : tie.Need-loop-less Inv-loop μ-loop
 loop-less c = search needs
 
--- src/main.rt:50:5
 loop-again : tie.Need-loop-again Inv-loop μ-loop
 loop-again c = search needs
 
--- src/main.rt:54:5
 print-decimal-requires : tie.Need-print-decimal-requires Inv-loop μ-loop
 print-decimal-requires c κs = search needs
 
--- src/main.rt:55:22
 slice-aggregate-write-all : tie.Need-slice-aggregate-write-all Inv-loop μ-loop
 slice-aggregate-write-all c = search needs
 
--- src/main.rt:55:5
 write-all-requires : tie.Need-write-all-requires Inv-loop μ-loop
 write-all-requires c κs = search needs
 
--- src/main.rt:40:1
 returns : tie.Need-returns Inv-loop μ-loop
 returns c = search needs
 

@@ -10,55 +10,42 @@ Inv-loop t₀ i₀ t i = (i ≤ 63) × Valid t
 abbrev μ-loop : tie.MeasureT-loop
 μ-loop t₀ i₀ t i = 63 - i
 
--- src/main.rt:14:9
 new-requires : tie.Need-new-requires Inv-loop μ-loop
 new-requires c κs = search needs
 
--- src/main.rt:17:5
 loop-holds : tie.Need-loop-holds Inv-loop μ-loop
 loop-holds c = search needs
 
--- src/main.rt:18:17
 cast-k : tie.Need-cast-k Inv-loop μ-loop
 cast-k c = search needs
 
--- src/main.rt:19:44
 mul-pair : tie.Need-mul-pair Inv-loop μ-loop
 mul-pair c = search needs
 
--- src/main.rt:19:44
 add-pair : tie.Need-add-pair Inv-loop μ-loop
 add-pair c = search needs
 
--- src/main.rt:19:36
 pair-requires : tie.Need-pair-requires Inv-loop μ-loop
 pair-requires c κs = search needs
 
--- src/main.rt:19:62
 mul-claim : tie.Need-mul-claim Inv-loop μ-loop
 mul-claim c = search needs
 
--- src/main.rt:19:56
 add-claim : tie.Need-add-claim Inv-loop μ-loop
 add-claim c = search needs
 
--- src/main.rt:19:13
 claim-requires : tie.Need-claim-requires Inv-loop μ-loop
 claim-requires c κs = search needs
 
--- src/main.rt:21:9
 add-i : tie.Need-add-i Inv-loop μ-loop
 add-i c = search needs
 
--- src/main.rt:17:5
 loop-less : tie.Need-loop-less Inv-loop μ-loop
 loop-less c = search needs
 
--- src/main.rt:17:5
 loop-again : tie.Need-loop-again Inv-loop μ-loop
 loop-again c = search needs
 
--- src/main.rt:11:1
 returns : tie.Need-returns Inv-loop μ-loop
 returns c = search needs
 

@@ -10,31 +10,24 @@ Inv-loop t₀ i₀ t i = (i ≤ 64) × Valid t
 abbrev μ-loop : tie.MeasureT-loop
 μ-loop t₀ i₀ t i = 64 - i
 
--- src/main.rt:204:9
 rig-requires : tie.Need-rig-requires Inv-loop μ-loop
 rig-requires c κs = search needs
 
--- src/main.rt:206:5
 loop-holds : tie.Need-loop-holds Inv-loop μ-loop
 loop-holds c = search needs
 
--- src/main.rt:207:9
 quiet-requires : tie.Need-quiet-requires Inv-loop μ-loop
 quiet-requires c κs = search needs
 
--- src/main.rt:208:9
 add-i : tie.Need-add-i Inv-loop μ-loop
 add-i c = search needs
 
--- src/main.rt:206:5
 loop-less : tie.Need-loop-less Inv-loop μ-loop
 loop-less c = search needs
 
--- src/main.rt:206:5
 loop-again : tie.Need-loop-again Inv-loop μ-loop
 loop-again c = search needs
 
--- src/main.rt:201:1
 returns : tie.Need-returns Inv-loop μ-loop
 returns c = search needs
 

@@ -7,23 +7,18 @@ use borrow.Author.Needs.{needs}
 use Rattle.table.proofs.admitted.Statement.{statement}
 use Rattle.table.proofs.admitted.Tie as tie
 
--- src/lib.rt:338:18
 add-ticket : tie.Need-add-ticket
 add-ticket c = search needs
 
--- src/lib.rt:346:9
 place-requires : tie.Need-place-requires
 place-requires c κs = let b = c .before .before in asked-row (b .args .t) _ _ (b .pre .0) (b .pre .3) (b .pre .4) (b .pre .5)
 
--- src/lib.rt:347:9
 contention-of-requires : tie.Need-contention-of-requires
 contention-of-requires c κs = let b = c .before .before .before in asked-row (b .args .t) _ _ (b .pre .0) (b .pre .3) (b .pre .4) (b .pre .5)
 
--- src/lib.rt:348:23
 waiting-from-requires : tie.Need-waiting-from-requires
 waiting-from-requires c κs = search needs
 
--- src/lib.rt:348:9
 joined-requires : tie.Need-joined-requires
 joined-requires c κs =
     let p = c .before .before in
@@ -33,7 +28,6 @@ joined-requires c κs =
     rw (c .waiting-from .ensures)
     (h .0, h .2, h .3, placed-sized t (b .args .groups) (b .args .length) _ (h .0) (h .3) (h .4) (h .5) (p .place .ensures), refl)
 
--- src/lib.rt:349:5
 finished-requires : tie.Need-finished-requires
 finished-requires c κs =
     let p = c .before .before .before in
@@ -45,7 +39,6 @@ finished-requires c κs =
           (c .joined .ensures .0 ∙ ap (λ (w : Claim). encode (join (model t) w)) (c .before .waiting-from .ensures)),
     )
 
--- src/lib.rt:333:1
 returns : tie.Need-returns
 returns c =
     let j = c .before in

@@ -9,15 +9,12 @@ use borrow.Author.Needs.{needs}
 use Rattle.table.proofs.claim.Statement.{statement}
 use Rattle.table.proofs.claim.Tie as tie
 
--- src/lib.rt:337:9
 claim-number-requires : tie.Need-claim-number-requires
 claim-number-requires c κs = search needs
 
--- src/lib.rt:339:9
 refusal-requires : tie.Need-refusal-requires
 refusal-requires c κs = search needs
 
--- src/lib.rt:339:9
 returns : tie.Need-returns
 returns c =
     let n = c .before .before in
@@ -25,7 +22,6 @@ returns c =
     let a = b .args in
     refused (a .t) (Call.claim (a .clock) (a .groups) (a .length)) _ _ (b .pre) (c .refusal .ensures) (sym (n .claim-number .ensures)) (c .before .if1 .taken)
 
--- src/lib.rt:341:9
 at-clock-requires : tie.Need-at-clock-requires
 at-clock-requires c κs =
     let n = c .before in
@@ -34,7 +30,6 @@ at-clock-requires c κs =
     let h = admissible (model (a .t)) (a .clock) (a .groups) (a .length) (sym (n .claim-number .ensures) ∙ c .if1 .left) in
     (b .pre, h .clocked .later, h .clocked .early)
 
--- src/lib.rt:342:5
 admitted-requires : tie.Need-admitted-requires
 admitted-requires c κs =
     let n = c .before .before in
@@ -44,7 +39,6 @@ admitted-requires c κs =
     let k = advanced-counts (a .t) (a .clock) _ (b .pre .formed) (c .at-clock .ensures .0) in
     (c .at-clock .ensures .1, c .at-clock .ensures .2, omega (arith, k .0, h .room, formed-count (a .t) (b .pre .formed)), omega (arith, k .1, h .spare), h .long, h .short)
 
--- src/lib.rt:333:1
 returns-2 : tie.Need-returns-2
 returns-2 c =
     let u = c .before in

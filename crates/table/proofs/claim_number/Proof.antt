@@ -8,22 +8,18 @@ use borrow.Author.Needs.{needs}
 use Rattle.table.proofs.claim_number.Statement.{statement}
 use Rattle.table.proofs.claim_number.Tie as tie
 
--- src/lib.rt:271:9
 time-number-requires : tie.Need-time-number-requires
 time-number-requires c κs = search needs
 
--- src/lib.rt:273:9
 returns : tie.Need-returns
 returns c =
     let n = c .before in
     let a = n .before .args in
     claim-timed (model (a .t)) (a .clock) (a .groups) (a .length) _ (n .time-number .ensures) (c .if1 .taken)
 
--- src/lib.rt:275:8
 empty-requires : tie.Need-empty-requires
 empty-requires c κs = search needs
 
--- src/lib.rt:276:9
 returns-2 : tie.Need-returns-2
 returns-2 c =
     let m = c .before in
@@ -31,11 +27,9 @@ returns-2 c =
     let a = n .before .args in
     claim-dark (model (a .t)) (a .clock) (a .groups) (a .length) _ (n .time-number .ensures) (m .before .if1 .left) (sym (m .empty .ensures) ∙ c .if2 .taken)
 
--- src/lib.rt:278:9
 within-requires : tie.Need-within-requires
 within-requires c κs = search needs
 
--- src/lib.rt:279:9
 returns-3 : tie.Need-returns-3
 returns-3 c =
     let i = c .before in
@@ -45,7 +39,6 @@ returns-3 c =
     claim-off-rig (model (a .t)) (a .clock) (a .groups) (a .length) _ (n .time-number .ensures) (m .before .if1 .left) (sym (m .empty .ensures) ∙ i .before .if2 .left)
     (sym (i .within .ensures) ∙ not-true _ (c .if3 .taken))
 
--- src/lib.rt:282:9
 returns-4 : tie.Need-returns-4
 returns-4 c =
     let b = c .before in
@@ -56,7 +49,6 @@ returns-4 c =
     claim-no-length (model (a .t)) (a .clock) (a .groups) (a .length) _ (n .time-number .ensures) (m .before .if1 .left) (sym (m .empty .ensures) ∙ i .before .if2 .left)
     (sym (i .within .ensures) ∙ not-false _ (b .if3 .left)) (c .if4 .taken)
 
--- src/lib.rt:285:9
 returns-5 : tie.Need-returns-5
 returns-5 c =
     let b = c .before .before in
@@ -67,7 +59,6 @@ returns-5 c =
     claim-too-long (model (a .t)) (a .clock) (a .groups) (a .length) _ (n .time-number .ensures) (m .before .if1 .left) (sym (m .empty .ensures) ∙ i .before .if2 .left)
     (sym (i .within .ensures) ∙ not-false _ (b .if3 .left)) (c .before .if4 .left) (c .if5 .taken)
 
--- src/lib.rt:288:9
 returns-6 : tie.Need-returns-6
 returns-6 c =
     let b = c .before .before .before .before in
@@ -78,7 +69,6 @@ returns-6 c =
     claim-full (model (a .t)) (a .clock) (a .groups) (a .length) _ (n .time-number .ensures) (m .before .if1 .left) (sym (m .empty .ensures) ∙ i .before .if2 .left)
     (sym (i .within .ensures) ∙ not-false _ (b .if3 .left)) (c .before .before .before .if4 .left) (c .before .before .if5 .left) (omega (arith, formed-count (a .t) (n .before .pre)))
 
--- src/lib.rt:291:9
 returns-7 : tie.Need-returns-7
 returns-7 c =
     let b = c .before .before .before .before .before .before in
@@ -89,7 +79,6 @@ returns-7 c =
     claim-ticketless (model (a .t)) (a .clock) (a .groups) (a .length) _ (n .time-number .ensures) (m .before .if1 .left) (sym (m .empty .ensures) ∙ i .before .if2 .left)
     (sym (i .within .ensures) ∙ not-false _ (b .if3 .left)) (c .before .before .before .before .before .if4 .left) (c .before .before .before .before .if5 .left) (omega (arith, formed-count (a .t) (n .before .pre))) (c .if7 .taken)
 
--- src/lib.rt:267:1
 returns-8 : tie.Need-returns-8
 returns-8 c =
     let b = c .before .before .before .before .before .before in

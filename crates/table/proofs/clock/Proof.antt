@@ -7,15 +7,12 @@ use borrow.Author.Needs.{needs}
 use Rattle.table.proofs.clock.Statement.{statement}
 use Rattle.table.proofs.clock.Tie as tie
 
--- src/lib.rt:155:9
 time-number-requires : tie.Need-time-number-requires
 time-number-requires c κs = search needs
 
--- src/lib.rt:157:9
 refusal-requires : tie.Need-refusal-requires
 refusal-requires c κs = search needs
 
--- src/lib.rt:157:9
 returns : tie.Need-returns
 returns c =
     let n = c .before .before in
@@ -23,7 +20,6 @@ returns c =
     let t = b .args .t in
     refused t (Call.clock (b .args .clock)) _ _ (b .pre) (c .refusal .ensures) (clock-timed (model t) (b .args .clock) _ (n .time-number .ensures) (c .before .if1 .taken)) (c .before .if1 .taken)
 
--- src/lib.rt:159:9
 at-clock-requires : tie.Need-at-clock-requires
 at-clock-requires c κs =
     let n = c .before in
@@ -31,11 +27,9 @@ at-clock-requires c κs =
     let o = time-ok (b .args .t .clock) (b .args .clock) (sym (n .time-number .ensures) ∙ c .if1 .left) in
     (b .pre, o .0, o .1)
 
--- src/lib.rt:160:5
 finished-requires : tie.Need-finished-requires
 finished-requires c κs = search needs
 
--- src/lib.rt:151:1
 returns-2 : tie.Need-returns-2
 returns-2 c =
     let u = c .before in

@@ -18,23 +18,19 @@ Inv-loop ticket t count i₀ i = (i ≤ count) × (standingOf ticket (drop i (ta
 abbrev μ-loop : tie.MeasureT-loop
 μ-loop ticket t count i₀ i = count - i
 
--- src/lib.rt:95:5
 loop-holds : tie.Need-loop-holds Inv-loop μ-loop
 loop-holds c = (omega arith, refl)
 
--- src/lib.rt:96:17
 mul-c : tie.Need-mul-c Inv-loop μ-loop
 mul-c c =
     let b = c .before .before in
     omega (arith, formed-few (b .args .t1) (b .pre .formed))
 
--- src/lib.rt:96:17
 element-copy-out-c : tie.Need-element-copy-out-c Inv-loop μ-loop
 element-copy-out-c c =
     let b = c .before .before in
     omega (arith, formed-few (b .args .t1) (b .pre .formed))
 
--- src/lib.rt:98:13
 shown-requires : tie.Need-shown-requires Inv-loop μ-loop
 shown-requires c κs =
     let z = c .before .before .before .before in
@@ -42,7 +38,6 @@ shown-requires c κs =
     let t = b .args .t1 in
     row-small (t .clock) (t .claims) (t .count) (z .loop .i) (formed-row t (t .clock) (b .pre .formed) (omega arith) (b .pre .formed .ranged .timely)) (formed-length t (b .pre .formed)) (omega arith)
 
--- src/lib.rt:98:13
 returns : tie.Need-returns Inv-loop μ-loop
 returns c =
     let z = c .before .before .before .before .before in
@@ -53,17 +48,14 @@ returns c =
     let r = c .shown .ensures ∙ ap standingIn (found (b .args .ticket) (getD (t .claims) (z .loop .i) vacant) _ (c .before .if1 .taken) ∙ h) in
     (r, ap numberOf r ∙ lookup-number (model t) (b .args .ticket))
 
--- src/lib.rt:100:9
 add-i : tie.Need-add-i Inv-loop μ-loop
 add-i c =
     let b = c .before .before .before .before .before in
     omega (arith, formed-few (b .args .t1) (b .pre .formed))
 
--- src/lib.rt:95:5
 loop-less : tie.Need-loop-less Inv-loop μ-loop
 loop-less c = omega arith
 
--- src/lib.rt:95:5
 loop-again : tie.Need-loop-again Inv-loop μ-loop
 loop-again c =
     let z = c .before .before .before .before in
@@ -73,7 +65,6 @@ loop-again c =
     let h = rw e at (z .loop .inv .1) in
     (omega arith, passed-by (b .args .ticket) (getD (t .claims) (z .loop .i) vacant) _ (c .if1 .left) ∙ h)
 
--- src/lib.rt:89:1
 returns-2 : tie.Need-returns-2 Inv-loop μ-loop
 unfolding standingOf
 returns-2 c =

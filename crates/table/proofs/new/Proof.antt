@@ -4,25 +4,20 @@ use borrow.Author.Needs.{needs}
 use Rattle.table.proofs.new.Statement.{statement}
 use Rattle.table.proofs.new.Tie as tie
 
--- src/lib.rt:68:8
 empty-requires : tie.Need-empty-requires
 empty-requires c κs = search needs
 
--- src/lib.rt:69:9
 refusal-requires : tie.Need-refusal-requires
 refusal-requires c κs = search needs
 
--- src/lib.rt:69:9
 returns : tie.Need-returns
 returns c =
     let s = c .before .before in
     new-dark _ _ (s .before .fits .rig .fits) (sym (c .before .if1 .taken) ∙ s .empty .ensures) (c .refusal .ensures)
 
--- src/lib.rt:71:5
 refusal-requires-2 : tie.Need-refusal-requires-2
 refusal-requires-2 c κs = search needs
 
--- src/lib.rt:52:1
 returns-2 : tie.Need-returns-2
 returns-2 c =
     let s = c .before .before in

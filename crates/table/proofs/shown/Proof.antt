@@ -6,27 +6,21 @@ use borrow.Author.Needs.{needs}
 use Rattle.table.proofs.shown.Statement.{statement}
 use Rattle.table.proofs.shown.Tie as tie
 
--- src/lib.rt:81:9
 wide-requires : tie.Need-wide-requires
 wide-requires c κs = search needs
 
--- src/lib.rt:83:24
 enum-known-p : tie.Need-enum-known-p
 enum-known-p c = search needs
 
--- src/lib.rt:84:19
 enum-known-p-2 : tie.Need-enum-known-p-2
 enum-known-p-2 c = search needs
 
--- src/lib.rt:84:41
 add-t7 : tie.Need-add-t7
 add-t7 c = omega (arith, ap mark (c .before .p2 .given .1))
 
--- src/lib.rt:76:1
 returns : tie.Need-returns
 returns c = shown-waiting _ (c .before .before .before .before .args .c) (c .before .p .given .1)
 
--- src/lib.rt:76:1
 returns-2 : tie.Need-returns-2
 returns-2 c = shown-held _ _ (c .before .before .before .before .args .c) (c .before .p2 .given .1) (c .before .before .before .wide .ensures .0)
 

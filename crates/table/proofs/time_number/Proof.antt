@@ -4,19 +4,16 @@ use Rattle.table.specs.Outcomes.{timeNumber}
 use Rattle.table.proofs.time_number.Statement.{statement}
 use Rattle.table.proofs.time_number.Tie as tie
 
--- src/lib.rt:112:9
 returns : tie.Need-returns
 unfolding timeNumber
 returns c = rw (lt-ltb 1000000000000 (c .before .args .clock) (omega arith))
 
--- src/lib.rt:115:9
 returns-2 : tie.Need-returns-2
 unfolding timeNumber
 returns-2 c =
     let a = c .before .before .args in
     rw (le-ltb 1000000000000 (a .clock) (omega arith), lt-ltb (a .clock) (a .now) (omega arith))
 
--- src/lib.rt:108:1
 returns-3 : tie.Need-returns-3
 unfolding timeNumber
 returns-3 c =

@@ -6,38 +6,30 @@ use borrow.Author.Needs.{needs}
 use Rattle.table.proofs.claims.end_of.Statement.{statement}
 use Rattle.table.proofs.claims.end_of.Tie as tie
 
--- src/lib.rt:63:9
 wide-requires : tie.Need-wide-requires
 wide-requires c κs = search needs
 
--- src/lib.rt:65:24
 enum-known-p : tie.Need-enum-known-p
 enum-known-p c = search needs
 
--- src/lib.rt:65:30
 add-result : tie.Need-add-result
 add-result c = omega (arith, ap mark (c .before .p .given .1))
 
--- src/lib.rt:66:19
 enum-known-p-2 : tie.Need-enum-known-p-2
 enum-known-p-2 c = search needs
 
--- src/lib.rt:67:21
 add-e : tie.Need-add-e
 add-e c = omega (arith, ap mark (c .before .p2 .given .1))
 
--- src/lib.rt:58:1
 returns : tie.Need-returns
 returns c = end-waiting _ _ _ _ (c .before .p .given .1) (c .before .before .before .wide .ensures .0)
 
--- src/lib.rt:58:1
 returns-2 : tie.Need-returns-2
 returns-2 c =
     let a = c .before .before .before .before .before .args in
     let q = end-held (record { clock = a .clock }) _ _ (a .c) (c .before .before .p2 .given .1) (c .before .before .before .before .wide .ensures .0) in
     omega arith
 
--- src/lib.rt:58:1
 returns-3 : tie.Need-returns-3
 returns-3 c =
     let a = c .before .before .before .before .before .args in

@@ -7,33 +7,26 @@ use borrow.Author.Needs.{needs}
 use Rattle.table.proofs.claims.time_left.Statement.{statement}
 use Rattle.table.proofs.claims.time_left.Tie as tie
 
--- src/lib.rt:80:24
 enum-known-p : tie.Need-enum-known-p
 enum-known-p c = search needs
 
--- src/lib.rt:80:31
 wide-requires : tie.Need-wide-requires
 wide-requires c κs = search needs
 
--- src/lib.rt:81:19
 enum-known-p-2 : tie.Need-enum-known-p-2
 enum-known-p-2 c = search needs
 
--- src/lib.rt:82:17
 end-of-requires : tie.Need-end-of-requires
 end-of-requires c κs = search needs
 
--- src/lib.rt:83:13
 sub-result : tie.Need-sub-result
 sub-result c =
     let a = c .before .before .before .before .args in
     omega (arith, c .end-of .ensures, end-clock (record { clock = a .clock }) (a .c) (ap isOn (c .before .before .p2 .given .1)))
 
--- src/lib.rt:74:1
 returns : tie.Need-returns
 returns c = left-waiting _ _ _ _ (c .before .before .p .given .1) (c .wide .ensures .0)
 
--- src/lib.rt:74:1
 returns-2 : tie.Need-returns-2
 returns-2 c =
     let a = c .before .before .before .before .args in
