@@ -45,17 +45,20 @@ pub edition-one : (e k : ℕ) → 0 < lengthOf e k → e ≡ 1
 edition-one e k h = kinds (λ e k. e ≡ 1) e k h refl refl refl refl refl
 
 -- ── lengths ──
-pub length-small : (e k : ℕ) → lengthOf e k < 256 ^ 2
+-- No record is long, so its length goes into two bytes.
+length-few : (e k : ℕ) → lengthOf e k ≤ 255
 unfolding lengthOf widths widths1 lengthIn total
-length-small e k = go (ltb 0 (lengthOf e k)) refl
+length-few e k = go (ltb 0 (lengthOf e k)) refl
   where
-    go : (b : Bool) → ltb 0 (lengthOf e k) ≡ b → lengthOf e k < 256 ^ 2
-    go true p = kinds (λ e k. lengthOf e k < 256 ^ 2) e k (ltb-true 0 (lengthOf e k) p) (omega arith) (omega arith) (omega arith) (omega arith) (omega arith)
+    go : (b : Bool) → ltb 0 (lengthOf e k) ≡ b → lengthOf e k ≤ 255
+    go true p = kinds (λ e k. lengthOf e k ≤ 255) e k (ltb-true 0 (lengthOf e k) p) (omega arith) (omega arith) (omega arith) (omega arith) (omega arith)
     go false p = omega (arith, ltb-false 0 (lengthOf e k) p)
 
--- So it goes into two bytes.
-pub length-under : (e k n : ℕ) → n ≡ lengthOf e k → n < 65536
-length-under e k n p = omega (arith, p, length-small e k)
+pub length-small : (e k : ℕ) → lengthOf e k < 256 ^ 2
+length-small e k = omega (arith, length-few e k)
+
+pub length-under : (e k n : ℕ) → n ≡ lengthOf e k → n ≤ 255
+length-under e k n p = omega (arith, p, length-few e k)
 
 -- A kind byte and eight bytes at least.
 pub length-least : (e k : ℕ) → 0 < lengthOf e k → 9 ≤ lengthOf e k

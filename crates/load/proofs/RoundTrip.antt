@@ -74,7 +74,7 @@ module _ (e : ℕ) (cs : List Call) (s : List ℕ) (g : Good e cs s) where
   unfolding grown
   grown-is c = ap (λ k. s ++ recordBytes k c) edition-is ∙ ap (λ (x : List ℕ). x ++ recordBytes e c) (g .is) ∙ sym (load-append e cs c)
 
-  good-grown : (c : Call) (room : ℕ) → Typed c → growNumber s c room ≡ 0 → Good e (cs ++ (c ∷ [])) (grown s c)
+  good-grown : (c : Call) (room : ℕ) → Typed c → growNumber (editionOf s) (length s) c room ≡ 0 → Good e (cs ++ (c ∷ [])) (grown s c)
   good-grown c room t h =
       let k = grow-known s c room h in
       let f : Fit (widths e (kindOf c)) (valuesOf e c) = rw (eqb-true e 1 (g .edition)) (typed-fits c t) in

@@ -15,57 +15,62 @@ use Rattle.load.specs.declared.Written.the-variants.{Length, Refusal}
 use Rattle.load.specs.Calls.{widths1, widths, lengthOf, kindOf, fieldsOf, valuesOf, carries}
 use Rattle.load.specs.Bytes.{big, fieldBytes, recordBytes}
 use Rattle.load.specs.Reading.{inPlace, editionOf, loadNumber}
-use Rattle.load.specs.Writing.{grown, growNumber, appendNumber, answered, lent, appendAnswer, appendOut}
+use Rattle.load.specs.Writing.{grown, roomNumber, growNumber, appendNumber, answered, lent, appendAnswer, appendOut}
 use Rattle.load.proofs.Calls.{edition-one, carries-one}
 use Rattle.load.proofs.Bytes.{record-length}
 use Rattle.load.proofs.Reading.{or-else, or-first, load-known}
 
 -- ── the tests ──
-pub append-load : (s : List ℕ) (c : Call) (room n : ℕ) → n ≡ loadNumber s → (n ≡ 0 → ⊥) → n ≡ appendNumber s c room
-unfolding appendNumber
-append-load s c room n p q = or-first (loadNumber s) (growNumber s c room) n p q
-
--- In the code's order, behind those of the load: t is the load's number, kind the call's, b whether its place is right.
-module _ (s : List ℕ) (c : Call) (room t : ℕ) (z : t ≡ loadNumber s) (o : t ≡ 0) (kind : ℕ) (k : kind ≡ kindOf c) (b : Bool) (p : b ≡ inPlace kind (length s)) where
-  grow : growNumber s c room ≡ appendNumber s c room
-  unfolding appendNumber
-  grow = rw (sym z ∙ o)
-
-  place : inPlace (kindOf c) (length s) ≡ b
+-- Of the code's order: kind is the call's, b whether its place is right.
+module _ (e size : ℕ) (c : Call) (room kind : ℕ) (k : kind ≡ kindOf c) (b : Bool) (p : b ≡ inPlace kind size) where
+  place : inPlace (kindOf c) size ≡ b
   place = rw (← k) (sym p)
 
-  pub append-place : b ≡ false → 13 ≡ appendNumber s c room
+  pub grow-place : b ≡ false → 13 ≡ growNumber e size c room
   unfolding growNumber
-  append-place q = rw (place ∙ q) at grow
+  grow-place q = rw (place ∙ q)
 
-  module _ (q : b ≡ true) (n : ℕ) (e : n ≡ lengthOf (editionOf s) kind) where
-    length-is : lengthOf (editionOf s) (kindOf c) ≡ n
-    length-is = rw (← k) (sym e)
+  module _ (q : b ≡ true) (n : ℕ) (i : n ≡ lengthOf e kind) where
+    length-is : lengthOf e (kindOf c) ≡ n
+    length-is = rw (← k) (sym i)
 
-    pub append-kind : n ≡ 0 → 13 ≡ appendNumber s c room
+    pub grow-kind : n ≡ 0 → 13 ≡ growNumber e size c room
     unfolding growNumber carries
-    append-kind u = rw (place ∙ q, length-is ∙ u) at grow
+    grow-kind u = rw (place ∙ q, length-is ∙ u)
 
     module _ (u : n ≡ 0 → ⊥) where
-      whole : length (grown s c) ≡ length s + (2 + n)
-      unfolding grown
-      whole = let l = length-is in length-append s (recordBytes (editionOf s) c) ∙ rw (record-length (editionOf s) c (omega (arith, u)), length-is)
+      whole : size + length (recordBytes e c) ≡ size + (2 + n)
+      whole = let l = length-is in rw (record-length e c (omega (arith, u)), length-is)
 
-      carried : carries (editionOf s) c ≡ true
-      carried = let l = length-is in carries-one (editionOf s) c (edition-one (editionOf s) (kindOf c) (omega (arith, u)))
+      carried : carries e c ≡ true
+      carried = let l = length-is in carries-one e c (edition-one e (kindOf c) (omega (arith, u)))
 
-      pub append-long : 65536 < length s + (2 + n) → 14 ≡ appendNumber s c room
+      sizes : roomNumber (size + (2 + n)) room ≡ growNumber e size c room
       unfolding growNumber
-      append-long l = let w = whole in rw (place ∙ q, carried, lt-ltb 65536 (length (grown s c)) (omega arith)) at grow
+      sizes = rw (place ∙ q, carried, whole)
 
-      module _ (l : length s + (2 + n) ≤ 65536) where
-        pub append-room : room < length s + (2 + n) → 15 ≡ appendNumber s c room
-        unfolding growNumber
-        append-room r = let w = whole in rw (place ∙ q, carried, le-ltb 65536 (length (grown s c)) (omega arith), lt-ltb room (length (grown s c)) (omega arith)) at grow
+      pub grow-long : 65536 < size + (2 + n) → 14 ≡ growNumber e size c room
+      unfolding roomNumber
+      grow-long l = rw (lt-ltb 65536 (size + (2 + n)) l) at sizes
 
-        pub append-good : length s + (2 + n) ≤ room → 0 ≡ appendNumber s c room
-        unfolding growNumber
-        append-good r = let w = whole in rw (place ∙ q, carried, le-ltb 65536 (length (grown s c)) (omega arith), le-ltb room (length (grown s c)) (omega arith)) at grow
+      module _ (l : size + (2 + n) ≤ 65536) where
+        pub grow-room : room < size + (2 + n) → 15 ≡ growNumber e size c room
+        unfolding roomNumber
+        grow-room r = rw (le-ltb 65536 (size + (2 + n)) l, lt-ltb room (size + (2 + n)) r) at sizes
+
+        pub grow-good : size + (2 + n) ≤ room → 0 ≡ growNumber e size c room
+        unfolding roomNumber
+        grow-good r = rw (le-ltb 65536 (size + (2 + n)) l, le-ltb room (size + (2 + n)) r) at sizes
+
+-- Of a load: t is its own number.
+module _ (s : List ℕ) (c : Call) (room t : ℕ) (z : t ≡ loadNumber s) where
+  pub append-load : (t ≡ 0 → ⊥) → t ≡ appendNumber s c room
+  unfolding appendNumber
+  append-load q = or-first (loadNumber s) (growNumber (editionOf s) (length s) c room) t z q
+
+  pub append-grow : t ≡ 0 → growNumber (editionOf s) (length s) c room ≡ appendNumber s c room
+  unfolding appendNumber
+  append-grow o = rw (sym z ∙ o)
 
 -- A call that grows a load: what number 0 says, and what gives it.
 pub record Grows (s : List ℕ) (c : Call) (room : ℕ) : Type 0 where
@@ -74,9 +79,14 @@ pub record Grows (s : List ℕ) (c : Call) (room : ℕ) : Type 0 where
   pub bounded : length (grown s c) ≤ 65536
   pub goes-in : length (grown s c) ≤ room
 
-pub grow-known : (s : List ℕ) (c : Call) (room : ℕ) → growNumber s c room ≡ 0 → Grows s c room
-unfolding growNumber
-grow-known s c room h = go (inPlace (kindOf c) (length s)) (carries (editionOf s) c) (ltb 65536 (length (grown s c))) (ltb room (length (grown s c))) refl refl refl refl h
+grown-length : (s : List ℕ) (c : Call) → length s + length (recordBytes (editionOf s) c) ≡ length (grown s c)
+unfolding grown
+grown-length s c = sym (length-append s (recordBytes (editionOf s) c))
+
+pub grow-known : (s : List ℕ) (c : Call) (room : ℕ) → growNumber (editionOf s) (length s) c room ≡ 0 → Grows s c room
+unfolding growNumber roomNumber
+grow-known s c room h =
+    go (inPlace (kindOf c) (length s)) (carries (editionOf s) c) (ltb 65536 (length (grown s c))) (ltb room (length (grown s c))) refl refl refl refl (rw (grown-length s c) at h)
   where
     go : (a b x y : Bool) → inPlace (kindOf c) (length s) ≡ a → carries (editionOf s) c ≡ b → ltb 65536 (length (grown s c)) ≡ x → ltb room (length (grown s c)) ≡ y
         → cond {A = ℕ} (not a || not b) 13 (cond x 14 (cond y 15 0)) ≡ 0 → Grows s c room
@@ -86,14 +96,14 @@ grow-known s c room h = go (inPlace (kindOf c) (length s)) (carries (editionOf s
     go true true false true p q u v h = absurd (omega arith)
     go true true false false p q u v h = record { place = p; carried = q; bounded = ltb-false 65536 (length (grown s c)) u; goes-in = ltb-false room (length (grown s c)) v }
 
-pub grows : (s : List ℕ) (c : Call) (room : ℕ) → Grows s c room → growNumber s c room ≡ 0
-unfolding growNumber
-grows s c room g = rw (g .place, g .carried, le-ltb 65536 (length (grown s c)) (g .bounded), le-ltb room (length (grown s c)) (g .goes-in))
+pub grows : (s : List ℕ) (c : Call) (room : ℕ) → Grows s c room → growNumber (editionOf s) (length s) c room ≡ 0
+unfolding growNumber roomNumber
+grows s c room g = rw (g .place, g .carried, grown-length s c, le-ltb 65536 (length (grown s c)) (g .bounded), le-ltb room (length (grown s c)) (g .goes-in))
 
 -- What an accepted call knows.
-pub append-parts : (s : List ℕ) (c : Call) (room : ℕ) → appendNumber s c room ≡ 0 → (loadNumber s ≡ 0) × (growNumber s c room ≡ 0)
+pub append-parts : (s : List ℕ) (c : Call) (room : ℕ) → appendNumber s c room ≡ 0 → (loadNumber s ≡ 0) × (growNumber (editionOf s) (length s) c room ≡ 0)
 unfolding appendNumber
-append-parts s c room h = or-else (loadNumber s) (growNumber s c room) h
+append-parts s c room h = or-else (loadNumber s) (growNumber (editionOf s) (length s) c room) h
 
 pub append-known : (s : List ℕ) (c : Call) (room : ℕ) → appendNumber s c room ≡ 0 → (editionOf s ≡ 1) × (length s ≤ 65536) × (length (grown s c) ≤ room)
 append-known s c room h =

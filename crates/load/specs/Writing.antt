@@ -1,6 +1,6 @@
 -- The writer. "The writer is given a load and one call, puts that load with one record more behind it at the start of a lent buffer, and
 -- answers the new length; later bytes of the buffer keep their contents."
-use Prim.Native.Nat.{ℕ, zero, suc}
+use Prim.Native.Nat.{ℕ, zero, suc, _+_}
 use mathlib.Core.Bool.{not, _||_, cond}
 use mathlib.Core.List.{List, _++_}
 use lib.Dec.{ltb}
@@ -17,17 +17,16 @@ unfoldable pub grown : List ℕ → Call → List ℕ
 grown s c = s ++ recordBytes (editionOf s) c
 
 -- "then come 13 (a rig that isn't first, another record that is, or a call with a value that the load's edition can't carry), 14 (the grown
--- load would pass 65,536 bytes) and 15". Room is the length of the lent buffer.
-unfoldable pub growNumber : List ℕ → Call → ℕ → ℕ
-growNumber s c room =
-    cond (not (inPlace (kindOf c) (length s)) || not (carries (editionOf s) c)) 13
-    (cond (ltb 65536 (length (grown s c))) 14
-    (cond (ltb room (length (grown s c))) 15
-    0))
+-- load would pass 65,536 bytes) and 15". The load has edition e and n bytes; room is the length of the lent buffer.
+unfoldable pub roomNumber : ℕ → ℕ → ℕ
+roomNumber whole room = cond (ltb 65536 whole) 14 (cond (ltb room whole) 15 0)
+
+unfoldable pub growNumber : ℕ → ℕ → Call → ℕ → ℕ
+growNumber e n c room = cond (not (inPlace (kindOf c) n) || not (carries e c)) 13 (roomNumber (n + length (recordBytes e c)) room)
 
 -- "The load it is given is tested as by the reader, then come .."
 unfoldable pub appendNumber : List ℕ → Call → ℕ → ℕ
-appendNumber s c room = orElse (loadNumber s) (growNumber s c room)
+appendNumber s c room = orElse (loadNumber s) (growNumber (editionOf s) (length s) c room)
 
 -- The answer: a length where the number is 0, else the number.
 abbrev pub answered : ℕ → ℕ → Written

@@ -2,11 +2,12 @@
 // All calls take any bytes and any values. A load is a slice of the caller's; nothing is copied to read it.
 ghost use mathlib.Core.Path.{_≡_};
 ghost use mathlib.Core.List.{_++_};
-ghost use Rattle.numerals.specs.Laid.{Put};
+ghost use lib.ListN.{length};
+ghost use Rattle.numerals.specs.Laid.{behind, laid, Put};
 ghost use Rattle.load.specs.Calls.{valuesOf, kindOf, lengthOf, callOf, widths};
 ghost use Rattle.load.specs.Bytes.{recordBytes, fieldBytes, big, fieldValues};
 ghost use Rattle.load.specs.Reading.{inPlace, openNumber, misfit, itemAt, loadNumber};
-ghost use Rattle.load.specs.Writing.{appendNumber, appendAnswer, appendOut};
+ghost use Rattle.load.specs.Writing.{growNumber, appendNumber, appendAnswer, appendOut};
 
 // One record of a load, with its fields in the order of the format.
 pub enum Call {
@@ -188,7 +189,29 @@ fn kind_of(call: Call) -> u8
     }
 }
 
-// 0 for a call that can be appended; else the load's own number, 13, 14 or 15.
+// For a load of an edition and a size that reads to its end: 0 for a call that can be appended in so much room; else 13, 14 or 15.
+pub fn grow_number(edition: u8, size: usize, call: Call, room: usize) -> u8
+    ensures { λ r. ⌜ r ≡ growNumber edition size call room ⌝ }
+{
+    let kind = kind_of(call);
+    if placed(kind, size) {
+        let n = length_of(edition, kind);
+        if n == 0 {
+            return 13;
+        }
+        let more = 2 + n;
+        if 65536 - more < size {
+            return 14;
+        }
+        if room < size + more {
+            return 15;
+        }
+        return 0;
+    }
+    13
+}
+
+// The same for any load, which is tested whole: its own number comes first.
 fn append_number(load: &[u8], call: Call, room: usize) -> u8
     ensures { λ r. ⌜ r ≡ appendNumber (now (load .entry)) call room ⌝ }
 {
@@ -196,23 +219,7 @@ fn append_number(load: &[u8], call: Call, room: usize) -> u8
     if t != 0 {
         return t;
     }
-    let size = load.len();
-    let kind = kind_of(call);
-    if placed(kind, size) {
-        let n = length_of(load[0], kind);
-        if n == 0 {
-            return 13;
-        }
-        let whole = size + (2 + n);
-        if 65536 < whole {
-            return 14;
-        }
-        if room < whole {
-            return 15;
-        }
-        return 0;
-    }
-    13
+    grow_number(load[0], load.len(), call, room)
 }
 
 // The fields of a release or a withdrawal.
@@ -245,9 +252,9 @@ fn put_fields(out: &mut [u8], at: usize, call: Call) -> usize
     }
 }
 
-// A record of edition 1: length, kind, fields.
-fn put_record(out: &mut [u8], at: usize, call: Call) -> usize
-    ensures { λ r. ⌜ Put (now (out .entry)) at (recordBytes 1 call) r (now (out .exit)) ⌝ }
+// A record of edition 1 laid at a place: length, kind, fields. Answers the place behind it.
+pub fn put_record(out: &mut [u8], at: usize, call: Call) -> usize
+    ensures { λ r. ⌜ (r ≡ behind at (length (recordBytes 1 call))) × (now (out .exit) ≡ laid (now (out .entry)) at (recordBytes 1 call)) ⌝ }
 {
     let kind = kind_of(call);
     let n = length_of(1, kind);

@@ -1,23 +1,20 @@
--- A load grown in its own buffer, by way of one of 65,536 bytes, and what a line makes of it.
-use Prim.Native.Nat.{ℕ, zero, suc, _+_, _-_, _≤_, _<_}
-use mathlib.Core.Bool.{Bool, true, false, not, _||_, cond}
+-- A load grown in its own buffer, and what a line makes of it.
+use Prim.Native.Nat.{ℕ, zero, suc, _+_, _-_, _≤_}
 use mathlib.Core.List.{List, _++_}
 use mathlib.Core.Path.{_≡_, refl, sym, ap, _∙_}
 use native.Mathlib.Omega.{arith}
-use lib.Dec.{ltb}
 use lib.ListN.{length, take, drop, length-append, length-drop, take-append-drop}
 use lib.Seq.{take-at, length-take-le, drop-append-add, drop-drop}
-use borrow.Author.Tests.{lt-ltb, le-ltb}
-use Rattle.numerals.specs.Laid.{laid}
-use Rattle.numerals.proofs.Laying.{laid-fits}
+use Rattle.numerals.specs.Laid.{behind, laid}
+use Rattle.numerals.proofs.Laying.{laid-at, behind-small}
 use Rattle.load.specs.declared.Call.{Call}
 use Rattle.load.specs.declared.Written.{Written}
 use Rattle.load.specs.declared.Written.the-variants.{Length, Refusal}
 use Rattle.load.specs.Bytes.{recordBytes}
-use Rattle.load.specs.Calls.{kindOf, carries}
-use Rattle.load.specs.Reading.{inPlace, editionOf, loadNumber, orElse}
+use Rattle.load.specs.Reading.{editionOf, loadNumber}
 use Rattle.load.specs.Writing.{grown, growNumber, appendNumber, appendAnswer, appendOut, answered, lent}
-use Rattle.load.proofs.Writing.{append-known, append-refused}
+use Rattle.load.proofs.Reading.{load-known}
+use Rattle.load.proofs.Writing.{append-grow, append-parts, append-known, append-refused, grow-known}
 use Rattle.load_text.specs.declared.parse.Parsed.{Parsed}
 use Rattle.load_text.specs.declared.parse.Parsed.the-variants.{Nothing, Said, Bad}
 use Rattle.load_text.specs.Making.{added, atStart}
@@ -27,10 +24,6 @@ answer-length : (k m n : ℕ) → answered k m ≡ Length n → (k ≡ 0) × (m 
 answer-length zero m n e = (refl, cc)
 answer-length (suc k) m n e = let z : _≡_ {A = ℕ} 0 1 = cc in absurd (omega arith)
 
-answer-refusal : (k m n : ℕ) → answered k m ≡ Refusal n → (k ≡ n) × (n ≡ 0 → ⊥)
-answer-refusal zero m n e = let z : _≡_ {A = ℕ} 0 1 = cc in absurd (omega arith)
-answer-refusal (suc k) m n e = let q : suc k ≡ n = cc in (q, λ z. omega arith)
-
 -- The first bytes of the buffer are then the grown load.
 pub grown-first : (s : List ℕ) (c : Call) (out : List ℕ) (n : ℕ) → appendAnswer s c out ≡ Length n → take n (appendOut s c out) ≡ grown s c
 unfolding appendAnswer appendOut
@@ -38,58 +31,27 @@ grown-first s c out n e =
     let q = answer-length (appendNumber s c (length out)) (length (grown s c)) n e in
     rw (q .0) (take-at (grown s c) (drop (length (grown s c)) out) n (q .1))
 
--- ── a load grown in a buffer of 65,536 bytes ──
--- No load is longer than that, so the tests of a call in such a buffer are those in any other but for the room.
-room-last : (s : List ℕ) (c : Call) (room : ℕ) → appendNumber s c room ≡ orElse (appendNumber s c 65536) (cond (ltb room (length (grown s c))) 15 0)
-unfolding appendNumber growNumber
-room-last s c room =
-    go (loadNumber s) (not (inPlace (kindOf c) (length s)) || not (carries (editionOf s) c)) (ltb 65536 (length (grown s c))) (cond (ltb room (length (grown s c))) 15 0)
-  where
-    go : (k : ℕ) (a b : Bool) (r : ℕ) → orElse k (cond a 13 (cond b 14 r)) ≡ orElse (orElse k (cond a 13 (cond b 14 (cond b 15 0)))) r
-    go (suc k) a b r = refl
-    go zero true b r = refl
-    go zero false true r = refl
-    go zero false false r = refl
+-- ── one record more behind a load that reads to its end ──
+module _ (o : List ℕ) (size : ℕ) (h : size ≤ length o) (z : loadNumber (take size o) ≡ 0) (c : Call) where
+  number : growNumber 1 size c (length o) ≡ appendNumber (take size o) c (length o)
+  number = rw (load-known (take size o) z .1, length-take-le size o h) at (append-grow (take size o) c (length o) 0 (sym z) refl)
 
-module _ (s : List ℕ) (c : Call) (g : List ℕ) (l : length g ≡ 65536) where
-  whole : (room k : ℕ) → appendNumber s c (length g) ≡ k → appendNumber s c room ≡ orElse k (cond (ltb room (length (grown s c))) 15 0)
-  whole room k e = room-last s c room ∙ ap (λ j. orElse j (cond (ltb room (length (grown s c))) 15 0)) (ap (appendNumber s c) (sym l) ∙ e)
+  pub grow-refused : (n : ℕ) → n ≡ growNumber 1 size c (length o) → (n ≡ 0 → ⊥) → (Refusal n ≡ appendAnswer (take size o) c o) × (o ≡ appendOut (take size o) c o)
+  grow-refused n e q = append-refused (take size o) c o n (e ∙ number) q
 
-  pub grow-bound : (n : ℕ) → appendAnswer s c g ≡ Length n → n ≤ length g
-  unfolding appendAnswer
-  grow-bound n e =
-      let q = answer-length (appendNumber s c (length g)) (length (grown s c)) n e in
-      omega (arith, append-known s c (length g) (q .0) .2, q .1)
-
-  module _ (out : List ℕ) where
-    pub grow-refused : (n : ℕ) → appendAnswer s c g ≡ Refusal n → (Refusal n ≡ appendAnswer s c out) × (out ≡ appendOut s c out)
-    unfolding appendAnswer
-    grow-refused n e =
-        let q = answer-refusal (appendNumber s c (length g)) (length (grown s c)) n e in
-        append-refused s c out n (sym (whole (length out) n (q .0) ∙ first n (q .1))) (q .1)
-      where
-        first : (n : ℕ) → (n ≡ 0 → ⊥) → orElse n (cond (ltb (length out) (length (grown s c))) 15 0) ≡ n
-        first zero z = absurd (z refl)
-        first (suc n) z = refl
-
-    module _ (n : ℕ) (e : appendAnswer s c g ≡ Length n) where
-      number : appendNumber s c (length out) ≡ cond (ltb (length out) n) 15 0
-      unfolding appendAnswer
-      number =
-          let q = answer-length (appendNumber s c (length g)) (length (grown s c)) n e in
-          whole (length out) 0 (q .0) ∙ ap (λ m. cond (ltb (length out) m) 15 0) (q .1)
-
-      pub grow-short : length out < n → (Refusal 15 ≡ appendAnswer s c out) × (out ≡ appendOut s c out)
-      grow-short h = append-refused s c out 15 (sym (number ∙ rw (lt-ltb (length out) n h))) (λ z. omega arith)
-
-      -- The grown load is handed back, and laid over the buffer.
-      pub grow-written : (g′ p : List ℕ) → n ≤ length out → g′ ≡ appendOut s c g → p ≡ laid out 0 (take n g′) → (Length n ≡ appendAnswer s c out) × (p ≡ appendOut s c out)
-      unfolding appendAnswer appendOut
-      grow-written g′ p h f w =
-          let q = answer-length (appendNumber s c (length g)) (length (grown s c)) n e in
-          let z : appendNumber s c (length out) ≡ 0 = number ∙ rw (le-ltb (length out) n h) in
-          let b : take n g′ ≡ grown s c = ap (take n) f ∙ grown-first s c g n e in
-          rw z (ap Length (sym (q .1)), w ∙ ap (laid out 0) b ∙ laid-fits out (grown s c) (omega (arith, q .1)))
+  pub grow-written : (r : ℕ) (p : List ℕ) → growNumber 1 size c (length o) ≡ 0 → r ≡ behind size (length (recordBytes 1 c)) → p ≡ laid o size (recordBytes 1 c)
+      → (Length r ≡ appendAnswer (take size o) c o) × (p ≡ appendOut (take size o) c o)
+  unfolding appendAnswer appendOut grown
+  grow-written r p e f g =
+      let a : appendNumber (take size o) c (length o) ≡ 0 = sym number ∙ e in
+      let b = grow-known (take size o) c (length o) (append-parts (take size o) c (length o) a .1) in
+      let k = load-known (take size o) z .1 in
+      let l : length (grown (take size o) c) ≡ size + length (recordBytes 1 c) = rw (k, length-append, length-take-le size o h) in
+      let n : r ≡ size + length (recordBytes 1 c) = f ∙ behind-small size (length (recordBytes 1 c)) (omega (arith, b .bounded, l)) in
+      let q : p ≡ grown (take size o) c ++ drop (length (grown (take size o) c)) o =
+      g ∙ laid-at o size (recordBytes 1 c) (omega (arith, b .goes-in, l)) ∙ ap (λ (m : ℕ). take size o ++ recordBytes 1 c ++ drop m o) (sym l)
+      ∙ ap (λ (e : ℕ). take size o ++ recordBytes e c ++ drop (length (grown (take size o) c)) o) (sym k) in
+      rw a (ap Length (n ∙ sym l), q)
 
 -- ── a load at the start of a buffer ──
 pub start-own : (o : List ℕ) (size : ℕ) → size ≤ length o → o ≡ atStart (take size o) o

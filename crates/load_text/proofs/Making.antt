@@ -8,6 +8,7 @@ use lib.Seq.{length-take-le, drop-set-lt, append-snoc}
 use Rattle.load.specs.declared.Call.{Call}
 use Rattle.load.specs.declared.Written.{Written}
 use Rattle.load.specs.declared.Written.the-variants.{Length, Refusal}
+use Rattle.load.specs.Reading.{loadNumber}
 use Rattle.load.specs.Writing.{grown, appendNumber, appendAnswer, answered, lent}
 use Rattle.load.specs.RoundTrip.{Typed, Appended}
 use Rattle.load.proofs.RoundTrip.{written-reads}
@@ -34,6 +35,28 @@ lines-end text at h = parts-end isFeed text at h
 pub line-reach : (text : List ℕ) (at e : ℕ) → at < length text → e ≡ placeOf isFeed text at → (at ≤ e) × (e ≤ length text)
 line-reach text at e h i = (omega (arith, i, place-low isFeed text at), omega (arith, i, place-high isFeed text at))
 
+-- ── what a line adds is what the writer makes ──
+-- A call that the writer takes where there is room, taken.
+append-more : (cs : List Call) (s : List ℕ) (c : Call) (room : ℕ) → Appended 1 cs s → Typed c → appendNumber s c room ≡ 0 → Appended 1 (cs ++ (c ∷ [])) (grown s c)
+unfolding appendAnswer
+append-more cs s c room a t z =
+    let out : List ℕ = replicate room 0 in
+    let e : answered (appendNumber s c (length out)) (length (grown s c)) ≡ Length (length (grown s c)) = rw (length-replicate, z) in
+    rw (grown-first s c out (length (grown s c)) e) at (Appended.one c out (length (grown s c)) a t e)
+
+-- The same for what a line says.
+line-more : (cs : List Call) (s l : List ℕ) (room n : ℕ) → Appended 1 cs s → added s room (lineSays l) .answer ≡ Length n → Appended 1 (cs ++ andSaid (lineSays l) []) (added s room (lineSays l) .load)
+line-more cs s l room n a e = go (lineSays l) refl e
+  where
+    go : (p : Parsed) → lineSays l ≡ p → added s room p .answer ≡ Length n → Appended 1 (cs ++ andSaid p []) (added s room p .load)
+    go Nothing i e = rw append-nil a
+    go (Bad j) i e = let z : _≡_ {A = ℕ} 0 1 = cc in absurd (omega arith)
+    go (Said c) i e = call (appendNumber s c room) refl e
+      where
+        call : (j : ℕ) → appendNumber s c room ≡ j → answered j (length (grown s c)) ≡ Length n → Appended 1 (cs ++ (c ∷ [])) (lent j (grown s c) s)
+        call zero z e = append-more cs s c room a (says-typed l c i) z
+        call (suc j) z e = let y : _≡_ {A = ℕ} 0 1 = cc in absurd (omega arith)
+
 -- ── the loop ──
 -- Behind `line` lines, at a place: a load stands in the buffer's first bytes, of which the lines from there on make what the text makes.
 pub record Gathers (text o₀ o : List ℕ) (size at line : ℕ) : Type 0 where
@@ -43,6 +66,12 @@ pub record Gathers (text o₀ o : List ℕ) (size at line : ℕ) : Type 0 where
   pub same : length o ≡ length o₀
   pub kept : o ≡ atStart (take size o) o₀
   pub is : gathered (length o₀) line (take size o) (linesIn (drop at text)) ≡ made text (length o₀)
+  pub calls : List Call
+  pub appended : Appended 1 calls (take size o)
+
+-- So the load reads to its end.
+pub gathers-reads : {text o₀ o : List ℕ} {size at line : ℕ} → Gathers text o₀ o size at line → loadNumber (take size o) ≡ 0
+gathers-reads g = written-reads 1 (g .calls) _ (g .appended) .0
 
 pub made-none : (text o : List ℕ) → length o ≡ 0 → (Mistake 0 15 ≡ madeOf text (length o)) × (o ≡ madeOut text o)
 unfolding madeOf madeOut made atStart
@@ -52,7 +81,7 @@ made-none text (b ∷ o) h = absurd (omega arith)
 pub gathers-start : (text o : List ℕ) → (length o ≡ 0 → ⊥) → Gathers text (set o 0 1) (set o 0 1) 1 0 0
 unfolding made
 gathers-start text [] h = absurd (h refl)
-gathers-start text (b ∷ o) h = record { few = omega arith; begun = omega arith; held = omega arith; same = refl; kept = start-own (1 ∷ o) 1 (omega arith); is = refl }
+gathers-start text (b ∷ o) h = record { few = omega arith; begun = omega arith; held = omega arith; same = refl; kept = start-own (1 ∷ o) 1 (omega arith); is = refl; calls = []; appended = Appended.none refl }
 
 -- The caller's buffer is o, of which the first byte was set.
 ended : (text o p : List ℕ) (m : Making) → made text (length (set o 0 1)) ≡ m → 1 ≤ length (m .load) → p ≡ atStart (m .load) (set o 0 1)
@@ -107,6 +136,8 @@ module _ (text o p : List ℕ) (size at line : ℕ) (g : Gathers text (set o 0 1
           same = w ∙ g .same;
           kept = rw t over;
           is = rw t (sym (rw z at on));
+          calls = g .calls ++ andSaid (lineSays (take (e - at) (drop at text))) [];
+          appended = rw t (line-more (g .calls) (take size p) (take (e - at) (drop at text)) (length p) n (g .appended) (sym x ∙ z));
         }
 
     pub gathers-wrong : (n : ℕ) → r ≡ Refusal n → (Mistake (line + 1) n ≡ madeOf text (length o)) × (q ≡ madeOut text o)
@@ -115,14 +146,6 @@ module _ (text o p : List ℕ) (size at line : ℕ) (g : Gathers text (set o 0 1
         ended text o q m (rw z at on) (omega (arith, longer, g .begun)) over
 
 -- ── a made load reads as its calls ──
--- A call that the writer takes where there is room, taken.
-append-more : (cs : List Call) (s : List ℕ) (c : Call) (room : ℕ) → Appended 1 cs s → Typed c → appendNumber s c room ≡ 0 → Appended 1 (cs ++ (c ∷ [])) (grown s c)
-unfolding appendAnswer
-append-more cs s c room a t z =
-    let out : List ℕ = replicate room 0 in
-    let e : answered (appendNumber s c (length out)) (length (grown s c)) ≡ Length (length (grown s c)) = rw (length-replicate, z) in
-    rw (grown-first s c out (length (grown s c)) e) at (Appended.one c out (length (grown s c)) a t e)
-
 -- What lines make of a load, if it ends well.
 record Reads (cs : List Call) (m : Making) (n : ℕ) : Type 0 where
   pub appended : Appended 1 cs (m .load)

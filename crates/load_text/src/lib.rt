@@ -4,6 +4,7 @@
 ghost use mathlib.Core.Path.{_≡_};
 ghost use Prim.Native.Nat.{_≤_};
 ghost use lib.ListN.{length, take};
+ghost use Rattle.load.specs.Reading.{loadNumber};
 ghost use Rattle.load.specs.Writing.{appendAnswer, appendOut};
 ghost use Rattle.load_text.specs.Parsing.{lineSays};
 ghost use Rattle.load_text.specs.Making.{added, atStart, madeOf, madeOut};
@@ -28,29 +29,24 @@ pub enum Made {
     Mistake(u64, u8),
 }
 
-// One record more behind the load in a buffer's first bytes: the writer's answer, and its buffer.
+// One record more behind the load in a buffer's first bytes, which reads to its end and so is not tested again: the writer's answer, and
+// its buffer. Cost: that of the record.
 fn grow(out: &mut [u8], size: usize, call: Call) -> Written
-    requires { ⌜ size ≤ length (now out) ⌝ }
+    requires { ⌜ (size ≤ length (now out)) × (loadNumber (take size (now out)) ≡ 0) ⌝ }
     ensures answer { λ r. ⌜ r ≡ appendAnswer (take size (now (out .entry))) call (now (out .entry)) ⌝ }
     ensures buffer { λ _. ⌜ now (out .exit) ≡ appendOut (take size (now (out .entry))) call (now (out .entry)) ⌝ }
 {
-    let mut grown = [0u8; 65536];
-    let w = load::append(&out[..size], call, &mut grown);
-    match w {
-        Written::Length(n) => {
-            if out.len() < n {
-                return Written::Refusal(15);
-            }
-            numerals::put_bytes(out, 0, &grown[..n]);
-            Written::Length(n)
-        }
-        Written::Refusal(n) => Written::Refusal(n),
+    let n = load::grow_number(1, size, call, out.len());
+    if n != 0 {
+        return Written::Refusal(n);
     }
+    let r = load::put_record(out, size, call);
+    Written::Length(r)
 }
 
 // The load in a buffer's first bytes with what a line says.
 fn add(out: &mut [u8], size: usize, line: &[u8]) -> Written
-    requires { ⌜ size ≤ length (now out) ⌝ }
+    requires { ⌜ (size ≤ length (now out)) × (loadNumber (take size (now out)) ≡ 0) ⌝ }
     ensures answer { λ r. ⌜ r ≡ added (take size (now (out .entry))) (length (now (out .entry))) (lineSays (now (line .entry))) .answer ⌝ }
     ensures buffer { λ _. ⌜ now (out .exit) ≡ atStart (added (take size (now (out .entry))) (length (now (out .entry))) (lineSays (now (line .entry))) .load) (now (out .entry)) ⌝ }
 {
@@ -62,6 +58,7 @@ fn add(out: &mut [u8], size: usize, line: &[u8]) -> Written
 }
 
 // The load that a text says line by line, at the start of a buffer. It reads as the calls that the lines say: MadeReads in specs/Making.antt.
+// Cost: one pass over the text.
 pub fn make(text: &[u8], out: &mut [u8]) -> Made
     ensures answer { λ r. ⌜ r ≡ madeOf (now (text .entry)) (length (now (out .entry))) ⌝ }
     ensures buffer { λ _. ⌜ now (out .exit) ≡ madeOut (now (text .entry)) (now (out .entry)) ⌝ }

@@ -9,7 +9,7 @@ use native.Mathlib.Nat.{add-zero, zero-add}
 use lib.Dec.{ltb, leb}
 use borrow.Author.Tests.{leb-true, leb-false}
 use mathlib.Core.Bool.{Bool, true, false, cond}
-use lib.ListN.{length, drop, getD, set, length-append}
+use lib.ListN.{length, take, drop, getD, set, length-append}
 use lib.Seq.{sets, length-sets, sets-eq, set-comm, set-out, drop-cons, drop-length}
 use Rattle.numerals.specs.Digits.{digits, decimalOf, widthOf, widthUpTo}
 use Rattle.numerals.specs.Laid.{behind, laid, Put}
@@ -43,9 +43,12 @@ unfolding laid
 laid-append o at xs ys = sets-append xs ys o at
 
 -- Where there is room, it is what one expects.
-pub laid-fits : (o xs : List ℕ) → length xs ≤ length o → laid o 0 xs ≡ xs ++ drop (length xs) o
+pub laid-at : (o : List ℕ) (at : ℕ) (xs : List ℕ) → at + length xs ≤ length o → laid o at xs ≡ take at o ++ xs ++ drop (at + length xs) o
 unfolding laid
-laid-fits o xs h = sets-eq xs o 0 (omega arith) ∙ rw zero-add
+laid-at o at xs h = sets-eq xs o at h
+
+pub laid-fits : (o xs : List ℕ) → length xs ≤ length o → laid o 0 xs ≡ xs ++ drop (length xs) o
+laid-fits o xs h = laid-at o 0 xs (omega arith) ∙ rw zero-add
 
 sets-set : (xs o : List ℕ) (at k d : ℕ) → at + length xs ≤ k → sets (set o k d) at xs ≡ set (sets o at xs) k d
 sets-set [] o at k d h = refl

@@ -28,7 +28,7 @@ returns-2 c =
     let p = r .before .before .before .before in
     let o = p .before .before in
     append-written _ _ _ _ _ (sym (o .before .append-number .ensures) ∙ o .if1 .left)
-    (put-then _ _ _ _ _ _ _ _ (omega arith) (put (p .put-bytes .ensures)) (r .put-record .ensures))
+    (put-then _ _ _ _ _ _ _ _ (omega arith) (put (p .put-bytes .ensures)) (put (r .put-record .ensures)))
 
 pub append-spec : {M : Type 1} → statement M
 append-spec =

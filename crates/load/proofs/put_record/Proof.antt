@@ -30,8 +30,10 @@ returns c =
     let b = f .before .before .before .before in
     let a = b .before .before .before .before in
     let n = a .before .before in
+    let w =
     put-as _ _ (record-pieces _ _ _ (n .length-of .ensures) (n .before .kind-of .ensures))
-    (put-then _ _ _ _ _ _ _ _ (omega arith) (put-digits 256 0 _ _ (a .put-big .ensures)) (put-then _ _ _ _ _ _ _ _ (omega arith) (put (b .put-byte .ensures)) (f .put-fields .ensures)))
+    (put-then _ _ _ _ _ _ _ _ (omega arith) (put-digits 256 0 _ _ (a .put-big .ensures)) (put-then _ _ _ _ _ _ _ _ (omega arith) (put (b .put-byte .ensures)) (f .put-fields .ensures))) in
+    (w .next, w .is)
 
 pub put-record-spec : {M : Type 1} → statement M
 put-record-spec =

@@ -21,7 +21,7 @@ enum-known-n : tie.Need-enum-known-n
 enum-known-n c = search needs
 
 returns : tie.Need-returns
-returns c = add-nothing _ _ (c .before .before .before .before .before .pre) _ (sym (c .before .before .parse-line .ensures) ∙ c .enum-told .given .1)
+returns c = add-nothing _ _ (c .before .before .before .before .before .pre .0) _ (sym (c .before .before .parse-line .ensures) ∙ c .enum-told .given .1)
 
 same-length : tie.Need-same-length
 same-length c = search needs
@@ -30,12 +30,12 @@ returns-2 : tie.Need-returns-2
 returns-2 c =
     let g = c .before .before in
     let p = g .before .before .before .before .before in
-    add-said _ _ (p .before .before .before .pre) _ _ _ _ (sym (p .parse-line .ensures) ∙ g .before .before .before .call .given .1) (g .grow .ensures .0) (g .grow .ensures .1)
+    add-said _ _ (p .before .before .before .pre .0) _ _ _ _ (sym (p .parse-line .ensures) ∙ g .before .before .before .call .given .1) (g .grow .ensures .0) (g .grow .ensures .1)
 
 returns-3 : tie.Need-returns-3
 returns-3 c =
     let p = c .before .before .before in
-    add-bad _ _ (p .before .before .before .pre) _ _ (sym (p .parse-line .ensures) ∙ c .before .n .given .1)
+    add-bad _ _ (p .before .before .before .pre .0) _ _ (sym (p .parse-line .ensures) ∙ c .before .n .given .1)
 
 pub add-spec : {M : Type 1} → statement M
 add-spec =

@@ -4,7 +4,7 @@ use mathlib.Core.Path.{_∙_}
 use native.Mathlib.Omega.{arith}
 use lib.ListN.{length, length-set}
 use borrow.Author.Needs.{needs}
-use Rattle.load_text.proofs.Making.{Gathers, line-reach, made-none, gathers-start, gathers-more, gathers-wrong, gathers-end}
+use Rattle.load_text.proofs.Making.{Gathers, line-reach, made-none, gathers-start, gathers-reads, gathers-more, gathers-wrong, gathers-end}
 use Rattle.load_text.proofs.make.Statement.{statement}
 use Rattle.load_text.proofs.make.Tie as tie
 
@@ -39,7 +39,7 @@ part-add-end : tie.Need-part-add-end Inv-loop μ-loop
 part-add-end c = line-reach _ _ _ (c .before .before .loop-test .taken) (c .before .place .ensures) .1
 
 add-requires : tie.Need-add-requires Inv-loop μ-loop
-add-requires c κs = c .before .before .before .before .loop .inv .held
+add-requires c κs = let g = c .before .before .before .before .loop .inv in (g .held, gathers-reads g)
 
 enum-known-n : tie.Need-enum-known-n Inv-loop μ-loop
 enum-known-n c = search needs
