@@ -8,37 +8,22 @@ use rules::Table;
 use table::Outcome;
 use table::Standing;
 
-fn put_number(out: &mut [u8], at: usize, value: u64) -> usize {
-    let m = numerals::put_byte(out, at, 32);
-    numerals::put_decimal(out, m, value)
-}
-
 fn put_answer(out: &mut [u8], k: u64, o: Outcome) -> usize {
-    let a = numerals::put_decimal(out, 0, k);
-    let b = put_number(out, a, o.number as u64);
-    let c = put_number(out, b, o.ticket as u64);
-    let d = put_number(out, c, o.start);
-    let e = put_number(out, d, o.contention);
-    let f = put_number(out, e, o.bound);
-    numerals::put_byte(out, f, 10)
-}
-
-fn put_pair(out: &mut [u8], at: usize, ticket: u16, value: u64) -> usize {
-    let m = put_number(out, at, ticket as u64);
-    let n = put_number(out, m, value);
-    numerals::put_byte(out, n, 10)
+    let a = numerals::put_pair(out, 0, k, o.number as u64, 32);
+    let b = numerals::put_pair(out, a, o.ticket as u64, o.start, 32);
+    numerals::put_pair(out, b, o.contention, o.bound, 10)
 }
 
 fn put_standing(out: &mut [u8], at: usize, ticket: u16, s: Standing) -> usize {
     match s {
         Standing::NotPending => at,
         Standing::Waits(v) => {
-            let m = numerals::put_bytes(out, at, b"waits");
-            put_pair(out, m, ticket, v)
+            let m = numerals::put_bytes(out, at, b"waits ");
+            numerals::put_pair(out, m, ticket as u64, v, 10)
         }
         Standing::Holds(v) => {
-            let m = numerals::put_bytes(out, at, b"holds");
-            put_pair(out, m, ticket, v)
+            let m = numerals::put_bytes(out, at, b"holds ");
+            numerals::put_pair(out, m, ticket as u64, v, 10)
         }
     }
 }

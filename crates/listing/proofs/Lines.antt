@@ -4,26 +4,19 @@ use mathlib.Core.List.{List, [], _∷_, _++_}
 use Prim.Native.Nat.{ℕ, _+_, _*_, _≤_, _<_}
 use native.Mathlib.Omega.{arith}
 use lib.ListN.{length, take, drop, getD, length-append}
-use Rattle.numerals.specs.Digits.{decimalOf}
-use Rattle.numerals.proofs.Laying.{width-small, decimal-length}
+use Rattle.numerals.specs.Digits.{pair}
+use Rattle.numerals.proofs.Laying.{pair-length}
 use Rattle.table.proofs.Rows.{prefix-step, prefix-end}
-use Rattle.listing.specs.Lines.{column, lineOf, onLine, onLines}
+use Rattle.listing.specs.Lines.{lineOf, onLine, onLines}
 
 -- ── lengths ──
-column-length : (v b : ℕ) → length (column v b) ≤ 21
-unfolding column
-column-length v b = omega (arith, length-append (decimalOf v) (b ∷ []), decimal-length v, width-small v)
-
-pub pair-length : (v b w d : ℕ) → length (column v b ++ column w d) ≤ 42
-pair-length v b w d = omega (arith, length-append (column v b) (column w d), column-length v b, column-length w d)
-
 pub line-length : (k n t s : ℕ) → length (lineOf k n t s) ≤ 84
 unfolding lineOf
-line-length k n t s = omega (arith, length-append (column k 32 ++ column n 32) (column t 32 ++ column s 10), pair-length k 32 n 32, pair-length t 32 s 10)
+line-length k n t s = omega (arith, length-append (pair k n 32) (pair t s 10), pair-length k n 32, pair-length t s 10)
 
 on-length : (t k : ℕ) → length (onLine t k) ≤ 45
 unfolding onLine
-on-length t k = omega (arith, pair-length k 32 t 10)
+on-length t k = omega (arith, pair-length k t 10)
 
 pub ons-length : (t : ℕ) (ks : List ℕ) → length (onLines t ks) ≤ 45 * length ks
 unfolding onLines

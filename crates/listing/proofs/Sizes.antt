@@ -18,13 +18,14 @@ use Rattle.listing.specs.Lines.{lineOf, onLines, stopLine}
 use Rattle.listing.specs.Text.{stepOf, entryOf, ending, stopOr, linesFrom, linesOf, listingOf}
 use Rattle.listing.specs.Room.{roomFor}
 use Rattle.listing.proofs.Counts.{waiting, record-counted}
-use Rattle.listing.proofs.Lines.{pair-length, line-length, ons-length}
+use Rattle.numerals.proofs.Laying.{pair-length}
+use Rattle.listing.proofs.Lines.{line-length, ons-length}
 
 -- ── lines ──
 stop-length : (n k b : ℕ) (lines : List ℕ) → length lines ≤ b → 47 ≤ b → length (stopOr n k lines) ≤ b
 unfolding stopLine
 stop-length zero k b lines h g = h
-stop-length (suc n) k b lines h g = omega (arith, pair-length (suc n) 32 k 10)
+stop-length (suc n) k b lines h g = omega (arith, pair-length (suc n) k 10)
 
 entry-length : (k : ℕ) (s : Step) → length (entryOf k s) ≤ 84 + 45 * length (s .answer .grants)
 unfolding entryOf

@@ -2,11 +2,7 @@
 -- "Every line ends in one line feed (byte 10)."
 use mathlib.Core.List.{List, [], _∷_, _++_}
 use Prim.Native.Nat.{ℕ}
-use Rattle.numerals.specs.Digits.{decimalOf}
-
--- A number in decimal and the byte behind it.
-unfoldable pub column : ℕ → ℕ → List ℕ
-column v b = decimalOf v ++ (b ∷ [])
+use Rattle.numerals.specs.Digits.{pair}
 
 -- "The header": rec answer ticket start
 abbrev pub header : List ℕ
@@ -14,11 +10,11 @@ header = 114 ∷ 101 ∷ 99 ∷ 32 ∷ 97 ∷ 110 ∷ 115 ∷ 119 ∷ 101 ∷ 11
 
 -- The line of record k: "its number from 1, the answer (0 accepted), the ticket concerned, the start".
 unfoldable pub lineOf : ℕ → ℕ → ℕ → ℕ → List ℕ
-lineOf k number ticket start = (column k 32 ++ column number 32) ++ (column ticket 32 ++ column start 10)
+lineOf k number ticket start = pair k number 32 ++ pair ticket start 10
 
 -- "`on TICKET CLOCK`", for a ticket granted at a clock.
 unfoldable pub onLine : ℕ → ℕ → List ℕ
-onLine clock ticket = (111 ∷ 110 ∷ 32 ∷ []) ++ (column ticket 32 ++ column clock 10)
+onLine clock ticket = (111 ∷ 110 ∷ 32 ∷ []) ++ pair ticket clock 10
 
 -- "Each grant adds" such a line.
 unfoldable pub onLines : ℕ → List ℕ → List ℕ
@@ -27,4 +23,4 @@ onLines clock (k ∷ ks) = onLine clock k ++ onLines clock ks
 
 -- "`stop NUMBER RECORD`", at record k.
 unfoldable pub stopLine : ℕ → ℕ → List ℕ
-stopLine number k = (115 ∷ 116 ∷ 111 ∷ 112 ∷ 32 ∷ []) ++ (column number 32 ++ column k 10)
+stopLine number k = (115 ∷ 116 ∷ 111 ∷ 112 ∷ 32 ∷ []) ++ pair number k 10

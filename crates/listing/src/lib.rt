@@ -10,7 +10,7 @@ ghost use Rattle.numerals.specs.Laid.{laid, Put};
 ghost use Rattle.load.specs.Reading.{walk};
 ghost use Rattle.table.specs.Valid.{Valid};
 ghost use Rattle.table.specs.Outcomes.{outcome};
-ghost use Rattle.listing.specs.Lines.{column, lineOf, onLine, onLines, stopLine};
+ghost use Rattle.listing.specs.Lines.{lineOf, onLine, onLines, stopLine};
 ghost use Rattle.listing.specs.Room.{roomFor};
 ghost use Rattle.listing.specs.Text.{stepOf, ending, linesOf, listingOf, answerOf, bufferOf};
 use load::Call;
@@ -20,39 +20,25 @@ use table::Outcome;
 
 // ── lines: each is laid over a buffer from a place on, as far as that goes, and answers the place behind it ──
 
-fn put_column(out: &mut [u8], at: usize, value: u64, b: u8) -> usize
-    ensures { λ r. ⌜ Put (now (out .entry)) at (column value b) r (now (out .exit)) ⌝ }
-{
-    let m = numerals::put_decimal(out, at, value);
-    numerals::put_byte(out, m, b)
-}
-
-fn put_pair(out: &mut [u8], at: usize, a: u64, b: u64, last: u8) -> usize
-    ensures { λ r. ⌜ Put (now (out .entry)) at (column a 32 ++ column b last) r (now (out .exit)) ⌝ }
-{
-    let m = put_column(out, at, a, 32);
-    put_column(out, m, b, last)
-}
-
 fn put_line(out: &mut [u8], at: usize, k: u64, number: u8, ticket: u16, start: u64) -> usize
     ensures { λ r. ⌜ Put (now (out .entry)) at (lineOf k number ticket start) r (now (out .exit)) ⌝ }
 {
-    let m = put_pair(out, at, k, number as u64, 32);
-    put_pair(out, m, ticket as u64, start, 10)
+    let m = numerals::put_pair(out, at, k, number as u64, 32);
+    numerals::put_pair(out, m, ticket as u64, start, 10)
 }
 
 fn put_grant(out: &mut [u8], at: usize, clock: u64, ticket: u16) -> usize
     ensures { λ r. ⌜ Put (now (out .entry)) at (onLine clock ticket) r (now (out .exit)) ⌝ }
 {
     let m = numerals::put_bytes(out, at, b"on ");
-    put_pair(out, m, ticket as u64, clock, 10)
+    numerals::put_pair(out, m, ticket as u64, clock, 10)
 }
 
 fn put_stop(out: &mut [u8], at: usize, number: u8, k: u64) -> usize
     ensures { λ r. ⌜ Put (now (out .entry)) at (stopLine number k) r (now (out .exit)) ⌝ }
 {
     let m = numerals::put_bytes(out, at, b"stop ");
-    put_pair(out, m, number as u64, k, 10)
+    numerals::put_pair(out, m, number as u64, k, 10)
 }
 
 fn put_grants(out: &mut [u8], at: usize, clock: u64, grants: [u16; 64], granted: usize) -> usize

@@ -7,11 +7,11 @@ use native.Mathlib.Omega.{arith}
 use lib.Dec.{ltb, eqb}
 use lib.ListN.{length, length-append}
 use borrow.Author.Tests.{lt-ltb, le-ltb, ne-eqb}
-use Rattle.numerals.specs.Digits.{decimalOf}
-use Rattle.numerals.proofs.Laying.{width-small, decimal-length}
+use Rattle.numerals.specs.Digits.{decimalOf, column, pair}
+use Rattle.numerals.proofs.Laying.{width-small, decimal-length, column-length, pair-length}
 use Rattle.load.specs.declared.Call.{Call}
 use Rattle.load.specs.declared.Call.the-variants.{Rig, Claim, Release, Withdraw, Clock}
-use Rattle.load_text.specs.Lines.{pickText, glyphOf, hexUpTo, setOf, fieldOf, pairOf, lineOf, stopLine, reasonText, reportOf}
+use Rattle.load_text.specs.Lines.{glyphOf, hexUpTo, setOf, lineOf, stopLine, reasonText, reportOf}
 
 -- ── hex ──
 pub glyph-low : (v : ℕ) → v % 16 < 10 → 48 + v % 16 ≡ glyphOf v
@@ -43,7 +43,7 @@ unfolding hexUpTo
 hex-length zero v = omega arith
 hex-length (suc k) v = go (hex-length k (v / 16)) (ltb v 16)
   where
-    go : length (hexUpTo k (v / 16)) ≤ suc k → (b : Bool) → length (pickText b (glyphOf v ∷ []) (hexUpTo k (v / 16) ++ (glyphOf v ∷ []))) ≤ suc (suc k)
+    go : length (hexUpTo k (v / 16)) ≤ suc k → (b : Bool) → length (cond b (glyphOf v ∷ []) (hexUpTo k (v / 16) ++ (glyphOf v ∷ []))) ≤ suc (suc k)
     go h true = omega arith
     go h false = omega (arith, length-append (hexUpTo k (v / 16)) (glyphOf v ∷ []))
 
@@ -52,28 +52,20 @@ set-length : (g b : ℕ) → length (setOf g b) ≤ 17
 unfolding setOf
 set-length g b = omega (arith, length-append (hexUpTo 15 g) (b ∷ []), hex-length 15 g)
 
-field-length : (v b : ℕ) → length (fieldOf v b) ≤ 21
-unfolding fieldOf
-field-length v b = omega (arith, length-append (decimalOf v) (b ∷ []), decimal-length v, width-small v)
-
-pair-length : (a b : ℕ) → length (pairOf a b) ≤ 42
-unfolding pairOf
-pair-length a b = omega (arith, length-append (fieldOf a 32) (fieldOf b 10), field-length a 32, field-length b 10)
-
 pub line-length : (c : Call) → length (lineOf c) ≤ 65
 unfolding lineOf
 line-length (Rig g) = omega (arith, set-length g 10)
-line-length (Claim c g l) = omega (arith, length-append (fieldOf c 32) (setOf g 32 ++ fieldOf l 10), length-append (setOf g 32) (fieldOf l 10), field-length c 32, set-length g 32, field-length l 10)
-line-length (Release c t) = omega (arith, pair-length c t)
-line-length (Withdraw c t) = omega (arith, pair-length c t)
-line-length (Clock c) = omega (arith, field-length c 10)
+line-length (Claim c g l) = omega (arith, length-append (column c 32) (setOf g 32 ++ column l 10), length-append (setOf g 32) (column l 10), column-length c 32, set-length g 32, column-length l 10)
+line-length (Release c t) = omega (arith, pair-length c t 10)
+line-length (Withdraw c t) = omega (arith, pair-length c t 10)
+line-length (Clock c) = omega (arith, column-length c 10)
 
 pub line-short : (c : Call) → length (lineOf c) < 2 ^ 64
 line-short c = omega (arith, line-length c)
 
 pub stop-length : (n k : ℕ) → length (stopLine n k) ≤ 49
 unfolding stopLine
-stop-length n k = omega (arith, pair-length n k)
+stop-length n k = omega (arith, pair-length n k 10)
 
 -- ── reports ──
 shorter : (b : Bool) (x y : List ℕ) (m : ℕ) → length x ≤ m → length y ≤ m → length (cond b x y) ≤ m
@@ -117,18 +109,18 @@ pub rig-line : (c : Call) (g : ℕ) → c ≡ Rig g → (114 ∷ 105 ∷ 103 ∷
 unfolding lineOf
 rig-line c g e = rw e
 
-pub claim-line : (c : Call) (k g l : ℕ) → c ≡ Claim k g l → (99 ∷ 108 ∷ 97 ∷ 105 ∷ 109 ∷ 32 ∷ []) ++ (fieldOf k 32 ++ (setOf g 32 ++ fieldOf l 10)) ≡ lineOf c
+pub claim-line : (c : Call) (k g l : ℕ) → c ≡ Claim k g l → (99 ∷ 108 ∷ 97 ∷ 105 ∷ 109 ∷ 32 ∷ []) ++ (column k 32 ++ (setOf g 32 ++ column l 10)) ≡ lineOf c
 unfolding lineOf
 claim-line c k g l e = rw e
 
-pub release-line : (c : Call) (k t : ℕ) → c ≡ Release k t → (114 ∷ 101 ∷ 108 ∷ 101 ∷ 97 ∷ 115 ∷ 101 ∷ 32 ∷ []) ++ pairOf k t ≡ lineOf c
+pub release-line : (c : Call) (k t : ℕ) → c ≡ Release k t → (114 ∷ 101 ∷ 108 ∷ 101 ∷ 97 ∷ 115 ∷ 101 ∷ 32 ∷ []) ++ pair k t 10 ≡ lineOf c
 unfolding lineOf
 release-line c k t e = rw e
 
-pub withdraw-line : (c : Call) (k t : ℕ) → c ≡ Withdraw k t → (119 ∷ 105 ∷ 116 ∷ 104 ∷ 100 ∷ 114 ∷ 97 ∷ 119 ∷ 32 ∷ []) ++ pairOf k t ≡ lineOf c
+pub withdraw-line : (c : Call) (k t : ℕ) → c ≡ Withdraw k t → (119 ∷ 105 ∷ 116 ∷ 104 ∷ 100 ∷ 114 ∷ 97 ∷ 119 ∷ 32 ∷ []) ++ pair k t 10 ≡ lineOf c
 unfolding lineOf
 withdraw-line c k t e = rw e
 
-pub clock-line : (c : Call) (k : ℕ) → c ≡ Clock k → (99 ∷ 108 ∷ 111 ∷ 99 ∷ 107 ∷ 32 ∷ []) ++ fieldOf k 10 ≡ lineOf c
+pub clock-line : (c : Call) (k : ℕ) → c ≡ Clock k → (99 ∷ 108 ∷ 111 ∷ 99 ∷ 107 ∷ 32 ∷ []) ++ column k 10 ≡ lineOf c
 unfolding lineOf
 clock-line c k e = rw e

@@ -8,7 +8,7 @@ use native.Mathlib.Omega.{arith}
 use lib.Dec.{ltb, leb}
 use lib.ListN.{length, length-append}
 use borrow.Author.Tests.{eqb-true, ltb-true, ltb-false, lt-ltb}
-use Rattle.numerals.specs.Digits.{digits, widthUpTo, widthOf, decimalOf}
+use Rattle.numerals.specs.Digits.{digits, widthUpTo, widthOf, decimalOf, column, pair}
 use Rattle.load.specs.declared.Call.{Call}
 use Rattle.load.specs.declared.Call.the-variants.{Rig, Claim, Release, Withdraw, Clock}
 use Rattle.load.specs.Reading.{walk}
@@ -17,7 +17,7 @@ use Rattle.load.proofs.Reading.{load-parts}
 use Rattle.load.proofs.RoundTrip.{read-written}
 use Rattle.load_text.specs.declared.parse.Parsed.the-variants.{Nothing, Said}
 use Rattle.load_text.specs.declared.words.Field.the-variants.{Value, Wrong}
-use Rattle.load_text.specs.Lines.{glyphOf, hexUpTo, setOf, fieldOf, pairOf, lineOf, linesOf, restOf, header, opened, textOf, pick, pickText}
+use Rattle.load_text.specs.Lines.{glyphOf, hexUpTo, setOf, lineOf, linesOf, restOf, header, opened, textOf}
 use Rattle.load_text.specs.Parsing.{parts, inFront, full, is, isFeed, isBlank, linesIn, wordsIn, said, digitOf, digitsIn, valueIn, numberIn, isList, groupsIn, clockIn, ticketIn, lengthIn, rigWord, claimWord, releaseWord, withdrawWord, clockWord, isWord, callIn, lineSays}
 use Rattle.load_text.specs.ReadBack.{LineReadBack, TextReadBack}
 use Rattle.load_text.proofs.Numbers.{digit-ten, digit-upper, digits-number, number-is, fits}
@@ -233,7 +233,7 @@ glyph : (v : ℕ) → digitOf (glyphOf v) ≡ v % 16
 unfolding glyphOf
 glyph v = go (ltb (v % 16) 10) refl
   where
-    go : (t : Bool) → ltb (v % 16) 10 ≡ t → digitOf (pick t (48 + v % 16) (55 + v % 16)) ≡ v % 16
+    go : (t : Bool) → ltb (v % 16) 10 ≡ t → digitOf (cond t (48 + v % 16) (55 + v % 16)) ≡ v % 16
     go true e = let h = ltb-true (v % 16) 10 e in omega (arith, digit-ten (48 + v % 16) (omega arith) (omega arith))
     go false e = let h = ltb-false (v % 16) 10 e in omega (arith, digit-upper (55 + v % 16) (omega arith) (omega arith))
 
@@ -242,7 +242,7 @@ unfolding hexUpTo
 hex-says zero v h = says-one 16 v (glyphOf v) (omega (arith, glyph v)) (omega (arith, glyph v))
 hex-says (suc k) v h = go (hex-says k (v / 16) (omega (arith, pow-suc 16 (suc k)))) (ltb v 16) refl
   where
-    go : Says 16 (v / 16) (hexUpTo k (v / 16)) → (t : Bool) → ltb v 16 ≡ t → Says 16 v (pickText t (glyphOf v ∷ []) (hexUpTo k (v / 16) ++ (glyphOf v ∷ [])))
+    go : Says 16 (v / 16) (hexUpTo k (v / 16)) → (t : Bool) → ltb v 16 ≡ t → Says 16 v (cond t (glyphOf v ∷ []) (hexUpTo k (v / 16) ++ (glyphOf v ∷ [])))
     go s true e = let q = ltb-true v 16 e in says-one 16 v (glyphOf v) (omega (arith, glyph v)) (omega (arith, glyph v))
     go s false e = says-more 16 (v / 16) v (glyphOf v) (hexUpTo k (v / 16)) s (omega (arith, glyph v)) (omega (arith, glyph v))
 
@@ -319,7 +319,7 @@ module _ (c : Call) (w : List ℕ) (ws : List (List ℕ)) (rest : List ℕ) wher
   line-said e h hs k = ap (λ t. map lineSays (linesIn t)) e ∙ says w ws rest h hs ∙ ap (λ x. x ∷ map lineSays (linesIn rest)) (sym k)
 
 pub line-read-back : LineReadBack
-unfolding lineOf setOf fieldOf pairOf spaced isWord
+unfolding lineOf setOf column pair spaced isWord
 line-read-back (Rig g) h rest =
     let s = hexUpTo 15 g in
     line-said (Rig g) rigWord (s ∷ []) rest

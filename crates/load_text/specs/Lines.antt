@@ -1,53 +1,37 @@
 -- Calls and loads as text. Bytes are ASCII: 10 is a line feed, 32 a space.
 use Prim.Native.Nat.{ℕ, zero, suc, _+_, _/_, _%_}
-use mathlib.Core.Bool.{Bool, true, false, cond}
+use mathlib.Core.Bool.{cond}
 use mathlib.Core.List.{List, [], _∷_, _++_}
 use lib.Dec.{ltb, eqb}
-use Rattle.numerals.specs.Digits.{decimalOf}
+use Rattle.numerals.specs.Digits.{decimalOf, column, pair}
 use Rattle.load.specs.declared.Call.{Call}
 use Rattle.load.specs.declared.Call.the-variants.{Rig, Claim, Release, Withdraw, Clock}
 use Rattle.load.specs.Reading.{Walk, walk, openNumber}
 
-abbrev pub pick : Bool → ℕ → ℕ → ℕ
-pick true a b = a
-pick false a b = b
-
-abbrev pub pickText : Bool → List ℕ → List ℕ → List ℕ
-pickText true a b = a
-pickText false a b = b
-
 -- the lowest digit of v in base 16: 0 to 9, A to F
 unfoldable pub glyphOf : ℕ → ℕ
-glyphOf v = pick (ltb (v % 16) 10) (48 + v % 16) (55 + v % 16)
+glyphOf v = cond (ltb (v % 16) 10) (48 + v % 16) (55 + v % 16)
 
 -- v in base 16 without zeros in front, at most k + 1 digits
 unfoldable pub hexUpTo : ℕ → ℕ → List ℕ
 hexUpTo zero v = glyphOf v ∷ []
-hexUpTo (suc k) v = pickText (ltb v 16) (glyphOf v ∷ []) (hexUpTo k (v / 16) ++ (glyphOf v ∷ []))
+hexUpTo (suc k) v = cond (ltb v 16) (glyphOf v ∷ []) (hexUpTo k (v / 16) ++ (glyphOf v ∷ []))
 
 -- a set of groups
 unfoldable pub setOf : ℕ → ℕ → List ℕ
 setOf g b = hexUpTo 15 g ++ (b ∷ [])
 
--- a number, and the byte behind it
-unfoldable pub fieldOf : ℕ → ℕ → List ℕ
-fieldOf v b = decimalOf v ++ (b ∷ [])
-
--- two numbers that end a line
-unfoldable pub pairOf : ℕ → ℕ → List ℕ
-pairOf a b = fieldOf a 32 ++ fieldOf b 10
-
 -- "rig ", "claim ", "release ", "withdraw ", "clock "
 unfoldable pub lineOf : Call → List ℕ
 lineOf (Rig g) = (114 ∷ 105 ∷ 103 ∷ 32 ∷ []) ++ setOf g 10
-lineOf (Claim c g l) = (99 ∷ 108 ∷ 97 ∷ 105 ∷ 109 ∷ 32 ∷ []) ++ (fieldOf c 32 ++ (setOf g 32 ++ fieldOf l 10))
-lineOf (Release c t) = (114 ∷ 101 ∷ 108 ∷ 101 ∷ 97 ∷ 115 ∷ 101 ∷ 32 ∷ []) ++ pairOf c t
-lineOf (Withdraw c t) = (119 ∷ 105 ∷ 116 ∷ 104 ∷ 100 ∷ 114 ∷ 97 ∷ 119 ∷ 32 ∷ []) ++ pairOf c t
-lineOf (Clock c) = (99 ∷ 108 ∷ 111 ∷ 99 ∷ 107 ∷ 32 ∷ []) ++ fieldOf c 10
+lineOf (Claim c g l) = (99 ∷ 108 ∷ 97 ∷ 105 ∷ 109 ∷ 32 ∷ []) ++ (column c 32 ++ (setOf g 32 ++ column l 10))
+lineOf (Release c t) = (114 ∷ 101 ∷ 108 ∷ 101 ∷ 97 ∷ 115 ∷ 101 ∷ 32 ∷ []) ++ pair c t 10
+lineOf (Withdraw c t) = (119 ∷ 105 ∷ 116 ∷ 104 ∷ 100 ∷ 114 ∷ 97 ∷ 119 ∷ 32 ∷ []) ++ pair c t 10
+lineOf (Clock c) = (99 ∷ 108 ∷ 111 ∷ 99 ∷ 107 ∷ 32 ∷ []) ++ column c 10
 
 -- "# stop "
 unfoldable pub stopLine : ℕ → ℕ → List ℕ
-stopLine n k = (35 ∷ 32 ∷ 115 ∷ 116 ∷ 111 ∷ 112 ∷ 32 ∷ []) ++ pairOf n k
+stopLine n k = (35 ∷ 32 ∷ 115 ∷ 116 ∷ 111 ∷ 112 ∷ 32 ∷ []) ++ pair n k 10
 
 -- nothing for 0, the number of a load that is read to its end
 abbrev pub stopped : ℕ → ℕ → List ℕ

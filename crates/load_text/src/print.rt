@@ -3,9 +3,10 @@ ghost use mathlib.Core.Path.{_≡_};
 ghost use mathlib.Core.List.{[], _∷_, _++_};
 ghost use Prim.Native.Nat.{_≤_};
 ghost use lib.ListN.{length};
+ghost use Rattle.numerals.specs.Digits.{column};
 ghost use Rattle.numerals.specs.Laid.{laid, Put};
 ghost use Rattle.load.specs.Reading.{walk};
-ghost use Rattle.load_text.specs.Lines.{glyphOf, hexUpTo, setOf, fieldOf, pairOf, lineOf, stopLine, restOf, textOf, reasonText, reportOf};
+ghost use Rattle.load_text.specs.Lines.{glyphOf, hexUpTo, setOf, lineOf, stopLine, restOf, textOf, reasonText, reportOf};
 use load::Call;
 use load::Item;
 
@@ -42,27 +43,12 @@ fn put_set(out: &mut [u8], at: usize, groups: u64, b: u8) -> usize
     numerals::put_byte(out, m, b)
 }
 
-// A number, and the byte behind it.
-fn put_field(out: &mut [u8], at: usize, value: u64, b: u8) -> usize
-    ensures { λ r. ⌜ Put (now (out .entry)) at (fieldOf value b) r (now (out .exit)) ⌝ }
-{
-    let m = numerals::put_decimal(out, at, value);
-    numerals::put_byte(out, m, b)
-}
-
-fn put_pair(out: &mut [u8], at: usize, a: u64, b: u64) -> usize
-    ensures { λ r. ⌜ Put (now (out .entry)) at (pairOf a b) r (now (out .exit)) ⌝ }
-{
-    let m = put_field(out, at, a, 32);
-    put_field(out, m, b, 10)
-}
-
 fn put_claim(out: &mut [u8], at: usize, clock: u64, groups: u64, length: u32) -> usize
-    ensures { λ r. ⌜ Put (now (out .entry)) at (fieldOf clock 32 ++ (setOf groups 32 ++ fieldOf length 10)) r (now (out .exit)) ⌝ }
+    ensures { λ r. ⌜ Put (now (out .entry)) at (column clock 32 ++ (setOf groups 32 ++ column length 10)) r (now (out .exit)) ⌝ }
 {
-    let a = put_field(out, at, clock, 32);
+    let a = numerals::put_column(out, at, clock, 32);
     let b = put_set(out, a, groups, 32);
-    put_field(out, b, length as u64, 10)
+    numerals::put_column(out, b, length as u64, 10)
 }
 
 // A call as a line.
@@ -80,15 +66,15 @@ fn put_call(out: &mut [u8], at: usize, call: Call) -> usize
         }
         Call::Release(c, t) => {
             let m = numerals::put_bytes(out, at, b"release ");
-            put_pair(out, m, c, t as u64)
+            numerals::put_pair(out, m, c, t as u64, 10)
         }
         Call::Withdraw(c, t) => {
             let m = numerals::put_bytes(out, at, b"withdraw ");
-            put_pair(out, m, c, t as u64)
+            numerals::put_pair(out, m, c, t as u64, 10)
         }
         Call::Clock(c) => {
             let m = numerals::put_bytes(out, at, b"clock ");
-            put_field(out, m, c, 10)
+            numerals::put_column(out, m, c, 10)
         }
     }
 }
@@ -104,7 +90,7 @@ fn put_stop(out: &mut [u8], at: usize, number: u8, k: u64) -> usize
     ensures { λ r. ⌜ Put (now (out .entry)) at (stopLine number k) r (now (out .exit)) ⌝ }
 {
     let m = numerals::put_bytes(out, at, b"# stop ");
-    put_pair(out, m, number as u64, k)
+    numerals::put_pair(out, m, number as u64, k, 10)
 }
 
 // The records of a load that opens, to its end or to the first that is refused.

@@ -11,7 +11,7 @@ use borrow.Author.Tests.{leb-true, leb-false}
 use mathlib.Core.Bool.{Bool, true, false, cond}
 use lib.ListN.{length, take, drop, getD, set, length-append}
 use lib.Seq.{sets, length-sets, sets-eq, set-comm, set-out, drop-cons, drop-length}
-use Rattle.numerals.specs.Digits.{digits, decimalOf, widthOf, widthUpTo}
+use Rattle.numerals.specs.Digits.{digits, decimalOf, widthOf, widthUpTo, column, pair}
 use Rattle.numerals.specs.Laid.{behind, laid, Put}
 use Rattle.numerals.proofs.Numbers.{stored}
 use Rattle.numerals.proofs.BigEndian.{digits-length}
@@ -174,3 +174,11 @@ width-small v = width-up 19 v
 pub decimal-length : (v : ℕ) → length (decimalOf v) ≡ widthOf v
 unfolding decimalOf
 decimal-length v = digits-length 10 48 (widthOf v) v
+
+pub column-length : (v b : ℕ) → length (column v b) ≤ 21
+unfolding column
+column-length v b = omega (arith, length-append (decimalOf v) (b ∷ []), decimal-length v, width-small v)
+
+pub pair-length : (v w b : ℕ) → length (pair v w b) ≤ 42
+unfolding pair
+pair-length v w b = omega (arith, length-append (column v 32) (column w b), column-length v 32, column-length w b)

@@ -31,3 +31,11 @@ widthOf v = widthUpTo 19 v
 -- A number in decimal; the character 0 is byte 48.
 unfoldable pub decimalOf : ℕ → List ℕ
 decimalOf v = digits 10 48 (widthOf v) v
+
+-- A number in decimal, and the byte behind it.
+unfoldable pub column : ℕ → ℕ → List ℕ
+column v b = decimalOf v ++ (b ∷ [])
+
+-- Two numbers, a space (byte 32) between them, and the byte behind them.
+unfoldable pub pair : ℕ → ℕ → ℕ → List ℕ
+pair v w b = column v 32 ++ column w b

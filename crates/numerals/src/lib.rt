@@ -6,7 +6,7 @@ ghost use mathlib.Core.List.{[], _∷_};
 ghost use Prim.Native.Nat.{_+_, _-_, _^_, _≤_, _<_, min};
 ghost use lib.ListN.{length, take, drop, set};
 ghost use Rattle.numerals.specs.Laid.{behind, laid};
-ghost use Rattle.numerals.specs.Digits.{bytesAt, numeral, digits, decimalOf, widthOf};
+ghost use Rattle.numerals.specs.Digits.{bytesAt, numeral, digits, decimalOf, widthOf, column, pair};
 
 // ---- reading
 fn wide(b: u8) -> u64
@@ -144,6 +144,22 @@ pub fn put_decimal(out: &mut [u8], at: usize, value: u64) -> usize
 {
     let n = width(value);
     put_digits(out, at, n, value, 10, 48)
+}
+
+// A number laid in decimal, and a byte behind it.
+pub fn put_column(out: &mut [u8], at: usize, value: u64, b: u8) -> usize
+    ensures { λ r. ⌜ (r ≡ behind at (length (column value b))) × (now (out .exit) ≡ laid (now (out .entry)) at (column value b)) ⌝ }
+{
+    let m = put_decimal(out, at, value);
+    put_byte(out, m, b)
+}
+
+// Two numbers with a space between them, and a byte behind them.
+pub fn put_pair(out: &mut [u8], at: usize, a: u64, b: u64, last: u8) -> usize
+    ensures { λ r. ⌜ (r ≡ behind at (length (pair a b last))) × (now (out .exit) ≡ laid (now (out .entry)) at (pair a b last)) ⌝ }
+{
+    let m = put_column(out, at, a, 32);
+    put_column(out, m, b, last)
 }
 
 // Bytes laid from a place on; one step for each byte that the buffer has room for.

@@ -19,7 +19,7 @@ same-length c = search needs
 
 returns : tie.Need-returns
 unfolding onLine
-returns c = put-then _ _ _ _ _ _ _ _ (omega arith) (put (c .before .before .before .before .before .before .put-bytes .ensures)) (c .before .before .put-pair .ensures)
+returns c = put-then _ _ _ _ _ _ _ _ (omega arith) (put (c .before .before .before .before .before .before .put-bytes .ensures)) (put (c .before .before .put-pair .ensures))
 
 pub put-grant-spec : {M : Type 1} → statement M
 put-grant-spec =

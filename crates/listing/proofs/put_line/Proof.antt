@@ -1,5 +1,5 @@
 use native.Mathlib.Omega.{arith}
-use Rattle.numerals.proofs.Laying.{put-then}
+use Rattle.numerals.proofs.Laying.{put, put-then}
 use Rattle.listing.specs.Lines.{lineOf}
 use borrow.Author.Needs.{needs}
 use Rattle.listing.proofs.put_line.Statement.{statement}
@@ -16,7 +16,7 @@ same-length c = search needs
 
 returns : tie.Need-returns
 unfolding lineOf
-returns c = put-then _ _ _ _ _ _ _ _ (omega arith) (c .before .before .before .before .before .before .put-pair .ensures) (c .before .before .put-pair2 .ensures)
+returns c = put-then _ _ _ _ _ _ _ _ (omega arith) (put (c .before .before .before .before .before .before .put-pair .ensures)) (put (c .before .before .put-pair2 .ensures))
 
 pub put-line-spec : {M : Type 1} → statement M
 put-line-spec = tie.close (tie.spec put-pair-requires put-pair-requires-2 same-length returns)

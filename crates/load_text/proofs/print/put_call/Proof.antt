@@ -69,8 +69,8 @@ slice-aggregate-put-bytes-5 c = search needs
 put-bytes-requires-5 : tie.Need-put-bytes-requires-5
 put-bytes-requires-5 c κs = search needs
 
-put-field-requires : tie.Need-put-field-requires
-put-field-requires c κs = search needs
+put-column-requires : tie.Need-put-column-requires
+put-column-requires c κs = search needs
 
 same-length : tie.Need-same-length
 same-length c = search needs
@@ -88,19 +88,19 @@ same-length-3 : tie.Need-same-length-3
 same-length-3 c = search needs
 
 returns-3 : tie.Need-returns-3
-returns-3 c = put-as _ _ (release-line _ _ _ (c .before .before .before .before .before .before .before .before .before .before .call3 .given .1)) (put-then _ _ _ _ _ _ _ _ (omega arith) (put (c .before .before .before .before .before .before .put-bytes3 .ensures)) (c .before .before .put-pair .ensures))
+returns-3 c = put-as _ _ (release-line _ _ _ (c .before .before .before .before .before .before .before .before .before .before .call3 .given .1)) (put-then _ _ _ _ _ _ _ _ (omega arith) (put (c .before .before .before .before .before .before .put-bytes3 .ensures)) (put (c .before .before .put-pair .ensures)))
 
 same-length-4 : tie.Need-same-length-4
 same-length-4 c = search needs
 
 returns-4 : tie.Need-returns-4
-returns-4 c = put-as _ _ (withdraw-line _ _ _ (c .before .before .before .before .before .before .before .before .before .before .call4 .given .1)) (put-then _ _ _ _ _ _ _ _ (omega arith) (put (c .before .before .before .before .before .before .put-bytes4 .ensures)) (c .before .before .put-pair2 .ensures))
+returns-4 c = put-as _ _ (withdraw-line _ _ _ (c .before .before .before .before .before .before .before .before .before .before .call4 .given .1)) (put-then _ _ _ _ _ _ _ _ (omega arith) (put (c .before .before .before .before .before .before .put-bytes4 .ensures)) (put (c .before .before .put-pair2 .ensures)))
 
 same-length-5 : tie.Need-same-length-5
 same-length-5 c = search needs
 
 returns-5 : tie.Need-returns-5
-returns-5 c = put-as _ _ (clock-line _ _ (c .before .before .before .before .before .before .before .before .before .before .call5 .given .1)) (put-then _ _ _ _ _ _ _ _ (omega arith) (put (c .before .before .before .before .before .before .put-bytes5 .ensures)) (c .before .before .put-field .ensures))
+returns-5 c = put-as _ _ (clock-line _ _ (c .before .before .before .before .before .before .before .before .before .before .call5 .given .1)) (put-then _ _ _ _ _ _ _ _ (omega arith) (put (c .before .before .before .before .before .before .put-bytes5 .ensures)) (put (c .before .before .put-column .ensures)))
 
 pub put-call-spec : {M : Type 1} → statement M
 put-call-spec =
@@ -127,7 +127,7 @@ put-call-spec =
     enum-known-call-5
     slice-aggregate-put-bytes-5
     put-bytes-requires-5
-    put-field-requires
+    put-column-requires
     same-length
     returns
     same-length-2

@@ -1,0 +1,25 @@
+-- `numerals::put_column` meets its contract: the number, and the byte behind it.
+use native.Mathlib.Omega.{arith}
+use Rattle.numerals.proofs.Laying.{put, put-then}
+use Rattle.numerals.specs.Digits.{column}
+use borrow.Author.Needs.{needs}
+use Rattle.numerals.proofs.put_column.Statement.{statement}
+use Rattle.numerals.proofs.put_column.Tie as tie
+
+put-decimal-requires : tie.Need-put-decimal-requires
+put-decimal-requires c κs = search needs
+
+put-byte-requires : tie.Need-put-byte-requires
+put-byte-requires c κs = search needs
+
+same-length : tie.Need-same-length
+same-length c = search needs
+
+returns : tie.Need-returns
+unfolding column
+returns c =
+    let w = put-then _ _ _ _ _ _ _ _ (omega arith) (put (c .before .before .before .before .before .before .put-decimal .ensures)) (put (c .before .before .put-byte .ensures)) in
+    (w .next, w .is)
+
+pub put-column-spec : {M : Type 1} → statement M
+put-column-spec = tie.close (tie.spec put-decimal-requires put-byte-requires same-length returns)
