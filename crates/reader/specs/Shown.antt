@@ -16,10 +16,10 @@ unfoldable pub recordPart : List ℕ → ℕ → List ℕ
 recordPart s at = partOf s at (itemAt s at)
 
 -- "Behind the last record it says that the load has ended; at 12 or 13 it keeps its position."
-abbrev pub behind : ℕ → Item → ℕ
-behind at (Record c next) = next
-behind at End = at
-behind at (Refused n) = at
+abbrev pub pastItem : ℕ → Item → ℕ
+pastItem at (Record c next) = next
+pastItem at End = at
+pastItem at (Refused n) = at
 
 unfoldable pub positionAfter : List ℕ → ℕ → ℕ
-positionAfter s at = behind at (itemAt s at)
+positionAfter s at = pastItem at (itemAt s at)

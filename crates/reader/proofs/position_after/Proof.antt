@@ -1,7 +1,7 @@
 -- `position_after` meets its contract: the position that each answer of `record_at` gives.
 use mathlib.Core.Path.{sym, ap, _∙_}
 use borrow.Author.Needs.{needs}
-use Rattle.reader.specs.Shown.{behind, positionAfter}
+use Rattle.reader.specs.Shown.{pastItem, positionAfter}
 use Rattle.reader.proofs.position_after.Statement.{statement}
 use Rattle.reader.proofs.position_after.Tie as tie
 
@@ -19,15 +19,15 @@ enum-known--n c = search needs
 
 returns : tie.Need-returns
 unfolding positionAfter
-returns c = sym (ap (behind _) (sym (c .before .before .before .record-at .ensures) ∙ c .before .-c .given .1))
+returns c = sym (ap (pastItem _) (sym (c .before .before .before .record-at .ensures) ∙ c .before .-c .given .1))
 
 returns-2 : tie.Need-returns-2
 unfolding positionAfter
-returns-2 c = sym (ap (behind _) (sym (c .before .before .record-at .ensures) ∙ c .enum-told .given .1))
+returns-2 c = sym (ap (pastItem _) (sym (c .before .before .record-at .ensures) ∙ c .enum-told .given .1))
 
 returns-3 : tie.Need-returns-3
 unfolding positionAfter
-returns-3 c = sym (ap (behind _) (sym (c .before .before .before .record-at .ensures) ∙ c .before .-n .given .1))
+returns-3 c = sym (ap (pastItem _) (sym (c .before .before .before .record-at .ensures) ∙ c .before .-n .given .1))
 
 pub position-after-spec : {M : Type 1} → statement M
 position-after-spec =
