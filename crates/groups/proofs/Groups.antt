@@ -1,14 +1,16 @@
--- Laws of specs/Groups.antt for callers: `shares`, `empty` and `within`, each as a statement of the groups 0 to 63, and what a union
--- shares. They rest on four inductions over the groups: `from-elim`, `from-intro`, `from-same` and `from-or`; a union on two more, `set-same` and `from-has`. Assumes nothing.
+-- Laws of specs/Groups.antt for callers: `shares`, `empty` and `within`, each as a statement of the groups 0 to 63, what a union shares,
+-- and the lowest group of a set with its others. They rest on inductions over the groups: `from-elim`, `from-intro`, `from-same`,
+-- `from-or`; `set-same` and `from-has` for sets; `lowest-from` and `none-from` for the lowest. Assumes nothing.
 use mathlib.Core.Path.{_≡_, refl, sym, ap, _∙_}
 use mathlib.Core.Bool.{Bool, true, false, not, _&&_, _||_, cond, and-comm, and-eq-true-iff, and-or-distrib-right, or-true, false≢true}
 use Prim.Native.Nat.{ℕ, zero, suc, _+_, _*_, _/_, _%_, _^_, _<_}
 use native.Mathlib.Nat.{add-zero, zero-add, div-one}
 use native.Mathlib.Omega.{arith}
-use lib.Dec.{eqb}
+use lib.Dec.{eqb, ltb}
 use lib.Pow.{shr-shr}
-use borrow.Author.Tests.{not-true, not-false}
-use Rattle.groups.specs.Groups.{has, someFrom, someGroup, shares, empty, within, setFrom, setWhere, union}
+use borrow.Author.Tests.{not-true, not-false, eqb-true, eqb-false, ltb-true, ltb-false}
+use Rattle.groups.specs.declared.MaybeGroup.the-variants.{Group, NoGroup}
+use Rattle.groups.specs.Groups.{has, someFrom, someGroup, shares, empty, within, setFrom, setWhere, union, without, lowestFrom, lowest, others}
 
 -- Group j + 1 from g on is group j from the next one on.
 next : (g j : ℕ) → g + suc j ≡ suc g + j
@@ -32,11 +34,25 @@ from-intro zero g p j h e = absurd (omega arith)
 from-intro (suc k) g p zero h e = rw (rw add-zero at e)
 from-intro (suc k) g p (suc j) h e = rw (from-intro k (suc g) p j (omega arith) (rw next at e)) (or-true (p g))
 
+-- Where none of them does, each fails it.
+from-none : (k g : ℕ) (p : ℕ → Bool) → someFrom k g p ≡ false → (j : ℕ) → j < k → p (g + j) ≡ false
+from-none k g p e j h = go (p (g + j)) refl
+  where
+    go : (t : Bool) → p (g + j) ≡ t → t ≡ false
+    go true q = sym (from-intro k g p j h q) ∙ e
+    go false q = refl
+
 -- Tests that agree at each of the k groups give the same answer.
 pub from-same : (k g : ℕ) (p q : ℕ → Bool) → ((h : ℕ) → h < g + k → p h ≡ q h) → someFrom k g p ≡ someFrom k g q
 unfolding someFrom
 from-same zero g p q s = refl
 from-same (suc k) g p q s = rw (s g (omega arith), from-same k (suc g) p q (λ h l. s h (omega arith)))
+
+-- The groups from the next one on.
+pub from-next : (k g : ℕ) (p : ℕ → Bool) → someFrom k (suc g) p ≡ someFrom k g (λ h. p (suc h))
+unfolding someFrom
+from-next zero g p = refl
+from-next (suc k) g p = rw (from-next k (suc g) p)
 
 -- Of two tests some group passes either exactly where one passes the first or one passes the second.
 from-or : (k g : ℕ) (p q : ℕ → Bool) → someFrom k g (λ h. p h || q h) ≡ (someFrom k g p || someFrom k g q)
@@ -59,11 +75,7 @@ some-intro p g h e = from-intro _ 0 p g (omega arith) (rw zero-add e)
 
 -- Where no group passes p, each fails it.
 pub none-elim : (p : ℕ → Bool) → someGroup p ≡ false → (g : ℕ) → g < 64 → p g ≡ false
-none-elim p e g h = go (p g) refl
-  where
-    go : (t : Bool) → p g ≡ t → t ≡ false
-    go true q = sym (some-intro p g h q) ∙ e
-    go false q = refl
+none-elim p e g h = rw zero-add at (from-none _ 0 p e g (omega arith))
 
 -- Where each group fails p, none passes it.
 pub none-intro : (p : ℕ → Bool) → ((g : ℕ) → g < 64 → p g ≡ false) → someGroup p ≡ false
@@ -79,30 +91,30 @@ unfolding setFrom
 set-same zero g p q s = refl
 set-same (suc k) g p q s = rw (s g (omega arith), set-same k (suc g) p q (λ h l. s h (omega arith)))
 
-one-add : (j : ℕ) → 1 + j ≡ suc j
+pub one-add : (j : ℕ) → 1 + j ≡ suc j
 one-add j = omega arith
 
 -- The lowest digit of a set, and the others.
-lowest : (t : Bool) (n : ℕ) → (cond t 1 0 + 2 * n) % 2 ≡ cond t 1 0
-lowest true n = omega arith
-lowest false n = omega arith
+low-digit : (t : Bool) (n : ℕ) → (cond t 1 0 + 2 * n) % 2 ≡ cond t 1 0
+low-digit true n = omega arith
+low-digit false n = omega arith
 
-others : (t : Bool) (n : ℕ) → (cond t 1 0 + 2 * n) / 2 ≡ n
-others true n = omega arith
-others false n = omega arith
+high-digits : (t : Bool) (n : ℕ) → (cond t 1 0 + 2 * n) / 2 ≡ n
+high-digits true n = omega arith
+high-digits false n = omega arith
 
 -- Group g + j is in the set of the k groups from g on that pass p exactly where it passes.
 from-has : (k g : ℕ) (p : ℕ → Bool) (j : ℕ) → j < k → has (setFrom k g p) j ≡ p (g + j)
 unfolding setFrom
 from-has zero g p j h = absurd (omega arith)
-from-has (suc k) g p zero h = rw (add-zero, div-one, lowest) (go (p g))
+from-has (suc k) g p zero h = rw (add-zero, div-one, low-digit) (go (p g))
   where
     go : (t : Bool) → eqb (cond t 1 0) 1 ≡ t
     go true = refl
     go false = refl
 from-has (suc k) g p (suc j) h =
     let n = cond (p g) 1 0 + 2 * setFrom k (suc g) p in
-    let half : n / 2 ≡ setFrom k (suc g) p = others (p g) (setFrom k (suc g) p) in
+    let half : n / 2 ≡ setFrom k (suc g) p = high-digits (p g) (setFrom k (suc g) p) in
     let all : n / 2 ^ suc j ≡ setFrom k (suc g) p / 2 ^ j = rw (← one-add j) (sym (shr-shr n 1 j)) ∙ ap (λ m. m / 2 ^ j) half in
     ap (λ m. eqb (m % 2) 1) all ∙ from-has k (suc g) p j (omega arith) ∙ ap p (sym (next g j))
 
@@ -136,6 +148,11 @@ union-shares a b x = from-same _ 0 _ _ at-group ∙ from-or _ 0 _ _
     at-group : (g : ℕ) → g < 64 → (has (union a b) g && has x g) ≡ (has a g && has x g || has b g && has x g)
     at-group g h = rw (has-set _ g h) (and-or-distrib-right (has a g) (has b g) (has x g))
 
+-- The groups of a set without another.
+pub without-has : (a b g : ℕ) → g < 64 → has (without a b) g ≡ (has a g && not (has b g))
+unfolding without
+without-has a b g h = has-set _ g h
+
 -- Each group is missing from an empty set.
 pub empty-elim : (a : ℕ) → empty a ≡ true → (g : ℕ) → g < 64 → has a g ≡ false
 unfolding empty
@@ -159,3 +176,53 @@ within-intro a b f = rw (none-intro _ (λ g h. go g h (has a g) refl))
     go : (g : ℕ) → g < 64 → (t : Bool) → has a g ≡ t → (t && not (has b g)) ≡ false
     go g h true p = rw (f g h p)
     go g h false p = refl
+
+-- The lowest of the k groups from g on that passes p is one of them, passes, and no group below it does.
+lowest-from : (k g : ℕ) (p : ℕ → Bool) (h : ℕ) → lowestFrom k g p ≡ Group h → (j : ℕ) × (j < k) × (g + j ≡ h) × (p h ≡ true) × (someFrom j g p ≡ false)
+unfolding someFrom lowestFrom
+lowest-from zero g p h e = let z : _≡_ {A = ℕ} 0 1 = cc in absurd (omega arith)
+lowest-from (suc k) g p h e = go (lowest-from k (suc g) p h) (p g) refl e
+  where
+    go : (lowestFrom k (suc g) p ≡ Group h → (j : ℕ) × (j < k) × (suc g + j ≡ h) × (p h ≡ true) × (someFrom j (suc g) p ≡ false)) → (t : Bool) → p g ≡ t
+        → cond t (Group g) (lowestFrom k (suc g) p) ≡ Group h
+        → (j : ℕ) × (j < suc k) × (g + j ≡ h) × (p h ≡ true) × (someFrom j g p ≡ false)
+    go later true q e = let z : g ≡ h = cc e in (0, omega arith, omega arith, ap p (sym z) ∙ q, refl)
+    go later false q e = let r = later e in (suc (r .0), omega arith, omega (arith, r .2), r .3, rw (q, r .4))
+
+-- Where there is none, no group passes.
+none-from : (k g : ℕ) (p : ℕ → Bool) → lowestFrom k g p ≡ NoGroup → someFrom k g p ≡ false
+unfolding someFrom lowestFrom
+none-from zero g p e = refl
+none-from (suc k) g p e = go (none-from k (suc g) p) (p g) e
+  where
+    go : (lowestFrom k (suc g) p ≡ NoGroup → someFrom k (suc g) p ≡ false) → (t : Bool) → cond t (Group g) (lowestFrom k (suc g) p) ≡ NoGroup
+        → (t || someFrom k (suc g) p) ≡ false
+    go later true e = let z : _≡_ {A = ℕ} 0 1 = cc in absurd (omega arith)
+    go later false e = later e
+
+-- The lowest group of a set is in it.
+pub lowest-in : (a g : ℕ) → lowest a ≡ Group g → (g < 64) × (has a g ≡ true)
+unfolding lowest
+lowest-in a g e = let r = lowest-from _ 0 _ g e in (omega (arith, r .1, r .2), r .3)
+
+-- A set without a lowest group has none.
+pub lowest-none : (a : ℕ) → lowest a ≡ NoGroup → (g : ℕ) → g < 64 → has a g ≡ false
+unfolding lowest
+lowest-none a e = none-elim (has a) (none-from _ 0 _ e)
+
+-- Its others are all but that one.
+pub others-has : (a g : ℕ) → lowest a ≡ Group g → (h : ℕ) → h < 64 → has (others a) h ≡ (has a h && not (eqb h g))
+unfolding lowest others
+others-has a g e h l = has-set _ h l ∙ go (eqb h g) refl (ltb g h) refl
+  where
+    r : (j : ℕ) × (j < 64) × (0 + j ≡ g) × (has a g ≡ true) × (someFrom j 0 (has a) ≡ false)
+    r = lowest-from _ 0 _ g e
+
+    go : (t : Bool) → eqb h g ≡ t → (u : Bool) → ltb g h ≡ u → (has a h && someFrom h 0 (has a)) ≡ (has a h && not t)
+    go true q u z =
+        let same : h ≡ r .0 = omega (arith, eqb-true h g q, r .2) in
+        ap (λ (k : ℕ). has a h && someFrom k 0 (has a)) same ∙ ap (λ (b : Bool). has a h && b) (r .4)
+    go false q true z = ap (λ (b : Bool). has a h && b) (from-intro h 0 (has a) g (omega (arith, ltb-true)) (rw zero-add (r .3)))
+    go false q false z =
+        let d = eqb-false h g q in
+        rw (rw zero-add at (from-none (r .0) 0 (has a) (r .4) h (omega (arith, ltb-false, r .2))))

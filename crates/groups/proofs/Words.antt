@@ -1,18 +1,20 @@
 -- What the code's words have to do with the definitions of specs/Groups.antt. Group g is the digit of 2^g, and two words are equal
--- exactly where no digit differs: `differ-from`, the one induction. Three of the laws say which two words to compare; that of a union
--- rests on `word-from`: a word is the set of the groups that it has. Assumes nothing.
+-- exactly where no digit differs: `differ-from`, the one induction. Three of the laws say which two words to compare; those of
+-- union, without and others rest on `word-from`: a word is the set of the groups that it has. Assumes nothing.
 use mathlib.Core.Path.{_≡_, refl, sym, ap, _∙_}
-use mathlib.Core.Bool.{Bool, true, false, not, _&&_, _||_, cond, Bool·not-not}
-use Prim.Native.Nat.{ℕ, zero, suc, _+_, _*_, _/_, _%_, _^_, _<_, min, max}
-use native.Mathlib.Nat.{div-one, zero-div, two-pow-succ}
+use mathlib.Core.Bool.{Bool, true, false, not, _&&_, _||_, cond, Bool·not-not, and-true, and-false, false≢true}
+use Prim.Native.Nat.{ℕ, zero, suc, _+_, _*_, _/_, _%_, _^_, _-_, _<_, min, max}
+use native.Mathlib.Nat.{add-zero, zero-add, div-one, zero-div, two-pow-succ}
 use native.Mathlib.Numerals.{add-one}
 use native.Mathlib.Omega.{arith}
-use lib.Bits.{bitAnd, bitOr, and-shr, and-step, and-le-l, or-shr, or-step, or-lt}
+use lib.Bits.{differ as unlike, bitAnd, bitOr, and-shr, and-step, and-le-l, or-shr, or-step, or-lt, bitXor, xor-shr, xor-step, xor-lt, and-self, and-le-r}
+use lib.Count.{trailingZeros, under}
 use lib.Dec.{eqb}
 use lib.Pow.{shr-shr}
 use borrow.Author.Tests.{eq-eqb, ne-eqb, eqb-true, eqb-false}
-use Rattle.groups.specs.Groups.{has, someFrom, someGroup, shares, empty, within, setFrom, union}
-use Rattle.groups.proofs.Groups.{from-same, set-same}
+use Rattle.groups.specs.declared.MaybeGroup.the-variants.{Group, NoGroup}
+use Rattle.groups.specs.Groups.{has, someFrom, someGroup, shares, empty, within, setFrom, union, without, lowestFrom, lowest, others}
+use Rattle.groups.proofs.Groups.{one-add, from-same, from-next, set-same, lowest-in}
 
 -- The digit of x that stands for group g.
 abbrev digit : ℕ → ℕ → ℕ
@@ -132,3 +134,95 @@ unfolding union
 union-word a b h l =
     set-same 64 0 _ (has (bitOr a b)) (λ g k. sym (or-has a b g))
     ∙ (simp div-one at (word-from 64 0 (bitOr a b) (simp div-one (or-lt 64 a b h l))))
+
+-- A group is in `a ^ (a & b)` exactly where it is in a and not in b.
+xor-digit : (a b g : ℕ) → digit (bitXor a b) g ≡ unlike (digit a g) (digit b g)
+xor-digit a b g = rw xor-shr (omega (arith, xor-step (a / 2 ^ g) (b / 2 ^ g), four (λ u v. unlike u v < 2) (omega arith) (omega arith) (omega arith) (omega arith) (a / 2 ^ g) (b / 2 ^ g)))
+
+left-has : (a b g : ℕ) → has (bitXor a (bitAnd a b)) g ≡ (has a g && not (has b g))
+left-has a b g =
+    rw (xor-digit, and-digit)
+    (four (λ u v. eqb (unlike u (min u v)) 1 ≡ (eqb u 1 && not (eqb v 1))) refl refl refl refl (a / 2 ^ g) (b / 2 ^ g))
+
+-- `a ^ (a & b)` is a without b.
+pub without-word : (a b : ℕ) → a < 2 ^ 64 → without a b ≡ bitXor a (bitAnd a b)
+unfolding without
+without-word a b h =
+    set-same 64 0 _ (has (bitXor a (bitAnd a b))) (λ g k. sym (left-has a b g))
+    ∙ (simp div-one at (word-from 64 0 (bitXor a (bitAnd a b)) (simp div-one (xor-lt 64 a (bitAnd a b) h (omega (arith, and-le-l a b))))))
+
+-- ── the lowest group ──
+-- Of a word with a digit from group g on, k of them, the zeros below the first tell the lowest group.
+zeros-from : (k g x : ℕ) → 0 < x / 2 ^ g → x / 2 ^ g < 2 ^ k → lowestFrom k g (has x) ≡ Group (g + trailingZeros k (x / 2 ^ g))
+unfolding lowestFrom trailingZeros
+zeros-from zero g x p h = absurd (omega arith)
+zeros-from (suc k) g x p h =
+    let s = shifted x g in
+    let q = two-pow-succ k in
+    go (x / 2 ^ g % 2) (λ o. zeros-from k (suc g) x (omega arith) (omega arith) ∙ ap (λ n. Group (suc g + trailingZeros k n)) s) (omega arith)
+  where
+    go : (r : ℕ) → (r ≡ 0 → lowestFrom k (suc g) (has x) ≡ Group (suc g + trailingZeros k (x / 2 ^ g / 2))) → r < 2
+        → cond (eqb r 1) (Group g) (lowestFrom k (suc g) (has x)) ≡ Group (g + under r (trailingZeros k (x / 2 ^ g / 2)))
+    go zero later l = later refl ∙ ap Group (one-more (trailingZeros k (x / 2 ^ g / 2)))
+      where
+        one-more : (z : ℕ) → suc g + z ≡ g + suc z
+        one-more z = omega arith
+    go (suc zero) later l = ap Group (sym (add-zero g))
+    go (suc (suc r)) later l = absurd (omega arith)
+
+-- The lowest group of a word that is not 0; 0 has none.
+pub lowest-word : (a : ℕ) → 0 < a → a < 2 ^ 64 → lowest a ≡ Group (trailingZeros 64 a)
+unfolding lowest
+lowest-word a p h = simp (div-one, zero-add) at (zeros-from 64 0 a (simp div-one p) (simp div-one h))
+
+pub lowest-zero : lowest 0 ≡ NoGroup
+unfolding lowest lowestFrom
+lowest-zero = refl
+
+-- Group g of a word's half is the next group of the word.
+half-has : (x g : ℕ) → has x (suc g) ≡ has (x / 2) g
+half-has x g =
+    let e : x / 2 ^ suc g ≡ x / 2 / 2 ^ g = rw (← one-add g) (sym (shr-shr x 1 g)) in
+    ap (λ n. eqb (n % 2) 1) e
+
+first-has : (x : ℕ) → has x 0 ≡ eqb (x % 2) 1
+first-has x = ap (λ n. eqb (n % 2) 1) (div-one x)
+
+-- What `x & (x - 1)` has: the groups of x that have another below.
+cleared : (g x : ℕ) → has (bitAnd x (x - 1)) g ≡ (has x g && someFrom g 0 (has x))
+unfolding someFrom
+cleared zero x =
+    let e : bitAnd x (x - 1) % 2 ≡ 0 = omega (arith, and-step x (x - 1)) in
+    first-has (bitAnd x (x - 1)) ∙ ap (λ d. eqb d 1) e ∙ sym (and-false (has x 0))
+cleared (suc g) x = half-has (bitAnd x (x - 1)) g ∙ go (x % 2) refl (cleared g (x / 2)) ∙ rw (half-has x g, from-next g 0 (has x), first-has x)
+  where
+    go : (r : ℕ) → x % 2 ≡ r → has (bitAnd (x / 2) (x / 2 - 1)) g ≡ (has (x / 2) g && someFrom g 0 (has (x / 2)))
+        → has (bitAnd x (x - 1) / 2) g ≡ (has (x / 2) g && (eqb r 1 || someFrom g 0 (λ h. has x (suc h))))
+    go zero o later =
+        let h : (x - 1) / 2 ≡ x / 2 - 1 = omega arith in
+        let e : bitAnd x (x - 1) / 2 ≡ bitAnd (x / 2) (x / 2 - 1) = omega (arith, and-step x (x - 1), ap (bitAnd (x / 2)) h) in
+        ap (λ n. has n g) e ∙ later ∙ ap (λ b. has (x / 2) g && b) (from-same g 0 _ _ (λ h l. sym (half-has x h)))
+    go (suc zero) o later =
+        let h : (x - 1) / 2 ≡ x / 2 = omega arith in
+        let e : bitAnd x (x - 1) / 2 ≡ x / 2 = omega (arith, and-step x (x - 1), ap (bitAnd (x / 2)) h, and-self (x / 2)) in
+        ap (λ n. has n g) e ∙ sym (and-true (has (x / 2) g))
+    go (suc (suc r)) o later = absurd (omega arith)
+
+-- `a & (a - 1)` is a without its lowest group.
+pub others-word : (a : ℕ) → a < 2 ^ 64 → others a ≡ bitAnd a (a - 1)
+unfolding others
+others-word a h =
+    set-same 64 0 _ (has (bitAnd a (a - 1))) (λ g k. sym (cleared g a))
+    ∙ (simp div-one at (word-from 64 0 (bitAnd a (a - 1)) (simp div-one (omega (arith, and-le-l a (a - 1))))))
+
+-- No group is in the word 0.
+pub zero-has : (g : ℕ) → has 0 g ≡ false
+zero-has g = ap (λ d. eqb d 1) (no-digit g)
+
+-- A walk through the groups of a set ends.
+pub others-less : (a g : ℕ) → a < 2 ^ 64 → lowest a ≡ Group g → others a < a
+others-less a g h e = go (eqb a 0) refl
+  where
+    go : (t : Bool) → eqb a 0 ≡ t → others a < a
+    go true q = absurd (false≢true (sym (zero-has g) ∙ ap (λ n. has n g) (sym (eqb-true a 0 q)) ∙ lowest-in a g e .1))
+    go false q = let n = eqb-false a 0 q in omega (arith, others-word a h, and-le-r a (a - 1))

@@ -3,6 +3,8 @@
 use mathlib.Core.Bool.{Bool, false, not, _&&_, _||_, cond}
 use Prim.Native.Nat.{ℕ, zero, suc, _+_, _*_, _/_, _%_, _^_}
 use lib.Dec.{eqb}
+use Rattle.groups.specs.declared.MaybeGroup.{MaybeGroup}
+use Rattle.groups.specs.declared.MaybeGroup.the-variants.{Group, NoGroup}
 
 -- Group g is in the set s.
 abbrev pub has : ℕ → ℕ → Bool
@@ -41,3 +43,20 @@ setWhere p = setFrom 64 0 p
 -- The groups of either set.
 unfoldable pub union : ℕ → ℕ → ℕ
 union a b = setWhere (λ g. has a g || has b g)
+
+-- The groups of a that are not in b.
+unfoldable pub without : ℕ → ℕ → ℕ
+without a b = setWhere (λ g. has a g && not (has b g))
+
+-- The lowest of the k groups from g on that passes p, or none.
+unfoldable pub lowestFrom : ℕ → ℕ → (ℕ → Bool) → MaybeGroup
+lowestFrom zero g p = NoGroup
+lowestFrom (suc k) g p = cond (p g) (Group g) (lowestFrom k (suc g) p)
+
+-- The lowest group of a set, or none.
+unfoldable pub lowest : ℕ → MaybeGroup
+lowest a = lowestFrom 64 0 (has a)
+
+-- A set without its lowest group: those of its groups that have another of them below.
+unfoldable pub others : ℕ → ℕ
+others a = setWhere (λ g. has a g && someFrom g 0 (has a))

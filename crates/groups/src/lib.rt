@@ -1,7 +1,13 @@
 // Sets of groups as 64-bit words: each question is answered for all 64 groups at once.
 // What is asked is defined in specs/Groups.antt; proofs/Groups.antt has its laws, and proofs/Words.antt what joins it to words.
 ghost use mathlib.Core.Path.{_≡_};
-ghost use Rattle.groups.specs.Groups.{shares, empty, within, union};
+ghost use Rattle.groups.specs.Groups.{shares, empty, within, union, without, lowest, others};
+
+// What a search for a group gives.
+pub enum MaybeGroup {
+    Group(usize),
+    NoGroup,
+}
 
 // Whether two sets have a group in common. Cost: one instruction on 64 bits.
 pub fn shares(a: u64, b: u64) -> bool
@@ -29,4 +35,31 @@ pub fn union(a: u64, b: u64) -> u64
     ensures { λ r. ⌜ r ≡ union a b ⌝ }
 {
     a | b
+}
+
+// The groups of `a` that are not in `b`. Cost: two instructions on 64 bits.
+pub fn without(a: u64, b: u64) -> u64
+    ensures { λ r. ⌜ r ≡ without a b ⌝ }
+{
+    a ^ (a & b)
+}
+
+// The lowest group of a set, or none. Cost: a comparison and one instruction.
+pub fn lowest(a: u64) -> MaybeGroup
+    ensures { λ r. ⌜ r ≡ lowest a ⌝ }
+{
+    if a == 0 {
+        return MaybeGroup::NoGroup;
+    }
+    MaybeGroup::Group(u64::trailing_zeros(a) as usize)
+}
+
+// A set without its lowest group. Cost: a comparison and two instructions on 64 bits.
+pub fn others(a: u64) -> u64
+    ensures { λ r. ⌜ r ≡ others a ⌝ }
+{
+    if a == 0 {
+        return 0;
+    }
+    a & (a - 1)
 }
