@@ -79,38 +79,39 @@ fn ending_of(call: Call, number: u8) -> u8
     }
 }
 
+// The call of the table that a record says. Release and withdrawal (kinds 3 and 4) are one call site: the compiler then makes no copy of
+// the table for either.
 fn act(t: Table, call: Call) -> Outcome
     requires { ⌜ Valid t ⌝ }
     ensures { λ r. ⌜ (r ≡ outcome (stepOf (model t) call)) × Valid (r .table) ⌝ }
 {
+    let kind = load::kind_of(call);
     match call {
         Call::Rig(g) => table::new(g),
         Call::Claim(c, g, n) => table::claim(t, c, g, n),
-        Call::Release(c, k) => table::release(t, c, k),
-        Call::Withdraw(c, k) => table::withdraw(t, c, k),
+        Call::Release(c, k) | Call::Withdraw(c, k) => table::leave(t, kind == 3, c, k),
         Call::Clock(c) => table::clock(t, c),
     }
 }
 
+// The lines of a load's records. What the last call handed back is kept, with its table, so that no table is copied between calls.
 fn records(load: &[u8], out: &mut [u8], from: usize) -> usize
     requires { ⌜ length (now load) ≤ 65536 ⌝ }
     ensures { λ r. ⌜ Put (now (out .entry)) from (linesOf 1 (blank 0) (walk (now (load .entry)) 1)) r (now (out .exit)) ⌝ }
 {
-    let none = table::new(0);
-    let mut t = none.table;
+    let mut o = table::new(0);
     let mut at: usize = 1;
     let mut k: u64 = 1;
     let mut n = from;
     loop {
         match load::record_at(load, at) {
             Item::Record(call, next) => {
-                let o = act(t, call);
+                o = act(o.table, call);
                 let stop = ending_of(call, o.number);
                 if stop != 0 {
                     return put_stop(out, n, stop, k);
                 }
                 n = put_entry(out, n, k, o);
-                t = o.table;
                 at = next;
                 k += 1;
             }

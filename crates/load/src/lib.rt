@@ -177,7 +177,7 @@ pub fn load_number(load: &[u8]) -> u8
 
 // ---- writing
 // The kind byte of a call.
-fn kind_of(call: Call) -> u8
+pub fn kind_of(call: Call) -> u8
     ensures { λ r. ⌜ r ≡ kindOf call ⌝ }
 {
     match call {

@@ -29,11 +29,10 @@ use Rattle.rules.proofs.Prompt.{Prompt, prompt-still}
 use Rattle.rules.proofs.Once.{advance-still, join-still, leave-once, grantAll, finish-still}
 use Rattle.table.specs.Rows.{Sized, Row, rewritten}
 use Rattle.table.proofs.Rows.{pad-over, pad-more}
-use Rattle.table.specs.declared.placing.Contention.{Contention}
-use Rattle.table.specs.Contention.{contentionOf}
 use Rattle.table.proofs.Sizes.{place-small}
 use Rattle.table.specs.declared.granting.Granted.{Granted}
-use Rattle.table.specs.Parts.{withClaims, atClock, packedTable, grantedIn}
+use Rattle.table.specs.declared.placing.Placed.{Placed}
+use Rattle.table.specs.Parts.{withClaims, atClock, packedTable, grantedIn, placedIn}
 use Rattle.table.specs.declared.Outcome.{Outcome}
 use Rattle.table.specs.Valid.{Formed, Valid}
 use Rattle.table.specs.Outcomes.{outcome, refusalOf, timeNumber, pastEnd, leaving, without}
@@ -201,7 +200,7 @@ pub removed-clock : (t : Table) (k u : ℕ) (r : Table) → r ≡ encode (remove
 unfolding remove
 removed-clock t k u r e h = omega (arith, ap (λ (x : Table). x .clock) e)
 
-pub joined-is : (t : Table) (w : Claim) (r : Table) → Formed t → t .count < 64 → t .issued < 65535 → Sized (t .clock) w → w .ticket ≡ t .issued + 1
+joined-is : (t : Table) (w : Claim) (r : Table) → Formed t → t .count < 64 → t .issued < 65535 → Sized (t .clock) w → w .ticket ≡ t .issued + 1
     → r ≡ record { rig = t .rig; clock = t .clock; issued = t .issued + 1; count = t .count + 1; claims = set (t .claims) (t .count) w }
     → (r ≡ encode (join (model t) w)) × Formed r
 unfolding join
@@ -257,29 +256,37 @@ asked-is t g n = ap (λ (k : ℕ). record { groups = g; phase = Waiting (t .cloc
 pub asked-sized : (t : Table) (g n : ℕ) → t .issued < 65535 → 1 ≤ n → n ≤ 3600000 → t .clock ≤ 1000000000000 → Sized (t .clock) (asked t g n)
 asked-sized t g n i l h k = record { sane = record { long = l; small = omega arith }; short = h; aged = λ o. clash o refl; planned = λ o. omega arith }
 
-pub asked-row : (t : Table) (g n : ℕ) → Formed t → t .issued < 65535 → 1 ≤ n → n ≤ 3600000 → Row (t .clock) (t .claims) (t .count) × Sized (t .clock) (asked t g n)
-asked-row t g n v i l h = (formed-row t (t .clock) v (omega arith) (v .ranged .timely), asked-sized t g n i l h (v .ranged .timely))
+-- A claim placed in a table.
+module _ (t : Table) (g n : ℕ) (v : Formed t) (few : t .count < 64) (i : t .issued < 65535) (l : 1 ≤ n) (h : n ≤ 3600000) where
+  pub asked-row : Row (t .clock) (t .claims) (t .count) × Sized (t .clock) (asked t g n) × (t .count < 64) × (t .issued < 65535)
+  asked-row = (formed-row t (t .clock) v (omega arith) (v .ranged .timely), asked-sized t g n i l h (v .ranged .timely), few, i)
 
--- At its planned start it is in range still.
-pub placed-sized : (t : Table) (g n s : ℕ) → Formed t → t .issued < 65535 → 1 ≤ n → n ≤ 3600000 → s ≡ place (settingOf (model t)) (model t .pending) (asked t g n) → Sized (t .clock) (withPhase (asked t g n) (Waiting s))
-placed-sized t g n s v i l h e =
-    record { sane = record { long = l; small = omega arith }; short = h; aged = λ o. clash o refl; planned = λ o. omega (arith, place-small (t .clock) (t .claims) (t .count) (asked t g n) (formed-row t (t .clock) v (omega arith) (v .ranged .timely)) (asked-sized t g n i l h (v .ranged .timely))) }
+  -- At its planned start it is in range still.
+  placed-sized : (s : ℕ) → s ≡ place (settingOf (model t)) (model t .pending) (asked t g n) → Sized (t .clock) (withPhase (asked t g n) (Waiting s))
+  placed-sized s e = record {
+    sane = record { long = l; small = omega arith };
+    short = h;
+    aged = λ o. clash o refl;
+    planned = λ o. omega (arith, place-small (t .clock) (t .claims) (t .count) (asked t g n) (asked-row .0) (asked-row .1));
+  }
 
-placed-is : (t : Table) (g n s : ℕ) → s ≡ place (settingOf (model t)) (model t .pending) (asked t g n) → withPhase (asked t g n) (Waiting s) ≡ placed (model t) g n
-placed-is t g n s e = cc (e, asked-is t g n)
+  placed-is : withPhase (asked t g n) (Waiting (place (settingOf (model t)) (model t .pending) (asked t g n))) ≡ placed (model t) g n
+  placed-is = cc (asked-is t g n)
 
-pub placed-still : (t : Table) (g n s : ℕ) (u : Table) → Formed t → Still (model t) → t .issued < 65535 → 1 ≤ n → s ≡ place (settingOf (model t)) (model t .pending) (asked t g n)
-    → u ≡ encode (join (model t) (withPhase (asked t g n) (Waiting s))) → Still (model u)
-placed-still t g n s u v st i l e q =
-    subst Still (sym (model-is u _ q ∙ ap (join (model t)) (placed-is t g n s e))) (join-still (model t) g n l i (formed-sane t v) (v .ranged .ascending) st)
+  module _ (p : Placed) (q : p ≡ placedIn t (asked t g n)) where
+    pub placed-table : (p .table ≡ encode (join (model t) (placed (model t) g n))) × Formed (p .table)
+    placed-table =
+        let j = joined-is t _ (p .table) v few i (placed-sized _ refl) refl (ap (λ (x : Placed). x .table) q) in
+        (j .0 ∙ ap (λ (w : Claim). encode (join (model t) w)) placed-is, j .1)
 
-pub admitted-is : (t : Table) (g n s : ℕ) (k : Contention) (u : Table) (r : Outcome) → s ≡ place (settingOf (model t)) (model t .pending) (asked t g n)
-    → k ≡ contentionOf (settingOf (model t)) (model t .pending) (asked t g n) → u ≡ encode (join (model t) (withPhase (asked t g n) (Waiting s)))
-    → r ≡ outcome (finish (model u) (t .issued + 1) s (k .count) (k .bound)) → r ≡ outcome (admit (model t) g n)
-unfolding admit
-admitted-is t g n s k u r e c q f =
-    finish-of u (join (model t) (placed (model t) g n)) (t .issued + 1) s (k .count) (k .bound) r (q ∙ ap (λ (w : Claim). encode (join (model t) w)) (placed-is t g n s e)) f
-    ∙ cc (e, c, asked-is t g n)
+    pub placed-still : Still (model t) → Still (model (p .table))
+    placed-still st = subst Still (sym (model-is (p .table) _ (placed-table .0))) (join-still (model t) g n l i (formed-sane t v) (v .ranged .ascending) st)
+
+    pub admitted-is : (r : Outcome) → r ≡ outcome (finish (model (p .table)) (t .issued + 1) (p .start) (p .contention) (p .bound)) → r ≡ outcome (admit (model t) g n)
+    unfolding admit
+    admitted-is r f =
+        finish-of (p .table) (join (model t) (placed (model t) g n)) (t .issued + 1) (p .start) (p .contention) (p .bound) r (placed-table .0) f
+        ∙ cc (q, asked-is t g n)
 
 pub claim-is : (t : Table) (x g l n : ℕ) (u : Table) (r : Outcome) → n ≡ firstOf (tests (model t) (claim x g l)) → n ≡ 0 → u ≡ encode (advance (model t) x)
     → r ≡ outcome (admit (model u) g l) → r ≡ outcome (step (model t) (claim x g l))

@@ -1,7 +1,6 @@
 pub mod Rows
 pub mod Words
 pub mod Starts
-pub mod Contention
 pub mod Holders
 pub mod Parts
 pub mod Valid

@@ -1,13 +1,12 @@
 // The claims table: new, claim, release, withdraw, clock, lookup. Each call takes a table by value and hands one back with its answer;
-// each packs once at most: a claim and a clock call only where a holder overruns. Packing n claims costs at most n² tests of two words,
-// the search for a claim's start n² more, and everything else a few passes.
+// each packs once at most: a claim and a clock call only where a holder overruns. Packing n claims costs at most n² / 2 tests of two
+// words and two steps for each group of each claim, the search for a claim's start n² tests of two sets, everything else a few passes.
 ghost use mathlib.Core.Path.{_≡_};
 ghost use Prim.Native.Nat.{_+_, _≤_, _<_};
 ghost use Rattle.rules.specs.Claims.{at};
-ghost use Rattle.rules.specs.Calls.{Call, step, firstOf, tests, advance, finish, remove, join, admit, new, standing, standingOf};
+ghost use Rattle.rules.specs.Calls.{Call, step, firstOf, tests, advance, finish, remove, admit, new, standing, standingOf};
 ghost use Rattle.rules.specs.Tables.{encode, model};
 ghost use Rattle.rules.specs.Invariants.{Still};
-ghost use Rattle.table.specs.Rows.{Sized};
 ghost use Rattle.table.specs.Valid.{Formed, Valid};
 ghost use Rattle.table.specs.Outcomes.{outcome, refusalOf, standingIn, numberOf, timeNumber, pastEnd, phaseNumber, leaving};
 
@@ -251,7 +250,8 @@ fn removed(mut t: Table, ticket: u16) -> Taken
     }
 }
 
-fn leave(t: Table, releasing: bool, clock: u64, ticket: u16) -> Outcome
+// Takes away the claim of a ticket: a release, or else a withdrawal. Refused as these are.
+pub fn leave(t: Table, releasing: bool, clock: u64, ticket: u16) -> Outcome
     requires { ⌜ Valid t ⌝ }
     ensures { λ r. ⌜ (r ≡ outcome (step (model t) (leaving releasing clock ticket))) × Valid (r .table) ⌝ }
 {
@@ -318,18 +318,6 @@ fn claim_number(t: Table, clock: u64, groups: u64, length: u32) -> u8
     0
 }
 
-// The table with one claim more.
-fn joined(mut t: Table, w: Claim) -> Table
-    requires { ⌜ Formed t × (t .count < 64) × (t .issued < 65535) × Sized (t .clock) w × (w .ticket ≡ t .issued + 1) ⌝ }
-    ensures { λ r. ⌜ (r ≡ encode (join (model t) w)) × Formed r ⌝ }
-{
-    let count = t.count;
-    t.claims[count] = w;
-    t.issued = t.issued + 1;
-    t.count = count + 1;
-    t
-}
-
 // A claim that no test refuses, in a table that is packed.
 fn admitted(t: Table, groups: u64, length: u32) -> Outcome
     requires { ⌜ Formed t × Still (model t) × (t .count < 64) × (t .issued < 65535) × (1 ≤ length) × (length ≤ 3600000) ⌝ }
@@ -343,11 +331,8 @@ fn admitted(t: Table, groups: u64, length: u32) -> Outcome
         length: length,
         ticket: ticket,
     };
-    let row = t.claims;
-    let s = placing::place(clock, row, t.count, w);
-    let k = placing::contention_of(clock, row, t.count, w);
-    let u = joined(t, claims::waiting_from(w, s));
-    finished(u, ticket, s, k.count, k.bound)
+    let p = placing::place(t, w);
+    finished(p.table, ticket, p.start, p.contention, p.bound)
 }
 
 // Claims groups for a length of time. Refused: 5, 4, 1, 2, 3, 6, 7.

@@ -1,22 +1,26 @@
-// Placing, straight over the claims of a row: the planned start of a new claim, and what its answer counts.
+// Placing, straight over the claims of a table: the planned start of a new claim, and what its answer counts.
 // What is asked is defined in the rules' specs/Placing.antt.
 ghost use mathlib.Core.Path.{_≡_};
-ghost use Prim.Native.Nat.{_≤_};
-ghost use lib.ListN.{take};
+ghost use Prim.Native.Nat.{_≤_, _<_};
 ghost use Rattle.rules.specs.Claims.{at};
-ghost use Rattle.rules.specs.Placing.{clear, place};
+ghost use Rattle.rules.specs.Placing.{clear};
 ghost use Rattle.table.specs.Rows.{Sized, Row};
-ghost use Rattle.table.specs.Contention.{contentionOf};
+ghost use Rattle.table.specs.Parts.{placedIn};
 use crate::claims::end_of;
 use crate::claims::is_on;
 use crate::claims::start_or_grant;
 use crate::claims::time_left;
+use crate::claims::waiting_from;
 use crate::claims::wide;
 use rules::Claim;
+use rules::Table;
 
-// How many pending claims conflict with a new one (document 01: crowd), and the bound on its start (ceiling).
-pub struct Contention {
-    pub count: u64,
+// What placing gives: the table with one claim more, that claim's start, how many pending claims conflict with it (document 01: crowd),
+// and the bound on its start (ceiling).
+pub struct Placed {
+    pub table: Table,
+    pub start: u64,
+    pub contention: u64,
     pub bound: u64,
 }
 
@@ -39,17 +43,20 @@ fn clears(clock: u64, c: Claim, w: Claim, s: u64) -> bool
     s + len <= from
 }
 
-// The planned start of `w`: the least that fits. Where a claim bars a candidate, it bars every start from there to its end, which is
-// the next candidate. Cost: one pass over the claims for each jump and one for the start; a claim bars at most one candidate.
-pub(crate) fn place(clock: u64, claims: [Claim; 64], count: usize, w: Claim) -> u64
-    requires { ⌜ Row clock claims count × Sized clock w ⌝ }
-    ensures { λ r. ⌜ r ≡ place (record { clock = clock }) (take count claims) w ⌝ }
+// A new claim put behind the others at its planned start, the least that fits. Where a claim bars a candidate, it bars every start from
+// there to its end, which is the next candidate. All loops stand here, since a table handed on is a table copied.
+// Cost: one pass over the claims for each jump, one for the start and one to count; a claim bars at most one candidate.
+pub(crate) fn place(mut t: Table, w: Claim) -> Placed
+    requires { ⌜ Row (t .clock) (t .claims) (t .count) × Sized (t .clock) w × (t .count < 64) × (t .issued < 65535) ⌝ }
+    ensures { λ r. ⌜ r ≡ placedIn t w ⌝ }
 {
+    let clock = t.clock;
+    let count = t.count;
     let mut s = clock;
     let start = 'candidates: loop {
         let mut j = 0;
         while j < count {
-            let c = claims[j];
+            let c = t.claims[j];
             if !clears(clock, c, w, s) {
                 s = end_of(clock, c);
                 continue 'candidates;
@@ -58,29 +65,26 @@ pub(crate) fn place(clock: u64, claims: [Claim; 64], count: usize, w: Claim) -> 
         }
         break s;
     };
-    start
-}
-
-// How many claims conflict with `w`, and the bound on its start. Cost: one pass over the claims.
-pub(crate) fn contention_of(clock: u64, claims: [Claim; 64], count: usize, w: Claim) -> Contention
-    requires { ⌜ Row clock claims count × Sized clock w ⌝ }
-    ensures { λ r. ⌜ r ≡ contentionOf (record { clock = clock }) (take count claims) w ⌝ }
-{
     let mut rivals = 0;
     let mut time = 0;
-    let mut j = 0;
-    while j < count {
-        let c = claims[j];
+    let mut i = 0;
+    while i < count {
+        let c = t.claims[i];
         if groups::shares(c.groups, w.groups) {
             rivals += 1;
             time += time_left(clock, c);
         }
-        j += 1;
+        i += 1;
     }
     let length = wide(w.length);
     let bound = clock + time + rivals * (length - 1);
-    Contention {
-        count: rivals,
+    t.claims[count] = waiting_from(w, start);
+    t.issued = t.issued + 1;
+    t.count = count + 1;
+    Placed {
+        table: t,
+        start: start,
+        contention: rivals,
         bound: bound,
     }
 }

@@ -9,16 +9,16 @@ use Rattle.listing.proofs.records.Statement.{statement}
 use Rattle.listing.proofs.records.Tie as tie
 
 abbrev Inv-loop : tie.InvT-loop
-Inv-loop load out₀ from t₀ at₀ k₀ n₀ out t at k n = Turn load out₀ from out t at k n
+Inv-loop load out₀ from o₀ at₀ k₀ n₀ out o at k n = Turn load out₀ from out (o .table) at k n
 
 abbrev μ-loop : tie.MeasureT-loop
-μ-loop load out₀ from t₀ at₀ k₀ n₀ out t at k n = length load - at
+μ-loop load out₀ from o₀ at₀ k₀ n₀ out o at k n = length load - at
 
 new-requires : tie.Need-new-requires Inv-loop μ-loop
 new-requires c κs = search needs
 
 loop-holds : tie.Need-loop-holds Inv-loop μ-loop
-loop-holds c = turn-start _ _ _ _ (omega arith) (omega arith) (c .before .new .ensures .0) (c .before .new .ensures .1)
+loop-holds c = turn-start _ _ _ _ (omega arith) (omega arith) (c .new .ensures .0) (c .new .ensures .1)
 
 record-at-requires : tie.Need-record-at-requires Inv-loop μ-loop
 record-at-requires c κs = search needs
@@ -50,19 +50,20 @@ put-entry-requires c κs =
     few-granted _ _ _ (a .0) (a .1)
 
 add-k : tie.Need-add-k Inv-loop μ-loop
-add-k c = let i = c .before .before .before .before .before .before .before .before .before .before .before .before .loop .inv in omega (arith, i .few, i .inside)
+add-k c = let i = c .before .before .before .before .before .before .before .before .before .before .before .loop .inv in omega (arith, i .few, i .inside)
 
 loop-less : tie.Need-loop-less Inv-loop μ-loop
 loop-less c =
-    let q = step-next _ _ _ _ (sym (c .before .before .before .before .before .before .before .before .before .before .before .record-at .ensures) ∙ c .before .before .before .before .before .before .before .before .before .call .given .1) in
+    let a = c .before .before .before .before .before .before .before .before in
+    let q = step-next _ _ _ _ (sym (a .before .before .record-at .ensures) ∙ a .call .given .1) in
     omega (arith, q .0, q .1)
 
 loop-again : tie.Need-loop-again Inv-loop μ-loop
 loop-again c =
-    let e = c .before .before .before .before .before .before in
+    let e = c .before .before .before .before .before in
     let l = e .before .before .before .before .before in
     let a = e .before .act .ensures in
-    turn-more _ _ _ _ _ _ _ _ (l .before .loop .inv) (l .before .before .before .before .before .before .pre) _ _ (sym (l .record-at .ensures) ∙ e .before .before .before .call .given .1) _ (a .0) (a .1) _ (e .ending-of .ensures) (c .before .before .before .before .before .if1 .left) _ _ (c .before .before .before .put-entry .ensures)
+    turn-more _ _ _ _ _ _ _ _ (l .before .loop .inv) (l .before .before .before .before .before .pre) _ _ (sym (l .record-at .ensures) ∙ e .before .before .before .call .given .1) _ (a .0) (a .1) _ (e .ending-of .ensures) (c .before .before .before .before .if1 .left) _ _ (c .before .before .put-entry .ensures)
 
 enum-told : tie.Need-enum-told Inv-loop μ-loop
 enum-told c = search needs

@@ -1,97 +1,149 @@
 -- `placing::place` meets its contract. No candidate is below the clock or after the planned start, and each is nearer to it; in a pass
--- the claims left decide whether the candidate fits.
+-- the claims left decide whether the candidate fits. Then what is counted is `Counted`, of proofs/Counting; that nothing wraps follows
+-- from the size of the whole, of proofs/Sizes.
 use mathlib.Core.Path.{_≡_, refl, sym, _∙_}
-use Prim.Native.Nat.{_-_, _≤_, _<_}
+use mathlib.Core.Logic.{⊎-elim}
+use Prim.Native.Nat.{_+_, _-_, _*_, _≤_, _<_}
 use native.Mathlib.Omega.{arith}
 use lib.ListN.{take, drop, getD}
+use borrow.Author.Needs.{needs}
 use borrow.Author.Tests.{not-true, not-false}
-use Rattle.rules.specs.Claims.{at}
-use Rattle.rules.specs.Placing.{fits, place}
+use Rattle.rules.specs.Claims.{at, remaining}
+use Rattle.rules.specs.Placing.{fits, place, contention, startBound}
 use Rattle.rules.specs.Tables.{vacant}
 use Rattle.rules.proofs.Placing.{place-low}
 use Rattle.table.proofs.Rows.{in-prefix, row-small}
 use Rattle.table.proofs.Searching.{pass, passed, jump, found}
-use Rattle.table.proofs.Sizes.{place-small}
+use Rattle.table.proofs.Sizes.{place-small, rivals-few, time-short, bound-small}
+use Rattle.table.proofs.Counting.{Counted, count-none, count-rival, count-other, count-all}
 use Rattle.table.proofs.placing.place.Statement.{statement}
 use Rattle.table.proofs.placing.place.Tie as tie
 
 abbrev Inv-loop : tie.InvT-loop
-Inv-loop clock count w claims s₀ j₀ s j =
+Inv-loop w t clock count s₀ j₀ s j =
     (s ≡ s₀)
     × (j ≤ count)
-    × (fits (record { clock = clock }) (drop j (take count claims)) w s ≡ fits (record { clock = clock }) (take count claims) w s)
+    × (fits (record { clock = clock }) (drop j (take count (t .claims))) w s ≡ fits (record { clock = clock }) (take count (t .claims)) w s)
 
 abbrev μ-loop : tie.MeasureT-loop
-μ-loop clock count w claims s₀ j₀ s j = count - j
+μ-loop w t clock count s₀ j₀ s j = count - j
 
 abbrev Inv-candidates : tie.InvT-candidates
-Inv-candidates clock count w claims s₀ s = (clock ≤ s) × (s ≤ place (record { clock = clock }) (take count claims) w)
+Inv-candidates w t clock count s₀ s = (clock ≤ s) × (s ≤ place (record { clock = clock }) (take count (t .claims)) w)
 
 abbrev μ-candidates : tie.MeasureT-candidates
-μ-candidates clock count w claims s₀ s = place (record { clock = clock }) (take count claims) w - s
+μ-candidates w t clock count s₀ s = place (record { clock = clock }) (take count (t .claims)) w - s
 
+abbrev Inv-loop2 : tie.InvT-loop2
+Inv-loop2 w t clock count s start rivals₀ time₀ i₀ rivals time i = (i ≤ count) × Counted (record { clock = clock }) (t .claims) count w i rivals time
+
+abbrev μ-loop2 : tie.MeasureT-loop2
+μ-loop2 w t clock count s start rivals₀ time₀ i₀ rivals time i = count - i
+
+-- ── the search ──
 -- The start or grant of the claim at hand is small.
-small : (c : tie.In-loop Inv-loop μ-loop Inv-candidates μ-candidates) →
-    at (getD (c .before .before .before .args .t2) (c .before .loop .j) vacant) ≤ 1000000000000000000
+small : (c : tie.In-loop Inv-loop μ-loop Inv-candidates μ-candidates Inv-loop2 μ-loop2) →
+    at (getD (c .before .before .before .args .t1 .claims) (c .before .loop .j) vacant) ≤ 1000000000000000000
 small c =
     let b = c .before .before .before in
     row-small _ _ _ (c .before .loop .j) (b .pre .0) (omega arith) (omega arith)
 
 -- The end to which the search jumps is after the candidate, and not after the planned start.
-nearer : (c : tie.After-end-of Inv-loop μ-loop Inv-candidates μ-candidates) →
+nearer : (c : tie.After-end-of Inv-loop μ-loop Inv-candidates μ-candidates Inv-loop2 μ-loop2) →
     let y = c .before .before .before .before .before .before in
-    let a = y .before .args in
-    (y .candidates .s < c .end-of .result) × (c .end-of .result ≤ place (record { clock = a .clock }) (take (a .count) (a .t2)) (a .w))
+    let t = y .before .args .t1 in
+    (y .candidates .s < c .end-of .result) × (c .end-of .result ≤ place (record { clock = t .clock }) (take (t .count) (t .claims)) (y .before .args .w))
 nearer c =
     let z = c .before .before in
     let y = z .before .before .before in
-    let a = y .before .before .args in
-    let m = in-prefix vacant (a .t2) (a .count) (y .loop .j) (omega arith) (omega arith) in
+    let b = y .before .before in
+    let t = b .args .t1 in
+    let m = in-prefix vacant (t .claims) (t .count) (y .loop .j) (omega arith) (omega (arith, b .pre .0 .places, b .pre .0 .few)) in
     let e = sym (z .clears .ensures) ∙ not-true _ (c .before .if1 .taken) in
-    let k = jump (record { clock = a .clock }) (a .w) (y .loop .s) _ (omega arith) _ m e in
+    let k = jump (record { clock = t .clock }) (b .args .w) (y .loop .s) _ (omega arith) _ m e in
     (omega (arith, c .end-of .ensures), omega (arith, c .end-of .ensures))
 
-candidates-holds : tie.Need-candidates-holds Inv-loop μ-loop Inv-candidates μ-candidates
-candidates-holds c = (omega arith, place-low _ _ _)
-
-loop-holds : tie.Need-loop-holds Inv-loop μ-loop Inv-candidates μ-candidates
-loop-holds c = (refl, omega arith, refl)
-
-mul-c : tie.Need-mul-c Inv-loop μ-loop Inv-candidates μ-candidates
-mul-c c = omega arith
-
-array-copy-out-c : tie.Need-array-copy-out-c Inv-loop μ-loop Inv-candidates μ-candidates
-array-copy-out-c c = omega arith
-
-clears-requires : tie.Need-clears-requires Inv-loop μ-loop Inv-candidates μ-candidates
-clears-requires c κs =
-    let b = c .before .before .before .before in
-    (small (c .before), omega (arith, place-small _ _ _ _ (b .pre .0) (b .pre .1)))
-
-end-of-requires : tie.Need-end-of-requires Inv-loop μ-loop Inv-candidates μ-candidates
-end-of-requires c κs = small (c .before .before .before)
-
-candidates-less : tie.Need-candidates-less Inv-loop μ-loop Inv-candidates μ-candidates
-candidates-less c = omega (arith, nearer c)
-
-candidates-again : tie.Need-candidates-again Inv-loop μ-loop Inv-candidates μ-candidates
+candidates-again : tie.Need-candidates-again Inv-loop μ-loop Inv-candidates μ-candidates Inv-loop2 μ-loop2
 candidates-again c = (omega (arith, nearer c), nearer c .1)
 
-add-j : tie.Need-add-j Inv-loop μ-loop Inv-candidates μ-candidates
-add-j c = omega arith
-
-loop-less : tie.Need-loop-less Inv-loop μ-loop Inv-candidates μ-candidates
-loop-less c = omega arith
-
-loop-again : tie.Need-loop-again Inv-loop μ-loop Inv-candidates μ-candidates
+loop-again : tie.Need-loop-again Inv-loop μ-loop Inv-candidates μ-candidates Inv-loop2 μ-loop2
 loop-again c =
     let y = c .before .before .before .before in
-    let a = y .before .before .args in
+    let b = y .before .before in
+    let t = b .args .t1 in
     let e = sym (c .before .clears .ensures) ∙ not-false _ (c .if1 .left) in
-    (y .loop .inv .0, omega arith, sym (pass _ _ _ (a .t2) (a .count) (y .loop .j) (omega arith) (omega arith) e) ∙ y .loop .inv .2)
+    (y .loop .inv .0, omega arith, sym (pass _ _ _ (t .claims) (t .count) (y .loop .j) (omega arith) (omega (arith, b .pre .0 .places, b .pre .0 .few)) e) ∙ y .loop .inv .2)
 
-returns : tie.Need-returns Inv-loop μ-loop Inv-candidates μ-candidates
-returns c = found _ _ _ _ (omega arith) (omega arith) (sym (c .before .loop .inv .2) ∙ passed _ _ _ _ _ _ (c .loop-test .left))
+-- The candidate that no claim bars is the planned start.
+start-is : (c : tie.After-loop Inv-loop μ-loop Inv-candidates μ-candidates Inv-loop2 μ-loop2) →
+    let b = c .before .before .before in
+    let t = b .args .t1 in
+    c .before .loop .s ≡ place (record { clock = t .clock }) (take (t .count) (t .claims)) (b .args .w)
+start-is c = found _ _ _ _ (omega arith) (omega arith) (sym (c .before .loop .inv .2) ∙ passed _ _ _ _ _ _ (c .loop-test .left))
+
+-- ── the count ──
+-- A claim that conflicts is counted.
+rival : (c : tie.Then2 Inv-loop μ-loop Inv-candidates μ-candidates Inv-loop2 μ-loop2) →
+    let y = c .before .before .before .before in
+    let a = y .before .before .before .before .args in
+    let t = a .t1 in
+    Counted (record { clock = t .clock }) (t .claims) (t .count) (a .w) (y .loop2 .i + 1) (y .loop2 .rivals + 1)
+    (y .loop2 .time + remaining (record { clock = t .clock }) (getD (t .claims) (y .loop2 .i) vacant))
+rival c =
+    let y = c .before .before .before .before in
+    let p = y .before .before .before .before .pre .0 in
+    count-rival _ _ _ _ _ _ _ (y .loop2 .inv .1) (omega arith) (omega (arith, p .places, p .few)) (sym (c .before .shares .ensures) ∙ c .if2 .taken)
+
+-- After the loop all are counted.
+whole : (c : tie.After-wide Inv-loop μ-loop Inv-candidates μ-candidates Inv-loop2 μ-loop2) →
+    let y = c .before .before in
+    let a = y .before .before .before .before .args in
+    let t = a .t1 in
+    let ps = take (t .count) (t .claims) in
+    (y .loop2 .rivals ≡ contention ps (a .w))
+    × (t .clock + y .loop2 .time + y .loop2 .rivals * (c .wide .result - 1) ≡ startBound (record { clock = t .clock }) ps (a .w))
+whole c = rw (c .wide .ensures .0) (count-all _ _ _ _ _ _ _ (c .before .before .loop2 .inv .1) (c .before .loop2-test .left))
+
+-- The bound is small.
+bounded : (c : tie.After-wide Inv-loop μ-loop Inv-candidates μ-candidates Inv-loop2 μ-loop2) →
+    let y = c .before .before in
+    y .before .before .before .before .args .t1 .clock + y .loop2 .time + y .loop2 .rivals * (c .wide .result - 1) ≤ 2000000000000
+bounded c =
+    let p = c .before .before .before .before .before .before .pre in
+    omega (arith, whole c .1, bound-small _ _ _ _ (p .0) (p .1))
+
+add-rivals : tie.Need-add-rivals Inv-loop μ-loop Inv-candidates μ-candidates Inv-loop2 μ-loop2
+add-rivals c =
+    let b = c .before .before .before .before .before .before .before .before in
+    omega (arith, rival c .number, rivals-few _ _ _ (b .args .w) (b .pre .0))
+
+time-left-requires : tie.Need-time-left-requires Inv-loop μ-loop Inv-candidates μ-candidates Inv-loop2 μ-loop2
+time-left-requires c κs =
+    let y = c .before .before .before .before in
+    row-small _ _ _ (y .loop2 .i) (y .before .before .before .before .pre .0) (omega arith) (omega arith)
+
+add-time : tie.Need-add-time Inv-loop μ-loop Inv-candidates μ-candidates Inv-loop2 μ-loop2
+add-time c =
+    let b = c .before .before .before .before .before .before .before .before .before in
+    omega (arith, rival (c .before) .total, c .time-left .ensures, time-short _ _ _ (b .args .w) (b .pre .0))
+
+loop2-again : tie.Need-loop2-again Inv-loop μ-loop Inv-candidates μ-candidates Inv-loop2 μ-loop2
+loop2-again c =
+    let y = c .before .before .before .before in
+    let p = y .before .before .before .before .pre .0 in (
+      omega arith,
+      ⊎-elim
+          (λ k. rw (k .2, k .3, k .1 .ensures) (rival (record { before = c .before; if2 = k .0 })))
+          (λ k.
+          rw (k .1, k .2)
+          (count-other _ _ _ _ _ _ _ (y .loop2 .inv .1) (omega arith) (omega (arith, p .places, p .few)) (sym (c .before .shares .ensures) ∙ k .0 .left)))
+          (c .if2 .came),
+    )
+
+returns : tie.Need-returns Inv-loop μ-loop Inv-candidates μ-candidates Inv-loop2 μ-loop2
+returns c =
+    let z = c .before in
+    cc (start-is (z .before .before .before), whole z .0, whole z .1, c .waiting-from .ensures)
 
 pub place-spec : {M : Type 1} → statement M
 place-spec =
@@ -101,15 +153,48 @@ place-spec =
     μ-loop
     Inv-candidates
     μ-candidates
-    candidates-holds
-    loop-holds
-    mul-c
-    array-copy-out-c
-    clears-requires
-    end-of-requires
-    candidates-less
+    Inv-loop2
+    μ-loop2
+    -- candidates-holds, loop-holds
+    (λ c. (omega arith, place-low _ _ _))
+    (λ c. (refl, omega arith, refl))
+    -- mul-c, element-copy-out-c
+    (λ c. omega arith)
+    (λ c. omega arith)
+    -- clears-requires, end-of-requires
+    (λ c κs. let b = c .before .before .before .before in (small (c .before), omega (arith, place-small _ _ _ _ (b .pre .0) (b .pre .1))))
+    (λ c κs. small (c .before .before .before))
+    -- candidates-less
+    (λ c. omega (arith, nearer c))
     candidates-again
-    add-j
-    loop-less
+    -- add-j, loop-less
+    (λ c. omega arith)
+    (λ c. omega arith)
     loop-again
+    -- loop2-holds
+    (λ c. (omega arith, count-none _ _ _ _))
+    -- mul-c-2, element-copy-out-c-2, shares-requires
+    (λ c. omega arith)
+    (λ c. omega arith)
+    (λ c κs. search needs)
+    add-rivals
+    time-left-requires
+    add-time
+    -- add-i, loop2-less
+    (λ c. omega arith)
+    (λ c. omega arith)
+    loop2-again
+    -- wide-requires
+    (λ c κs. search needs)
+    -- add-bound, sub-bound, mul-bound, add-bound-2
+    (λ c. omega (arith, bounded c))
+    (λ c. omega (arith, c .wide .ensures .0, c .before .before .before .before .before .before .pre .1 .sane .long))
+    (λ c. omega (arith, bounded c))
+    (λ c. omega (arith, bounded c))
+    -- waiting-from-requires, mul-t34, element-set-from-t, add-t, add-t-2
+    (λ c κs. search needs)
+    (λ c. omega arith)
+    (λ c. omega arith)
+    (λ c. omega arith)
+    (λ c. omega arith)
     returns)
