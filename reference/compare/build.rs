@@ -1,7 +1,11 @@
-//! Links the proved library, which `rt staticlib listing` writes.
+//! Links the proved library, which `rt staticlib listing` writes, and for a benchmark an earlier one beside it:
+//! the file that the environment variable LISTING_BEFORE names, its call under another name.
+
+use std::path::Path;
+use std::process::Command;
 
 fn main() {
-    let root = std::path::Path::new(env!("CARGO_MANIFEST_DIR")).join("../..");
+    let root = Path::new(env!("CARGO_MANIFEST_DIR")).join("../..");
     let library = root.join("target/staticlib");
     println!("cargo:rustc-link-search=native={}", library.display());
     println!("cargo:rustc-link-lib=static=listing");
@@ -9,4 +13,22 @@ fn main() {
         "cargo:rerun-if-changed={}",
         library.join("liblisting.a").display()
     );
+    println!("cargo:rustc-check-cfg=cfg(before)");
+    println!("cargo:rerun-if-env-changed=LISTING_BEFORE");
+    if let Ok(before) = std::env::var("LISTING_BEFORE") {
+        let folder = std::env::var("OUT_DIR").expect("cargo names the folder");
+        let renamed = Command::new("objcopy")
+            .arg("--redefine-sym")
+            .arg("belgwyth_listing=belgwyth_listing_before")
+            .arg(&before)
+            .arg(Path::new(&folder).join("liblisting_before.a"))
+            .status();
+        assert!(
+            renamed.is_ok_and(|status| status.success()),
+            "objcopy of {before} failed"
+        );
+        println!("cargo:rustc-link-search=native={folder}");
+        println!("cargo:rustc-link-lib=static=listing_before");
+        println!("cargo:rustc-cfg=before");
+    }
 }

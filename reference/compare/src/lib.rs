@@ -14,6 +14,14 @@ mod proved {
             out: *mut u8,
             out_length: usize,
         ) -> usize;
+
+        #[cfg(before)]
+        pub fn belgwyth_listing_before(
+            load: *const u8,
+            load_length: usize,
+            out: *mut u8,
+            out_length: usize,
+        ) -> usize;
     }
 }
 
@@ -21,6 +29,20 @@ mod proved {
 pub fn listing(load: &[u8], out: &mut [u8]) -> usize {
     // SAFETY: both slices are valid for their lengths and don't overlap.
     unsafe { proved::belgwyth_listing(load.as_ptr(), load.len(), out.as_mut_ptr(), out.len()) }
+}
+
+/// The same call of the earlier library that LISTING_BEFORE names, where it does.
+#[cfg(before)]
+pub fn listing_before(load: &[u8], out: &mut [u8]) -> Option<usize> {
+    // SAFETY: both slices are valid for their lengths and don't overlap.
+    Some(unsafe {
+        proved::belgwyth_listing_before(load.as_ptr(), load.len(), out.as_mut_ptr(), out.len())
+    })
+}
+
+#[cfg(not(before))]
+pub fn listing_before(_load: &[u8], _out: &mut [u8]) -> Option<usize> {
+    None
 }
 
 /// A program of the repository, as `rt check` built it.

@@ -1,7 +1,7 @@
 //! Times the proved library against the reference on the same loads, in one
 //! run: ratios, below 1 where the proved library is faster.
 
-use compare::listing;
+use compare::{listing, listing_before};
 use reference::generate::Prng;
 use reference::load::{self, Call};
 use reference::table::{State, Table, TimedCall};
@@ -76,38 +76,97 @@ fn steady(pending: usize, rounds: usize) -> Vec<u8> {
     load::join(&calls)
 }
 
-/// The shorter of many times of each, taken in turn.
-fn times(load: &[u8], turns: usize) -> (Duration, Duration, usize) {
-    let mut out = vec![0u8; 1 << 20];
-    let mut best = (Duration::MAX, Duration::MAX);
-    let mut length = 0;
-    for _ in 0..turns {
-        let begun = Instant::now();
-        length = black_box(listing(black_box(load), &mut out));
-        best.0 = best.0.min(begun.elapsed());
-        let begun = Instant::now();
-        let count = black_box(reference::listing::write_listing(black_box(load), &mut out));
-        best.1 = best.1.min(begun.elapsed());
-        assert_eq!(length, count);
+/// A load that keeps a table nearly full with claims of so many of 64 groups,
+/// most of which have one in common; where `late`, each call comes past the
+/// promised ends of the holders.
+fn crowded(groups: u64, late: bool, rounds: u64) -> Vec<u8> {
+    let mut prng = Prng::new(groups);
+    let (mut table, _) = Table::new(u64::MAX);
+    let mut calls = vec![Call::Rig(u64::MAX)];
+    for round in 1..=rounds {
+        let clock = if late { round * 2000 } else { round };
+        while table.claims().len() < 63 {
+            let mut set = 0u64;
+            while u64::from(set.count_ones()) < groups {
+                set |= 1 << prng.below(64);
+            }
+            let claim = TimedCall::Claim {
+                clock,
+                groups: set,
+                length: prng.range(1, 1000) as u32,
+            };
+            table.call(claim);
+            calls.push(Call::Timed(claim));
+        }
+        let on = table
+            .claims()
+            .iter()
+            .find(|c| matches!(c.state, State::On(_)));
+        if let Some(ticket) = on.map(|c| c.ticket) {
+            let release = TimedCall::Release { clock, ticket };
+            table.call(release);
+            calls.push(Call::Timed(release));
+        }
     }
-    (best.0, best.1, length)
+    load::join(&calls)
+}
+
+/// The shortest of many times of each, taken in turn.
+struct Times {
+    proved: Duration,
+    plain: Duration,
+    before: Option<Duration>,
+}
+
+fn timed<T>(best: &mut Duration, work: impl FnOnce() -> T) -> T {
+    let begun = Instant::now();
+    let result = black_box(work());
+    *best = (*best).min(begun.elapsed());
+    result
+}
+
+fn times(load: &[u8], turns: usize) -> Times {
+    let mut out = vec![0u8; 1 << 20];
+    let (mut proved, mut plain, mut before) = (Duration::MAX, Duration::MAX, Duration::MAX);
+    let mut compared = false;
+    for _ in 0..turns {
+        let length = timed(&mut proved, || listing(black_box(load), &mut out));
+        let count = timed(&mut plain, || {
+            reference::listing::write_listing(black_box(load), &mut out)
+        });
+        assert_eq!(length, count);
+        if let Some(old) = timed(&mut before, || listing_before(black_box(load), &mut out)) {
+            assert_eq!(old, count);
+            compared = true;
+        }
+    }
+    Times {
+        proved,
+        plain,
+        before: compared.then_some(before),
+    }
 }
 
 fn line(name: &str, load: &[u8], turns: usize) {
-    let (proved, plain, length) = times(load, turns);
+    let times = times(load, turns);
     let records = load::read_all(load).map_or(0, |calls| calls.len());
-    println!(
-        "{name}: {records} records, {length} bytes of listing; {:.0} and {:.0} listings a second, ratio {:.2}",
-        1.0 / proved.as_secs_f64(),
-        1.0 / plain.as_secs_f64(),
-        proved.as_secs_f64() / plain.as_secs_f64()
-    );
+    let ratio = |to: Duration| times.proved.as_secs_f64() / to.as_secs_f64();
+    print!("{name}: {records} records, {:.2}", ratio(times.plain));
+    if let Some(before) = times.before {
+        print!(", {:.2}", ratio(before));
+    }
+    println!();
 }
 
 fn main() {
-    println!("proved library, plain Rust; ratio of their times");
+    println!("time of the proved library's listing, as a ratio to plain Rust (and to the library before)");
     line("1,000 claims over 64 groups", &workshop(1000, 1), 200);
     for pending in [1, 2, 4, 8, 16, 32, 64] {
-        line(&format!("{pending} pending"), &steady(pending, 400), 100);
+        line(&format!("{pending} pending"), &steady(pending, 400), 200);
+    }
+    for (groups, late) in [(2, true), (50, false), (64, false)] {
+        let past = if late { ", past promised ends" } else { "" };
+        let name = format!("63 pending, claims of {groups} groups{past}");
+        line(&name, &crowded(groups, late, 400), 100);
     }
 }
