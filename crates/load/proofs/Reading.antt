@@ -12,7 +12,9 @@ use Rattle.load.specs.declared.Item.{Item}
 use Rattle.load.specs.declared.Item.the-variants.{Record, End, Refused}
 use Rattle.load.specs.Calls.{known, widths, lengthOf, callOf}
 use Rattle.load.specs.Bytes.{fieldValues, loadBytes}
-use Rattle.load.specs.Reading.{inPlace, lengthField, kindField, short, misfit, readAt, editionOf, itemAt, openNumber, ended, onto, follow, walkIn, walk, orElse, loadNumber}
+use Rattle.load.specs.Answers.{itemValues}
+use Rattle.load.specs.Reading.{inPlace, lengthField, kindField, short, misfit, readAt, editionOf, itemAt, recordNumber, ItemNumbered}
+use Rattle.load.specs.Reading.{openNumber, Walk, ended, onto, follow, walkIn, walk, orElse, unlessRefused, reading, loadNumber, ReadingTested}
 use Rattle.load.proofs.Calls.{length-least}
 
 -- ── what stands at a position ──
@@ -46,6 +48,19 @@ unfolding readAt
 read-record e at bs h m =
     let z : eqb (length bs) 0 ≡ false = ne-eqb (length bs) 0 (λ e. omega arith) in
     rw (z, le-ltb (length bs) (2 + lengthField bs) h, m)
+
+pub item-numbered : ItemNumbered
+unfolding itemAt readAt recordNumber
+item-numbered s at =
+    go (eqb (length (drop at s)) 0) (short (drop at s)) (misfit (editionOf s) at (lengthField (drop at s)) (kindField (drop at s)))
+    (callIn (editionOf s) (drop at s)) (at + (2 + lengthField (drop at s)))
+  where
+    go : (a b m : Bool) (c : Call) (next : ℕ)
+        → _≡_ {A = ℕ} (itemValues at (cond a End (cond b (Refused 12) (cond m (Refused 13) (Record c next)))) .number) (cond a 0 (cond b 12 (cond m 13 0)))
+    go true b m c next = refl
+    go false true m c next = refl
+    go false false true c next = refl
+    go false false false c next = refl
 
 -- A record stands at a position.
 pub record Stands (s : List ℕ) (at : ℕ) (c : Call) (next : ℕ) : Type 0 where
@@ -181,6 +196,14 @@ or-else (suc k) n h = absurd (omega arith)
 pub or-first : (k m n : ℕ) → n ≡ k → (n ≡ 0 → ⊥) → n ≡ orElse k m
 or-first zero m n p q = absurd (q p)
 or-first (suc k) m n p q = p
+
+pub reading-tested : ReadingTested
+unfolding reading loadNumber
+reading-tested s = go (openNumber s) (walk s 1)
+  where
+    go : (k : ℕ) (w : Walk) → unlessRefused k ended w .stop ≡ orElse k (w .stop)
+    go zero w = refl
+    go (suc k) w = refl
 
 pub load-parts : (s : List ℕ) → loadNumber s ≡ 0 → (openNumber s ≡ 0) × (walk s 1 .stop ≡ 0)
 unfolding loadNumber

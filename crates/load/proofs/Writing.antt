@@ -13,9 +13,10 @@ use Rattle.load.specs.declared.Call.{Call}
 use Rattle.load.specs.declared.Call.the-variants.{Rig, Claim, Release, Withdraw, Clock}
 use Rattle.load.specs.declared.Written.the-variants.{Length, Refusal}
 use Rattle.load.specs.Calls.{widths1, widths, lengthOf, kindOf, fieldsOf, valuesOf, carries}
+use Rattle.load.specs.Answers.{WrittenValues, writtenValues}
 use Rattle.load.specs.Bytes.{big, fieldBytes, recordBytes}
-use Rattle.load.specs.Reading.{inPlace, editionOf, loadNumber}
-use Rattle.load.specs.Writing.{grown, roomNumber, growNumber, appendNumber, answered, lent, appendAnswer, appendOut}
+use Rattle.load.specs.Reading.{inPlace, editionOf, loadNumber, unlessRefused}
+use Rattle.load.specs.Writing.{grown, roomNumber, growNumber, appendNumber, answered, lent, appendAnswer, appendValues, appendOut}
 use Rattle.load.proofs.Calls.{edition-one, carries-one}
 use Rattle.load.proofs.Bytes.{record-length}
 use Rattle.load.proofs.Reading.{or-else, or-first, load-known}
@@ -131,6 +132,15 @@ append-written s c out p r h w =
     let b = grow-known s c (length out) (append-parts s c (length out) h .1) .bounded in
     let e = put-short (omega arith) w in
     rw h (ap Length (e .0 ∙ l), e .1 ∙ rw g (laid-fits out (grown s c) (k .2)))
+
+-- The answer's number and length.
+pub append-values : (s : List ℕ) (c : Call) (out : List ℕ) → writtenValues (appendAnswer s c out) ≡ appendValues s c out
+unfolding appendAnswer appendValues
+append-values s c out = go (appendNumber s c (length out)) (length (grown s c))
+  where
+    go : (k n : ℕ) → _≡_ {A = WrittenValues} (writtenValues (answered k n)) (record { number = k; length = unlessRefused k (λ m. 0) n })
+    go zero n = refl
+    go (suc k) n = refl
 
 -- ── the pieces of a record ──
 abbrev pub fieldsPut : Call → List ℕ

@@ -1,4 +1,5 @@
 pub mod Calls
+pub mod Answers
 pub mod Bytes
 pub mod Reading
 pub mod Writing

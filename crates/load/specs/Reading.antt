@@ -3,12 +3,14 @@
 use Prim.Native.Nat.{ℕ, zero, suc, _+_}
 use mathlib.Core.Bool.{Bool, true, false, not, _||_, cond}
 use mathlib.Core.List.{List, [], _∷_}
+use mathlib.Core.Path.{_≡_}
 use lib.Dec.{ltb, eqb}
 use lib.ListN.{length, take, drop, getD}
 use Rattle.load.specs.declared.Call.{Call}
 use Rattle.load.specs.declared.Item.{Item}
 use Rattle.load.specs.declared.Item.the-variants.{Record, End, Refused}
 use Rattle.load.specs.Calls.{known, widths, lengthOf, callOf}
+use Rattle.load.specs.Answers.{itemValues}
 use Rattle.load.specs.Bytes.{bigValue, fieldValues}
 
 -- ── one record ──
@@ -52,6 +54,18 @@ editionOf s = getD s 0 0
 unfoldable pub itemAt : List ℕ → ℕ → Item
 itemAt s at = readAt (editionOf s) at (drop at s)
 
+-- The number of what stands there: "each record 12, 13"; 0 for a record and at the end.
+unfoldable pub recordNumber : List ℕ → ℕ → ℕ
+recordNumber s at =
+    cond (eqb (length (drop at s)) 0) 0
+    (cond (short (drop at s)) 12
+    (cond (misfit (editionOf s) at (lengthField (drop at s)) (kindField (drop at s))) 13
+    0))
+
+-- Every item has that number. (Proved in proofs/Reading: item-numbered.)
+abbrev pub ItemNumbered : Type 0
+ItemNumbered = (s : List ℕ) (at : ℕ) → itemValues at (itemAt s at) .number ≡ recordNumber s at
+
 -- ── a whole load ──
 -- 14 "load over 65,536 bytes", 12 "the load is empty", 11 "first byte of a load names no edition the reader knows"; 0 for none of them.
 unfoldable pub openNumber : List ℕ → ℕ
@@ -88,6 +102,19 @@ abbrev pub orElse : ℕ → ℕ → ℕ
 orElse zero n = n
 orElse (suc k) n = suc k
 
+-- What stands for a number, unless that is 0.
+abbrev pub unlessRefused : {A : Type 0} → ℕ → (ℕ → A) → A → A
+unlessRefused zero refuse a = a
+unlessRefused (suc k) refuse a = refuse (suc k)
+
+-- What a whole load reads as: where it does not open its number and no calls, else what is read from the first record on.
+unfoldable pub reading : List ℕ → Walk
+reading s = unlessRefused (openNumber s) ended (walk s 1)
+
 -- The test of a load: "14, 12, 11, then each record 12, 13"; 0 for a load that reads to its end.
 unfoldable pub loadNumber : List ℕ → ℕ
 loadNumber s = orElse (openNumber s) (walk s 1 .stop)
+
+-- That is the number at which the whole load's reading stops. (Proved in proofs/Reading: reading-tested.)
+abbrev pub ReadingTested : Type 0
+ReadingTested = (s : List ℕ) → reading s .stop ≡ loadNumber s

@@ -9,8 +9,9 @@ use Rattle.load.specs.declared.Call.{Call}
 use Rattle.load.specs.declared.Written.{Written}
 use Rattle.load.specs.declared.Written.the-variants.{Length, Refusal}
 use Rattle.load.specs.Calls.{kindOf, carries}
+use Rattle.load.specs.Answers.{WrittenValues}
 use Rattle.load.specs.Bytes.{recordBytes}
-use Rattle.load.specs.Reading.{inPlace, editionOf, loadNumber, orElse}
+use Rattle.load.specs.Reading.{inPlace, editionOf, loadNumber, orElse, unlessRefused}
 
 -- "that load with one record more behind it".
 unfoldable pub grown : List ℕ → Call → List ℕ
@@ -41,6 +42,13 @@ lent (suc k) new old = old
 -- What the writer answers: "the new length", or the refusal.
 unfoldable pub appendAnswer : List ℕ → Call → List ℕ → Written
 appendAnswer s c out = answered (appendNumber s c (length out)) (length (grown s c))
+
+-- The same in numbers: the number, and "the new length" where that is 0.
+unfoldable pub appendValues : List ℕ → Call → List ℕ → WrittenValues
+appendValues s c out = record {
+  number = appendNumber s c (length out);
+  length = unlessRefused (appendNumber s c (length out)) (λ n. 0) (length (grown s c));
+}
 
 -- What the lent buffer holds afterwards: the grown load at its start, and "later bytes of the buffer keep their contents".
 unfoldable pub appendOut : List ℕ → Call → List ℕ → List ℕ

@@ -5,9 +5,10 @@ ghost use mathlib.Core.List.{_++_};
 ghost use lib.ListN.{length};
 ghost use Rattle.numerals.specs.Laid.{behind, laid, Put};
 ghost use Rattle.load.specs.Calls.{valuesOf, kindOf, lengthOf, callOf, widths};
+ghost use Rattle.load.specs.Answers.{writtenValues};
 ghost use Rattle.load.specs.Bytes.{recordBytes, fieldBytes, big, fieldValues};
 ghost use Rattle.load.specs.Reading.{inPlace, openNumber, misfit, itemAt, loadNumber};
-ghost use Rattle.load.specs.Writing.{growNumber, appendNumber, appendAnswer, appendOut};
+ghost use Rattle.load.specs.Writing.{growNumber, appendNumber, appendAnswer, appendValues, appendOut};
 
 // One record of a load, with its fields in the order of the format.
 pub enum Call {
@@ -268,6 +269,7 @@ pub fn put_record(out: &mut [u8], at: usize, call: Call) -> usize
 pub fn append(load: &[u8], call: Call, out: &mut [u8]) -> Written
     ensures answer { λ r. ⌜ r ≡ appendAnswer (now (load .entry)) call (now (out .entry)) ⌝ }
     ensures buffer { λ _. ⌜ now (out .exit) ≡ appendOut (now (load .entry)) call (now (out .entry)) ⌝ }
+    ensures values { λ r. ⌜ writtenValues r ≡ appendValues (now (load .entry)) call (now (out .entry)) ⌝ }
 {
     let room = out.len();
     let t = append_number(load, call, room);

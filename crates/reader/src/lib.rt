@@ -1,8 +1,11 @@
-// A reader keeps the load that it was opened on, and its position. The work is done by two functions on a slice and a position;
-// over the struct that holds the slice stand thin ones, each proved by hand.
+// A reader keeps the load that it was opened on, and its position. It tests that load: one that does not open gives its refusal at every
+// position, which costs three comparisons a record. The work is done by three functions on a slice and a position; over the struct that
+// holds the slice stand thin ones, each proved by hand.
 ghost use mathlib.Core.Path.{_≡_};
-ghost use Rattle.load.specs.Reading.{itemAt};
-ghost use Rattle.reader.specs.Shown.{recordPart, positionAfter};
+ghost use denote.Ref.{ptr};
+ghost use Rattle.load.specs.Answers.{itemValues};
+ghost use Rattle.reader.specs.Items.{itemOf, itemNumber, positionAfter};
+ghost use Rattle.reader.specs.Shown.{recordPart, recordStart, further};
 use load::Item;
 
 pub struct Reader<'a> {
@@ -10,11 +13,23 @@ pub struct Reader<'a> {
     pub at: usize,
 }
 
-// The record at a position, with its length bytes; the empty part where there is none.
-pub fn part_at(load: &[u8], at: usize) -> &[u8]
-    ensures { λ p. ⌜ now p ≡ recordPart (now (load .entry)) at ⌝ }
+// What a reader of a load answers at a position: 14, 12 or 11 for a load that does not open; else what stands there.
+pub fn item_at(load: &[u8], at: usize) -> Item
+    ensures { λ r. ⌜ (r ≡ itemOf (now (load .entry)) at) × (itemValues at r .number ≡ itemNumber (now (load .entry)) at) ⌝ }
 {
-    match load::record_at(load, at) {
+    let n = load::open_number(load);
+    if n != 0 {
+        return Item::Refused(n);
+    }
+    load::record_at(load, at)
+}
+
+// The record at a position, with its length bytes, where it lies in the load; the empty part at the load's start where there is none.
+pub fn part_at(load: &[u8], at: usize) -> &[u8]
+    ensures { λ p. ⌜ (now p ≡ recordPart (now (load .entry)) at)
+        × (ptr p ≡ further (ptr (load .entry)) (recordStart (now (load .entry)) at)) ⌝ }
+{
+    match item_at(load, at) {
         Item::Record(_c, next) => &load[at..next],
         Item::End => &load[..0],
         Item::Refused(_n) => &load[..0],
@@ -25,35 +40,37 @@ pub fn part_at(load: &[u8], at: usize) -> &[u8]
 pub fn position_after(load: &[u8], at: usize) -> usize
     ensures { λ n. ⌜ n ≡ positionAfter (now (load .entry)) at ⌝ }
 {
-    match load::record_at(load, at) {
+    match item_at(load, at) {
         Item::Record(_c, next) => next,
         Item::End => at,
         Item::Refused(_n) => at,
     }
 }
 
-// A reader behind the edition byte. Whether the load opens at all (14, 12, 11) is said by `load::open_number`.
+// A reader of a load, behind its edition byte.
 pub fn opened<'a>(load: &'a [u8]) -> Reader<'a>
     ensures { λ r. ⌜ (r .load ≡ load .entry) × (r .at ≡ 1) ⌝ }
 {
     Reader { load, at: 1 }
 }
 
-// What stands at the position: a call with the next position, the end, 12 or 13.
+// What the reader answers at its position: a call with the next position, the end, or the number of a refusal.
 pub fn next<'a>(r: Reader<'a>) -> Item
-    ensures { λ s. ⌜ s ≡ itemAt (now (r .entry .load)) (r .entry .at) ⌝ }
+    ensures { λ s. ⌜ (s ≡ itemOf (now (r .entry .load)) (r .entry .at))
+        × (itemValues (r .entry .at) s .number ≡ itemNumber (now (r .entry .load)) (r .entry .at)) ⌝ }
 {
-    load::record_at(r.load, r.at)
+    item_at(r.load, r.at)
 }
 
 // The record at the position, as that part of the caller's load.
 pub fn shown<'a>(r: Reader<'a>) -> &'a [u8]
-    ensures { λ p. ⌜ now p ≡ recordPart (now (r .entry .load)) (r .entry .at) ⌝ }
+    ensures { λ p. ⌜ (now p ≡ recordPart (now (r .entry .load)) (r .entry .at))
+        × (ptr p ≡ further (ptr (r .entry .load)) (recordStart (now (r .entry .load)) (r .entry .at))) ⌝ }
 {
     part_at(r.load, r.at)
 }
 
-// The reader behind the record; at the end and at 12 or 13 it keeps its position.
+// The reader behind the record; at the end and at a refusal it keeps its position.
 pub fn advanced<'a>(r: Reader<'a>) -> Reader<'a>
     ensures { λ q. ⌜ (q .load ≡ r .entry .load) × (q .at ≡ positionAfter (now (r .entry .load)) (r .entry .at)) ⌝ }
 {

@@ -1,8 +1,9 @@
 -- `load::append` meets its contract: the tests come first; then the load and the record are laid one behind the other.
 use native.Mathlib.Omega.{arith}
-use mathlib.Core.Path.{sym, _∙_}
+use mathlib.Core.Path.{sym, ap, _∙_}
 use Rattle.numerals.proofs.Laying.{put, put-then}
-use Rattle.load.proofs.Writing.{append-refused, append-written}
+use Rattle.load.specs.Answers.{writtenValues}
+use Rattle.load.proofs.Writing.{append-refused, append-written, append-values}
 use borrow.Author.Needs.{needs}
 use Rattle.load.proofs.append.Statement.{statement}
 use Rattle.load.proofs.append.Tie as tie
@@ -11,7 +12,9 @@ append-number-requires : tie.Need-append-number-requires
 append-number-requires c κs = search needs
 
 returns : tie.Need-returns
-returns c = append-refused _ _ _ _ (c .before .append-number .ensures) (c .if1 .taken)
+returns c =
+    let q = append-refused _ _ _ _ (c .before .append-number .ensures) (c .if1 .taken) in
+    (q .0, (q .1, ap writtenValues (q .0) ∙ append-values _ _ _))
 
 put-bytes-requires : tie.Need-put-bytes-requires
 put-bytes-requires c κs = search needs
@@ -27,8 +30,9 @@ returns-2 c =
     let r = c .before .before in
     let p = r .before .before .before .before in
     let o = p .before .before in
-    append-written _ _ _ _ _ (sym (o .before .append-number .ensures) ∙ o .if1 .left)
-    (put-then _ _ _ _ _ _ _ _ (omega arith) (put (p .put-bytes .ensures)) (put (r .put-record .ensures)))
+    let w = put-then _ _ _ _ _ _ _ _ (omega arith) (put (p .put-bytes .ensures)) (put (r .put-record .ensures)) in
+    let q = append-written _ _ _ _ _ (sym (o .before .append-number .ensures) ∙ o .if1 .left) w in
+    (q .0, (q .1, ap writtenValues (q .0) ∙ append-values _ _ _))
 
 pub append-spec : {M : Type 1} → statement M
 append-spec =

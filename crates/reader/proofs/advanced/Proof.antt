@@ -34,7 +34,7 @@ use denote.Triple.Spec.{Meets, tripleOf}
 use denote.Triple.Table.{entered, cited}
 use denote.Triple.Walked.{says, Stays, walkOf, Walks, ends-at, walked, walk-meets}
 use denote.Triple.Clauses.{ensured, lasts}
-use Rattle.reader.specs.Shown.{positionAfter}
+use Rattle.reader.specs.Items.{positionAfter}
 use Rattle.reader.specs.declared.Reader.{Reader}
 use Rattle.reader.proofs.position_after as position-after
 use Rattle.reader.proofs.position_after.Symbol as position-after-def

@@ -20,7 +20,7 @@ use types.Kit.{Given, ‵, _⊛_, ⋆, _$_, _∵_, !, qed, move, fjoin, suffices
 use sound.WpLaws.{FmC, fmOf, WpFn-mono}
 use denote.RattleType.{RattleType}
 use denote.Builtin.{u8}
-use denote.Ref.{RefT, now}
+use denote.Ref.{RefT, ptr, now}
 use denote.Slice.{ShrSlice, sliceTy, shr-slice-lawful}
 use denote.Steps.{nothing}
 use denote.Struct.Laws as LL
@@ -29,7 +29,7 @@ use denote.Triple.Spec.{Meets, tripleOf}
 use denote.Triple.Table.{entered, cited}
 use denote.Triple.Walked.{says, Stays, walkOf, Walks, ends-at, walked, walk-meets}
 use denote.Triple.Clauses.{ensured, lasts}
-use Rattle.reader.specs.Shown.{recordPart}
+use Rattle.reader.specs.Shown.{recordPart, recordStart, further}
 use Rattle.reader.specs.declared.Reader.{Reader}
 use Rattle.reader.proofs.part_at as part-at
 use Rattle.reader.proofs.part_at.Symbol as part-at-def
@@ -56,8 +56,9 @@ module _ {M : Type 1} (𝓤 : URA M) (H : Heap 𝓤) (A : Atoms 𝓤) (mem : Mem
   PartAt = tripleOf 𝓤 H A part-at.signature (part-at.spec 𝓤 H A mem run)
 
 module _ {M : Type 1} (𝓤 : URA M) (H : Heap 𝓤) (A : Atoms 𝓤) (W : Given 𝓤 H A) (mem : Memory → SProp 𝓤) (run : Routine → Fun 𝓤) (κ : Lft) (q : Share) (d : Reader) where
-  abbrev found : List ℕ
-  found = recordPart (now (d .load)) (d .at)
+  -- what the contract says of the result: its bytes, and where they lie
+  abbrev Found : RefT (List ℕ) → Type 0
+  Found r = (now r ≡ recordPart (now (d .load)) (d .at)) × (ptr r ≡ further (ptr (d .load)) (recordStart (now (d .load)) (d .at)))
 
   abbrev Post : Val → SProp 𝓤
   Post = walkOf 𝓤 H A shown.ended stayed (shown.clauses 𝓤 H A mem run) .post (((κ, tt), (q, tt), tt, (d, tt), (mach d ∷ [], tt)), tt)
@@ -66,10 +67,10 @@ module _ {M : Type 1} (𝓤 : URA M) (H : Heap 𝓤) (A : Atoms 𝓤) (W : Given
   to = (((κ, tt), (q, tt), tt, (d .load, (d .at, tt)), passed d), tt)
 
   -- of what the callee ensures, the clause alone: it has no `&mut`, so what is said of last values is dropped
-  said : (r : RefT (List ℕ)) → ent 𝓤 (ensured 𝓤 H A part-at.ended (part-at.clauses 𝓤 H A mem run) (κ, tt) (d .load, (d .at, tt)) tt r) (fact 𝓤 (now r ≡ found))
-  said r = exE 𝓤 _ (λ ws. snd∗ 𝓤 (sem 𝓤 H A (lasts part-at.ended (κ, tt) (d .load, (d .at, tt)) ws)) (fact 𝓤 (now r ≡ found)))
+  said : (r : RefT (List ℕ)) → ent 𝓤 (ensured 𝓤 H A part-at.ended (part-at.clauses 𝓤 H A mem run) (κ, tt) (d .load, (d .at, tt)) tt r) (fact 𝓤 (Found r))
+  said r = exE 𝓤 _ (λ ws. snd∗ 𝓤 (sem 𝓤 H A (lasts part-at.ended (κ, tt) (d .load, (d .at, tt)) ws)) (fact 𝓤 (Found r)))
 
-  exits : (r : RefT (List ℕ)) (u : Val) → now r ≡ found → ent 𝓤 (⋆ 𝓤 H A (‵ (Part κ .own r (u ∷ [])) ∷ (‵ (flft κ q) ⊛ ‵ ftrue) ∷ ‵ (Own κ d) ∷ [])) (Post u)
+  exits : (r : RefT (List ℕ)) (u : Val) → Found r → ent 𝓤 (⋆ 𝓤 H A (‵ (Part κ .own r (u ∷ [])) ∷ (‵ (flft κ q) ⊛ ‵ ftrue) ∷ ‵ (Own κ d) ∷ [])) (Post u)
   exits r u e =
       qed W (‵ (Part κ .own r (u ∷ [])) ∷ (‵ (flft κ q) ⊛ ‵ ftrue) ∷ ‵ (Own κ d) ∷ []) ∵
       suffices ! _ (ends-at 𝓤 H A shown.ended stayed (shown.clauses 𝓤 H A mem run) W (((κ, tt), (q, tt), tt, (d, tt), (mach d ∷ [], tt)), tt) u r (tt, tt) (tt, tt)) $ says ! e $
@@ -79,7 +80,7 @@ module _ {M : Type 1} (𝓤 : URA M) (H : Heap 𝓤) (A : Atoms 𝓤) (W : Given
     walk : Holds (hasTy (T′.mir (named 0)) (mach d)) × WT (mach d) → ent 𝓤 (Entry 𝓤 H A κ q d) (WpFn 𝓤 H C Λ code.function (mach d ∷ []) Post)
     walk =
         thin-walk 𝓤 H A W κ q d C Λ fm (sliceTy (tyRef (named 0) imm (tyInt w8))) #reader·part-at (Part κ) (λ r u is. shr-slice-lawful 𝓤 H A W (named 0) κ u8 .typed r _ is .0)
-        (λ r. ensured 𝓤 H A part-at.ended (part-at.clauses 𝓤 H A mem run) (κ, tt) (d .load, (d .at, tt)) tt r) (λ r. now r ≡ found) said (known to) Post exits
+        (λ r. ensured 𝓤 H A part-at.ended (part-at.clauses 𝓤 H A mem run) (κ, tt) (d .load, (d .at, tt)) tt r) Found said (known to) Post exits
 
 module _ {M : Type 1} (𝓤 : URA M) (H : Heap 𝓤) (A : Atoms 𝓤) (W : Given 𝓤 H A) (mem : Memory → SProp 𝓤) (run : Routine → Fun 𝓤) where
   shown-walks : (C : Calls 𝓤 H) (Λ : Loops 𝓤 H) → FmC 𝓤 H (W .laws) C → Triple 𝓤 (C #reader·part-at) (PartAt 𝓤 H A mem run)
