@@ -3,7 +3,8 @@
 use Prim.Native.Nat.{ℕ}
 use mathlib.Core.List.{List, [], _∷_, _++_}
 use lib.ListN.{take, drop, getD}
-use Rattle.numerals.specs.Digits.{numeral, digits}
+-- passed on: a number as bytes is part of the format
+unfoldable pub use Rattle.numerals.specs.Digits.{numeral, digits}
 use Rattle.load.specs.declared.Call.{Call}
 use Rattle.load.specs.Calls.{widths, lengthOf, kindOf, valuesOf}
 

@@ -1,3 +1,5 @@
 pub mod Items
+pub mod Turns
+pub mod AllSamples
 pub mod Held
 pub mod Thin

@@ -1,2 +1,4 @@
 pub mod Items
 pub mod Shown
+pub mod Turns
+pub mod Samples

@@ -1,0 +1,18 @@
+-- A reader opened on each load of specs/Samples gives what the table says, by computation from the load format.
+use Prim.Native.Nat.{ℕ}
+use mathlib.Core.List.{map}
+use mathlib.Core.Path.{_≡_, refl}
+use borrow.Author.Tests.{lt-ltb}
+use Rattle.load.specs.Calls.{total, widths1, widths, lengthIn, lengthOf, kindOf, fieldsOf, valuesOf, callOf}
+use Rattle.load.specs.Bytes.{numeral, digits, fieldBytes, fieldValues, recordBytes, recordsBytes, loadBytes}
+use Rattle.load.specs.Reading.{misfit, readAt, itemAt, openNumber, walkIn, walk, reading}
+use Rattle.reader.specs.Items.{itemOf}
+use Rattle.reader.specs.Samples.{samples, given, expected, OverlongRefused}
+
+pub all-samples : map given samples ≡ map expected samples
+unfolding numeral digits total widths1 widths lengthIn lengthOf kindOf fieldsOf valuesOf callOf fieldBytes fieldValues recordBytes recordsBytes loadBytes misfit readAt itemAt openNumber walkIn walk reading itemOf samples
+all-samples = refl
+
+pub overlong-refused : OverlongRefused
+unfolding itemOf openNumber
+overlong-refused s at h = rw (lt-ltb 65536 _ h)

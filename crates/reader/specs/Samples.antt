@@ -1,0 +1,62 @@
+-- The loads of case 15 of document 01's "Plots to try" and some more, as one table of what a reader opened on each gives. proofs/AllSamples
+-- has the theorem that covers the table, and the law of a load that is too long to be written out.
+use Prim.Native.Nat.{ℕ, _<_}
+use mathlib.Core.List.{List, [], _∷_, _++_}
+use mathlib.Core.Path.{_≡_}
+use lib.ListN.{length}
+use Rattle.load.specs.declared.Call.{Call}
+use Rattle.load.specs.declared.Call.the-variants.{Rig, Claim, Release, Clock}
+use Rattle.load.specs.declared.Item.{Item}
+use Rattle.load.specs.declared.Item.the-variants.{Record, End, Refused}
+use Rattle.load.specs.Bytes.{recordBytes, loadBytes}
+use Rattle.load.specs.Reading.{Walk, reading}
+use Rattle.reader.specs.Items.{itemOf}
+
+-- A load; what `next` answers first; the calls that the reader gives, and the number at which it stops, 0 at the end.
+pub record Sample : Type 0 where
+  pub load : List ℕ
+  pub first : Item
+  pub calls : List Call
+  pub stop : ℕ
+
+abbrev pub sample : List ℕ → Item → List Call → ℕ → Sample
+sample load first calls stop = record { load = load; first = first; calls = calls; stop = stop }
+
+unfoldable pub samples : List Sample
+samples =
+    -- "none gives 12"
+    sample [] (Refused 12) [] 12
+    -- "01 prints the header alone"
+    ∷ sample (0x01 ∷ []) End [] 0
+    -- "FF gives 11"
+    ∷ sample (0xFF ∷ []) (Refused 11) [] 11
+    -- "01 00 gives 12"
+    ∷ sample (0x01 ∷ 0x00 ∷ []) (Refused 12) [] 12
+    -- "01 00 00 gives 13"
+    ∷ sample (0x01 ∷ 0x00 ∷ 0x00 ∷ []) (Refused 13) [] 13
+    -- no edition, with records behind it
+    ∷ sample (0xFF ∷ recordBytes 1 (Rig 0xF)) (Refused 11) [] 11
+    ∷ sample (0x02 ∷ recordBytes 1 (Rig 0xF) ++ recordBytes 1 (Clock 1)) (Refused 11) [] 11
+    -- "Reader and writer pass fields on without judging them": a dark rig
+    ∷ sample (loadBytes 1 (Rig 0 ∷ Clock 1 ∷ [])) (Record (Rig 0) 12) (Rig 0 ∷ Clock 1 ∷ []) 0
+    -- "The first record is the rig and no other is"
+    ∷ sample (loadBytes 1 (Clock 1 ∷ [])) (Refused 13) [] 13
+    ∷ sample (loadBytes 1 (Rig 0xF ∷ Rig 0xF ∷ Clock 1 ∷ [])) (Record (Rig 0xF) 12) (Rig 0xF ∷ []) 13
+    -- a kind that the edition lacks, and a record that is cut off
+    ∷ sample (loadBytes 1 (Rig 0xF ∷ []) ++ (0x00 ∷ 0x01 ∷ 0x06 ∷ [])) (Record (Rig 0xF) 12) (Rig 0xF ∷ []) 13
+    ∷ sample (loadBytes 1 (Rig 0xF ∷ []) ++ (0x00 ∷ 0x09 ∷ 0x05 ∷ [])) (Record (Rig 0xF) 12) (Rig 0xF ∷ []) 12
+    -- the load whose listing the paper prints
+    ∷ sample (loadBytes 1 (Rig 0xF ∷ Claim 0 0x8 10 ∷ Claim 0 0xC 10 ∷ Claim 0 0x6 11 ∷ Claim 0 0x3 20 ∷ Release 4 1 ∷ [])) (Record (Rig 0xF) 12)
+    (Rig 0xF ∷ Claim 0 0x8 10 ∷ Claim 0 0xC 10 ∷ Claim 0 0x6 11 ∷ Claim 0 0x3 20 ∷ Release 4 1 ∷ []) 0
+    ∷ []
+
+-- What the reader gives, and what the table says.
+abbrev pub given : Sample → Item × Walk
+given x = (itemOf (x .load) 1, reading (x .load))
+
+abbrev pub expected : Sample → Item × Walk
+expected x = (x .first, record { calls = x .calls; stop = x .stop })
+
+-- 14: "load over 65,536 bytes", wherever the reader stands.
+abbrev pub OverlongRefused : Type 0
+OverlongRefused = (s : List ℕ) (at : ℕ) → 65536 < length s → itemOf s at ≡ Refused 14
