@@ -102,7 +102,7 @@ abbrev pub orElse : ℕ → ℕ → ℕ
 orElse zero n = n
 orElse (suc k) n = suc k
 
--- What stands for a number, unless that is 0.
+-- The refusal of a number, or, where that is 0, what there is.
 abbrev pub unlessRefused : {A : Type 0} → ℕ → (ℕ → A) → A → A
 unlessRefused zero refuse a = a
 unlessRefused (suc k) refuse a = refuse (suc k)

@@ -2,8 +2,10 @@
 // position, which costs three comparisons a record. The work is done by three functions on a slice and a position; over the struct that
 // holds the slice stand thin ones, each proved by hand.
 ghost use mathlib.Core.Path.{_≡_};
+ghost use lib.ListN.{length};
 ghost use denote.Ref.{ptr};
 ghost use Rattle.load.specs.Answers.{itemValues};
+ghost use Rattle.load.specs.Reading.{reading};
 ghost use Rattle.reader.specs.Items.{itemOf, itemNumber, positionAfter};
 ghost use Rattle.reader.specs.Shown.{recordPart, recordStart, further};
 use load::Item;
@@ -76,4 +78,32 @@ pub fn advanced<'a>(r: Reader<'a>) -> Reader<'a>
 {
     let at = position_after(r.load, r.at);
     Reader { load: r.load, at }
+}
+
+// What a reader gives of a load, from its opening to its stop: how many records, and the number of the refusal, 0 at the end.
+pub struct Scanned {
+    pub records: usize,
+    pub stop: u8,
+}
+
+// A reader is opened on the load, asked, and moved on until it stops.
+pub fn scan(load: &[u8]) -> Scanned
+    ensures { λ r. ⌜ (r .records ≡ length (reading (now (load .entry)) .calls)) × (r .stop ≡ reading (now (load .entry)) .stop) ⌝ }
+{
+    let mut r = opened(load);
+    let mut records: usize = 0;
+    loop {
+        match next(r) {
+            Item::Record(_, _) => {
+                records = records + 1;
+                r = advanced(r);
+            }
+            Item::End => {
+                return Scanned { records, stop: 0 };
+            }
+            Item::Refused(stop) => {
+                return Scanned { records, stop };
+            }
+        }
+    }
 }
