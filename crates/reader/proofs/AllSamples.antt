@@ -1,5 +1,4 @@
 -- A reader opened on each load of specs/Samples gives what the table says, by computation from the load format.
-use Prim.Native.Nat.{ℕ}
 use mathlib.Core.List.{map}
 use mathlib.Core.Path.{_≡_, refl}
 use borrow.Author.Tests.{lt-ltb}

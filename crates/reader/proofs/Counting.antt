@@ -1,5 +1,5 @@
 -- A reader whose records are counted: so many are behind it and so many are left, from the start to the stop.
-use Prim.Native.Nat.{ℕ, zero, suc, _+_, _*_, _-_, _≤_, _<_}
+use Prim.Native.Nat.{ℕ, zero, suc, _+_, _≤_, _<_}
 use mathlib.Core.List.{List, [], _∷_}
 use mathlib.Core.Path.{_≡_, refl, sym, ap, subst, _∙_}
 use native.Mathlib.Omega.{arith}
@@ -9,7 +9,7 @@ use Rattle.load.specs.declared.Call.{Call}
 use Rattle.load.specs.declared.Item.{Item}
 use Rattle.load.specs.declared.Item.the-variants.{Record, End, Refused}
 use Rattle.load.specs.Answers.{itemValues}
-use Rattle.load.specs.Reading.{openNumber, Walk, ended, walk, unlessRefused, reading}
+use Rattle.load.specs.Reading.{openNumber, ended, walk, unlessRefused, reading}
 use Rattle.load.proofs.Reading.{walk-few}
 use Rattle.reader.specs.declared.Reader.{Reader}
 use Rattle.reader.specs.Items.{itemOf, positionAfter}

@@ -1,13 +1,13 @@
 -- The claims of specs/Turns. Where a load opens, a reader's turns are the walk's.
-use Prim.Native.Nat.{ℕ, zero, suc, _+_, _≤_, _<_}
-use mathlib.Core.List.{List, [], _∷_}
+use Prim.Native.Nat.{ℕ, zero, suc, _+_, _<_}
+use mathlib.Core.List.{List}
 use mathlib.Core.Path.{_≡_, refl, sym, ap, subst, _∙_}
 use native.Mathlib.Omega.{arith}
 use lib.ListN.{length}
 use Rattle.load.specs.declared.Call.{Call}
 use Rattle.load.specs.declared.Item.{Item}
 use Rattle.load.specs.declared.Item.the-variants.{Record, End, Refused}
-use Rattle.load.specs.Reading.{itemAt, openNumber, Walk, ended, onto, follow, walkIn, walk, unlessRefused, reading}
+use Rattle.load.specs.Reading.{itemAt, openNumber, Walk, ended, follow, walkIn, walk, unlessRefused, reading}
 use Rattle.load.proofs.Reading.{reading-tested, load-parts, step-past}
 use Rattle.load.proofs.RoundTrip.{written-reads, read-written as read-appended}
 use Rattle.reader.specs.Items.{itemOf, positionAfter}

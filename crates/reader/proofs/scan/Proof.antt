@@ -70,7 +70,7 @@ use Rattle.reader.proofs.advanced.Symbol as advanced-def
 use Rattle.reader.proofs.advanced.Symbol.{name as #reader·advanced}
 use Rattle.reader.proofs.advanced.Met as advanced-thm
 use Rattle.reader.proofs.Held.{B, D, L, mach, Own, twice}
-use Rattle.reader.proofs.Counting.{Left, Fewer, at-start, behind-record, room-for-one, at-stop}
+use Rattle.reader.proofs.Counting.{Left, at-start, behind-record, room-for-one, at-stop}
 use Rattle.reader.proofs.scan.Key.{name as #reader·scan}
 use Rattle.reader.proofs.scan as scan
 use Rattle.reader.proofs.scan.Statement as stated
@@ -172,8 +172,9 @@ module _ {M : Type 1} (𝓤 : URA M) (H : Heap 𝓤) (A : Atoms 𝓤) (W : Given
   abbrev to-next : Reader → Next 𝓤 H A mem run .Ghost
   to-next d = (((κ, tt), (q, tt), tt, (d, tt), (mach d ∷ [], tt)), tt)
 
-  goes-next : (d : Reader) → ent 𝓤 (⋆ 𝓤 H A (‵ (Own κ d) ∷ Token ∷ [])) (Next 𝓤 H A mem run .pre (to-next d))
-  goes-next d = qed W (‵ (Own κ d) ∷ Token ∷ []) ∵ nothing ! $ move ! (1 ∷ 0 ∷ []) $ fjoin ! $ move ! (1 ∷ 0 ∷ []) $ join ! $ frame ! $ done !
+  -- what each of `next` and `advanced` asks of the reader that it is passed
+  goes-held : (d : Reader) → ent 𝓤 (⋆ 𝓤 H A (‵ (Own κ d) ∷ Token ∷ [])) (Next 𝓤 H A mem run .pre (to-next d))
+  goes-held d = qed W (‵ (Own κ d) ∷ Token ∷ []) ∵ nothing ! $ move ! (1 ∷ 0 ∷ []) $ fjoin ! $ move ! (1 ∷ 0 ∷ []) $ join ! $ frame ! $ done !
 
   abbrev Found : Reader → Item → Type 0
   Found d i = (i ≡ itemOf (now (d .load)) (d .at)) × (itemValues (d .at) i .number ≡ itemNumber (now (d .load)) (d .at))
@@ -183,9 +184,6 @@ module _ {M : Type 1} (𝓤 : URA M) (H : Heap 𝓤) (A : Atoms 𝓤) (W : Given
 
   abbrev to-advanced : Reader → Advanced 𝓤 H A mem run .Ghost
   to-advanced d = (((κ, tt), (q, tt), tt, (d, tt), (mach d ∷ [], tt)), tt)
-
-  goes-advanced : (d : Reader) → ent 𝓤 (⋆ 𝓤 H A (‵ (Own κ d) ∷ Token ∷ [])) (Advanced 𝓤 H A mem run .pre (to-advanced d))
-  goes-advanced d = qed W (‵ (Own κ d) ∷ Token ∷ []) ∵ nothing ! $ move ! (1 ∷ 0 ∷ []) $ fjoin ! $ move ! (1 ∷ 0 ∷ []) $ join ! $ frame ! $ done !
 
   abbrev IsAdvanced : Reader → Reader → Type 0
   IsAdvanced d p = (p .load ≡ d .load) × (p .at ≡ positionAfter (now (d .load)) (d .at))
@@ -287,7 +285,7 @@ module _ {M : Type 1} (𝓤 : URA M) (H : Heap 𝓤) (A : Atoms 𝓤) (W : Given
         switches-on ! (load ! (from ! (vrt ! refl (fld ! refl (stop !)))) (look-tag ! 7 (whole !))) $ exec ! C Λ En record-arm (anyQ (afterTurn 𝓤 H (Below t) Done)) $
         assigns ! (bin ! (load ! (from ! (stop !)) (look ! 4 refl)) (lit ! tt) (record { fits = fits })) (from ! (stop !)) (store ! 4 refl (tt, record { fits = fits })) $
         assigns ! (of-opd ! (load ! (from ! (stop !)) (look ! 3 refl))) (from ! (stop !)) (init ! 10 refl (typed d (mach d) (f .1 .0))) $
-        use2 W (raw (Advanced 𝓤 H A mem run .pre (to-advanced d))) (goes-advanced d) $
+        use2 W (raw (Advanced 𝓤 H A mem run .pre (to-advanced d))) (goes-held d) $
         -- [what `advanced` asks; what s owns; _2; _3; room for _0; _1; _5; room for _4; room for _6; _7; and that each local dies]
         calls-at-last ! fm (Advanced 𝓤 H A mem run) known-advanced (to-advanced d) (and-then ! (load ! (from ! (stop !)) (look ! 9 refl)) (no-more !)) (λ u.
         use1 W (later (some (λ (p : Reader). (Token ⊛ ‵ (B (κ, tt) .own p (u ∷ []))) ⊛ raw (ensured 𝓤 H A advanced.ended (advanced.clauses 𝓤 H A mem run) (κ, tt) (d, tt) tt p)))) (id⊢ 𝓤 _) $ await ! tt $ pick ! (λ p.
@@ -312,7 +310,7 @@ module _ {M : Type 1} (𝓤 : URA M) (H : Heap 𝓤) (A : Atoms 𝓤) (W : Given
     turn-at t k d f =
         qed W (At k d) ∵ exec ! C Λ En turn (anyQ (afterTurn 𝓤 H (Below t) Done)) $
         assigns ! (of-opd ! (load ! (from ! (stop !)) (look ! 3 refl))) (from ! (stop !)) (init ! 9 refl (typed d (mach d) (f .1 .0))) $
-        use1 W (‵ (Own κ d) ⊛ ‵ (Own κ d)) (twice 𝓤 H A W κ d) $ split ! $ move ! (0 ∷ 2 ∷ []) $ use2 W (raw (Next 𝓤 H A mem run .pre (to-next d))) (goes-next d) $
+        use1 W (‵ (Own κ d) ⊛ ‵ (Own κ d)) (twice 𝓤 H A W κ d) $ split ! $ move ! (0 ∷ 2 ∷ []) $ use2 W (raw (Next 𝓤 H A mem run .pre (to-next d))) (goes-held d) $
         -- [what `next` asks; what the reader owns; what s owns; _2; _3; room for _0; _1; room for _5; room for _4; _6; room for _7; and that each local dies]
         calls-at ! fm (Next 𝓤 H A mem run) known-next (to-next d) (and-then ! (load ! (from ! (stop !)) (look ! 9 refl)) (no-more !)) (λ u.
         use1 W (later (some (λ (i : Item). (Token ⊛ ‵ (S.the-row .own i (u ∷ []))) ⊛ raw (ensured 𝓤 H A next.ended (next.clauses 𝓤 H A mem run) (κ, tt) (d, tt) tt i)))) (id⊢ 𝓤 _) $ await ! tt $ pick ! (λ i.
