@@ -185,11 +185,11 @@ unfolding after
 after-invariant m [] i = i
 after-invariant m (c ∷ cs) i = after-invariant (step m c .model) cs (step-invariant m c i)
 
--- ── packing as document 01 has it, in every table that calls can make and at every clock ──
-pub packs-as-documented : (m : Model) → Invariant m → (v : Setting)
+-- ── packing as document 01 has it, at every clock: in every table that calls can make, and in those inside a call ──
+pub packs-as-documented : (m : Model) → IsSpaced m → (v : Setting)
     → Packs v (m .pending) (packedStart v (m .pending))
     × ((f : Claim → ℕ) → Packs v (m .pending) f → (w : Claim) → w ∈ m .pending → on w ≡ false → f w ≡ packedStart v (m .pending) w)
 packs-as-documented m i v =
-    let sane : Each Sane (m .pending) = λ c k. i .spaced .proper c k .sane in
-    let untied = separated-untied (settingOf m) (m .pending) sane (i .spaced .fit) in
-    (pack-as-documented v (m .pending) sane (i .spaced .ascending) untied, pack-unique v (m .pending) sane (i .spaced .ascending) untied)
+    let sane : Each Sane (m .pending) = λ c k. i .proper c k .sane in
+    let untied = separated-untied (settingOf m) (m .pending) sane (i .fit) in
+    (pack-as-documented v (m .pending) sane (i .ascending) untied, pack-unique v (m .pending) sane (i .ascending) untied)
