@@ -2,7 +2,7 @@
 use mathlib.Core.Path.{_≡_, refl, sym, _∙_, ap, subst}
 use mathlib.Core.Logic.{_⊎_, inl, inr, _≢_}
 use mathlib.Core.Bool.{Bool, true, false, not, _&&_, cond}
-use mathlib.Core.List.{List, [], _∷_, map, List·Memᴰ·cases-cons, List·Memᴰ·append-cases, List·Memᴰ·eq-of-singleton}
+use mathlib.Core.List.{List, [], _∷_, map, List·Memᴰ·cases-cons}
 use Prim.Native.Nat.{ℕ, suc, _+_, _-_, _≤_, _<_}
 use native.Mathlib.Omega.{arith}
 use lib.Dec.{eqb}
@@ -19,16 +19,16 @@ use Rattle.rules.specs.Placing.{place, contention, startBound}
 use Rattle.rules.specs.Granting.{goes, granted, grant, grants}
 use Rattle.rules.specs.Calls.{Model, settingOf, Call, claim, release, withdraw, clock, timed, Answer, Step, named, unchanged, advance, finish, join, remove, fresh, admit, step, Waits, Holds, standing, standingOf, blank, new, after}
 use Rattle.rules.specs.Plans.{Ascending}
-use Rattle.rules.specs.Invariants.{Packed, IsSpaced, Invariant}
+use Rattle.rules.specs.Invariants.{IsSpaced, Invariant}
 use Rattle.rules.proofs.Bools.{split, clash, and-i}
-use Rattle.rules.proofs.Lists.{none, keep-e, map-e}
+use Rattle.rules.proofs.Lists.{none}
 use Rattle.rules.proofs.Claims.{end-on}
 use Rattle.rules.proofs.Order.{ascending-same}
-use Rattle.rules.proofs.Packing.{moved-cases, moved-at, moved-phase, moved-ticket, pack-no-later}
+use Rattle.rules.proofs.Packing.{moved-cases, moved-at, moved-phase, pack-no-later}
 use Rattle.rules.proofs.Bounding.{place-bound}
-use Rattle.rules.proofs.Granting.{granted-cases, granted-ticket, granted-at}
+use Rattle.rules.proofs.Granting.{granted-cases, granted-at}
 use Rattle.rules.proofs.Invariants.{spaced-packs}
-use Rattle.rules.proofs.Calls.{OnTime, Admissible, advance-packed, finish-invariant, placed, join-spaced, Leaves, by-release, by-withdraw, by-clock, leaves-spaced, Idle, step-cases, blank-invariant, new-cases}
+use Rattle.rules.proofs.Calls.{OnTime, Admissible, advance-packed, finish-invariant, advance-same, finish-e, finish-clock, placed, join-spaced, Leaves, by-release, by-withdraw, by-clock, leaves-spaced, leaves-old, leaves-clock, join-old, Idle, step-cases, blank-invariant, new-cases}
 use Rattle.rules.proofs.Prompt.{Prompt, prompt-no-later}
 use Rattle.rules.proofs.Lookup.{lookup-absent, lookup-found, lookup-waits}
 use Rattle.promises.specs.Ledger.{Turn, turns, Entry, promised, Ledger, acted, hold, marked, noted, notedAll, ledgerOf, NoOverrun, NoOverruns, Punctual, remainingOf, rivalsOf, boundOn}
@@ -147,14 +147,6 @@ advance-match P T l m t i h pr ma =
     (λ p o. prompt-no-later (m .issued) (settingOf m) (record { clock = t }) (m .pending) i (record { later = h }) (pr (p .1)) c ci o))
     ma
 
-finish-clock : (m : Model) (k s n b : ℕ) → finish m k s n b .model .clock ≡ m .clock
-unfolding finish
-finish-clock m k s n b = refl
-
-finish-number : (m : Model) (k s n b : ℕ) → finish m k s n b .answer .number ≡ 0
-unfolding finish
-finish-number m k s n b = refl
-
 -- Packing again and granting: no start rises.
 finish-match : (P : Type 0) (l : List Entry) (m : Model) (k s n b : ℕ) → IsSpaced m → Match (Tracks P) (m .pending) l
     → Match (Tracks P) (finish m k s n b .model .pending) (map (marked (m .clock) (finish m k s n b .answer .grants)) l)
@@ -170,19 +162,7 @@ finish-match P l m k s n b i ma =
     ps : List Claim
     ps = pack (settingOf m) (m .pending)
 
--- What release, withdraw and clock leave: of the claims that the first packing gave, and of the ledger.
-leaves-clock : {m : Model} {c : Call} {t k : ℕ} {q : Model} → Leaves m c t k q → q .clock ≡ t
-unfolding remove advance
-leaves-clock (by-release t k) = refl
-leaves-clock (by-withdraw t k) = refl
-leaves-clock (by-clock t) = refl
-
-leaves-old : {m : Model} {c : Call} {t k : ℕ} {q : Model} → Leaves m c t k q → (y : Claim) → y ∈ q .pending → y ∈ advance m t .pending
-unfolding remove
-leaves-old (by-release t k) y i = keep-e _ _ i .0
-leaves-old (by-withdraw t k) y i = keep-e _ _ i .0
-leaves-old (by-clock t) y i = i
-
+-- What release, withdraw and clock leave of the ledger.
 leaves-match : (P : Type 0) (l : List Entry) (a : Answer) {m : Model} {c : Call} {t k : ℕ} {q : Model} → Leaves m c t k q
     → Match (Tracks P) (advance m t .pending) l → Match (Tracks P) (q .pending) (acted l c a)
 unfolding remove acted
@@ -203,43 +183,30 @@ NotRaised ps qs = (c d : Claim) → c ∈ ps → d ∈ qs → d .ticket ≡ c .t
 -- Where a claim comes from, through packing and granting.
 finish-from : (m : Model) (k s n b : ℕ) → IsSpaced m → (d : Claim) → d ∈ finish m k s n b .model .pending
     → (x : Claim) × x ∈ m .pending × (d .ticket ≡ x .ticket) × (on x ≡ false → at d ≤ at x)
-unfolding finish pack grant
 finish-from m k s n b i d di =
+    let v : Setting = settingOf m in
     let f = packedStart v (m .pending) in
-    let a = map-e (granted v ps) ps di in
-    let c = map-e (moved f) (m .pending) (a .1) in (
-      c .0,
-      c .1,
-      ap (λ (x : Claim). x .ticket) (a .2) ∙ granted-ticket v ps (a .0) ∙ ap (λ (x : Claim). x .ticket) (c .2) ∙ moved-ticket f (c .0),
+    let p = spaced-packs (m .issued) v (m .pending) i in
+    let r = finish-e m k s n b di in (
+      r .0,
+      r .1,
+      r .2,
       λ o.
           omega (
             arith,
-            ap at (a .2),
-            granted-at v ps (p .spaced .holders) (p .spaced .fit) (p .spaced .low) (p .tight) (λ x j. p .spaced .proper x j .sane) (p .spaced .ascending) (a .0) (a .1),
-            ap at (c .2),
-            moved-at f (c .0) o,
-            pack-no-later v (m .pending) (i .fit) (i .low) (c .0) (c .1) o,
+            ap at (r .3 .1),
+            granted-at v (pack v (m .pending)) (p .spaced .holders) (p .spaced .fit) (p .spaced .low) (p .tight) (λ x j. p .spaced .proper x j .sane) (p .spaced .ascending) (moved f (r .0)) (r .3 .0),
+            moved-at f (r .0) o,
+            pack-no-later v (m .pending) (i .fit) (i .low) (r .0) (r .1) o,
           ),
     )
-  where
-    v : Setting
-    v = settingOf m
-
-    ps : List Claim
-    ps = pack (settingOf m) (m .pending)
-
-    p : Packed (m .issued) (settingOf m) (pack (settingOf m) (m .pending))
-    p = spaced-packs (m .issued) (settingOf m) (m .pending) i
 
 -- And through the first packing.
 advance-from : (m : Model) (t : ℕ) → Invariant m → m .clock ≤ t → Prompt t (m .pending) → (c d : Claim) → c ∈ m .pending → d ∈ advance m t .pending → d .ticket ≡ c .ticket
     → on c ≡ false → (on d ≡ false) × (at d ≤ at c)
-unfolding advance pack
 advance-from m t i h pr c d ci di e o =
     let f = packedStart (record { clock = t }) (m .pending) in
-    let b = map-e (moved f) (m .pending) di in
-    let same : b .0 ≡ c = ascending-same (m .pending) (i .spaced .ascending) (b .0) c (b .1) ci (sym (moved-ticket f (b .0)) ∙ sym (ap (λ (x : Claim). x .ticket) (b .2)) ∙ e) in
-    let q : d ≡ moved f c = b .2 ∙ ap (moved f) same in (
+    let q = advance-same m t i c d ci di e in (
       ap on q ∙ moved-phase f c ∙ o,
       omega (arith, ap at q, moved-at f c o, prompt-no-later (m .issued) (settingOf m) (record { clock = t }) (m .pending) i (record { later = h }) pr c ci o),
     )
@@ -340,7 +307,7 @@ module _ (P : Type 0) (l : Ledger) (m : Model) (s : Story P l m) where
   told-claim : (t g n : ℕ) → Admissible m t g n → Told P l m (claim t g n) (admit (advance m t) g n)
   unfolding admit finish join advance acted
   told-claim t g n a =
-      let r = told-finish t (w .ticket) x (contention ps w) (startBound v ps w) q _ T (a .clocked .later) (λ z. z refl) spaced refl old (match-snoc _ _ first new) in (
+      let r = told-finish t (w .ticket) x (contention ps w) (startBound v ps w) q _ T (a .clocked .later) (λ z. z refl) spaced refl (join-old (advance m t) (placed (advance m t) g n) refl) (match-snoc _ _ first new) in (
         record {
           start-bounded = λ t′ g′ n′ e _.
               let same : boundOn (record { clock = t }) (l .claims) g n ≡ boundOn (record { clock = t′ }) (l .claims) g′ n′ = cc in
@@ -374,13 +341,6 @@ module _ (P : Type 0) (l : Ledger) (m : Model) (s : Story P l m) where
       spaced : IsSpaced (join (advance m t) (placed (advance m t) g n))
       spaced = join-spaced (advance m t) g n (a .long) (a .spare) (advance-packed m t (s .inv) (a .clocked .later) .spaced)
 
-      old : (y : Claim) → y ∈ join (advance m t) (placed (advance m t) g n) .pending → (y ∈ advance m t .pending) ⊎ (m .issued < y .ticket)
-      old y i = go (List·Memᴰ·append-cases (advance m t .pending) i)
-        where
-          go : (y ∈ advance m t .pending) ⊎ (y ∈ (placed (advance m t) g n ∷ [])) → (y ∈ advance m t .pending) ⊎ (m .issued < y .ticket)
-          go (inl j) = inl j
-          go (inr j) = inr (omega (arith, ap (λ (z : Claim). z .ticket) (List·Memᴰ·eq-of-singleton j)))
-
       new : Tracks (P × T) (placed (advance m t) g n) (record { ticket = suc (m .issued); groups = g; length = n; first = place (record { clock = t }) (advance m t .pending) (fresh (advance m t) g n); held = false; grant = 0 })
       new = record { ticket = refl; groups = refl; length = refl; held = refl; grant = λ e. clash e refl; early = λ p o. omega arith }
 
@@ -389,7 +349,7 @@ module _ (P : Type 0) (l : Ledger) (m : Model) (s : Story P l m) where
       → (T → Unraised (m .pending) (finish q k t 0 0 .model .pending) (map (marked t (finish q k t 0 0 .answer .grants)) (acted (l .claims) c a)))
       × Story (P × T) (record { clock = t; claims = map (marked t (finish q k t 0 0 .answer .grants)) (acted (l .claims) c a) }) (finish q k t 0 0 .model)
   left {c} {t} {k} {q} a T v o tm =
-      told-finish t k t 0 0 q (acted (l .claims) c a) T (o .later) tm (leaves-spaced v (advance-packed m t (s .inv) (o .later))) (leaves-clock v)
+      told-finish t k t 0 0 q (acted (l .claims) c a) T (o .later) tm (leaves-spaced v (advance-packed m t (s .inv) (o .later))) (leaves-clock v .0)
       (λ y i. inl (leaves-old v y i))
       (leaves-match (P × T) (l .claims) a v (advance-match P T (l .claims) m t (s .inv) (o .later) (λ z. prompt t (tm z)) (s .match)))
 

@@ -1,2 +1,3 @@
 pub mod Ledger
 pub mod Demand3
+pub mod WholeCalls

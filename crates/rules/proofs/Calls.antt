@@ -1,27 +1,30 @@
 -- The calls: what accepting one means, its cases, and that every call keeps the invariant.
-use mathlib.Core.Path.{_≡_, refl}
+use mathlib.Core.Path.{_≡_, refl, sym, _∙_, ap}
 use mathlib.Core.Logic.{_⊎_, inl, inr, _≢_}
 use mathlib.Core.Bool.{Bool, true, false, not, _||_, cond}
-use mathlib.Core.List.{List, [], _∷_}
+use mathlib.Core.List.{List, [], _∷_, List·Memᴰ·append-cases, List·Memᴰ·eq-of-singleton}
 use Prim.Native.Nat.{ℕ, zero, suc, _≤_, _<_}
 use native.Mathlib.Omega.{arith}
 use lib.Dec.{ltb, leb, eqb}
 use lib.ListN.{length}
-use borrow.Author.Tests.{ltb-false, leb-false, eqb-false, not-false}
+use borrow.Author.Tests.{ltb-false, le-ltb, leb-false, eqb-false, not-false}
 use Rattle.groups.specs.Groups.{empty, within}
 use Rattle.rules.specs.declared.Claim.{Claim}
 use Rattle.rules.specs.declared.Phase.the-variants.{Waiting}
 use Rattle.rules.specs.Lists.{_∈_}
 use Rattle.rules.specs.Claims.{Setting, on, at, withPhase}
-use Rattle.rules.specs.Packing.{packedStart, pack, Packs}
+use Rattle.rules.specs.Packing.{packedStart, moved, pack, Packs}
 use Rattle.rules.specs.Placing.{place}
-use Rattle.rules.specs.Calls.{Model, settingOf, Call, claim, release, withdraw, clock, lookup, timed, Step, Test, test, firstOf, late, backward, tests, named, unchanged, advance, finish, join, remove, fresh, admit, act, unless, step, blank, new, after}
+use Rattle.rules.specs.Granting.{granted, grant}
+use Rattle.rules.specs.Calls.{Model, settingOf, Call, claim, release, withdraw, clock, lookup, timed, clockOf, Step, Test, test, firstOf, late, backward, tests, named, unchanged, advance, finish, join, remove, fresh, admit, act, unless, step, blank, new, after}
 use Rattle.rules.specs.Plans.{Fits, Sane}
 use Rattle.rules.specs.Invariants.{IsSpaced, IsPacked, Invariant}
 use Rattle.rules.proofs.Bools.{or-fl, or-fr}
-use Rattle.rules.proofs.Lists.{Each, none}
-use Rattle.rules.proofs.Packing.{separated-untied, pack-as-documented, pack-unique}
+use Rattle.rules.proofs.Lists.{Each, none, keep-e, map-e, map-i}
+use Rattle.rules.proofs.Order.{ascending-same}
+use Rattle.rules.proofs.Packing.{moved-ticket, separated-untied, pack-as-documented, pack-unique}
 use Rattle.rules.proofs.Placing.{place-low, place-fits}
+use Rattle.rules.proofs.Granting.{granted-ticket}
 use Rattle.rules.proofs.Invariants.{packs, grant-settles, spaced-packable, spaced-packs, spaced-keep, spaced-snoc}
 
 -- ── the tests ──
@@ -104,8 +107,8 @@ module _ (m : Model) (g n : ℕ) (long : 1 ≤ n) (spare : m .issued < 65535) wh
   unfolding join
   join-spaced p = spaced-snoc (m .issued) (settingOf m) (m .pending) (placed m g n) placed-sane refl placed-fits p refl (place-low (settingOf m) (m .pending) (fresh m g n))
 
--- ── the cases of a call ──
--- What a call that is accepted and no claim leaves pending, before it packs again and grants.
+-- ── what a call leaves before it packs again and grants ──
+-- Of the accepted calls that are no claims.
 pub data Leaves (m : Model) : Call → ℕ → ℕ → Model → Type 0 where
   by-release : (t k : ℕ) → Leaves m (release t k) t k (remove (advance m t) k)
   by-withdraw : (t k : ℕ) → Leaves m (withdraw t k) t k (remove (advance m t) k)
@@ -116,6 +119,68 @@ leaves-spaced {m} (by-release t k) p = remove-spaced (advance m t) k (p .spaced)
 leaves-spaced {m} (by-withdraw t k) p = remove-spaced (advance m t) k (p .spaced)
 leaves-spaced (by-clock t) p = p .spaced
 
+-- ── where the claims after a call come from ──
+-- Through packing at a new clock.
+pub advance-e : (m : Model) (t : ℕ) {d : Claim} → d ∈ advance m t .pending
+    → (x : Claim) × x ∈ m .pending × (d .ticket ≡ x .ticket) × (d ≡ moved (packedStart (record { clock = t }) (m .pending)) x)
+unfolding advance pack
+advance-e m t i =
+    let f = packedStart (record { clock = t }) (m .pending) in
+    let r = map-e (moved f) (m .pending) i in
+    (r .0, r .1, ap (λ (x : Claim). x .ticket) (r .2) ∙ moved-ticket f (r .0), r .2)
+
+-- The claim c after it.
+pub advance-same : (m : Model) (t : ℕ) → Invariant m → (c d : Claim) → c ∈ m .pending → d ∈ advance m t .pending → d .ticket ≡ c .ticket
+    → d ≡ moved (packedStart (record { clock = t }) (m .pending)) c
+advance-same m t i c d ci di e =
+    let r = advance-e m t di in
+    r .3 ∙ ap (moved (packedStart (record { clock = t }) (m .pending))) (ascending-same (m .pending) (i .spaced .ascending) (r .0) c (r .1) ci (sym (r .2) ∙ e))
+
+-- Through packing and granting.
+pub finish-e : (m : Model) (k s n b : ℕ) {d : Claim} → d ∈ finish m k s n b .model .pending
+    → (x : Claim) × x ∈ m .pending × (d .ticket ≡ x .ticket)
+    × (let v : Setting = settingOf m in
+    let y : Claim = moved (packedStart v (m .pending)) x in
+    y ∈ pack v (m .pending) × (d ≡ granted v (pack v (m .pending)) y))
+unfolding finish pack grant
+finish-e m k s n b i =
+    let v : Setting = settingOf m in
+    let f = packedStart v (m .pending) in
+    let ps : List Claim = pack v (m .pending) in
+    let a = map-e (granted v ps) ps i in
+    let c = map-e (moved f) (m .pending) (a .1) in (
+      c .0,
+      c .1,
+      ap (λ (x : Claim). x .ticket) (a .2) ∙ granted-ticket v ps (a .0) ∙ ap (λ (x : Claim). x .ticket) (c .2) ∙ moved-ticket f (c .0),
+      (map-i (moved f) (c .1), a .2 ∙ ap (granted v ps) (c .2)),
+    )
+
+-- Through the act.
+pub leaves-old : {m : Model} {c : Call} {t k : ℕ} {q : Model} → Leaves m c t k q → (y : Claim) → y ∈ q .pending → y ∈ advance m t .pending
+unfolding remove
+leaves-old (by-release t k) y i = keep-e _ _ i .0
+leaves-old (by-withdraw t k) y i = keep-e _ _ i .0
+leaves-old (by-clock t) y i = i
+
+pub join-old : (m : Model) (w : Claim) → w .ticket ≡ suc (m .issued) → (y : Claim) → y ∈ join m w .pending → (y ∈ m .pending) ⊎ (m .issued < y .ticket)
+unfolding join
+join-old m w e y i = go (List·Memᴰ·append-cases (m .pending) i)
+  where
+    go : (y ∈ m .pending) ⊎ (y ∈ (w ∷ [])) → (y ∈ m .pending) ⊎ (m .issued < y .ticket)
+    go (inl j) = inl j
+    go (inr j) = inr (omega (arith, ap (λ (z : Claim). z .ticket) (List·Memᴰ·eq-of-singleton j)))
+
+pub leaves-clock : {m : Model} {c : Call} {t k : ℕ} {q : Model} → Leaves m c t k q → (q .clock ≡ t) × (clockOf c ≡ t)
+unfolding remove advance
+leaves-clock (by-release t k) = (refl, refl)
+leaves-clock (by-withdraw t k) = (refl, refl)
+leaves-clock (by-clock t) = (refl, refl)
+
+pub finish-clock : (m : Model) (k s n b : ℕ) → finish m k s n b .model .clock ≡ m .clock
+unfolding finish
+finish-clock m k s n b = refl
+
+-- ── the cases of a call ──
 -- A call that changes nothing: refused, or a lookup.
 abbrev pub Idle : Call → ℕ → Type 0
 Idle c n = (timed c ≡ false) ⊎ (n ≢ 0)
@@ -140,12 +205,17 @@ step-cases P m no! yes-claim yes-left c = by-tests (P c) m (firstOf (tests m c))
     accepted (clock t) e = yes-left (clock t) t 0 (advance m t) (on-time m t _ e .0) (by-clock t)
     accepted (lookup k) e = no! (lookup k) 0 (inl refl)
 
+-- A clock call whose clock is neither late nor backward is accepted.
+pub clock-accepted : (m : Model) (t : ℕ) → OnTime m t → step m (clock t) ≡ finish (advance m t) 0 t 0 0
+unfolding step act tests firstOf
+clock-accepted m t o = rw (le-ltb 1000000000000 t (o .early), le-ltb t (m .clock) (o .later))
+
 -- ── every call keeps the invariant ──
 pub admit-invariant : (m : Model) (g n : ℕ) → 1 ≤ n → m .issued < 65535 → IsPacked m → Invariant (admit m g n .model)
 unfolding admit
 admit-invariant m g n l s p = finish-invariant (join m (placed m g n)) _ _ _ _ (join-spaced m g n l s (p .spaced))
 
-advance-spare : (m : Model) (t g n : ℕ) → Admissible m t g n → advance m t .issued < 65535
+pub advance-spare : (m : Model) (t g n : ℕ) → Admissible m t g n → advance m t .issued < 65535
 unfolding advance
 advance-spare m t g n a = a .spare
 

@@ -1,8 +1,8 @@
 -- Granting: holders stay apart, nothing else moves, and whoever still waits is held up by a claim whose end is its start.
-use mathlib.Core.Path.{_≡_, refl, sym, _∙_, subst}
+use mathlib.Core.Path.{_≡_, refl, sym, _∙_, ap, subst}
 use mathlib.Core.Logic.{_⊎_, inl, inr, _≢_}
 use mathlib.Core.Bool.{true, false, not, _&&_}
-use mathlib.Core.List.{List, map}
+use mathlib.Core.List.{List, [], _∷_, _++_, map, map-append, Memᴰ·append-left}
 use Prim.Native.Nat.{_≤_, _<_}
 use native.Mathlib.Omega.{arith}
 use lib.Dec.{eqb}
@@ -15,7 +15,7 @@ use Rattle.rules.specs.Order.{before, precedes}
 use Rattle.rules.specs.Granting.{goes, granted, grant}
 use Rattle.rules.specs.Plans.{Ascending, Sane, Apart, Separated, StartsFrom, HeldUp, Tight, Blocked}
 use Rattle.rules.proofs.Bools.{split, clash, and-l, and-r, and-i, both-ways, same?}
-use Rattle.rules.proofs.Lists.{Each, any-none, any-false, any-some, map-i, map-each, map-each2}
+use Rattle.rules.proofs.Lists.{Each, any-none, any-false, any-some, snoc-each, map-i, map-each, map-each2, map-cong}
 use Rattle.rules.proofs.Claims.{conflicts-sym, end-wait, end-clock, end-prompt}
 use Rattle.rules.proofs.Order.{either-before, before-precedes, precedes-conflicts, precedes-e, precedes-on, precedes-before, ends-precedes, ascending-same}
 
@@ -54,6 +54,13 @@ granted-cases P v ps c f g = go (split (goes ps c))
 
 pub granted-ticket : (v : Setting) (ps : List Claim) (c : Claim) → granted v ps c .ticket ≡ c .ticket
 granted-ticket v ps c = granted-cases (λ (x : Claim). x .ticket ≡ c .ticket) v ps c (λ p. refl) (λ p. refl)
+
+-- What precedes a waiting claim still does, and the claim still waits.
+pub grant-precedes : (v : Setting) (ps : List Claim) (c w : Claim) → c ∈ ps → precedes c w ≡ true → (granted v ps w ≡ w) × (precedes (granted v ps c) w ≡ true)
+grant-precedes v ps c w m p = (
+  granted-cases (λ (x : Claim). x ≡ w) v ps w (λ g. clash p (goes-free ps w g c m)) (λ g. refl),
+  granted-cases (λ (x : Claim). precedes x w ≡ true) v ps c (λ g. precedes-on (withPhase c (On (v .clock))) w (precedes-conflicts c w p) refl) (λ g. p),
+)
 
 -- ── who goes on in a packed plan ──
 module _ (v : Setting) (ps : List Claim) (low : StartsFrom (v .clock) ps) (tight : Tight v ps) (sane : Each Sane ps) where
@@ -102,6 +109,31 @@ module _ (v : Setting) (ps : List Claim) (low : StartsFrom (v .clock) ps) (tight
           let a = eqb-true (at c) (v .clock) (and-l (eqb (at c) (v .clock)) _ r) in
           let n = not-true (any (λ d. on d && conflicts d c) ps) (and-r (eqb (at c) (v .clock)) _ r) in
           goes-i ps c o (λ d k. none-precedes d k a (any-none (λ d. on d && conflicts d c) n k))
+
+  -- One waiting claim more, at the clock or later, changes nothing for the others.
+  pub grant-snoc : (w : Claim) → on w ≡ false → v .clock ≤ at w → grant v (ps ++ (w ∷ [])) ≡ grant v ps ++ (granted v (ps ++ (w ∷ [])) w ∷ [])
+  unfolding grant
+  grant-snoc w o h =
+      map-append (granted v (ps ++ (w ∷ []))) ps (w ∷ [])
+      ∙ ap (λ (l : List Claim). l ++ (granted v (ps ++ (w ∷ [])) w ∷ [])) (map-cong (granted v (ps ++ (w ∷ []))) (granted v ps) ps (λ c m. same c (alike c m)))
+    where
+      alike : (c : Claim) → c ∈ ps → goes (ps ++ (w ∷ [])) c ≡ goes ps c
+      alike c m = both-ways _ _ (λ e. goes-i ps c (goes-wait (ps ++ (w ∷ [])) c e) (λ d k. goes-free (ps ++ (w ∷ [])) c e d (Memᴰ·append-left (w ∷ []) k))) more
+        where
+          behind : goes ps c ≡ true → (precedes w c ≡ true) ⊎ (precedes w c ≡ false) → precedes w c ≡ false
+          behind e (inr q) = q
+          behind e (inl q) = late (precedes-e w c q)
+            where
+              late : (on w ≡ true) ⊎ (at w < at c) → precedes w c ≡ false
+              late (inl z) = clash z o
+              late (inr z) = absurd (omega (arith, goes-at c m e))
+
+          more : goes ps c ≡ true → goes (ps ++ (w ∷ [])) c ≡ true
+          more e = goes-i (ps ++ (w ∷ [])) c (goes-wait ps c e) (snoc-each (λ (d : Claim). precedes d c ≡ false) ps w (goes-free ps c e) (behind e (split (precedes w c))))
+
+      same : (c : Claim) → goes (ps ++ (w ∷ [])) c ≡ goes ps c → granted v (ps ++ (w ∷ [])) c ≡ granted v ps c
+      same c e =
+          granted-cases (λ (x : Claim). x ≡ granted v ps c) v (ps ++ (w ∷ [])) c (λ g. sym (granted-go v ps c (sym e ∙ g))) (λ g. sym (granted-stay v ps c (sym e ∙ g)))
 
 -- ── granting what is packed ──
 module _ (v : Setting) (ps : List Claim) (holders : Apart ps) (fit : Separated v ps) (low : StartsFrom (v .clock) ps) (tight : Tight v ps) (sane : Each Sane ps)

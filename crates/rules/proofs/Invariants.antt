@@ -7,17 +7,17 @@ use Prim.Native.Nat.{ℕ, suc, _≤_, _<_}
 use native.Mathlib.Omega.{arith}
 use Rattle.rules.specs.declared.Claim.{Claim}
 use Rattle.rules.specs.declared.Phase.the-variants.{Waiting, On}
-use Rattle.rules.specs.Lists.{_∈_, keep}
+use Rattle.rules.specs.Lists.{_∈_, greatest, keep}
 use Rattle.rules.specs.Claims.{Setting, on, at, withPhase, conflicts, endOf}
-use Rattle.rules.specs.Order.{before}
+use Rattle.rules.specs.Order.{before, precedes}
 use Rattle.rules.specs.Packing.{packedStart, moved, pack}
 use Rattle.rules.specs.Granting.{granted, grant}
 use Rattle.rules.specs.Plans.{Sane, Separated, Behind, Earliest, Room, Fits}
 use Rattle.rules.specs.Invariants.{Proper, Packable, Spaced, Packed, Settled}
 use Rattle.rules.proofs.Bools.{split, clash, compare}
-use Rattle.rules.proofs.Lists.{Each, keep-e, keep-i, map-each, snoc-each, snoc-each2}
+use Rattle.rules.proofs.Lists.{Each, greatest-ge, greatest-le, keep-e, keep-i, map-each, snoc-each, snoc-each2}
 use Rattle.rules.proofs.Claims.{conflicts-sym, end-wait}
-use Rattle.rules.proofs.Order.{before-on, before-key, before-lt, ascending-map, ascending-keep, ascending-snoc}
+use Rattle.rules.proofs.Order.{before-on, before-key, before-lt, either-before, precedes-conflicts, precedes-before, ends-precedes, ascending-map, ascending-keep, ascending-snoc}
 use Rattle.rules.proofs.Packing.{moved-cases, moved-ticket, pack-starts, pack-tight, pack-apart, pack-separates, pack-earliest}
 use Rattle.rules.proofs.Granting.{granted-cases, granted-ticket, grant-apart, grant-separates, grant-starts, grant-blocked}
 
@@ -61,6 +61,38 @@ grant-settles k v ps f =
   where
     gone : (c : Claim) → Proper k v c → Proper k v (withPhase c (On (v .clock)))
     gone c p = record { sane = record { long = p .sane .long; small = p .sane .small }; numbered = p .numbered; issued = p .issued; aged = λ e. omega arith }
+
+-- ── what the invariant says of two claims, and of a start ──
+-- Of two conflicting claims one waits, and the other ends at its start or sooner.
+pub spaced-clear : (k : ℕ) (v : Setting) (ps : List Claim) → Spaced k v ps → (c w : Claim) → c ∈ ps → w ∈ ps → c .ticket ≢ w .ticket → conflicts c w ≡ true
+    → ((on w ≡ false) × (endOf v c ≤ at w)) ⊎ ((on c ≡ false) × (endOf v w ≤ at c))
+spaced-clear k v ps f c w m n d h = go (split (on c)) (split (on w))
+  where
+    either : on c ≡ false → on w ≡ false → (before c w ≡ true) ⊎ (before w c ≡ true) → ((on w ≡ false) × (endOf v c ≤ at w)) ⊎ ((on c ≡ false) × (endOf v w ≤ at c))
+    either p q (inl b) = inl (q, f .fit .behind c w m n q b h)
+    either p q (inr b) = inr (p, f .fit .behind w c n m p b (conflicts-sym c w h))
+
+    go : (on c ≡ true) ⊎ (on c ≡ false) → (on w ≡ true) ⊎ (on w ≡ false) → ((on w ≡ false) × (endOf v c ≤ at w)) ⊎ ((on c ≡ false) × (endOf v w ≤ at c))
+    go (inl p) (inl q) = absurd (f .holders .apart c w m n d h p q)
+    go (inl p) (inr q) = inl (q, f .fit .behind c w m n q (before-on c w p) h)
+    go (inr p) (inl q) = inr (p, f .fit .behind w c n m p (before-on w c q) (conflicts-sym c w h))
+    go (inr p) (inr q) = either p q (either-before c w (f .proper c m .sane) (f .proper w n .sane) d)
+
+-- A planned start is the greatest of the clock and the ends of the claims that precede it.
+pub settled-starts : (k : ℕ) (v : Setting) (ps : List Claim) → Settled k v ps → (w : Claim) → w ∈ ps → on w ≡ false
+    → at w ≡ greatest (endOf v) (v .clock) (keep (λ c. precedes c w) ps)
+settled-starts k v ps f w m o = omega (arith, le, ge)
+  where
+    le : at w ≤ greatest (endOf v) (v .clock) (keep (λ c. precedes c w) ps)
+    le =
+        let h = f .blocked w m o in
+        let p = ends-precedes v (h .0) w (f .spaced .proper (h .0) (h .1) .sane) (h .2) (omega (arith, h .3)) in
+        omega (arith, h .3, greatest-ge (endOf v) (v .clock) (keep-i (λ c. precedes c w) p (h .1)))
+
+    ge : greatest (endOf v) (v .clock) (keep (λ c. precedes c w) ps) ≤ at w
+    ge = greatest-le (endOf v) (v .clock) (keep (λ c. precedes c w) ps) (at w) (f .spaced .low w m o) (λ c i.
+        let r = keep-e (λ c. precedes c w) ps i in
+        f .spaced .fit .behind c w (r .0) m o (precedes-before c w (f .spaced .proper c (r .0) .sane) (r .1)) (precedes-conflicts c w (r .1)))
 
 -- The same rules at a later clock, or the same.
 pub record Later (v u : Setting) : Type 0 where

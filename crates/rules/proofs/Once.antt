@@ -2,23 +2,25 @@
 -- claim, and after a release or a withdrawal the first changes nothing.
 use mathlib.Core.Path.{_≡_, refl, sym, _∙_, ap, subst}
 use mathlib.Core.Bool.{Bool, false, not}
-use mathlib.Core.List.{List, [], _∷_, _++_}
+use mathlib.Core.List.{List, [], _∷_, _++_, Memᴰ·append-right}
 use Prim.Native.Nat.{ℕ, _≤_, _<_}
 use lib.Dec.{eqb}
 use Rattle.rules.specs.declared.Claim.{Claim}
 use Rattle.rules.specs.Lists.{keep}
 use Rattle.rules.specs.Claims.{Setting, on, at}
-use Rattle.rules.specs.Granting.{grant, grants}
-use Rattle.rules.specs.Calls.{Model, settingOf, Step, advance, finish, join, remove, fresh}
+use Rattle.rules.specs.Granting.{granted, grant, grants}
+use Rattle.rules.specs.Placing.{place}
+use Rattle.rules.specs.Calls.{Model, settingOf, Step, advance, finish, join, remove, fresh, admit}
 use Rattle.rules.specs.Plans.{Ascending, Sane, Separated, StartsFrom, Tight, Earliest, Fits}
-use Rattle.rules.specs.Invariants.{Still}
-use Rattle.rules.proofs.Lists.{Each, snoc-each, keep-e}
+use Rattle.rules.specs.Invariants.{IsSpaced, IsPacked, Still}
+use Rattle.rules.proofs.Lists.{Each, here, snoc-each, keep-e}
 use Rattle.rules.proofs.Order.{ascending-keep}
 use Rattle.rules.proofs.Packing.{pack-starts, pack-tight, pack-separates, pack-earliest, pack-idle}
 use Rattle.rules.proofs.Repacking.{pack-twice, pack-keep}
 use Rattle.rules.proofs.Placing.{place-low, place-least}
+use Rattle.rules.proofs.Granting.{grant-snoc, granted-at}
 use Rattle.rules.proofs.Invariants.{separated-snoc, earliest-snoc}
-use Rattle.rules.proofs.Calls.{placed, placed-sane, placed-fits}
+use Rattle.rules.proofs.Calls.{placed, placed-sane, placed-fits, join-spaced}
 
 pub advance-still : (m : Model) (t : ℕ) → Each Sane (m .pending) → Ascending (m .pending) → Still (advance m t)
 unfolding advance
@@ -76,6 +78,32 @@ finish-still m k s n b still =
       model = record { rig = m .rig; clock = m .clock; issued = m .issued; pending = grant (settingOf m) l };
       answer = record { number = 0; ticket = k; start = s; contention = n; bound = b; grants = grants l };
     }) still
+
+-- ── an accepted claim, beside a clock call of the same clock ──
+-- The new claim as it stands after the call: it waits at its place, or went on there.
+abbrev pub joined : Model → ℕ → ℕ → Claim
+joined m g n = granted (settingOf m) (m .pending ++ (placed m g n ∷ [])) (placed m g n)
+
+module _ (m : Model) (p : IsPacked m) (still : Still m) (g n : ℕ) (long : 1 ≤ n) (spare : m .issued < 65535) where
+  all-still : Still (join m (placed m g n))
+  all-still = join-still m g n long spare (λ c k. p .spaced .proper c k .sane) (p .spaced .ascending) still
+
+  -- The others stand as where only the clock is set.
+  pub claim-pending : (k s x b : ℕ) → admit m g n .model .pending ≡ finish m k s x b .model .pending ++ (joined m g n ∷ [])
+  unfolding admit join
+  claim-pending k s x b =
+      ap (λ (s : Step). s .model .pending) (finish-still (join m (placed m g n)) _ _ _ _ all-still)
+      ∙ grant-snoc (settingOf m) (m .pending) (p .spaced .low) (p .tight) (λ c k. p .spaced .proper c k .sane) (placed m g n) refl (place-low (settingOf m) (m .pending) (fresh m g n))
+      ∙ ap (λ (s : Step). s .model .pending ++ (joined m g n ∷ [])) (sym (finish-still m k s x b still))
+
+  pub joined-at : at (joined m g n) ≡ place (settingOf m) (m .pending) (fresh m g n)
+  unfolding join
+  joined-at =
+      granted-at (settingOf m) (m .pending ++ (placed m g n ∷ [])) (f .holders) (f .fit) (f .low) (still-tight (join m (placed m g n)) all-still)
+      (λ c k. f .proper c k .sane) (f .ascending) (placed m g n) (Memᴰ·append-right (m .pending) here)
+    where
+      f : IsSpaced (join m (placed m g n))
+      f = join-spaced m g n long spare (p .spaced)
 
 -- A claim that leaves may leave before the first packing.
 pub leave-once : (m : Model) (t i k s n b : ℕ) → Each Sane (m .pending) → Ascending (m .pending) → finish (remove (advance m t) i) k s n b ≡ finish (advance (remove m i) t) k s n b

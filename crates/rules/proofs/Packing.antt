@@ -214,6 +214,28 @@ module _ (v : Setting) (ps : List Claim) where
         start-behind w .after (new c) (subst (λ (x : Claim). x ∈ ahead (packedStart v ps) ps w) (moved-wait (packedStart v ps) c o) (ahead-i (packedStart v ps) ps w m b)) p,
       )
 
+  -- What precedes a waiting claim still does.
+  pub pack-precedes : (c w : Claim) → Sane c → c ∈ ps → on w ≡ false → precedes c w ≡ true → precedes (moved (packedStart v ps) c) (moved (packedStart v ps) w) ≡ true
+  pack-precedes c w s m o p = go (split (on c))
+    where
+      h : conflicts (moved (packedStart v ps) c) (moved (packedStart v ps) w) ≡ true
+      h =
+          moved-conflicts (packedStart v ps) c (moved (packedStart v ps) w)
+          ∙ moved-cases (λ (x : Claim). conflicts c x ≡ conflicts c w) (packedStart v ps) w (λ q. refl) (λ q. refl)
+          ∙ precedes-conflicts c w p
+
+      go : (on c ≡ true) ⊎ (on c ≡ false) → precedes (moved (packedStart v ps) c) (moved (packedStart v ps) w) ≡ true
+      go (inl q) = precedes-on _ _ h (moved-phase (packedStart v ps) c ∙ q)
+      go (inr q) =
+          precedes-lt _ _ h
+          (omega (
+            arith,
+            moved-at (packedStart v ps) c q,
+            moved-at (packedStart v ps) w o,
+            pack-keeps-order c w m (precedes-conflicts c w p) q (precedes-before c w s p),
+            s .long,
+          ))
+
   pub pack-starts : StartsFrom (v .clock) (pack v ps)
   unfolding pack
   pack-starts =

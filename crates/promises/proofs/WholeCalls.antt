@@ -1,0 +1,202 @@
+-- Whole calls are as document 01 says, in every table that calls can make.
+use mathlib.Core.Path.{_≡_, refl, sym, _∙_, ap, subst}
+use mathlib.Core.Logic.{_⊎_, inl, inr, _≢_}
+use mathlib.Core.Bool.{true, false}
+use mathlib.Core.List.{List, [], _∷_, _++_, List·Memᴰ·append-cases, List·Memᴰ·eq-of-singleton, Memᴰ·append-right}
+use Prim.Native.Nat.{ℕ, _≤_, _<_}
+use native.Mathlib.Omega.{arith}
+use Rattle.rules.specs.declared.Claim.{Claim}
+use Rattle.rules.specs.Lists.{_∈_}
+use Rattle.rules.specs.Claims.{Setting, on, at, conflicts, endOf}
+use Rattle.rules.specs.Order.{precedes}
+use Rattle.rules.specs.Packing.{packedStart, moved, pack}
+use Rattle.rules.specs.Granting.{granted, grant}
+use Rattle.rules.specs.Calls.{Model, settingOf, Call, claim, release, withdraw, clock, lookup, timed, clockOf, Step, advance, finish, join, admit, step, new, after}
+use Rattle.rules.specs.Invariants.{IsSpaced, IsPacked, Still, Invariant}
+use Rattle.rules.proofs.Bools.{clash}
+use Rattle.rules.proofs.Lists.{here, map-e}
+use Rattle.rules.proofs.Order.{precedes-e, precedes-lt}
+use Rattle.rules.proofs.Packing.{moved-phase, pack-precedes}
+use Rattle.rules.proofs.Granting.{goes-wait, goes-at, granted-cases, granted-ticket, grant-precedes}
+use Rattle.rules.proofs.Invariants.{spaced-clear, settled-starts}
+use Rattle.rules.proofs.Calls.{Admissible, advance-packed, finish-invariant, placed, join-spaced, Leaves, by-release, by-withdraw, by-clock, leaves-spaced, Idle, step-cases, clock-accepted, new-invariant, after-invariant, advance-same, finish-e, finish-clock, leaves-old, leaves-clock, join-old, advance-spare, admit-invariant}
+use Rattle.rules.proofs.Once.{advance-still, finish-still, joined, claim-pending, joined-at}
+use Rattle.promises.specs.WholeCalls.{Becomes, TimedCall, Stays, ClaimCall, WholeCalls}
+
+-- ── order ──
+-- Through the first packing.
+advance-precedes : (m : Model) (t : ℕ) → Invariant m → (d w : Claim) → d ∈ m .pending → w ∈ m .pending → on w ≡ false → precedes d w ≡ true
+    → (x y : Claim) → x ∈ advance m t .pending → y ∈ advance m t .pending → x .ticket ≡ d .ticket → y .ticket ≡ w .ticket → (on y ≡ false) × (precedes x y ≡ true)
+advance-precedes m t i d w di wi o p x y xi yi e h =
+    let v : Setting = record { clock = t } in
+    let f = packedStart v (m .pending) in
+    let a = advance-same m t i d x di xi e in
+    let b = advance-same m t i w y wi yi h in
+    (ap on b ∙ moved-phase f w ∙ o, cc (a, b, pack-precedes v (m .pending) d w (i .spaced .proper d di .sane) di o p))
+
+-- Through packing again and granting.
+regranted : Model → Claim → Claim
+regranted m x = granted (settingOf m) (pack (settingOf m) (m .pending)) (moved (packedStart (settingOf m) (m .pending)) x)
+
+finish-precedes : (m : Model) → IsSpaced m → (x y : Claim) → x ∈ m .pending → moved (packedStart (settingOf m) (m .pending)) x ∈ pack (settingOf m) (m .pending)
+    → on y ≡ false → precedes x y ≡ true → (on (regranted m y) ≡ false) × (precedes (regranted m x) (regranted m y) ≡ true)
+unfolding regranted
+finish-precedes m i x y xi xj o p =
+    let v : Setting = settingOf m in
+    let ps : List Claim = pack v (m .pending) in
+    let f = packedStart v (m .pending) in
+    let g = grant-precedes v ps (moved f x) (moved f y) xj (pack-precedes v (m .pending) x y (i .proper x xi .sane) xi o p) in
+    (ap on (g .0) ∙ moved-phase f y ∙ o, ap (precedes (granted v ps (moved f x))) (g .0) ∙ g .1)
+
+-- Of a call from m to `finish q`, where each claim of q that is not new is one of those that the first packing gave.
+finish-order : (m q : Model) (t k s n b : ℕ) → Invariant m → IsSpaced q → ((x : Claim) → x ∈ q .pending → (x ∈ advance m t .pending) ⊎ (m .issued < x .ticket))
+    → (d d′ w w′ : Claim) → Becomes m (finish q k s n b .model) d d′ → Becomes m (finish q k s n b .model) w w′ → on w ≡ false → precedes d w ≡ true
+    → (on w′ ≡ false) × (precedes d′ w′ ≡ true)
+unfolding regranted
+finish-order m q t k s n b i sp old d d′ w w′ f g o p =
+    let x = finish-e q k s n b (f .new) in
+    let y = finish-e q k s n b (g .new) in
+    let xi = mine d d′ f (x .0) (x .2) (old (x .0) (x .1)) in
+    let yi = mine w w′ g (y .0) (y .2) (old (y .0) (y .1)) in
+    let r = advance-precedes m t i d w (f .old) (g .old) o p (x .0) (y .0) xi yi (sym (x .2) ∙ f .same) (sym (y .2) ∙ g .same) in
+    let z = finish-precedes q sp (x .0) (y .0) (x .1) (x .3 .0) (r .0) (r .1) in
+    (ap on (y .3 .1) ∙ z .0, ap (λ (c : Claim). precedes c w′) (x .3 .1) ∙ ap (precedes (regranted q (x .0))) (y .3 .1) ∙ z .1)
+  where
+    mine : (d d′ : Claim) → Becomes m (finish q k s n b .model) d d′ → (x : Claim) → d′ .ticket ≡ x .ticket → (x ∈ advance m t .pending) ⊎ (m .issued < x .ticket) → x ∈ advance m t .pending
+    mine d d′ f x e (inl j) = j
+    mine d d′ f x e (inr l) = absurd (omega (arith, f .same, i .spaced .proper d (f .old) .issued))
+
+-- ── every accepted timed call ──
+timed-finish : (m q : Model) (c : Call) (t k s n b : ℕ) → Invariant m → IsSpaced q → q .clock ≡ t → clockOf c ≡ t
+    → ((x : Claim) → x ∈ q .pending → (x ∈ advance m t .pending) ⊎ (m .issued < x .ticket)) → TimedCall m c (finish q k s n b)
+timed-finish m q c t k s n b i sp e h old = record {
+  clock-set = finish-clock q k s n b ∙ e ∙ sym h;
+  starts-packed = settled-starts (r .issued) (settingOf r) (r .pending) (finish-invariant q k s n b sp);
+  order-kept = λ d d′ w w′ f g x od ow od′ ow′ l. smaller d′ w′ od′ (precedes-e d′ w′ (finish-order m q t k s n b i sp old d d′ w w′ f g ow (precedes-lt d w x l) .1));
+  none-overtaken = finish-order m q t k s n b i sp old;
+}
+  where
+    smaller : (d w : Claim) → on d ≡ false → (on d ≡ true) ⊎ (at d < at w) → at d < at w
+    smaller d w o (inl p) = clash p o
+    smaller d w o (inr l) = l
+
+    r : Model
+    r = finish q k s n b .model
+
+-- ── an accepted claim ──
+module _ (m : Model) (i : Invariant m) (t g n : ℕ) (a : Admissible m t g n) where
+  packed : IsPacked (advance m t)
+  packed = advance-packed m t i (a .clocked .later)
+
+  still : Still (advance m t)
+  still = advance-still m t (λ c k. i .spaced .proper c k .sane) (i .spaced .ascending)
+
+  spaced : IsSpaced (join (advance m t) (placed (advance m t) g n))
+  spaced = join-spaced (advance m t) g n (a .long) (advance-spare m t g n a) (packed .spaced)
+
+  claim-timed : TimedCall m (claim t g n) (admit (advance m t) g n)
+  unfolding admit join advance
+  claim-timed = timed-finish m (join (advance m t) (placed (advance m t) g n)) (claim t g n) t _ _ _ _ i spaced refl refl (join-old (advance m t) (placed (advance m t) g n) refl)
+
+  -- The claims after the call: the others, as after a clock call, and the new one.
+  after-claim : admit (advance m t) g n .model .pending ≡ finish (advance m t) 0 t 0 0 .model .pending ++ (joined (advance m t) g n ∷ [])
+  after-claim = claim-pending (advance m t) packed still g n (a .long) (advance-spare m t g n a) 0 t 0 0
+
+  one-more : joined (advance m t) g n ∈ admit (advance m t) g n .model .pending
+  one-more = subst (λ (l : List Claim). joined (advance m t) g n ∈ l) (sym after-claim) (Memᴰ·append-right (finish (advance m t) 0 t 0 0 .model .pending) here)
+
+  -- Where nothing moves, a claim stays or is granted at its start.
+  stays : (d : Claim) → d ∈ finish (advance m t) 0 t 0 0 .model .pending → (x : Claim) × x ∈ advance m t .pending × Stays t x d
+  unfolding grant advance
+  stays d j =
+      let r = map-e (granted v ps) ps (subst (λ (l : List Claim). d ∈ l) (ap (λ (s : Step). s .model .pending) (finish-still (advance m t) 0 t 0 0 still)) j) in (
+        r .0,
+        r .1,
+        subst (Stays t (r .0)) (sym (r .2))
+            (granted-cases (Stays t (r .0)) v ps (r .0)
+            (λ e. inr (goes-wait ps (r .0) e, goes-at v ps (packed .spaced .low) (packed .tight) (λ c k. packed .spaced .proper c k .sane) (r .0) (r .1) e, refl))
+            (λ e. inl refl)),
+      )
+    where
+      v : Setting
+      v = record { clock = t }
+
+      ps : List Claim
+      ps = advance m t .pending
+
+  others : (d : Claim) → d ∈ admit (advance m t) g n .model .pending → d .ticket ≢ joined (advance m t) g n .ticket → (x : Claim) × x ∈ advance m t .pending × Stays t x d
+  others d j ne = go (List·Memᴰ·append-cases (finish (advance m t) 0 t 0 0 .model .pending) (subst (λ (l : List Claim). d ∈ l) after-claim j))
+    where
+      go : (d ∈ finish (advance m t) 0 t 0 0 .model .pending) ⊎ (d ∈ (joined (advance m t) g n ∷ [])) → (x : Claim) × x ∈ advance m t .pending × Stays t x d
+      go (inl k) = stays d k
+      go (inr k) = absurd (ne (ap (λ (c : Claim). c .ticket) (List·Memᴰ·eq-of-singleton k)))
+
+  clear-of : (d : Claim) → d ∈ admit (advance m t) g n .model .pending → d .ticket ≢ joined (advance m t) g n .ticket → conflicts d (joined (advance m t) g n) ≡ true
+      → (let v : Setting = record { clock = t } in
+      (endOf v d ≤ at (joined (advance m t) g n)) ⊎ ((on d ≡ false) × (endOf v (joined (advance m t) g n) ≤ at d)))
+  unfolding admit finish join advance
+  clear-of d j ne h = go (spaced-clear _ (record { clock = t }) _ (admit-invariant (advance m t) g n (a .long) (advance-spare m t g n a) packed .spaced) d w j one-more ne h)
+    where
+      w : Claim
+      w = joined (advance m t) g n
+
+      go : ((on w ≡ false) × (endOf (record { clock = t }) d ≤ at w)) ⊎ ((on d ≡ false) × (endOf (record { clock = t }) w ≤ at d))
+          → (endOf (record { clock = t }) d ≤ at w) ⊎ ((on d ≡ false) × (endOf (record { clock = t }) w ≤ at d))
+      go (inl r) = inl (r .1)
+      go (inr r) = inr r
+
+  -- A grant changes neither groups nor length.
+  joined-groups : joined (advance m t) g n .groups ≡ g
+  joined-groups = granted-cases (λ (x : Claim). x .groups ≡ g) (settingOf (advance m t)) (advance m t .pending ++ (placed (advance m t) g n ∷ [])) (placed (advance m t) g n) (λ e. refl) (λ e. refl)
+
+  joined-length : joined (advance m t) g n .length ≡ n
+  joined-length = granted-cases (λ (x : Claim). x .length ≡ n) (settingOf (advance m t)) (advance m t .pending ++ (placed (advance m t) g n ∷ [])) (placed (advance m t) g n) (λ e. refl) (λ e. refl)
+
+  claim-whole : ClaimCall m t g n (admit (advance m t) g n)
+  unfolding admit finish
+  claim-whole = record {
+    new = joined (advance m t) g n;
+    groups = joined-groups;
+    length = joined-length;
+    ticket = granted-ticket (settingOf (advance m t)) (advance m t .pending ++ (placed (advance m t) g n ∷ [])) (placed (advance m t) g n);
+    start = joined-at (advance m t) packed still g n (a .long) (advance-spare m t g n a);
+    overlaps-none = clear-of;
+    pushes-none = others;
+    others-same = after-claim ∙ ap (λ (s : Step). s .model .pending ++ (joined (advance m t) g n ∷ [])) (sym (clock-accepted m t (a .clocked)));
+  }
+
+refused : {A : Type 0} (c : Call) (n : ℕ) → Idle c n → timed c ≡ true → n ≡ 0 → A
+refused c n (inl e) p q = clash p e
+refused c n (inr e) p q = absurd (e q)
+
+pub of-timed : (m : Model) → Invariant m → (c : Call) → timed c ≡ true → step m c .answer .number ≡ 0 → TimedCall m c (step m c)
+of-timed m i =
+    step-cases (λ c s. timed c ≡ true → s .answer .number ≡ 0 → TimedCall m c s) m (λ c n z p q. refused c n z p q)
+    (λ t g n a p q. claim-timed m i t g n a)
+    (λ c t k q o v p e. timed-finish m q c t k t 0 0 i (leaves-spaced v (advance-packed m t i (o .later))) (leaves-clock v .0) (leaves-clock v .1) (λ x j. inl (leaves-old v x j)))
+
+-- Of a claim; nothing of the other calls.
+OfClaim : Model → Call → Step → Type 0
+OfClaim m (claim t g n) s = ClaimCall m t g n s
+OfClaim m (release t k) s = Unit {0}
+OfClaim m (withdraw t k) s = Unit {0}
+OfClaim m (clock t) s = Unit {0}
+OfClaim m (lookup k) s = Unit {0}
+
+pub of-claim : (m : Model) → Invariant m → (t g n : ℕ) → step m (claim t g n) .answer .number ≡ 0 → ClaimCall m t g n (step m (claim t g n))
+unfolding OfClaim
+of-claim m i t g n =
+    step-cases (λ c s. timed c ≡ true → s .answer .number ≡ 0 → OfClaim m c s) m (λ c k z p q. refused c k z p q)
+    (λ t g n a p q. claim-whole m i t g n a) (λ c t k q o v p e. none v) (claim t g n) refl
+  where
+    none : {c : Call} {t k : ℕ} {q : Model} → Leaves m c t k q → OfClaim m c (finish q k t 0 0)
+    none (by-release t k) = tt
+    none (by-withdraw t k) = tt
+    none (by-clock t) = tt
+
+-- In every table that keeps the invariant, and so after any calls from a new table.
+pub whole-calls : (m : Model) → Invariant m → WholeCalls m
+whole-calls m i = record { of-timed = of-timed m i; of-claim = of-claim m i }
+
+pub whole-calls-after : (rig : ℕ) (calls : List Call) → WholeCalls (after (new rig .model) calls)
+whole-calls-after rig calls = whole-calls (after (new rig .model) calls) (after-invariant (new rig .model) calls (new-invariant rig))

@@ -1,0 +1,59 @@
+-- The sentences of document 01, "What each call does", of whole calls: of the table m before a call that is accepted and the table after it.
+-- proofs/WholeCalls has them for every table that calls can make.
+use mathlib.Core.Path.{_≡_}
+use mathlib.Core.Logic.{_⊎_, _≢_}
+use mathlib.Core.Bool.{true, false}
+use mathlib.Core.List.{[], _∷_, _++_}
+use Prim.Native.Nat.{ℕ, _≤_, _<_}
+use Rattle.rules.specs.declared.Claim.{Claim}
+use Rattle.rules.specs.declared.Phase.the-variants.{On}
+use Rattle.rules.specs.Lists.{_∈_, greatest, keep}
+use Rattle.rules.specs.Claims.{Setting, on, at, withPhase, conflicts, endOf}
+use Rattle.rules.specs.Order.{precedes}
+use Rattle.rules.specs.Calls.{Model, settingOf, Call, claim, clock, timed, clockOf, Step, advance, step}
+
+-- The claim c of the table m is the claim d of the table n: tickets tell.
+pub record Becomes (m n : Model) (c d : Claim) : Type 0 where
+  pub old : c ∈ m .pending
+  pub new : d ∈ n .pending
+  pub same : d .ticket ≡ c .ticket
+
+-- Every accepted timed call. s is the call's step.
+pub record TimedCall (m : Model) (c : Call) (s : Step) : Type 0 where
+  -- "first sets the clock"
+  pub clock-set : s .model .clock ≡ clockOf c
+  -- "Each waiting claim's planned start becomes the greatest of the clock and the ends of the claims that precede it."
+  pub starts-packed : (w : Claim) → w ∈ s .model .pending → on w ≡ false
+      → at w ≡ greatest (endOf (settingOf (s .model))) (s .model .clock) (keep (λ d. precedes d w) (s .model .pending))
+  -- "Of two conflicting waiting claims the one with the smaller planned start precedes. Packing never changes this."
+  pub order-kept : (d d′ w w′ : Claim) → Becomes m (s .model) d d′ → Becomes m (s .model) w w′ → conflicts d w ≡ true
+      → on d ≡ false → on w ≡ false → on d′ ≡ false → on w′ ≡ false → at d < at w → at d′ < at w′
+  -- Whoever goes on: what precedes a waiting claim w before the call precedes it after, for as long as both are pending, and w still waits.
+  pub none-overtaken : (d d′ w w′ : Claim) → Becomes m (s .model) d d′ → Becomes m (s .model) w w′ → on w ≡ false → precedes d w ≡ true
+      → (on w′ ≡ false) × (precedes d′ w′ ≡ true)
+
+-- A claim x after setting the clock to t and packing is d after the call: as it was, or granted at the start that it had.
+abbrev pub Stays : ℕ → Claim → Claim → Type 0
+Stays t x d = (d ≡ x) ⊎ ((on x ≡ false) × (at x ≡ t) × (d ≡ withPhase x (On t)))
+
+-- An accepted claim.
+pub record ClaimCall (m : Model) (t g n : ℕ) (s : Step) : Type 0 where
+  -- The new claim, as it stands after the call.
+  pub new : Claim
+  pub groups : new .groups ≡ g
+  pub length : new .length ≡ n
+  -- "The answer is ticket, start, ..": it waits at that start, or was granted at it.
+  pub ticket : new .ticket ≡ s .answer .ticket
+  pub start : at new ≡ s .answer .start
+  -- "for each conflicting on claim s ≥ its end, and for each conflicting waiting claim either s ≥ its end or s + length ≤ its planned
+  -- start": it overlaps no claim.
+  pub overlaps-none : (d : Claim) → d ∈ s .model .pending → d .ticket ≢ new .ticket → conflicts d new ≡ true
+      → (let v : Setting = record { clock = t } in (endOf v d ≤ at new) ⊎ ((on d ≡ false) × (endOf v new ≤ at d)))
+  -- It pushes none back: every other claim is where setting the clock and packing put it, or was granted there,
+  pub pushes-none : (d : Claim) → d ∈ s .model .pending → d .ticket ≢ new .ticket → (x : Claim) × x ∈ advance m t .pending × Stays t x d
+  -- and all of them stand as after a call that only sets the clock.
+  pub others-same : s .model .pending ≡ step m (clock t) .model .pending ++ (new ∷ [])
+
+pub record WholeCalls (m : Model) : Type 0 where
+  pub of-timed : (c : Call) → timed c ≡ true → step m c .answer .number ≡ 0 → TimedCall m c (step m c)
+  pub of-claim : (t g n : ℕ) → step m (claim t g n) .answer .number ≡ 0 → ClaimCall m t g n (step m (claim t g n))
