@@ -1,3 +1,4 @@
 pub mod Matching
 pub mod Run
 pub mod WholeCalls
+pub mod Worthless

@@ -38,6 +38,10 @@ module _ {A B : Type 0} {R : A → B → Type 0} where
   match-snoc x y m-nil r = m-cons r m-nil
   match-snoc x y (m-cons q m) r = m-cons q (match-snoc x y m r)
 
+  pub match-none : {k : List A} {l : List B} → Match R k l → Match R k (l ++ [])
+  match-none m-nil = m-nil
+  match-none (m-cons r m) = m-cons r (match-none m)
+
   -- Tests that agree on partners keep partners.
   pub match-keep : (p : A → Bool) (q : B → Bool) {k : List A} {l : List B} → ((x : A) (y : B) → R x y → p x ≡ q y) → Match R k l → Match R (keep p k) (keep q l)
   unfolding keep

@@ -2,7 +2,7 @@
 use mathlib.Core.Path.{_≡_, refl, sym, _∙_, ap, subst}
 use mathlib.Core.Logic.{_⊎_, inl, inr, _≢_}
 use mathlib.Core.Bool.{Bool, true, false, not, _&&_, cond}
-use mathlib.Core.List.{List, [], _∷_, map, List·Memᴰ·cases-cons}
+use mathlib.Core.List.{List, [], _∷_, _++_, map}
 use Prim.Native.Nat.{ℕ, suc, _+_, _-_, _≤_, _<_}
 use native.Mathlib.Omega.{arith}
 use lib.Dec.{eqb}
@@ -17,11 +17,10 @@ use Rattle.rules.specs.Order.{rivals}
 use Rattle.rules.specs.Packing.{packedStart, moved, pack}
 use Rattle.rules.specs.Placing.{place, contention, startBound}
 use Rattle.rules.specs.Granting.{goes, granted, grant, grants}
-use Rattle.rules.specs.Calls.{Model, settingOf, Call, claim, release, withdraw, clock, timed, Answer, Step, named, unchanged, advance, finish, join, remove, fresh, admit, step, Waits, Holds, standing, standingOf, blank, new, after}
+use Rattle.rules.specs.Calls.{Model, settingOf, Call, claim, release, withdraw, clock, timed, Answer, Step, named, unchanged, advance, finish, join, remove, fresh, admit, step, Waits, Holds, standing, standingOf, blank, new}
 use Rattle.rules.specs.Plans.{Ascending}
 use Rattle.rules.specs.Invariants.{IsSpaced, Invariant}
 use Rattle.rules.proofs.Bools.{split, clash, and-i}
-use Rattle.rules.proofs.Lists.{none}
 use Rattle.rules.proofs.Claims.{end-on}
 use Rattle.rules.proofs.Order.{ascending-same}
 use Rattle.rules.proofs.Packing.{moved-cases, moved-at, moved-phase, pack-no-later}
@@ -31,9 +30,9 @@ use Rattle.rules.proofs.Invariants.{spaced-packs}
 use Rattle.rules.proofs.Calls.{OnTime, Admissible, advance-packed, finish-invariant, advance-same, finish-e, finish-clock, placed, join-spaced, Leaves, by-release, by-withdraw, by-clock, leaves-spaced, leaves-old, leaves-clock, join-old, Idle, step-cases, blank-invariant, new-cases}
 use Rattle.rules.proofs.Prompt.{Prompt, prompt-no-later}
 use Rattle.rules.proofs.Lookup.{lookup-absent, lookup-found, lookup-waits}
-use Rattle.promises.specs.Ledger.{Turn, turns, Entry, promised, Ledger, acted, hold, marked, noted, notedAll, ledgerOf, NoOverrun, NoOverruns, Punctual, remainingOf, rivalsOf, boundOn}
-use Rattle.promises.specs.Demand3.{Now, Next, tells, Demand3}
-use Rattle.promises.proofs.Matching.{Match, m-nil, m-cons, match-map, match-left, match-weaken, match-snoc, match-keep, match-length, match-sum, partner, partner-of, named-keep}
+use Rattle.promises.specs.Ledger.{Turn, turns, tableAfter, Entry, promised, Ledger, opening, issues, stay, hold, marked, noted, notedAll, ledgerOf, NoOverrun, NoOverruns, Punctual, remainingOf, rivalsOf, boundOn}
+use Rattle.promises.specs.Demand3.{TicketsAscend, Now, Next, tells, Demand3}
+use Rattle.promises.proofs.Matching.{Match, m-nil, m-cons, match-map, match-left, match-weaken, match-snoc, match-none, match-keep, match-length, match-sum, partner, partner-of, named-keep}
 
 -- A pending claim and its entry. P: no accepted call so far bore a clock past the promised end of a holder.
 record Tracks (P : Type 0) (c : Claim) (e : Entry) : Type 0 where
@@ -47,6 +46,7 @@ record Tracks (P : Type 0) (c : Claim) (e : Entry) : Type 0 where
 record Story (P : Type 0) (l : Ledger) (m : Model) : Type 0 where
   inv : Invariant m
   clock : m .clock ≡ l .clock
+  issued : m .issued ≡ l .issued
   match : Match (Tracks P) (m .pending) (l .claims)
 
 tracks-weaken : (P Q : Type 0) → (Q → P) → (c : Claim) (e : Entry) → Tracks P c e → Tracks Q c e
@@ -54,22 +54,13 @@ tracks-weaken P Q f c e r =
     record { ticket = r .ticket; groups = r .groups; length = r .length; held = r .held; grant = r .grant; early = λ q. r .early (f q) }
 
 -- ── after any number of calls ──
-entries-differ : (P : Type 0) {ps : List Claim} {l : List Entry} → Match (Tracks P) ps l → Ascending ps → (e f : Entry) → e ∈ l → f ∈ l → e .ticket ≡ f .ticket → e ≡ f
-entries-differ P m-nil a e f i j q = none i
-entries-differ P (m-cons {x = c} {y} {k = ps} {l} r m) a e f i j q = go (List·Memᴰ·cases-cons i) (List·Memᴰ·cases-cons j) (entries-differ P m (a .1) e f)
-  where
-    later : (z : Entry) → z ∈ l → y .ticket < z .ticket
-    later z n = let p = partner m n in omega (arith, a .0 (p .0) (p .1), p .2 .ticket, r .ticket)
-
-    go : (e ≡ y) ⊎ (e ∈ l) → (f ≡ y) ⊎ (f ∈ l) → (e ∈ l → f ∈ l → e .ticket ≡ f .ticket → e ≡ f) → e ≡ f
-    go (inl p) (inl n) ih = p ∙ sym n
-    go (inl p) (inr n) ih = absurd (omega (arith, later f n, ap (λ (z : Entry). z .ticket) p))
-    go (inr p) (inl n) ih = absurd (omega (arith, later e p, ap (λ (z : Entry). z .ticket) n))
-    go (inr p) (inr n) ih = ih p n q
+entries-ascend : (P : Type 0) {ps : List Claim} {l : List Entry} → Match (Tracks P) ps l → Ascending ps → TicketsAscend l
+entries-ascend P m-nil a = tt
+entries-ascend P (m-cons r m) a = (λ f i. (let p = partner m i in omega (arith, a .0 (p .0) (p .1), p .2 .ticket, r .ticket)), entries-ascend P m (a .1))
 
 now-of : (P : Type 0) (l : Ledger) (m : Model) → Story P l m → Now P l (tells m)
 now-of P l m s = record {
-  tickets-differ = entries-differ P (s .match) (s .inv .spaced .ascending);
+  tickets-ascend = entries-ascend P (s .match) (s .inv .spaced .ascending);
   lookup-agrees = λ k. record {
     held = λ e i q h.
         let p = partner (s .match) i in
@@ -164,11 +155,21 @@ finish-match P l m k s n b i ma =
 
 -- What release, withdraw and clock leave of the ledger.
 leaves-match : (P : Type 0) (l : List Entry) (a : Answer) {m : Model} {c : Call} {t k : ℕ} {q : Model} → Leaves m c t k q
-    → Match (Tracks P) (advance m t .pending) l → Match (Tracks P) (q .pending) (acted l c a)
-unfolding remove acted
-leaves-match P l a (by-release t k) ma = match-keep (λ c. not (named k c)) (λ e. not (eqb (e .ticket) k)) (λ c e r. ap (λ (x : ℕ). not (eqb x k)) (r .ticket)) ma
-leaves-match P l a (by-withdraw t k) ma = match-keep (λ c. not (named k c)) (λ e. not (eqb (e .ticket) k)) (λ c e r. ap (λ (x : ℕ). not (eqb x k)) (r .ticket)) ma
-leaves-match P l a (by-clock t) ma = ma
+    → Match (Tracks P) (advance m t .pending) l → Match (Tracks P) (q .pending) (stay c l ++ issues c a)
+unfolding remove stay issues
+leaves-match P l a (by-release t k) ma = match-none (match-keep (λ c. not (named k c)) (λ e. not (eqb (e .ticket) k)) (λ c e r. ap (λ (x : ℕ). not (eqb x k)) (r .ticket)) ma)
+leaves-match P l a (by-withdraw t k) ma = match-none (match-keep (λ c. not (named k c)) (λ e. not (eqb (e .ticket) k)) (λ c e r. ap (λ (x : ℕ). not (eqb x k)) (r .ticket)) ma)
+leaves-match P l a (by-clock t) ma = match-none ma
+
+leaves-issued : (a : Answer) {m : Model} {c : Call} {t k : ℕ} {q : Model} → Leaves m c t k q → q .issued ≡ m .issued + length (issues c a)
+unfolding remove advance issues
+leaves-issued a (by-release t k) = omega arith
+leaves-issued a (by-withdraw t k) = omega arith
+leaves-issued a (by-clock t) = omega arith
+
+finish-issued : (m : Model) (k s n b : ℕ) → finish m k s n b .model .issued ≡ m .issued
+unfolding finish
+finish-issued m k s n b = refl
 
 -- The holders are prompt where the call's clock is past no promised end.
 prompt-of : (P : Type 0) (t : ℕ) (ps : List Claim) (l : List Entry) → Match (Tracks P) ps l → ((e : Entry) → e ∈ l → e .held ≡ true → t ≤ promised e) → Prompt t ps
@@ -275,12 +276,14 @@ module _ (P : Type 0) (l : Ledger) (m : Model) (s : Story P l m) where
   told-idle c n i =
       let z = idle-refused c n i in (
         record {
+          ticket-next = λ t g k q e. clash (and-i (timed c) (eqb n 0) (ap timed q) (eq-eqb n 0 e)) z;
           start-bounded = λ t g k q e. clash (and-i (timed c) (eqb n 0) (ap timed q) (eq-eqb n 0 e)) z;
           never-raised = λ p h k x w. rw z (unraised P (m .pending) (m .pending) (l .claims) (s .match) same k x w);
         },
         record {
           inv = s .inv;
           clock = rw z (s .clock);
+          issued = rw z (s .issued);
           match = rw z (match-weaken (λ d e r. tracks-weaken P _ (λ q. q .0) d e r) (s .match));
         },
       )
@@ -292,23 +295,24 @@ module _ (P : Type 0) (l : Ledger) (m : Model) (s : Story P l m) where
   prompt t h = prompt-of P t (m .pending) (l .claims) (s .match) h
 
   -- What the accepted timed calls have in common: q is what they leave before they pack again and grant, es the same of the ledger.
-  told-finish : (t k x n b : ℕ) (q : Model) (es : List Entry) (T : Type 0) → m .clock ≤ t → (T → (e : Entry) → e ∈ l .claims → e .held ≡ true → t ≤ promised e)
-      → IsSpaced q → q .clock ≡ t → ((y : Claim) → y ∈ q .pending → (y ∈ advance m t .pending) ⊎ (m .issued < y .ticket)) → Match (Tracks (P × T)) (q .pending) es
+  told-finish : (t j k x n b : ℕ) (q : Model) (es : List Entry) (T : Type 0) → m .clock ≤ t → (T → (e : Entry) → e ∈ l .claims → e .held ≡ true → t ≤ promised e)
+      → IsSpaced q → q .clock ≡ t → q .issued ≡ j → ((y : Claim) → y ∈ q .pending → (y ∈ advance m t .pending) ⊎ (m .issued < y .ticket)) → Match (Tracks (P × T)) (q .pending) es
       → (T → Unraised (m .pending) (finish q k x n b .model .pending) (map (marked t (finish q k x n b .answer .grants)) es))
-      × Story (P × T) (record { clock = t; claims = map (marked t (finish q k x n b .answer .grants)) es }) (finish q k x n b .model)
-  told-finish t k x n b q es T h tm sp cl old ma = (
+      × Story (P × T) (record { clock = t; issued = j; claims = map (marked t (finish q k x n b .answer .grants)) es }) (finish q k x n b .model)
+  told-finish t j k x n b q es T h tm sp cl is old ma = (
     λ z. unraised (P × T) (m .pending) (finish q k x n b .model .pending) (map (marked t (finish q k x n b .answer .grants)) es) done (finish-not-raised m q t k x n b (s .inv) h (prompt t (tm z)) sp old),
-    record { inv = finish-invariant q k x n b sp; clock = finish-clock q k x n b ∙ cl; match = done },
+    record { inv = finish-invariant q k x n b sp; clock = finish-clock q k x n b ∙ cl; issued = finish-issued q k x n b ∙ is; match = done },
   )
     where
       done : Match (Tracks (P × T)) (finish q k x n b .model .pending) (map (marked t (finish q k x n b .answer .grants)) es)
       done = subst (λ (u : ℕ). Match (Tracks (P × T)) (finish q k x n b .model .pending) (map (marked u (finish q k x n b .answer .grants)) es)) cl (finish-match (P × T) es q k x n b sp ma)
 
   told-claim : (t g n : ℕ) → Admissible m t g n → Told P l m (claim t g n) (admit (advance m t) g n)
-  unfolding admit finish join advance acted
+  unfolding admit finish join advance stay issues
   told-claim t g n a =
-      let r = told-finish t (w .ticket) x (contention ps w) (startBound v ps w) q _ T (a .clocked .later) (λ z. z refl) spaced refl (join-old (advance m t) (placed (advance m t) g n) refl) (match-snoc _ _ first new) in (
+      let r = told-finish t (l .issued + 1) (w .ticket) x (contention ps w) (startBound v ps w) q _ T (a .clocked .later) (λ z. z refl) spaced refl (omega (arith, s .issued)) (join-old (advance m t) (placed (advance m t) g n) refl) (match-snoc _ _ first new) in (
         record {
+          ticket-next = λ t′ g′ n′ e _. omega (arith, s .issued);
           start-bounded = λ t′ g′ n′ e _.
               let same : boundOn (record { clock = t }) (l .claims) g n ≡ boundOn (record { clock = t′ }) (l .claims) g′ n′ = cc in
               omega (arith, place-bound v ps w, bound-is (P × T) v ps (l .claims) w first);
@@ -346,51 +350,65 @@ module _ (P : Type 0) (l : Ledger) (m : Model) (s : Story P l m) where
 
   -- Release, withdraw and clock.
   left : {c : Call} {t k : ℕ} {q : Model} (a : Answer) (T : Type 0) → Leaves m c t k q → OnTime m t → (T → (e : Entry) → e ∈ l .claims → e .held ≡ true → t ≤ promised e)
-      → (T → Unraised (m .pending) (finish q k t 0 0 .model .pending) (map (marked t (finish q k t 0 0 .answer .grants)) (acted (l .claims) c a)))
-      × Story (P × T) (record { clock = t; claims = map (marked t (finish q k t 0 0 .answer .grants)) (acted (l .claims) c a) }) (finish q k t 0 0 .model)
+      → (let es = map (marked t (finish q k t 0 0 .answer .grants)) (stay c (l .claims) ++ issues c a) in
+      (T → Unraised (m .pending) (finish q k t 0 0 .model .pending) es)
+      × Story (P × T) (record { clock = t; issued = l .issued + length (issues c a); claims = es }) (finish q k t 0 0 .model))
   left {c} {t} {k} {q} a T v o tm =
-      told-finish t k t 0 0 q (acted (l .claims) c a) T (o .later) tm (leaves-spaced v (advance-packed m t (s .inv) (o .later))) (leaves-clock v .0)
-      (λ y i. inl (leaves-old v y i))
+      told-finish t (l .issued + length (issues c a)) k t 0 0 q (stay c (l .claims) ++ issues c a) T (o .later) tm
+      (leaves-spaced v (advance-packed m t (s .inv) (o .later))) (leaves-clock v .0) (omega (arith, leaves-issued a v, s .issued)) (λ y i. inl (leaves-old v y i))
       (leaves-match (P × T) (l .claims) a v (advance-match P T (l .claims) m t (s .inv) (o .later) (λ z. prompt t (tm z)) (s .match)))
+
+  no-claim : {A : Type 0} {c : Call} {t k : ℕ} {q : Model} {u g n : ℕ} → Leaves m c t k q → c ≡ claim u g n → A
+  no-claim (by-release t k) e = let z : _≡_ {A = ℕ} 0 1 = cc in absurd (omega arith)
+  no-claim (by-withdraw t k) e = let z : _≡_ {A = ℕ} 0 1 = cc in absurd (omega arith)
+  no-claim (by-clock t) e = let z : _≡_ {A = ℕ} 0 1 = cc in absurd (omega arith)
+
+  next : {c : Call} {t k : ℕ} {q : Model} (a : Answer) → Leaves m c t k q
+      → (let turn : Turn = record { call = c; answer = a } in
+      let n : Model = finish q k t 0 0 .model in
+      (NoOverrun l turn → Unraised (m .pending) (n .pending) (noted l turn .claims)) → Next P l turn (tells m) (tells n))
+  next a v h = record { ticket-next = λ u g n e _. no-claim v e; start-bounded = λ u g n e _. no-claim v e; never-raised = λ _. h }
 
   told-left : (c : Call) (t k : ℕ) (q : Model) → OnTime m t → Leaves m c t k q → Told P l m c (finish q k t 0 0)
   unfolding finish
   told-left c₀ t₀ k₀ q₀ o (by-release t k) =
       let a : Answer = finish (remove (advance m t) k) k t 0 0 .answer in
       let r = left a (NoOverrun l (record { call = release t k; answer = a })) (by-release t k) o (λ z. z refl) in
-      (record { start-bounded = λ u g n e _. (let z : _≡_ {A = ℕ} 0 1 = cc in absurd (omega arith)); never-raised = λ _. r .0 }, r .1)
+      (next a (by-release t k) (r .0), r .1)
   told-left c₀ t₀ k₀ q₀ o (by-withdraw t k) =
       let a : Answer = finish (remove (advance m t) k) k t 0 0 .answer in
       let r = left a (NoOverrun l (record { call = withdraw t k; answer = a })) (by-withdraw t k) o (λ z. z refl) in
-      (record { start-bounded = λ u g n e _. (let z : _≡_ {A = ℕ} 0 1 = cc in absurd (omega arith)); never-raised = λ _. r .0 }, r .1)
+      (next a (by-withdraw t k) (r .0), r .1)
   told-left c₀ t₀ k₀ q₀ o (by-clock t) =
       let a : Answer = finish (advance m t) 0 t 0 0 .answer in
       let r = left a (NoOverrun l (record { call = clock t; answer = a })) (by-clock t) o (λ z. z refl) in
-      (record { start-bounded = λ u g n e _. (let z : _≡_ {A = ℕ} 0 1 = cc in absurd (omega arith)); never-raised = λ _. r .0 }, r .1)
+      (next a (by-clock t) (r .0), r .1)
 
   told : (c : Call) → Told P l m c (step m c)
   told = step-cases (Told P l m) m told-idle told-claim told-left
 
 -- ── the run ──
 story-weaken : (P Q : Type 0) (l : Ledger) (m : Model) → (Q → P) → Story P l m → Story Q l m
-story-weaken P Q l m f s = record { inv = s .inv; clock = s .clock; match = match-weaken (λ c e r. tracks-weaken P Q f c e r) (s .match) }
+story-weaken P Q l m f s =
+    record { inv = s .inv; clock = s .clock; issued = s .issued; match = match-weaken (λ c e r. tracks-weaken P Q f c e r) (s .match) }
 
-story-after : (cs : List Call) (P : Type 0) (l : Ledger) (m : Model) → Story P l m → Story (P × NoOverruns l (turns m cs)) (notedAll l (turns m cs)) (after m cs)
-unfolding turns after notedAll
+story-after : (cs : List Call) (P : Type 0) (l : Ledger) (m : Model) → Story P l m
+    → Story (P × NoOverruns l (turns step m cs)) (notedAll l (turns step m cs)) (tableAfter step m cs)
+unfolding turns tableAfter notedAll
 story-after [] P l m s = story-weaken P (P × NoOverruns l []) l m (λ q. q .0) s
 story-after (c ∷ cs) P l m s =
     let t : Turn = record { call = c; answer = step m c .answer } in
     let r = story-after cs (P × NoOverrun l t) (noted l t) (step m c .model) (told P l m s c .1) in
-    story-weaken _ (P × (NoOverrun l t × NoOverruns (noted l t) (turns (step m c .model) cs))) _ _ (λ q. ((q .0, q .1 .0), q .1 .1)) r
+    story-weaken _ (P × (NoOverrun l t × NoOverruns (noted l t) (turns step (step m c .model) cs))) _ _ (λ q. ((q .0, q .1 .0), q .1 .1)) r
 
-start : (g : ℕ) → Story (Unit {0}) (record { clock = 0; claims = [] }) (new g .model)
-start g = new-cases (λ (s : Step). Story (Unit {0}) (record { clock = 0; claims = [] }) (s .model)) g (λ e. blank-story 0) (λ e. blank-story g)
+start : (g : ℕ) → Story (Unit {0}) opening (new g .model)
+start g = new-cases (λ (s : Step). Story (Unit {0}) opening (s .model)) g (λ e. blank-story 0) (λ e. blank-story g)
   where
-    blank-story : (r : ℕ) → Story (Unit {0}) (record { clock = 0; claims = [] }) (blank r)
-    blank-story r = record { inv = blank-invariant r; clock = refl; match = m-nil }
+    blank-story : (r : ℕ) → Story (Unit {0}) opening (blank r)
+    blank-story r = record { inv = blank-invariant r; clock = refl; issued = refl; match = m-nil }
 
-after-calls : (g : ℕ) (cs : List Call) → (let ts = turns (new g .model) cs in Story (Punctual ts) (ledgerOf ts) (after (new g .model) cs))
-after-calls g cs = story-weaken _ _ _ _ (λ q. (tt, q)) (story-after cs (Unit {0}) (record { clock = 0; claims = [] }) (new g .model) (start g))
+after-calls : (g : ℕ) (cs : List Call) → (let ts = turns step (new g .model) cs in Story (Punctual ts) (ledgerOf ts) (tableAfter step (new g .model) cs))
+after-calls g cs = story-weaken _ _ _ _ (λ q. (tt, q)) (story-after cs (Unit {0}) opening (new g .model) (start g))
 
 -- Demand 3, whole.
 pub demand-3 : (rig : ℕ) (calls : List Call) → Demand3 rig calls

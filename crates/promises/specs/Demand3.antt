@@ -3,12 +3,12 @@
 use mathlib.Core.Path.{_≡_}
 use mathlib.Core.Logic.{_≢_}
 use mathlib.Core.Bool.{true, false}
-use mathlib.Core.List.{List, _∷_, _++_}
-use Prim.Native.Nat.{ℕ, _≤_}
+use mathlib.Core.List.{List, [], _∷_, _++_}
+use Prim.Native.Nat.{ℕ, _+_, _≤_, _<_}
 use Rattle.groups.specs.Groups.{shares}
 use Rattle.rules.specs.Lists.{_∈_}
-use Rattle.rules.specs.Calls.{Model, Call, claim, Standing, NotPending, Waits, Holds, standingOf, step, new, after}
-use Rattle.promises.specs.Ledger.{Turn, turns, Entry, promised, Ledger, noted, ledgerOf, NoOverrun, Punctual, boundOn}
+use Rattle.rules.specs.Calls.{Model, Call, claim, Standing, NotPending, Waits, Holds, standingOf, step, new}
+use Rattle.promises.specs.Ledger.{Turn, Steps, turns, tableAfter, Entry, promised, Ledger, noted, ledgerOf, NoOverrun, Punctual, boundOn}
 
 -- "Look, asked after any call of the list, says the same: waiting, on with that promised end, or 8."
 pub record Agrees (l : List Entry) (k : ℕ) (told : Standing) : Type 0 where
@@ -16,10 +16,15 @@ pub record Agrees (l : List Entry) (k : ℕ) (told : Standing) : Type 0 where
   pub waiting : (e : Entry) → e ∈ l → e .ticket ≡ k → e .held ≡ false → (s : ℕ) × (told ≡ Waits s)
   pub unknown : ((e : Entry) → e ∈ l → e .ticket ≢ k) → told ≡ NotPending
 
+-- The tickets of the pending claims are in ascending order.
+abbrev pub TicketsAscend : List Entry → Type 0
+TicketsAscend [] = Unit {0}
+TicketsAscend (e ∷ l) = ((f : Entry) → f ∈ l → e .ticket < f .ticket) × TicketsAscend l
+
 -- After any number of the calls. P: so far no accepted call bore a clock past the promised end of a claim held when it came.
 pub record Now (P : Type 0) (l : Ledger) (told : ℕ → Standing) : Type 0 where
-  -- A ticket stands for one claim.
-  pub tickets-differ : (e f : Entry) → e ∈ l .claims → f ∈ l .claims → e .ticket ≡ f .ticket → e ≡ f
+  -- A ticket stands once.
+  pub tickets-ascend : TicketsAscend (l .claims)
   pub lookup-agrees : (k : ℕ) → Agrees (l .claims) k (told k)
   -- Holders share no group.
   pub holders-apart : (e f : Entry) → e ∈ l .claims → f ∈ l .claims → e .ticket ≢ f .ticket → e .held ≡ true → f .held ≡ true → shares (e .groups) (f .groups) ≡ false
@@ -28,6 +33,8 @@ pub record Now (P : Type 0) (l : Ledger) (told : ℕ → Standing) : Type 0 wher
 
 -- Of one call, with what lookup told before and tells after it.
 pub record Next (P : Type 0) (l : Ledger) (t : Turn) (before after : ℕ → Standing) : Type 0 where
+  -- "Tickets are issued 1, 2, 3 .. and never again": that of an accepted claim is one more than the count of claims accepted before it.
+  pub ticket-next : (u g n : ℕ) → t .call ≡ claim u g n → t .answer .number ≡ 0 → t .answer .ticket ≡ l .issued + 1
   -- A first planned start is within its bound.
   pub start-bounded : (u g n : ℕ) → t .call ≡ claim u g n → t .answer .number ≡ 0 → t .answer .start ≤ boundOn (record { clock = u }) (l .claims) g n
   -- No start is raised. "A call raises it if the claim waits before the call and after it waits with a greater start, or is on with a
@@ -40,14 +47,19 @@ pub record Next (P : Type 0) (l : Ledger) (t : Turn) (before after : ℕ → Sta
 abbrev pub tells : Model → ℕ → Standing
 tells m k = standingOf k (m .pending)
 
--- "The list begins with the table that the call for a new one gave, whatever the rig."
-pub record Demand3 (rig : ℕ) (calls : List Call) : Type 0 where
+-- "The list begins with the table that the call for a new one gave, whatever the rig." The calls are run by `step`.
+pub record Demand3Of (step : Steps) (rig : ℕ) (calls : List Call) : Type 0 where
   pub at-any-time : (before rest : List Call) → before ++ rest ≡ calls
       → (let m = new rig .model in
-      let ts = turns m before in
-      Now (Punctual ts) (ledgerOf ts) (tells (after m before)))
+      let ts = turns step m before in
+      Now (Punctual ts) (ledgerOf ts) (tells (tableAfter step m before)))
   pub at-any-call : (before : List Call) (c : Call) (rest : List Call) → before ++ (c ∷ rest) ≡ calls
       → (let m = new rig .model in
-      let ts = turns m before in
-      let s = step (after m before) c in
-      Next (Punctual ts) (ledgerOf ts) (record { call = c; answer = s .answer }) (tells (after m before)) (tells (s .model)))
+      let ts = turns step m before in
+      let n = tableAfter step m before in
+      let s = step n c in
+      Next (Punctual ts) (ledgerOf ts) (record { call = c; answer = s .answer }) (tells n) (tells (s .model)))
+
+-- Demand 3 of the rules.
+abbrev pub Demand3 : ℕ → List Call → Type 0
+Demand3 rig calls = Demand3Of step rig calls

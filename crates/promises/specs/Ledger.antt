@@ -9,17 +9,26 @@ use lib.ListN.{length}
 use Rattle.groups.specs.Groups.{shares}
 use Rattle.rules.specs.Lists.{_∈_, sum, any, keep}
 use Rattle.rules.specs.Claims.{Setting, heldUntil}
-use Rattle.rules.specs.Calls.{Model, Call, claim, release, withdraw, clock, lookup, timed, clockOf, Answer, step}
+use Rattle.rules.specs.Calls.{Model, Call, claim, release, withdraw, clock, lookup, timed, clockOf, Answer, Step}
 
 -- A call with its answer.
 pub record Turn : Type 0 where
   pub call : Call
   pub answer : Answer
 
+-- How calls are run: from a table and a call to the table after it and its answer. The rules' own is `step`.
+abbrev pub Steps : Type 0
+Steps = Model → Call → Step
+
 -- "Each call gets the table as the one before it left it"
-unfoldable pub turns : Model → List Call → List Turn
-turns m [] = []
-turns m (c ∷ cs) = record { call = c; answer = step m c .answer } ∷ turns (step m c .model) cs
+unfoldable pub turns : Steps → Model → List Call → List Turn
+turns step m [] = []
+turns step m (c ∷ cs) = record { call = c; answer = step m c .answer } ∷ turns step (step m c .model) cs
+
+-- The table that the last one left.
+unfoldable pub tableAfter : Steps → Model → List Call → Model
+tableAfter step m [] = m
+tableAfter step m (c ∷ cs) = tableAfter step (step m c .model) cs
 
 -- An accepted timed call.
 abbrev pub accepted : Turn → Bool
@@ -38,21 +47,34 @@ pub record Entry : Type 0 where
 abbrev pub promised : Entry → ℕ
 promised e = e .grant + e .length
 
--- The table's clock and the pending claims.
+-- The table's clock, the count of claims accepted so far, and the pending claims.
 pub record Ledger : Type 0 where
   pub clock : ℕ
+  pub issued : ℕ
   pub claims : List Entry
 
--- "A claim is pending from the accepted call that issued its ticket until an accepted release or withdrawal takes it away."
+-- Before any call. The clock is "0 before any".
+abbrev pub opening : Ledger
+opening = record { clock = 0; issued = 0; claims = [] }
+
+-- "A claim is pending from the accepted call that issued its ticket": what an accepted call issued.
+unfoldable pub issues : Call → Answer → List Entry
+issues (claim t g n) a = record { ticket = a .ticket; groups = g; length = n; first = a .start; held = false; grant = 0 } ∷ []
+issues (release t k) a = []
+issues (withdraw t k) a = []
+issues (clock t) a = []
+issues (lookup k) a = []
+
+-- "until an accepted release or withdrawal takes it away": what an accepted call leaves of the pending claims.
 abbrev pub without : ℕ → List Entry → List Entry
 without k l = keep (λ e. not (eqb (e .ticket) k)) l
 
-unfoldable pub acted : List Entry → Call → Answer → List Entry
-acted l (claim t g n) a = l ++ (record { ticket = a .ticket; groups = g; length = n; first = a .start; held = false; grant = 0 } ∷ [])
-acted l (release t k) a = without k l
-acted l (withdraw t k) a = without k l
-acted l (clock t) a = l
-acted l (lookup k) a = l
+unfoldable pub stay : Call → List Entry → List Entry
+stay (claim t g n) l = l
+stay (release t k) l = without k l
+stay (withdraw t k) l = without k l
+stay (clock t) l = l
+stay (lookup k) l = l
 
 -- "from the call whose answer names its ticket as granted, that call included .. Its grant is that call's clock"
 abbrev pub hold : Entry → ℕ → Entry
@@ -64,17 +86,19 @@ marked t ks e = elim (any (λ k. eqb k (e .ticket)) ks) [ true ↦ hold e t | fa
 -- The ledger after a call. "The table's clock is that of the last accepted timed call"
 abbrev pub noted : Ledger → Turn → Ledger
 noted l t =
+    let now = clockOf (t .call) in
+    let new = issues (t .call) (t .answer) in
     cond (accepted t)
-    (record { clock = clockOf (t .call); claims = map (marked (clockOf (t .call)) (t .answer .grants)) (acted (l .claims) (t .call) (t .answer)) })
+    (record { clock = now; issued = l .issued + length new; claims = map (marked now (t .answer .grants)) (stay (t .call) (l .claims) ++ new) })
     l
 
 unfoldable pub notedAll : Ledger → List Turn → Ledger
 notedAll l [] = l
 notedAll l (t ∷ ts) = notedAll (noted l t) ts
 
--- The ledger after these calls. The clock is "0 before any".
+-- The ledger after these calls.
 abbrev pub ledgerOf : List Turn → Ledger
-ledgerOf ts = notedAll (record { clock = 0; claims = [] }) ts
+ledgerOf ts = notedAll opening ts
 
 -- The call does not bear a clock past the promised end of a claim held when it comes.
 abbrev pub NoOverrun : Ledger → Turn → Type 0
@@ -86,7 +110,7 @@ NoOverruns l (t ∷ ts) = NoOverrun l t × NoOverruns (noted l t) ts
 
 -- No accepted call of these did.
 abbrev pub Punctual : List Turn → Type 0
-Punctual ts = NoOverruns (record { clock = 0; claims = [] }) ts
+Punctual ts = NoOverruns opening ts
 
 -- The bound on a first planned start: "what is pending, on or waiting is taken just before the accepting call; remaining time is as in
 -- the ceiling, the clock being that call's".

@@ -1,3 +1,4 @@
 pub mod Ledger
 pub mod Demand3
 pub mod WholeCalls
+pub mod Worthless

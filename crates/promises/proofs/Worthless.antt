@@ -1,0 +1,36 @@
+-- Demand 3 refuses the worthless versions, by computation on a few calls.
+use mathlib.Core.Path.{_≡_, refl, sym, _∙_, ap}
+use mathlib.Core.Bool.{true, false}
+use mathlib.Core.List.{List, [], _∷_, List·Memᴰ·eq-of-singleton}
+use Prim.Native.Nat.{ℕ, _≤_}
+use native.Mathlib.Omega.{arith}
+use Rattle.groups.specs.Groups.{someFrom, shares, empty, within}
+use Rattle.rules.specs.Lists.{_∈_, greatest, least, sum, all, any, keep}
+use Rattle.rules.specs.Claims.{heldUntil, endOf, remaining}
+use Rattle.rules.specs.Order.{precedes, before}
+use Rattle.rules.specs.Packing.{startFor, moved, ahead, startWithin, packedStart, pack}
+use Rattle.rules.specs.Placing.{clear, fits, seek, place, contention, startBound}
+use Rattle.rules.specs.Granting.{goes, granted, grant, grants}
+use Rattle.rules.specs.Calls.{Call, claim, clock, NotPending, Holds, firstOf, tests, advance, finish, join, remove, admit, act, step, new, standingOf}
+use Rattle.rules.proofs.Bools.{clash}
+use Rattle.rules.proofs.Lists.{here, none}
+use Rattle.promises.specs.Ledger.{Entry, turns, tableAfter, issues, stay, marked, notedAll}
+use Rattle.promises.specs.Demand3.{Demand3Of}
+use Rattle.promises.specs.Worthless.{neverGrants, untouched, echoes, AllRefused}
+
+pub all-refused : AllRefused
+unfolding someFrom shares empty within greatest least sum all any keep heldUntil endOf remaining precedes before startFor moved ahead startWithin packedStart pack clear fits seek place contention startBound goes granted grant grants firstOf tests advance finish join remove admit act step new standingOf turns tableAfter issues stay marked notedAll neverGrants untouched echoes
+all-refused = (
+  λ d.
+      let calls : List Call = claim 0 0x1 10 ∷ clock 1 ∷ [] in
+      let held : (e : Entry) → e ∈ _ → e .held ≡ false = λ e i. ap (λ (x : Entry). x .held) (List·Memᴰ·eq-of-singleton i) in
+      let z : 1 ≤ 0 = d .at-any-time calls [] refl .no-wait-past (λ _ e i. none i, (λ _ e i o. clash o (held e i), tt)) _ here refl in
+      omega arith,
+  λ d.
+      let e : NotPending ≡ Holds 10 = d .at-any-time (claim 0 0x1 10 ∷ []) [] refl .lookup-agrees 1 .held _ here refl refl in
+      let z : _≡_ {A = ℕ} 0 1 = cc in
+      omega arith,
+  λ d.
+      let z : _≡_ {A = ℕ} 1 2 = d .at-any-call (claim 0 0x1 10 ∷ []) (claim 0 0x1 10) [] refl .ticket-next 0 0x1 10 refl refl in
+      omega arith,
+)
