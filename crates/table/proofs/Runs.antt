@@ -4,17 +4,17 @@ use mathlib.Core.List.{List, _∷_}
 use Prim.Native.Nat.{ℕ}
 use Rattle.rules.specs.declared.Table.{Table}
 use Rattle.rules.specs.Calls as rules
-use Rattle.rules.specs.Calls.{Model, Call, lookup, Answer, Step, step, unchanged, standingOf, new, after}
+use Rattle.rules.specs.Calls.{Model, Call, lookup, Answer, Step, step, unchanged, standingOf, new}
 use Rattle.rules.specs.Tables.{model}
 use Rattle.table.proofs.Rows.{pad-take}
-use Rattle.promises.specs.Ledger.{Turn, turns, ledgerOf, Punctual}
+use Rattle.promises.specs.Ledger.{Turn, turns, tableAfter, ledgerOf, Punctual}
 use Rattle.promises.specs.Demand3.{Now, Next}
 use Rattle.promises.specs.Demand3 as demand
 use Rattle.promises.proofs.Run.{demand-3}
 use Rattle.table.specs.declared.Outcome.{Outcome}
 use Rattle.table.specs.declared.Standing.{Standing}
 use Rattle.table.specs.Outcomes.{outcome, standingIn, numberOf}
-use Rattle.table.specs.Runs.{answered, looked, standingOut, Run, done, call, look, Looks, tells, CodeDemand3}
+use Rattle.table.specs.Runs.{answered, looked, standingOut, Made, by-timed, by-lookup, Run, done, then, Looks, tells, CodeDemand3}
 use Rattle.table.proofs.Ranges.{model-is}
 use Rattle.table.proofs.Tests.{lookup-number, lookup-answer, lookup-idle}
 
@@ -34,24 +34,19 @@ looked-is : (m : Model) (k : ℕ) (s : Standing) → s ≡ standingIn (standingO
 looked-is m k s e = ap (λ (n : ℕ). unchanged m n .answer) (ap numberOf e ∙ lookup-number m k) ∙ lookup-answer m k
 
 -- ── a run is the rules' run ──
-run-is : {t u : Table} {cs : List Call} {ts : List Turn} → Run t cs ts u → (ts ≡ turns (model t) cs) × (model u ≡ after (model t) cs)
-unfolding turns after
+made-is : {t u : Table} {c : Call} {a : Answer} → Made t c a u → (a ≡ step (model t) c .answer) × (model u ≡ step (model t) c .model)
+made-is {t} (by-timed c h r e) = (answer-of r (step (model t) c) e, table-of r (step (model t) c) e)
+made-is {t} (by-lookup k s e) = (looked-is (model t) k s e, sym (lookup-idle (model t) k))
+
+run-is : {t u : Table} {cs : List Call} {ts : List Turn} → Run t cs ts u → (ts ≡ turns step (model t) cs) × (model u ≡ tableAfter step (model t) cs)
+unfolding turns tableAfter
 run-is done = (refl, refl)
-run-is (call {t} {u} {cs} {ts} c r e p) =
+run-is (then {t} {u} {w} {c} {a} {cs} {ts} one p) =
     let ih = run-is p in
-    let s = step (model t) c in
-    let m = table-of r s e in (
-      ap (λ (a : Answer). record { call = c; answer = a } ∷ ts) (answer-of r s e)
-          ∙ ap (λ (l : List Turn). record { call = c; answer = s .answer } ∷ l) (ih .0 ∙ ap (λ (x : Model). turns x cs) m),
-      ih .1 ∙ ap (λ (x : Model). after x cs) m,
-    )
-run-is (look {t} {u} {cs} {ts} k s e p) =
-    let ih = run-is p in
-    let a = looked-is (model t) k s e in
-    let m = lookup-idle (model t) k in (
-      ap (λ (a : Answer). record { call = lookup k; answer = a } ∷ ts) a
-          ∙ ap (λ (l : List Turn). record { call = lookup k; answer = step (model t) (lookup k) .answer } ∷ l) (ih .0 ∙ ap (λ (x : Model). turns x cs) (sym m)),
-      ih .1 ∙ ap (λ (x : Model). after x cs) (sym m),
+    let m = made-is one in (
+      ap (λ (x : Answer). record { call = c; answer = x } ∷ ts) (m .0)
+          ∙ ap (λ (l : List Turn). record { call = c; answer = step (model t) c .answer } ∷ l) (ih .0 ∙ ap (λ (x : Model). turns step x cs) (m .1)),
+      ih .1 ∙ ap (λ (x : Model). tableAfter step x cs) (m .1),
     )
 
 out-in : (s : rules.Standing) → standingOut (standingIn s) ≡ s
@@ -79,22 +74,22 @@ next-is {us = us} {c = c} {d = d} {f = f} {g = g} {f′ = f′} {g′ = g′} p 
 
 -- The turns and the table of a run from a new table.
 module _ (rig : ℕ) (before : List Call) (first : Outcome) (q : first ≡ outcome (new rig)) (ts : List Turn) (t : Table) (p : Run (first .table) before ts t) where
-  turns-are : ts ≡ turns (new rig .model) before
-  turns-are = run-is p .0 ∙ ap (λ (x : Model). turns x before) (table-of first (new rig) q)
+  turns-are : ts ≡ turns step (new rig .model) before
+  turns-are = run-is p .0 ∙ ap (λ (x : Model). turns step x before) (table-of first (new rig) q)
 
-  table-is : model t ≡ after (new rig .model) before
-  table-is = run-is p .1 ∙ ap (λ (x : Model). after x before) (table-of first (new rig) q)
+  table-is : model t ≡ tableAfter step (new rig .model) before
+  table-is = run-is p .1 ∙ ap (λ (x : Model). tableAfter step x before) (table-of first (new rig) q)
 
 pub code-demand-3 : (rig : ℕ) (calls : List Call) → CodeDemand3 rig calls
 code-demand-3 rig calls = record {
   at-any-time = λ before rest e first q ts t p shows h.
       now-is (turns-are rig before first q ts t p) (shows-is t _ shows (table-is rig before first q ts t p) h) (demand-3 rig calls .at-any-time before rest e);
-  at-any-call = λ before c rest e first q ts t p r f old new h k.
+  at-any-call = λ before c rest e first q ts t p a u one old new h k.
       let m = table-is rig before first q ts t p in
-      let s = step (model t) c in
+      let r = made-is one in
       next-is (turns-are rig before first q ts t p)
-      (ap (λ (a : Answer). record { call = c; answer = a }) (answer-of r s f ∙ ap (λ (x : Model). step x c .answer) m))
+      (ap (λ (x : Answer). record { call = c; answer = x }) (r .0 ∙ ap (λ (x : Model). step x c .answer) m))
       (shows-is t _ old m h)
-      (shows-is (r .table) _ new (table-of r s f ∙ ap (λ (x : Model). step x c .model) m) k)
+      (shows-is u _ new (r .1 ∙ ap (λ (x : Model). step x c .model) m) k)
       (demand-3 rig calls .at-any-call before c rest e);
 }

@@ -1,11 +1,12 @@
 -- Demand 3 of the code: runs of the calls in which each call is known only by its promise.
 use mathlib.Core.Path.{_≡_}
+use mathlib.Core.Bool.{true}
 use mathlib.Core.List.{List, [], _∷_, _++_}
 use Prim.Native.Nat.{ℕ}
 use lib.ListN.{take}
 use Rattle.rules.specs.declared.Table.{Table}
 use Rattle.rules.specs.Calls as rules
-use Rattle.rules.specs.Calls.{Call, lookup, Answer, step, standingOf, new}
+use Rattle.rules.specs.Calls.{Call, lookup, timed, Answer, step, standingOf, new}
 use Rattle.rules.specs.Tables.{model}
 use Rattle.promises.specs.Ledger.{Turn, ledgerOf, Punctual}
 use Rattle.promises.specs.Demand3.{Now, Next}
@@ -34,14 +35,17 @@ standingOut NotPending = rules.NotPending
 standingOut (Waits s) = rules.Waits s
 standingOut (Holds e) = rules.Holds e
 
--- Calls made one after the other from table t, with their answers, and the table they left. `outcome (step ..)` is what claim, release,
--- withdraw and clock promise, `standingIn (standingOf ..)` what lookup promises.
+-- A call made of table t, by kind: what the code answers, and the table it leaves. Claim, release, withdraw and clock promise an
+-- `outcome (step ..)`, lookup a `standingIn (standingOf ..)`.
+pub data Made (t : Table) : Call → Answer → Table → Type 0 where
+  by-timed : (c : Call) → timed c ≡ true → (r : Outcome) → r ≡ outcome (step (model t) c) → Made t c (answered r) (r .table)
+  by-lookup : (k : ℕ) (s : Standing) → s ≡ standingIn (standingOf k (model t .pending)) → Made t (lookup k) (looked s) t
+
+-- Calls made one after the other from table t, with their answers, and the table they left.
 pub data Run : Table → List Call → List Turn → Table → Type 0 where
   done : {t : Table} → Run t [] [] t
-  call : {t u : Table} {cs : List Call} {ts : List Turn} (c : Call) (r : Outcome) → r ≡ outcome (step (model t) c) → Run (r .table) cs ts u
-      → Run t (c ∷ cs) (record { call = c; answer = answered r } ∷ ts) u
-  look : {t u : Table} {cs : List Call} {ts : List Turn} (k : ℕ) (s : Standing) → s ≡ standingIn (standingOf k (model t .pending)) → Run t cs ts u
-      → Run t (lookup k ∷ cs) (record { call = lookup k; answer = looked s } ∷ ts) u
+  then : {t u w : Table} {c : Call} {a : Answer} {cs : List Call} {ts : List Turn} → Made t c a u → Run u cs ts w
+      → Run t (c ∷ cs) (record { call = c; answer = a } ∷ ts) w
 
 -- What lookup answers of each ticket, asked of table t.
 abbrev pub Looks : Table → (ℕ → Standing) → Type 0
@@ -58,6 +62,6 @@ pub record CodeDemand3 (rig : ℕ) (calls : List Call) : Type 0 where
       → Now (Punctual ts) (ledgerOf ts) (tells shows)
   pub at-any-call : (before : List Call) (c : Call) (rest : List Call) → before ++ (c ∷ rest) ≡ calls
       → (first : Outcome) → first ≡ outcome (new rig) → (ts : List Turn) (t : Table) → Run (first .table) before ts t
-      → (r : Outcome) → r ≡ outcome (step (model t) c)
-      → (old new : ℕ → Standing) → Looks t old → Looks (r .table) new
-      → Next (Punctual ts) (ledgerOf ts) (record { call = c; answer = answered r }) (tells old) (tells new)
+      → (a : Answer) (u : Table) → Made t c a u
+      → (old new : ℕ → Standing) → Looks t old → Looks u new
+      → Next (Punctual ts) (ledgerOf ts) (record { call = c; answer = a }) (tells old) (tells new)
