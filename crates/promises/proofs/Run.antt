@@ -11,7 +11,7 @@ use borrow.Author.Tests.{eq-eqb, ne-eqb}
 use Rattle.groups.specs.Groups.{shares}
 use Rattle.rules.specs.declared.Claim.{Claim}
 use Rattle.rules.specs.declared.Phase.the-variants.{On}
-use Rattle.rules.specs.Lists.{_∈_, any}
+use Rattle.rules.specs.Lists.{_∈_, any, keep}
 use Rattle.rules.specs.Claims.{Setting, on, at, withPhase, conflicts, heldUntil, endOf, remaining}
 use Rattle.rules.specs.Order.{rivals}
 use Rattle.rules.specs.Packing.{packedStart, moved, pack}
@@ -30,7 +30,7 @@ use Rattle.rules.proofs.Invariants.{spaced-packs}
 use Rattle.rules.proofs.Calls.{OnTime, Admissible, advance-packed, finish-invariant, advance-same, finish-e, finish-clock, placed, join-spaced, Leaves, by-release, by-withdraw, by-clock, leaves-spaced, leaves-old, leaves-clock, join-old, Idle, step-cases, blank-invariant, new-cases}
 use Rattle.rules.proofs.Prompt.{Prompt, prompt-no-later}
 use Rattle.rules.proofs.Lookup.{lookup-absent, lookup-found, lookup-waits}
-use Rattle.promises.specs.Ledger.{Turn, turns, tableAfter, Entry, promised, Ledger, opening, issues, stay, hold, marked, noted, notedAll, ledgerOf, NoOverrun, NoOverruns, Punctual, remainingOf, rivalsOf, boundOn}
+use Rattle.promises.specs.Ledger.{Turn, turns, tableAfter, Entry, promised, Ledger, opening, issues, without, stay, hold, marked, noted, notedAll, ledgerOf, NoOverrun, NoOverruns, Punctual, remainingOf, rivalsOf, boundOn}
 use Rattle.promises.specs.Demand3.{TicketsAscend, Now, Next, tells, Demand3}
 use Rattle.promises.proofs.Matching.{Match, m-nil, m-cons, match-map, match-left, match-weaken, match-snoc, match-none, match-keep, match-length, match-sum, partner, partner-of, named-keep}
 
@@ -154,11 +154,14 @@ finish-match P l m k s n b i ma =
     ps = pack (settingOf m) (m .pending)
 
 -- What release, withdraw and clock leave of the ledger.
+match-without : (P : Type 0) (k : ℕ) {ps : List Claim} {l : List Entry} → Match (Tracks P) ps l → Match (Tracks P) (keep (λ c. not (named k c)) ps) (without k l)
+match-without P k ma = match-keep (λ c. not (named k c)) (λ e. not (eqb (e .ticket) k)) (λ c e r. ap (λ (x : ℕ). not (eqb x k)) (r .ticket)) ma
+
 leaves-match : (P : Type 0) (l : List Entry) (a : Answer) {m : Model} {c : Call} {t k : ℕ} {q : Model} → Leaves m c t k q
     → Match (Tracks P) (advance m t .pending) l → Match (Tracks P) (q .pending) (stay c l ++ issues c a)
 unfolding remove stay issues
-leaves-match P l a (by-release t k) ma = match-none (match-keep (λ c. not (named k c)) (λ e. not (eqb (e .ticket) k)) (λ c e r. ap (λ (x : ℕ). not (eqb x k)) (r .ticket)) ma)
-leaves-match P l a (by-withdraw t k) ma = match-none (match-keep (λ c. not (named k c)) (λ e. not (eqb (e .ticket) k)) (λ c e r. ap (λ (x : ℕ). not (eqb x k)) (r .ticket)) ma)
+leaves-match P l a (by-release t k) ma = match-none (match-without P k ma)
+leaves-match P l a (by-withdraw t k) ma = match-none (match-without P k ma)
 leaves-match P l a (by-clock t) ma = match-none ma
 
 leaves-issued : (a : Answer) {m : Model} {c : Call} {t k : ℕ} {q : Model} → Leaves m c t k q → q .issued ≡ m .issued + length (issues c a)
@@ -188,6 +191,7 @@ finish-from m k s n b i d di =
     let v : Setting = settingOf m in
     let f = packedStart v (m .pending) in
     let p = spaced-packs (m .issued) v (m .pending) i in
+    let sp = p .spaced in
     let r = finish-e m k s n b di in (
       r .0,
       r .1,
@@ -196,7 +200,7 @@ finish-from m k s n b i d di =
           omega (
             arith,
             ap at (r .3 .1),
-            granted-at v (pack v (m .pending)) (p .spaced .holders) (p .spaced .fit) (p .spaced .low) (p .tight) (λ x j. p .spaced .proper x j .sane) (p .spaced .ascending) (moved f (r .0)) (r .3 .0),
+            granted-at v (pack v (m .pending)) (sp .holders) (sp .fit) (sp .low) (p .tight) (λ x j. sp .proper x j .sane) (sp .ascending) _ (r .3 .0),
             moved-at f (r .0) o,
             pack-no-later v (m .pending) (i .fit) (i .low) (r .0) (r .1) o,
           ),
@@ -296,7 +300,8 @@ module _ (P : Type 0) (l : Ledger) (m : Model) (s : Story P l m) where
 
   -- What the accepted timed calls have in common: q is what they leave before they pack again and grant, es the same of the ledger.
   told-finish : (t j k x n b : ℕ) (q : Model) (es : List Entry) (T : Type 0) → m .clock ≤ t → (T → (e : Entry) → e ∈ l .claims → e .held ≡ true → t ≤ promised e)
-      → IsSpaced q → q .clock ≡ t → q .issued ≡ j → ((y : Claim) → y ∈ q .pending → (y ∈ advance m t .pending) ⊎ (m .issued < y .ticket)) → Match (Tracks (P × T)) (q .pending) es
+      → IsSpaced q → q .clock ≡ t → q .issued ≡ j
+      → ((y : Claim) → y ∈ q .pending → (y ∈ advance m t .pending) ⊎ (m .issued < y .ticket)) → Match (Tracks (P × T)) (q .pending) es
       → (T → Unraised (m .pending) (finish q k x n b .model .pending) (map (marked t (finish q k x n b .answer .grants)) es))
       × Story (P × T) (record { clock = t; issued = j; claims = map (marked t (finish q k x n b .answer .grants)) es }) (finish q k x n b .model)
   told-finish t j k x n b q es T h tm sp cl is old ma = (
@@ -310,7 +315,11 @@ module _ (P : Type 0) (l : Ledger) (m : Model) (s : Story P l m) where
   told-claim : (t g n : ℕ) → Admissible m t g n → Told P l m (claim t g n) (admit (advance m t) g n)
   unfolding admit finish join advance stay issues
   told-claim t g n a =
-      let r = told-finish t (l .issued + 1) (w .ticket) x (contention ps w) (startBound v ps w) q _ T (a .clocked .later) (λ z. z refl) spaced refl (omega (arith, s .issued)) (join-old (advance m t) (placed (advance m t) g n) refl) (match-snoc _ _ first new) in (
+      let old = join-old (advance m t) (placed (advance m t) g n) refl in
+      let next : suc (m .issued) ≡ l .issued + 1 = omega (arith, s .issued) in
+      let r =
+      told-finish t (l .issued + 1) (w .ticket) x (contention ps w) (startBound v ps w) q _ T
+      (a .clocked .later) (λ z. z refl) spaced refl next old (match-snoc _ _ first new) in (
         record {
           ticket-next = λ t′ g′ n′ e _. omega (arith, s .issued);
           start-bounded = λ t′ g′ n′ e _.

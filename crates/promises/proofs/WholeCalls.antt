@@ -3,30 +3,32 @@ use mathlib.Core.Path.{_≡_, refl, sym, _∙_, ap, subst}
 use mathlib.Core.Logic.{_⊎_, inl, inr, _≢_}
 use mathlib.Core.Bool.{true, false}
 use mathlib.Core.List.{List, [], _∷_, _++_, List·Memᴰ·append-cases, List·Memᴰ·eq-of-singleton, Memᴰ·append-right}
-use Prim.Native.Nat.{ℕ, _≤_, _<_}
+use Prim.Native.Nat.{ℕ, suc, _≤_, _<_}
 use native.Mathlib.Omega.{arith}
 use Rattle.rules.specs.declared.Claim.{Claim}
 use Rattle.rules.specs.Lists.{_∈_}
-use Rattle.rules.specs.Claims.{Setting, on, at, conflicts, endOf}
+use Rattle.rules.specs.Claims.{Setting, on, at, withPhase, conflicts, endOf}
+use Rattle.rules.specs.declared.Phase.the-variants.{On}
 use Rattle.rules.specs.Order.{precedes}
 use Rattle.rules.specs.Packing.{packedStart, moved, pack}
-use Rattle.rules.specs.Granting.{granted, grant}
+use Rattle.rules.specs.Granting.{goes, granted, grant}
 use Rattle.rules.specs.Calls.{Model, settingOf, Call, claim, release, withdraw, clock, lookup, timed, clockOf, Step, advance, finish, join, admit, step, new, after}
 use Rattle.rules.specs.Invariants.{IsSpaced, IsPacked, Still, Invariant}
 use Rattle.rules.proofs.Bools.{clash}
 use Rattle.rules.proofs.Lists.{here, map-e}
 use Rattle.rules.proofs.Order.{precedes-e, precedes-lt}
 use Rattle.rules.proofs.Packing.{moved-phase, pack-precedes}
-use Rattle.rules.proofs.Granting.{goes-wait, goes-at, granted-cases, granted-ticket, grant-precedes}
+use Rattle.rules.proofs.Granting.{goes-wait, goes-at, granted-cases, grant-precedes}
 use Rattle.rules.proofs.Invariants.{spaced-clear, settled-starts}
 use Rattle.rules.proofs.Calls.{Admissible, advance-packed, finish-invariant, placed, join-spaced, Leaves, by-release, by-withdraw, by-clock, leaves-spaced, Idle, step-cases, clock-accepted, new-invariant, after-invariant, advance-same, finish-e, finish-clock, leaves-old, leaves-clock, join-old, advance-spare, admit-invariant}
-use Rattle.rules.proofs.Once.{advance-still, finish-still, joined, claim-pending, joined-at}
+use Rattle.rules.proofs.Once.{advance-still, finish-still, joined, joined-cases, claim-pending, joined-at}
 use Rattle.promises.specs.WholeCalls.{Becomes, TimedCall, Stays, ClaimCall, WholeCalls}
 
 -- ── order ──
 -- Through the first packing.
 advance-precedes : (m : Model) (t : ℕ) → Invariant m → (d w : Claim) → d ∈ m .pending → w ∈ m .pending → on w ≡ false → precedes d w ≡ true
-    → (x y : Claim) → x ∈ advance m t .pending → y ∈ advance m t .pending → x .ticket ≡ d .ticket → y .ticket ≡ w .ticket → (on y ≡ false) × (precedes x y ≡ true)
+    → (x y : Claim) → x ∈ advance m t .pending → y ∈ advance m t .pending → x .ticket ≡ d .ticket → y .ticket ≡ w .ticket
+    → (on y ≡ false) × (precedes x y ≡ true)
 advance-precedes m t i d w di wi o p x y xi yi e h =
     let v : Setting = record { clock = t } in
     let f = packedStart v (m .pending) in
@@ -38,7 +40,8 @@ advance-precedes m t i d w di wi o p x y xi yi e h =
 regranted : Model → Claim → Claim
 regranted m x = granted (settingOf m) (pack (settingOf m) (m .pending)) (moved (packedStart (settingOf m) (m .pending)) x)
 
-finish-precedes : (m : Model) → IsSpaced m → (x y : Claim) → x ∈ m .pending → moved (packedStart (settingOf m) (m .pending)) x ∈ pack (settingOf m) (m .pending)
+finish-precedes : (m : Model) → IsSpaced m → (x y : Claim) → x ∈ m .pending
+    → moved (packedStart (settingOf m) (m .pending)) x ∈ pack (settingOf m) (m .pending)
     → on y ≡ false → precedes x y ≡ true → (on (regranted m y) ≡ false) × (precedes (regranted m x) (regranted m y) ≡ true)
 unfolding regranted
 finish-precedes m i x y xi xj o p =
@@ -56,15 +59,15 @@ unfolding regranted
 finish-order m q t k s n b i sp old d d′ w w′ f g o p =
     let x = finish-e q k s n b (f .new) in
     let y = finish-e q k s n b (g .new) in
-    let xi = mine d d′ f (x .0) (x .2) (old (x .0) (x .1)) in
-    let yi = mine w w′ g (y .0) (y .2) (old (y .0) (y .1)) in
+    let xi = mine d (f .old) (x .0) (sym (x .2) ∙ f .same) (old (x .0) (x .1)) in
+    let yi = mine w (g .old) (y .0) (sym (y .2) ∙ g .same) (old (y .0) (y .1)) in
     let r = advance-precedes m t i d w (f .old) (g .old) o p (x .0) (y .0) xi yi (sym (x .2) ∙ f .same) (sym (y .2) ∙ g .same) in
     let z = finish-precedes q sp (x .0) (y .0) (x .1) (x .3 .0) (r .0) (r .1) in
     (ap on (y .3 .1) ∙ z .0, ap (λ (c : Claim). precedes c w′) (x .3 .1) ∙ ap (precedes (regranted q (x .0))) (y .3 .1) ∙ z .1)
   where
-    mine : (d d′ : Claim) → Becomes m (finish q k s n b .model) d d′ → (x : Claim) → d′ .ticket ≡ x .ticket → (x ∈ advance m t .pending) ⊎ (m .issued < x .ticket) → x ∈ advance m t .pending
-    mine d d′ f x e (inl j) = j
-    mine d d′ f x e (inr l) = absurd (omega (arith, f .same, i .spaced .proper d (f .old) .issued))
+    mine : (d : Claim) → d ∈ m .pending → (x : Claim) → x .ticket ≡ d .ticket → (x ∈ advance m t .pending) ⊎ (m .issued < x .ticket) → x ∈ advance m t .pending
+    mine d di x e (inl j) = j
+    mine d di x e (inr l) = absurd (omega (arith, i .spaced .proper d di .issued))
 
 -- ── every accepted timed call ──
 timed-finish : (m q : Model) (c : Call) (t k s n b : ℕ) → Invariant m → IsSpaced q → q .clock ≡ t → clockOf c ≡ t
@@ -72,7 +75,9 @@ timed-finish : (m q : Model) (c : Call) (t k s n b : ℕ) → Invariant m → Is
 timed-finish m q c t k s n b i sp e h old = record {
   clock-set = finish-clock q k s n b ∙ e ∙ sym h;
   starts-packed = settled-starts (r .issued) (settingOf r) (r .pending) (finish-invariant q k s n b sp);
-  order-kept = λ d d′ w w′ f g x od ow od′ ow′ l. smaller d′ w′ od′ (precedes-e d′ w′ (finish-order m q t k s n b i sp old d d′ w w′ f g ow (precedes-lt d w x l) .1));
+  order-kept = λ d d′ w w′ f g x od ow od′ ow′ l.
+      let r = finish-order m q t k s n b i sp old d d′ w w′ f g ow (precedes-lt d w x l) in
+      smaller d′ w′ od′ (precedes-e d′ w′ (r .1));
   none-overtaken = finish-order m q t k s n b i sp old;
 }
   where
@@ -85,38 +90,45 @@ timed-finish m q c t k s n b i sp e h old = record {
 
 -- ── an accepted claim ──
 module _ (m : Model) (i : Invariant m) (t g n : ℕ) (a : Admissible m t g n) where
-  packed : IsPacked (advance m t)
+  -- The table that the first packing gave; the claims after the call; and the new one among them.
+  abbrev first : Model
+  first = advance m t
+
+  abbrev last : List Claim
+  last = admit (advance m t) g n .model .pending
+
+  abbrev w : Claim
+  w = joined (advance m t) g n
+
+  packed : IsPacked first
   packed = advance-packed m t i (a .clocked .later)
 
-  still : Still (advance m t)
+  still : Still first
   still = advance-still m t (λ c k. i .spaced .proper c k .sane) (i .spaced .ascending)
 
-  spaced : IsSpaced (join (advance m t) (placed (advance m t) g n))
-  spaced = join-spaced (advance m t) g n (a .long) (advance-spare m t g n a) (packed .spaced)
+  spare : first .issued < 65535
+  spare = advance-spare m t g n a
 
-  claim-timed : TimedCall m (claim t g n) (admit (advance m t) g n)
+  claim-timed : TimedCall m (claim t g n) (admit first g n)
   unfolding admit join advance
-  claim-timed = timed-finish m (join (advance m t) (placed (advance m t) g n)) (claim t g n) t _ _ _ _ i spaced refl refl (join-old (advance m t) (placed (advance m t) g n) refl)
+  claim-timed =
+      timed-finish m (join first (placed first g n)) (claim t g n) t _ _ _ _ i (join-spaced first g n (a .long) spare (packed .spaced)) refl refl
+      (join-old first (placed first g n) refl)
 
-  -- The claims after the call: the others, as after a clock call, and the new one.
-  after-claim : admit (advance m t) g n .model .pending ≡ finish (advance m t) 0 t 0 0 .model .pending ++ (joined (advance m t) g n ∷ [])
-  after-claim = claim-pending (advance m t) packed still g n (a .long) (advance-spare m t g n a) 0 t 0 0
+  -- The others, as after a clock call, and the new one.
+  last-is : last ≡ finish first 0 t 0 0 .model .pending ++ (w ∷ [])
+  last-is = claim-pending first packed still g n (a .long) spare 0 t 0 0
 
-  one-more : joined (advance m t) g n ∈ admit (advance m t) g n .model .pending
-  one-more = subst (λ (l : List Claim). joined (advance m t) g n ∈ l) (sym after-claim) (Memᴰ·append-right (finish (advance m t) 0 t 0 0 .model .pending) here)
+  new-last : w ∈ last
+  new-last = subst (λ (l : List Claim). w ∈ l) (sym last-is) (Memᴰ·append-right (finish first 0 t 0 0 .model .pending) here)
 
   -- Where nothing moves, a claim stays or is granted at its start.
-  stays : (d : Claim) → d ∈ finish (advance m t) 0 t 0 0 .model .pending → (x : Claim) × x ∈ advance m t .pending × Stays t x d
+  stays : (d : Claim) → d ∈ finish first 0 t 0 0 .model .pending → (x : Claim) × x ∈ first .pending × Stays t x d
   unfolding grant advance
   stays d j =
-      let r = map-e (granted v ps) ps (subst (λ (l : List Claim). d ∈ l) (ap (λ (s : Step). s .model .pending) (finish-still (advance m t) 0 t 0 0 still)) j) in (
-        r .0,
-        r .1,
-        subst (Stays t (r .0)) (sym (r .2))
-            (granted-cases (Stays t (r .0)) v ps (r .0)
-            (λ e. inr (goes-wait ps (r .0) e, goes-at v ps (packed .spaced .low) (packed .tight) (λ c k. packed .spaced .proper c k .sane) (r .0) (r .1) e, refl))
-            (λ e. inl refl)),
-      )
+      let e = ap (λ (s : Step). s .model .pending) (finish-still first 0 t 0 0 still) in
+      let r = map-e (granted v ps) ps (subst (λ (l : List Claim). d ∈ l) e j) in
+      (r .0, r .1, subst (Stays t (r .0)) (sym (r .2)) (granted-cases (Stays t (r .0)) v ps (r .0) (went (r .0) (r .1)) (λ e. inl refl)))
     where
       v : Setting
       v = record { clock = t }
@@ -124,45 +136,39 @@ module _ (m : Model) (i : Invariant m) (t g n : ℕ) (a : Admissible m t g n) wh
       ps : List Claim
       ps = advance m t .pending
 
-  others : (d : Claim) → d ∈ admit (advance m t) g n .model .pending → d .ticket ≢ joined (advance m t) g n .ticket → (x : Claim) × x ∈ advance m t .pending × Stays t x d
-  others d j ne = go (List·Memᴰ·append-cases (finish (advance m t) 0 t 0 0 .model .pending) (subst (λ (l : List Claim). d ∈ l) after-claim j))
+      went : (x : Claim) → x ∈ ps → goes ps x ≡ true → Stays t x (withPhase x (On t))
+      went x k e = inr (goes-wait ps x e, goes-at v ps (packed .spaced .low) (packed .tight) (λ c k. packed .spaced .proper c k .sane) x k e, refl)
+
+  others : (d : Claim) → d ∈ last → d .ticket ≢ w .ticket → (x : Claim) × x ∈ first .pending × Stays t x d
+  others d j ne = go (List·Memᴰ·append-cases (finish first 0 t 0 0 .model .pending) (subst (λ (l : List Claim). d ∈ l) last-is j))
     where
-      go : (d ∈ finish (advance m t) 0 t 0 0 .model .pending) ⊎ (d ∈ (joined (advance m t) g n ∷ [])) → (x : Claim) × x ∈ advance m t .pending × Stays t x d
+      go : (d ∈ finish first 0 t 0 0 .model .pending) ⊎ (d ∈ (w ∷ [])) → (x : Claim) × x ∈ first .pending × Stays t x d
       go (inl k) = stays d k
       go (inr k) = absurd (ne (ap (λ (c : Claim). c .ticket) (List·Memᴰ·eq-of-singleton k)))
 
-  clear-of : (d : Claim) → d ∈ admit (advance m t) g n .model .pending → d .ticket ≢ joined (advance m t) g n .ticket → conflicts d (joined (advance m t) g n) ≡ true
-      → (let v : Setting = record { clock = t } in
-      (endOf v d ≤ at (joined (advance m t) g n)) ⊎ ((on d ≡ false) × (endOf v (joined (advance m t) g n) ≤ at d)))
+  clear-of : (d : Claim) → d ∈ last → d .ticket ≢ w .ticket → conflicts d w ≡ true
+      → (let v : Setting = record { clock = t } in (endOf v d ≤ at w) ⊎ ((on d ≡ false) × (endOf v w ≤ at d)))
   unfolding admit finish join advance
-  clear-of d j ne h = go (spaced-clear _ (record { clock = t }) _ (admit-invariant (advance m t) g n (a .long) (advance-spare m t g n a) packed .spaced) d w j one-more ne h)
+  clear-of d j ne h = go (spaced-clear _ v _ (admit-invariant first g n (a .long) spare packed .spaced) d w j new-last ne h)
     where
-      w : Claim
-      w = joined (advance m t) g n
+      v : Setting
+      v = record { clock = t }
 
-      go : ((on w ≡ false) × (endOf (record { clock = t }) d ≤ at w)) ⊎ ((on d ≡ false) × (endOf (record { clock = t }) w ≤ at d))
-          → (endOf (record { clock = t }) d ≤ at w) ⊎ ((on d ≡ false) × (endOf (record { clock = t }) w ≤ at d))
+      go : ((on w ≡ false) × (endOf v d ≤ at w)) ⊎ ((on d ≡ false) × (endOf v w ≤ at d)) → (endOf v d ≤ at w) ⊎ ((on d ≡ false) × (endOf v w ≤ at d))
       go (inl r) = inl (r .1)
       go (inr r) = inr r
 
-  -- A grant changes neither groups nor length.
-  joined-groups : joined (advance m t) g n .groups ≡ g
-  joined-groups = granted-cases (λ (x : Claim). x .groups ≡ g) (settingOf (advance m t)) (advance m t .pending ++ (placed (advance m t) g n ∷ [])) (placed (advance m t) g n) (λ e. refl) (λ e. refl)
-
-  joined-length : joined (advance m t) g n .length ≡ n
-  joined-length = granted-cases (λ (x : Claim). x .length ≡ n) (settingOf (advance m t)) (advance m t .pending ++ (placed (advance m t) g n ∷ [])) (placed (advance m t) g n) (λ e. refl) (λ e. refl)
-
-  claim-whole : ClaimCall m t g n (admit (advance m t) g n)
+  claim-whole : ClaimCall m t g n (admit first g n)
   unfolding admit finish
   claim-whole = record {
-    new = joined (advance m t) g n;
-    groups = joined-groups;
-    length = joined-length;
-    ticket = granted-ticket (settingOf (advance m t)) (advance m t .pending ++ (placed (advance m t) g n ∷ [])) (placed (advance m t) g n);
-    start = joined-at (advance m t) packed still g n (a .long) (advance-spare m t g n a);
+    new = w;
+    groups = joined-cases first g n (λ (x : Claim). x .groups ≡ g) refl refl;
+    length = joined-cases first g n (λ (x : Claim). x .length ≡ n) refl refl;
+    ticket = joined-cases first g n (λ (x : Claim). x .ticket ≡ suc (first .issued)) refl refl;
+    start = joined-at first packed still g n (a .long) spare;
     overlaps-none = clear-of;
     pushes-none = others;
-    others-same = after-claim ∙ ap (λ (s : Step). s .model .pending ++ (joined (advance m t) g n ∷ [])) (sym (clock-accepted m t (a .clocked)));
+    others-same = last-is ∙ ap (λ (s : Step). s .model .pending ++ (w ∷ [])) (sym (clock-accepted m t (a .clocked)));
   }
 
 refused : {A : Type 0} (c : Call) (n : ℕ) → Idle c n → timed c ≡ true → n ≡ 0 → A
@@ -173,7 +179,8 @@ pub of-timed : (m : Model) → Invariant m → (c : Call) → timed c ≡ true �
 of-timed m i =
     step-cases (λ c s. timed c ≡ true → s .answer .number ≡ 0 → TimedCall m c s) m (λ c n z p q. refused c n z p q)
     (λ t g n a p q. claim-timed m i t g n a)
-    (λ c t k q o v p e. timed-finish m q c t k t 0 0 i (leaves-spaced v (advance-packed m t i (o .later))) (leaves-clock v .0) (leaves-clock v .1) (λ x j. inl (leaves-old v x j)))
+    (λ c t k q o v p e. timed-finish m q c t k t 0 0 i (leaves-spaced v (advance-packed m t i (o .later))) (leaves-clock v .0) (leaves-clock v .1)
+    (λ x j. inl (leaves-old v x j)))
 
 -- Of a claim; nothing of the other calls.
 OfClaim : Model → Call → Step → Type 0

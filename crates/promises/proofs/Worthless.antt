@@ -1,6 +1,6 @@
 -- Demand 3 refuses the worthless versions, by computation on a few calls.
-use mathlib.Core.Path.{_≡_, refl, sym, _∙_, ap}
-use mathlib.Core.Bool.{true, false}
+use mathlib.Core.Path.{_≡_, refl, ap}
+use mathlib.Core.Bool.{false}
 use mathlib.Core.List.{List, [], _∷_, List·Memᴰ·eq-of-singleton}
 use Prim.Native.Nat.{ℕ, _≤_}
 use native.Mathlib.Omega.{arith}
@@ -15,7 +15,6 @@ use Rattle.rules.specs.Calls.{Call, claim, clock, NotPending, Holds, firstOf, t
 use Rattle.rules.proofs.Bools.{clash}
 use Rattle.rules.proofs.Lists.{here, none}
 use Rattle.promises.specs.Ledger.{Entry, turns, tableAfter, issues, stay, marked, notedAll}
-use Rattle.promises.specs.Demand3.{Demand3Of}
 use Rattle.promises.specs.Worthless.{neverGrants, untouched, echoes, AllRefused}
 
 pub all-refused : AllRefused

@@ -107,8 +107,7 @@ module _ (m : Model) (g n : ℕ) (long : 1 ≤ n) (spare : m .issued < 65535) wh
   unfolding join
   join-spaced p = spaced-snoc (m .issued) (settingOf m) (m .pending) (placed m g n) placed-sane refl placed-fits p refl (place-low (settingOf m) (m .pending) (fresh m g n))
 
--- ── what a call leaves before it packs again and grants ──
--- Of the accepted calls that are no claims.
+-- What an accepted call that is no claim leaves pending, before it packs again and grants.
 pub data Leaves (m : Model) : Call → ℕ → ℕ → Model → Type 0 where
   by-release : (t k : ℕ) → Leaves m (release t k) t k (remove (advance m t) k)
   by-withdraw : (t k : ℕ) → Leaves m (withdraw t k) t k (remove (advance m t) k)
@@ -129,7 +128,7 @@ advance-e m t i =
     let r = map-e (moved f) (m .pending) i in
     (r .0, r .1, ap (λ (x : Claim). x .ticket) (r .2) ∙ moved-ticket f (r .0), r .2)
 
--- The claim c after it.
+-- What a claim c becomes by it.
 pub advance-same : (m : Model) (t : ℕ) → Invariant m → (c d : Claim) → c ∈ m .pending → d ∈ advance m t .pending → d .ticket ≡ c .ticket
     → d ≡ moved (packedStart (record { clock = t }) (m .pending)) c
 advance-same m t i c d ci di e =
@@ -155,7 +154,7 @@ finish-e m k s n b i =
       (map-i (moved f) (c .1), a .2 ∙ ap (granted v ps) (c .2)),
     )
 
--- Through the act.
+-- Through the act: one that stayed, or a new one.
 pub leaves-old : {m : Model} {c : Call} {t k : ℕ} {q : Model} → Leaves m c t k q → (y : Claim) → y ∈ q .pending → y ∈ advance m t .pending
 unfolding remove
 leaves-old (by-release t k) y i = keep-e _ _ i .0
@@ -170,6 +169,7 @@ join-old m w e y i = go (List·Memᴰ·append-cases (m .pending) i)
     go (inl j) = inl j
     go (inr j) = inr (omega (arith, ap (λ (z : Claim). z .ticket) (List·Memᴰ·eq-of-singleton j)))
 
+-- The clock of what is left, and after the call.
 pub leaves-clock : {m : Model} {c : Call} {t k : ℕ} {q : Model} → Leaves m c t k q → (q .clock ≡ t) × (clockOf c ≡ t)
 unfolding remove advance
 leaves-clock (by-release t k) = (refl, refl)

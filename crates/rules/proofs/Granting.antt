@@ -129,11 +129,15 @@ module _ (v : Setting) (ps : List Claim) (low : StartsFrom (v .clock) ps) (tight
               late (inr z) = absurd (omega (arith, goes-at c m e))
 
           more : goes ps c ≡ true → goes (ps ++ (w ∷ [])) c ≡ true
-          more e = goes-i (ps ++ (w ∷ [])) c (goes-wait ps c e) (snoc-each (λ (d : Claim). precedes d c ≡ false) ps w (goes-free ps c e) (behind e (split (precedes w c))))
+          more e =
+              goes-i (ps ++ (w ∷ [])) c (goes-wait ps c e)
+              (snoc-each (λ (d : Claim). precedes d c ≡ false) ps w (goes-free ps c e) (behind e (split (precedes w c))))
 
       same : (c : Claim) → goes (ps ++ (w ∷ [])) c ≡ goes ps c → granted v (ps ++ (w ∷ [])) c ≡ granted v ps c
       same c e =
-          granted-cases (λ (x : Claim). x ≡ granted v ps c) v (ps ++ (w ∷ [])) c (λ g. sym (granted-go v ps c (sym e ∙ g))) (λ g. sym (granted-stay v ps c (sym e ∙ g)))
+          granted-cases (λ (x : Claim). x ≡ granted v ps c) v (ps ++ (w ∷ [])) c
+          (λ g. sym (granted-go v ps c (sym e ∙ g)))
+          (λ g. sym (granted-stay v ps c (sym e ∙ g)))
 
 -- ── granting what is packed ──
 module _ (v : Setting) (ps : List Claim) (holders : Apart ps) (fit : Separated v ps) (low : StartsFrom (v .clock) ps) (tight : Tight v ps) (sane : Each Sane ps)

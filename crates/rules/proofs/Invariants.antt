@@ -68,7 +68,8 @@ pub spaced-clear : (k : ℕ) (v : Setting) (ps : List Claim) → Spaced k v ps �
     → ((on w ≡ false) × (endOf v c ≤ at w)) ⊎ ((on c ≡ false) × (endOf v w ≤ at c))
 spaced-clear k v ps f c w m n d h = go (split (on c)) (split (on w))
   where
-    either : on c ≡ false → on w ≡ false → (before c w ≡ true) ⊎ (before w c ≡ true) → ((on w ≡ false) × (endOf v c ≤ at w)) ⊎ ((on c ≡ false) × (endOf v w ≤ at c))
+    either : on c ≡ false → on w ≡ false → (before c w ≡ true) ⊎ (before w c ≡ true)
+        → ((on w ≡ false) × (endOf v c ≤ at w)) ⊎ ((on c ≡ false) × (endOf v w ≤ at c))
     either p q (inl b) = inl (q, f .fit .behind c w m n q b h)
     either p q (inr b) = inr (p, f .fit .behind w c n m p b (conflicts-sym c w h))
 

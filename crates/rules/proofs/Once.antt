@@ -1,13 +1,14 @@
 -- What the rules do twice, code does once. A call packs, acts and packs again; the second packing changes nothing after a clock call or a
--- claim, and after a release or a withdrawal the first changes nothing.
+-- claim, and after a release or a withdrawal the first changes nothing. So a claim leaves the others as a clock call does.
 use mathlib.Core.Path.{_≡_, refl, sym, _∙_, ap, subst}
 use mathlib.Core.Bool.{Bool, false, not}
 use mathlib.Core.List.{List, [], _∷_, _++_, Memᴰ·append-right}
 use Prim.Native.Nat.{ℕ, _≤_, _<_}
 use lib.Dec.{eqb}
 use Rattle.rules.specs.declared.Claim.{Claim}
+use Rattle.rules.specs.declared.Phase.the-variants.{On}
 use Rattle.rules.specs.Lists.{keep}
-use Rattle.rules.specs.Claims.{Setting, on, at}
+use Rattle.rules.specs.Claims.{Setting, on, at, withPhase}
 use Rattle.rules.specs.Granting.{granted, grant, grants}
 use Rattle.rules.specs.Placing.{place}
 use Rattle.rules.specs.Calls.{Model, settingOf, Step, advance, finish, join, remove, fresh, admit}
@@ -18,7 +19,7 @@ use Rattle.rules.proofs.Order.{ascending-keep}
 use Rattle.rules.proofs.Packing.{pack-starts, pack-tight, pack-separates, pack-earliest, pack-idle}
 use Rattle.rules.proofs.Repacking.{pack-twice, pack-keep}
 use Rattle.rules.proofs.Placing.{place-low, place-least}
-use Rattle.rules.proofs.Granting.{grant-snoc, granted-at}
+use Rattle.rules.proofs.Granting.{granted-cases, grant-snoc, granted-at}
 use Rattle.rules.proofs.Invariants.{separated-snoc, earliest-snoc}
 use Rattle.rules.proofs.Calls.{placed, placed-sane, placed-fits, join-spaced}
 
@@ -84,6 +85,9 @@ finish-still m k s n b still =
 abbrev pub joined : Model → ℕ → ℕ → Claim
 joined m g n = granted (settingOf m) (m .pending ++ (placed m g n ∷ [])) (placed m g n)
 
+pub joined-cases : (m : Model) (g n : ℕ) (P : Claim → Type 0) → P (withPhase (placed m g n) (On (m .clock))) → P (placed m g n) → P (joined m g n)
+joined-cases m g n P h k = granted-cases P (settingOf m) (m .pending ++ (placed m g n ∷ [])) (placed m g n) (λ e. h) (λ e. k)
+
 module _ (m : Model) (p : IsPacked m) (still : Still m) (g n : ℕ) (long : 1 ≤ n) (spare : m .issued < 65535) where
   all-still : Still (join m (placed m g n))
   all-still = join-still m g n long spare (λ c k. p .spaced .proper c k .sane) (p .spaced .ascending) still
@@ -93,7 +97,8 @@ module _ (m : Model) (p : IsPacked m) (still : Still m) (g n : ℕ) (long : 1 �
   unfolding admit join
   claim-pending k s x b =
       ap (λ (s : Step). s .model .pending) (finish-still (join m (placed m g n)) _ _ _ _ all-still)
-      ∙ grant-snoc (settingOf m) (m .pending) (p .spaced .low) (p .tight) (λ c k. p .spaced .proper c k .sane) (placed m g n) refl (place-low (settingOf m) (m .pending) (fresh m g n))
+      ∙ grant-snoc (settingOf m) (m .pending) (p .spaced .low) (p .tight) (λ c k. p .spaced .proper c k .sane)
+      (placed m g n) refl (place-low (settingOf m) (m .pending) (fresh m g n))
       ∙ ap (λ (s : Step). s .model .pending ++ (joined m g n ∷ [])) (sym (finish-still m k s x b still))
 
   pub joined-at : at (joined m g n) ≡ place (settingOf m) (m .pending) (fresh m g n)

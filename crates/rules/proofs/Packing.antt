@@ -215,7 +215,8 @@ module _ (v : Setting) (ps : List Claim) where
       )
 
   -- What precedes a waiting claim still does.
-  pub pack-precedes : (c w : Claim) → Sane c → c ∈ ps → on w ≡ false → precedes c w ≡ true → precedes (moved (packedStart v ps) c) (moved (packedStart v ps) w) ≡ true
+  pub pack-precedes : (c w : Claim) → Sane c → c ∈ ps → on w ≡ false → precedes c w ≡ true
+      → precedes (moved (packedStart v ps) c) (moved (packedStart v ps) w) ≡ true
   pack-precedes c w s m o p = go (split (on c))
     where
       h : conflicts (moved (packedStart v ps) c) (moved (packedStart v ps) w) ≡ true
