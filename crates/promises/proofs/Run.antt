@@ -17,7 +17,7 @@ use Rattle.rules.specs.Order.{rivals}
 use Rattle.rules.specs.Packing.{packedStart, moved, pack}
 use Rattle.rules.specs.Placing.{place, contention, startBound}
 use Rattle.rules.specs.Granting.{goes, granted, grant, grants}
-use Rattle.rules.specs.Calls.{Model, settingOf, Call, claim, release, withdraw, clock, timed, Answer, Step, named, unchanged, advance, finish, join, remove, fresh, admit, step, Waits, Holds, standing, standingOf, blank, new}
+use Rattle.rules.specs.Calls.{Model, settingOf, Call, claim, release, withdraw, clock, timed, Answer, Step, named, unchanged, advance, finish, join, remove, fresh, admit, step, Waits, Holds, standing, standingOf, blank, new, after}
 use Rattle.rules.specs.Plans.{Ascending}
 use Rattle.rules.specs.Invariants.{IsSpaced, Invariant}
 use Rattle.rules.proofs.Bools.{split, clash, and-i}
@@ -418,6 +418,12 @@ start g = new-cases (λ (s : Step). Story (Unit {0}) opening (s .model)) g (λ e
 
 after-calls : (g : ℕ) (cs : List Call) → (let ts = turns step (new g .model) cs in Story (Punctual ts) (ledgerOf ts) (tableAfter step (new g .model) cs))
 after-calls g cs = story-weaken _ _ _ _ (λ q. (tt, q)) (story-after cs (Unit {0}) opening (new g .model) (start g))
+
+-- The rules' own name for the table after a list of calls.
+pub table-after : (m : Model) (cs : List Call) → tableAfter step m cs ≡ after m cs
+unfolding tableAfter after
+table-after m [] = refl
+table-after m (c ∷ cs) = table-after (step m c .model) cs
 
 -- Demand 3, whole.
 pub demand-3 : (rig : ℕ) (calls : List Call) → Demand3 rig calls

@@ -10,11 +10,13 @@ use Rattle.table.proofs.Rows.{pad-take}
 use Rattle.promises.specs.Ledger.{Turn, turns, tableAfter, ledgerOf, Punctual}
 use Rattle.promises.specs.Demand3.{Now, Next}
 use Rattle.promises.specs.Demand3 as demand
-use Rattle.promises.proofs.Run.{demand-3}
+use Rattle.promises.proofs.Run.{table-after, demand-3}
+use Rattle.promises.specs.WholeCalls.{WholeCalls}
+use Rattle.promises.proofs.WholeCalls.{whole-calls-after}
 use Rattle.table.specs.declared.Outcome.{Outcome}
 use Rattle.table.specs.declared.Standing.{Standing}
 use Rattle.table.specs.Outcomes.{outcome, standingIn, numberOf}
-use Rattle.table.specs.Runs.{answered, looked, standingOut, Made, by-timed, by-lookup, Run, done, then, Looks, tells, CodeDemand3}
+use Rattle.table.specs.Runs.{answered, looked, standingOut, Made, by-timed, by-lookup, Run, done, then, Looks, tells, CodeDemand3, CodeWholeCalls}
 use Rattle.table.proofs.Ranges.{model-is}
 use Rattle.table.proofs.Tests.{lookup-number, lookup-answer, lookup-idle}
 
@@ -93,3 +95,6 @@ code-demand-3 rig calls = record {
       (shows-is u _ new (r .1 ∙ ap (λ (x : Model). step x c .model) m) k)
       (demand-3 rig calls .at-any-call before c rest e);
 }
+
+pub code-whole-calls : (rig : ℕ) (calls : List Call) → CodeWholeCalls rig calls
+code-whole-calls rig calls first q ts t p = subst WholeCalls (sym (table-is rig calls first q ts t p ∙ table-after (new rig .model) calls)) (whole-calls-after rig calls)

@@ -10,6 +10,7 @@ use Rattle.rules.specs.Calls.{Call, lookup, timed, Answer, step, standingOf, ne
 use Rattle.rules.specs.Tables.{model}
 use Rattle.promises.specs.Ledger.{Turn, ledgerOf, Punctual}
 use Rattle.promises.specs.Demand3.{Now, Next}
+use Rattle.promises.specs.WholeCalls.{WholeCalls}
 use Rattle.table.specs.declared.Outcome.{Outcome}
 use Rattle.table.specs.declared.Standing.{Standing}
 use Rattle.table.specs.declared.Standing.the-variants.{NotPending, Waits, Holds}
@@ -65,3 +66,7 @@ pub record CodeDemand3 (rig : ℕ) (calls : List Call) : Type 0 where
       → (a : Answer) (u : Table) → Made t c a u
       → (old new : ℕ → Standing) → Looks t old → Looks u new
       → Next (Punctual ts) (ledgerOf ts) (record { call = c; answer = a }) (tells old) (tells new)
+
+-- What `promises` says of whole calls, of every table that such a list of calls left.
+abbrev pub CodeWholeCalls : ℕ → List Call → Type 0
+CodeWholeCalls rig calls = (first : Outcome) → first ≡ outcome (new rig) → (ts : List Turn) (t : Table) → Run (first .table) calls ts t → WholeCalls (model t)
