@@ -4,9 +4,9 @@ ghost use Prim.Native.Nat.{_≤_};
 ghost use Rattle.table.specs.Valid.{Valid};
 use load::Call;
 use load::Item;
+use rules::Standing;
 use rules::Table;
 use table::Outcome;
-use table::Standing;
 
 fn put_answer(out: &mut [u8], k: u64, o: Outcome) -> usize {
     let a = numerals::put_pair(out, 0, k, o.number as u64, 32);

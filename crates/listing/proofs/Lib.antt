@@ -1,5 +1,4 @@
 pub mod AllSamples
 pub mod Lines
-pub mod Counts
 pub mod Turns
 pub mod Sizes

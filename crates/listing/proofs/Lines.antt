@@ -3,10 +3,11 @@ use mathlib.Core.Path.{_≡_}
 use mathlib.Core.List.{List, [], _∷_, _++_}
 use Prim.Native.Nat.{ℕ, _+_, _*_, _≤_, _<_}
 use native.Mathlib.Omega.{arith}
-use lib.ListN.{length, take, drop, getD, length-append}
+use native.Mathlib.Numerals.{add-one}
+use lib.ListN.{length, take, drop, getD, length-append, length-take, drop-of-length-le}
+use lib.Seq.{drop-cons, getD-take}
 use Rattle.numerals.specs.Digits.{pair}
 use Rattle.numerals.proofs.Laying.{pair-length}
-use Rattle.table.proofs.Rows.{prefix-step, prefix-end}
 use Rattle.listing.specs.Lines.{lineOf, onLine, onLines}
 
 -- ── lengths ──
@@ -26,8 +27,10 @@ ons-length t (k ∷ ks) = omega (arith, length-append (onLine t k) (onLines t ks
 -- ── the grants of an array, from place i on ──
 pub ons-step : (t : ℕ) (l : List ℕ) (n i : ℕ) → i < n → n ≤ length l → onLines t (drop i (take n l)) ≡ onLine t (getD l i 0) ++ onLines t (drop (i + 1) (take n l))
 unfolding onLines
-ons-step t l n i h k = rw (prefix-step 0 l n i h k)
+ons-step t l n i h k =
+    let q : i < length (take n l) = simp length-take (omega arith) in
+    rw (drop-cons (take n l) i 0 q, add-one, getD-take n l i 0 h)
 
 pub ons-end : (t : ℕ) (l : List ℕ) (n i : ℕ) → n ≤ i → onLines t (drop i (take n l)) ≡ []
 unfolding onLines
-ons-end t l n i h = rw (prefix-end l n i h)
+ons-end t l n i h = rw (drop-of-length-le (take n l) {i = i} (simp length-take (omega arith)))

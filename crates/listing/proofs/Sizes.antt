@@ -1,5 +1,5 @@
 -- No listing is longer than its load's length allows: a record has 11 bytes at least, its line 84 at most, an `on` line 45, and over a
--- load there are no more `on` lines than records.
+-- load there are no more `on` lines than tickets issued, one a record at most.
 use mathlib.Core.Path.{_≡_, refl, sym}
 use mathlib.Core.Bool.{Bool, true, false, cond}
 use mathlib.Core.List.{List, [], _∷_, _++_}
@@ -8,8 +8,8 @@ use native.Mathlib.Omega.{arith}
 use lib.Dec.{ltb, leb, eqb}
 use borrow.Author.Tests.{le-leb, ltb-false}
 use lib.ListN.{length, length-append}
-use Rattle.rules.specs.Lists.{sum}
 use Rattle.rules.specs.Calls.{Model, Step, blank}
+use Rattle.table.proofs.Promised.{waiting, none-waits, granted-once, issues-few}
 use Rattle.load.specs.declared.Call.{Call}
 use Rattle.load.specs.Calls.{known}
 use Rattle.load.specs.Reading.{editionOf, walk, openNumber}
@@ -17,7 +17,7 @@ use Rattle.load.proofs.Reading.{walk-few}
 use Rattle.listing.specs.Lines.{lineOf, onLines, stopLine}
 use Rattle.listing.specs.Text.{stepOf, entryOf, ending, stopOr, linesFrom, linesOf, listingOf}
 use Rattle.listing.specs.Room.{roomFor}
-use Rattle.listing.proofs.Counts.{waiting, record-counted}
+use Rattle.listing.proofs.Turns.{record-promised}
 use Rattle.numerals.proofs.Laying.{pair-length}
 use Rattle.listing.proofs.Lines.{line-length, ons-length}
 
@@ -34,19 +34,20 @@ entry-length k s =
     let t = s .model .clock in
     omega (arith, length-append (lineOf k (a .number) (a .ticket) (a .start)) (onLines t (a .grants)), line-length k (a .number) (a .ticket) (a .start), ons-length t (a .grants))
 
-lines-length : (k : ℕ) (m : Model) (cs : List Call) (n : ℕ) → length (linesFrom k m cs n) ≤ 47 + 45 * waiting (m .pending) + 129 * length cs
+lines-length : (k : ℕ) (m : Model) (cs : List Call) (n : ℕ) → length (linesFrom k m cs n) ≤ 47 + 45 * waiting m + 129 * length cs
 unfolding linesFrom
 lines-length k m [] n = stop-length n k _ [] (omega arith) (omega arith)
 lines-length k m (c ∷ cs) n =
     let s = stepOf m c in
+    let q = record-promised m c in
     let rest = linesFrom (k + 1) (s .model) cs n in
     let l = length-append (entryOf k s) rest in
     stop-length (ending c (s .answer .number)) k _ (entryOf k s ++ rest)
-    (omega (arith, l, entry-length k s, lines-length (k + 1) (s .model) cs n, record-counted m c .once))
+    (omega (arith, l, entry-length k s, lines-length (k + 1) (s .model) cs n, granted-once q, issues-few q))
     (omega arith)
 
 pub listing-bounded : (s : List ℕ) → length (listingOf s) ≤ roomFor (length s)
-unfolding listingOf linesOf roomFor openNumber waiting sum
+unfolding listingOf linesOf roomFor openNumber
 listing-bounded s = go (ltb 65536 (length s)) refl
   where
     go : (b : Bool) → ltb 65536 (length s) ≡ b → length (listingOf s) ≤ roomFor (length s)
@@ -55,7 +56,7 @@ listing-bounded s = go (ltb 65536 (length s)) refl
         let rest = linesFrom 1 (blank 0) (walk s 1 .calls) (walk s 1 .stop) in
         let c = walk-few s 1 in
         let l = lines-length 1 (blank 0) (walk s 1 .calls) (walk s 1 .stop) in
-        let b : length rest ≤ 47 + 129 * (length s / 11) = omega arith in
+        let b : length rest ≤ 47 + 129 * (length s / 11) = omega (arith, none-waits 0) in
         rw e (omega (arith, stop-length (cond (eqb (length s) 0) 12 (cond (known (editionOf s)) 0 11)) 0 (47 + 129 * (length s / 11)) rest b (omega arith)))
 
 -- So its length is a usize.

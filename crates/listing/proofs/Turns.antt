@@ -8,47 +8,48 @@ use lib.ListN.{length, take}
 use lib.Dec.{leb}
 use borrow.Author.Tests.{leb-true}
 use Rattle.rules.specs.declared.Table.{Table}
-use Rattle.rules.specs.Calls.{Model, Step, blank, new}
+use Rattle.rules.specs.Calls.{Model, claim, release, withdraw, clock, blank, new}
 use Rattle.rules.specs.Tables.{model}
-use Rattle.rules.proofs.Calls.{new-cases}
-use Rattle.table.proofs.Rows.{pad-take}
 use Rattle.numerals.specs.Laid.{laid, Put}
 use Rattle.numerals.proofs.Laying.{laid-fits}
 use Rattle.table.specs.declared.Outcome.{Outcome}
 use Rattle.table.specs.Valid.{Valid}
 use Rattle.table.specs.Outcomes.{outcome}
-use Rattle.table.proofs.Ranges.{formed-few}
-use Rattle.table.proofs.Runs.{table-of}
+use Rattle.table.proofs.Promised.{Promised, by-call, by-new, outcome-model, outcome-grants, granted-few, new-none}
 use Rattle.load.specs.declared.Call.{Call}
+use Rattle.load.specs.declared.Call.the-variants.{Rig, Claim, Release, Withdraw, Clock}
 use Rattle.load.specs.declared.Item.the-variants.{Record, End, Refused}
 use Rattle.load.specs.Reading.{itemAt, walk, openNumber}
 use Rattle.load.proofs.Reading.{walk-record, walk-end, walk-refused, step-refused, step-next}
 use Rattle.listing.specs.Lines.{header, lineOf, onLines, stopLine}
 use Rattle.listing.specs.Text.{stepOf, entryOf, ending, stopOr, linesFrom, linesOf, listingOf, answerOf, bufferOf}
-use Rattle.listing.proofs.Counts.{record-counted}
 use Rattle.numerals.proofs.Going.{Going, going-start, going-step, going-as, going-none, going-last}
 
 -- ── what an outcome prints ──
 abbrev pub shown : ℕ → Outcome → List ℕ
 shown k o = lineOf k (o .number) (o .ticket) (o .start) ++ onLines (o .table .clock) (take (o .granted) (o .grants))
 
-shown-is : (k : ℕ) (s : Step) → entryOf k s ≡ shown k (outcome s)
-unfolding entryOf
-shown-is k s =
-    let a = s .answer in
-    ap (λ (g : List ℕ). lineOf k (a .number) (a .ticket) (a .start) ++ onLines (s .model .clock) g) (sym (pad-take 0 (a .grants)))
+-- What a record does is what a call promises.
+pub record-promised : (m : Model) (c : Call) → Promised m (stepOf m c)
+unfolding stepOf
+record-promised m (Rig g) = by-new g
+record-promised m (Claim t g n) = by-call (claim t g n)
+record-promised m (Release t k) = by-call (release t k)
+record-promised m (Withdraw t k) = by-call (withdraw t k)
+record-promised m (Clock t) = by-call (clock t)
 
 -- An outcome of the rules with a valid table.
 module _ (m : Model) (c : Call) (o : Outcome) (p : o ≡ outcome (stepOf m c)) where
   pub few-granted : Valid (o .table) → o .granted ≤ 64
-  few-granted v =
-      let s = stepOf m c in
-      let e : o .granted ≡ length (s .answer .grants) = ap (λ (x : Outcome). x .granted) p in
-      let t : o .table .count ≡ length (s .model .pending) = ap (λ (x : Outcome). x .table .count) p in
-      omega (arith, record-counted m c .few, formed-few (o .table) (v .formed))
+  few-granted v = granted-few (record-promised m c) o p v
 
   entry-is : (k : ℕ) → entryOf k (stepOf m c) ≡ shown k o
-  entry-is k = shown-is k (stepOf m c) ∙ ap (shown k) (sym p)
+  unfolding entryOf
+  entry-is k =
+      let s = stepOf m c in
+      let a = s .answer in
+      ap (λ (g : List ℕ). lineOf k (a .number) (a .ticket) (a .start) ++ onLines (s .model .clock) g) (sym (outcome-grants (outcome s) s refl))
+      ∙ ap (shown k) (sym p)
 
 -- ── the lines left ──
 stop-some : (n k : ℕ) (lines : List ℕ) → (n ≡ 0 → ⊥) → stopOr n k lines ≡ stopLine n k
@@ -78,7 +79,7 @@ module _ (s : List ℕ) (at : ℕ) (m : Model) (k : ℕ) where
 
     lines-record : n ≡ 0 → linesOf k m (walk s at) ≡ shown k o ++ linesOf (k + 1) (model (o .table)) (walk s next)
     unfolding linesOf linesFrom
-    lines-record z = rw (walk-record s at c next e, sym ends-as, table-of o (stepOf m c) p, sym (entry-is m c o p k)) (stop-none n k _ z)
+    lines-record z = rw (walk-record s at c next e, sym ends-as, outcome-model o (stepOf m c) p, sym (entry-is m c o p k)) (stop-none n k _ z)
 
   module _ (o₀ : List ℕ) (at₀ : ℕ) (w out : List ℕ) (n : ℕ) (g : Going o₀ at₀ w out n (linesOf k m (walk s at))) where
     pub run-end : itemAt s at ≡ End → Put o₀ at₀ w n out
@@ -103,8 +104,7 @@ pub record Turn (s o₀ : List ℕ) (from : ℕ) (o : List ℕ) (t : Table) (at 
 
 pub turn-start : (s o : List ℕ) (from : ℕ) (r : Outcome) → length o < 2 ^ 64 → from < 2 ^ 64 → r ≡ outcome (new 0) → Valid (r .table) → Turn s o from o (r .table) 1 1 from
 turn-start s o from r h k e v =
-    let b : new 0 .model ≡ blank 0 = new-cases (λ (x : Step). x .model ≡ blank 0) 0 (λ z. refl) (λ z. refl) in
-    let q : model (r .table) ≡ blank 0 = table-of r (new 0) e ∙ b in
+    let q : model (r .table) ≡ blank 0 = outcome-model r (new 0) e ∙ new-none in
     record {
       valid = v;
       inside = omega arith;

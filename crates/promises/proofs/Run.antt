@@ -17,7 +17,8 @@ use Rattle.rules.specs.Order.{rivals}
 use Rattle.rules.specs.Packing.{packedStart, moved, pack}
 use Rattle.rules.specs.Placing.{place, contention, startBound}
 use Rattle.rules.specs.Granting.{goes, granted, grant, grants}
-use Rattle.rules.specs.Calls.{Model, settingOf, Call, claim, release, withdraw, clock, timed, Answer, Step, named, unchanged, advance, finish, join, remove, fresh, admit, step, Waits, Holds, standing, standingOf, blank, new, after}
+use Rattle.rules.specs.declared.Standing.the-variants.{Waits, Holds}
+use Rattle.rules.specs.Calls.{Model, settingOf, Call, claim, release, withdraw, clock, timed, Answer, Step, named, unchanged, advance, finish, join, remove, fresh, admit, step, standing, standingOf, blank, new, after}
 use Rattle.rules.specs.Plans.{Ascending}
 use Rattle.rules.specs.Invariants.{IsSpaced, Invariant}
 use Rattle.rules.proofs.Bools.{split, clash, and-i}

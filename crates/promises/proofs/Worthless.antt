@@ -11,7 +11,8 @@ use Rattle.rules.specs.Order.{precedes, before}
 use Rattle.rules.specs.Packing.{startFor, moved, ahead, startWithin, packedStart, pack}
 use Rattle.rules.specs.Placing.{clear, fits, seek, place, contention, startBound}
 use Rattle.rules.specs.Granting.{goes, granted, grant, grants}
-use Rattle.rules.specs.Calls.{Call, claim, clock, NotPending, Holds, firstOf, tests, advance, finish, join, remove, admit, act, step, new, standingOf}
+use Rattle.rules.specs.declared.Standing.the-variants.{NotPending, Holds}
+use Rattle.rules.specs.Calls.{Call, claim, clock, firstOf, tests, advance, finish, join, remove, admit, act, step, new, standingOf}
 use Rattle.rules.proofs.Bools.{clash}
 use Rattle.rules.proofs.Lists.{here, none}
 use Rattle.promises.specs.Ledger.{Entry, turns, tableAfter, issues, stay, marked, notedAll}

@@ -7,7 +7,9 @@ use mathlib.Core.List.{List, [], _∷_, _++_}
 use Prim.Native.Nat.{ℕ, _+_, _≤_, _<_}
 use Rattle.groups.specs.Groups.{shares}
 use Rattle.rules.specs.Lists.{_∈_}
-use Rattle.rules.specs.Calls.{Model, Call, claim, Standing, NotPending, Waits, Holds, standingOf, step, new}
+use Rattle.rules.specs.declared.Standing.{Standing}
+use Rattle.rules.specs.declared.Standing.the-variants.{NotPending, Waits, Holds}
+use Rattle.rules.specs.Calls.{Model, Call, claim, standingOf, step, new}
 use Rattle.promises.specs.Ledger.{Turn, Steps, turns, tableAfter, Entry, promised, Ledger, noted, ledgerOf, NoOverrun, Punctual, boundOn}
 
 -- "Look, asked after any call of the list, says the same: waiting, on with that promised end, or 8."

@@ -11,6 +11,7 @@ pub mod Bounding
 pub mod Granting
 pub mod Invariants
 pub mod Calls
+pub mod GrantCounts
 pub mod Once
 pub mod Prompt
 pub mod Lookup

@@ -7,6 +7,8 @@ use lib.ListN.{length}
 use Rattle.groups.specs.Groups.{empty, within}
 use Rattle.rules.specs.declared.Claim.{Claim}
 use Rattle.rules.specs.declared.Phase.the-variants.{Waiting}
+use Rattle.rules.specs.declared.Standing.{Standing}
+use Rattle.rules.specs.declared.Standing.the-variants.{NotPending, Waits, Holds}
 use Rattle.rules.specs.Lists.{any, keep}
 use Rattle.rules.specs.Claims.{Setting, on, at, withPhase}
 use Rattle.rules.specs.Packing.{pack}
@@ -184,10 +186,16 @@ unfoldable pub new : ℕ → Step
 new g = cond (empty g) (unchanged (blank 0) 1) (unchanged (blank g) 0)
 
 -- "Look gives, for a ticket, waiting with start or on with promised end .. A ticket that isn't pending gives 8."
-pub data Standing : Type 0 where
-  NotPending : Standing
-  Waits : ℕ → Standing
-  Holds : ℕ → Standing
+-- In numbers: the refusal's, 0 for none; the start of a waiting claim; the promised end of one that is on.
+pub record StandingValues : Type 0 where
+  pub number : ℕ
+  pub start : ℕ
+  pub end : ℕ
+
+abbrev pub standingValues : Standing → StandingValues
+standingValues NotPending = record { number = 8; start = 0; end = 0 }
+standingValues (Waits s) = record { number = 0; start = s; end = 0 }
+standingValues (Holds e) = record { number = 0; start = 0; end = e }
 
 abbrev pub standing : Claim → Standing
 standing c = cond (on c) (Holds (at c + c .length)) (Waits (at c))

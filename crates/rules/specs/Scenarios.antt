@@ -3,7 +3,9 @@
 -- proofs/AllScenarios has the theorem that covers the table.
 use mathlib.Core.List.{List, [], _∷_, map}
 use Prim.Native.Nat.{ℕ}
-use Rattle.rules.specs.Calls.{Call, claim, release, withdraw, clock, Answer, Model, Standing, NotPending, Waits, Holds, standingOf, new, after, answers}
+use Rattle.rules.specs.declared.Standing.{Standing}
+use Rattle.rules.specs.declared.Standing.the-variants.{NotPending, Waits, Holds}
+use Rattle.rules.specs.Calls.{Call, claim, release, withdraw, clock, Answer, Model, standingOf, new, after, answers}
 
 -- Calls made before, calls made now, their answers, and what lookup then tells of tickets 1 to 4.
 pub record Scenario : Type 0 where

@@ -1,4 +1,4 @@
-// The claims table as data: a pending claim, and the table that the calls take and give back.
+// The claims table as data: a pending claim, the table that the calls take and give back, and what a lookup tells.
 
 // "A pending claim is either waiting, with a planned start, or on, with the clock of its grant."
 pub enum Phase {
@@ -22,4 +22,11 @@ pub struct Table {
     pub issued: u16,
     pub count: usize,
     pub claims: [Claim; 64],
+}
+
+// What a lookup tells of a ticket: not pending (8), waiting with its planned start, or on with its promised end.
+pub enum Standing {
+    NotPending,
+    Waits(u64),
+    Holds(u64),
 }

@@ -1,9 +1,9 @@
 // Runs the plots of document 01, "Plots to try", on the table, and prints a line for each: for every call its answer (number, ticket,
 // start, crowd, ceiling, then "on" with the tickets granted), for every look what it tells.
 ghost use Rattle.table.specs.Valid.{Valid};
+use rules::Standing;
 use rules::Table;
 use table::Outcome;
-use table::Standing;
 
 fn number(n: u64) {
     io::write_all(1, b" ");

@@ -16,4 +16,5 @@ pub mod Ranges
 pub mod Tests
 pub mod Scanning
 pub mod Steps
+pub mod Promised
 pub mod Runs

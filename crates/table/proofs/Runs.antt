@@ -3,41 +3,34 @@ use mathlib.Core.Path.{_≡_, refl, sym, _∙_, ap, subst}
 use mathlib.Core.List.{List, _∷_}
 use Prim.Native.Nat.{ℕ}
 use Rattle.rules.specs.declared.Table.{Table}
-use Rattle.rules.specs.Calls as rules
-use Rattle.rules.specs.Calls.{Model, Call, lookup, Answer, Step, step, unchanged, standingOf, new}
+use Rattle.rules.specs.declared.Standing.{Standing}
+use Rattle.rules.specs.Calls.{Model, Call, lookup, Answer, Step, step, unchanged, standingOf, standingValues, new}
 use Rattle.rules.specs.Tables.{model}
-use Rattle.table.proofs.Rows.{pad-take}
 use Rattle.promises.specs.Ledger.{Turn, turns, tableAfter, ledgerOf, Punctual}
-use Rattle.promises.specs.Demand3.{Now, Next}
-use Rattle.promises.specs.Demand3 as demand
+use Rattle.promises.specs.Demand3.{Now, Next, tells}
 use Rattle.promises.proofs.Run.{table-after, demand-3}
 use Rattle.promises.specs.WholeCalls.{WholeCalls}
 use Rattle.promises.proofs.WholeCalls.{whole-calls-after}
 use Rattle.table.specs.declared.Outcome.{Outcome}
-use Rattle.table.specs.declared.Standing.{Standing}
-use Rattle.table.specs.Outcomes.{outcome, standingIn, numberOf}
-use Rattle.table.specs.Runs.{answered, looked, standingOut, Made, by-timed, by-lookup, Run, done, then, Looks, tells, CodeDemand3, CodeWholeCalls}
-use Rattle.table.proofs.Ranges.{model-is}
+use Rattle.table.specs.Outcomes.{outcome}
+use Rattle.table.specs.Runs.{answered, looked, Made, by-timed, by-lookup, Run, done, then, Looks, CodeDemand3, CodeWholeCalls}
+use Rattle.table.proofs.Promised.{outcome-model, outcome-grants}
 use Rattle.table.proofs.Tests.{lookup-number, lookup-answer, lookup-idle}
 
 -- ── one answer ──
-answered-is : (s : Step) → answered (outcome s) ≡ s .answer
-answered-is s =
-    let a = s .answer in
-    ap (λ (g : List ℕ). record { number = a .number; ticket = a .ticket; start = a .start; contention = a .contention; bound = a .bound; grants = g }) (pad-take 0 (a .grants))
-
 answer-of : (r : Outcome) (s : Step) → r ≡ outcome s → answered r ≡ s .answer
-answer-of r s e = ap answered e ∙ answered-is s
+answer-of r s e =
+    let a = s .answer in
+    ap answered e
+    ∙ ap (λ (g : List ℕ). record { number = a .number; ticket = a .ticket; start = a .start; contention = a .contention; bound = a .bound; grants = g })
+    (outcome-grants (outcome s) s refl)
 
-pub table-of : (r : Outcome) (s : Step) → r ≡ outcome s → model (r .table) ≡ s .model
-table-of r s e = model-is (r .table) (s .model) (ap (λ (x : Outcome). x .table) e)
-
-looked-is : (m : Model) (k : ℕ) (s : Standing) → s ≡ standingIn (standingOf k (m .pending)) → looked s ≡ step m (lookup k) .answer
-looked-is m k s e = ap (λ (n : ℕ). unchanged m n .answer) (ap numberOf e ∙ lookup-number m k) ∙ lookup-answer m k
+looked-is : (m : Model) (k : ℕ) (s : Standing) → s ≡ (standingOf k (m .pending)) → looked s ≡ step m (lookup k) .answer
+looked-is m k s e = ap (λ (n : ℕ). unchanged m n .answer) (ap (λ (s : Standing). standingValues s .number) e ∙ lookup-number m k) ∙ lookup-answer m k
 
 -- ── a run is the rules' run ──
 made-is : {t u : Table} {c : Call} {a : Answer} → Made t c a u → (a ≡ step (model t) c .answer) × (model u ≡ step (model t) c .model)
-made-is {t} (by-timed c h r e) = (answer-of r (step (model t) c) e, table-of r (step (model t) c) e)
+made-is {t} (by-timed c h r e) = (answer-of r (step (model t) c) e, outcome-model r (step (model t) c) e)
 made-is {t} (by-lookup k s e) = (looked-is (model t) k s e, sym (lookup-idle (model t) k))
 
 run-is : {t u : Table} {cs : List Call} {ts : List Turn} → Run t cs ts u → (ts ≡ turns step (model t) cs) × (model u ≡ tableAfter step (model t) cs)
@@ -51,36 +44,31 @@ run-is (then {t} {u} {w} {c} {a} {cs} {ts} one p) =
       ih .1 ∙ ap (λ (x : Model). tableAfter step x cs) (m .1),
     )
 
-out-in : (s : rules.Standing) → standingOut (standingIn s) ≡ s
-out-in rules.NotPending = refl
-out-in (rules.Waits s) = refl
-out-in (rules.Holds e) = refl
-
 -- What lookup shows of a table is what the rules tell of its model.
-shows-is : (t : Table) (m : Model) (shows : ℕ → Standing) → model t ≡ m → Looks t shows → tells shows ≡ demand.tells m
+shows-is : (t : Table) (m : Model) (shows : ℕ → Standing) → model t ≡ m → Looks t shows → shows ≡ tells m
 shows-is t m shows e h = λ i k. each k i
   where
-    each : (k : ℕ) → standingOut (shows k) ≡ standingOf k (m .pending)
-    each k = ap standingOut (h k) ∙ out-in (standingOf k (model t .pending)) ∙ ap (λ (x : Model). standingOf k (x .pending)) e
+    each : (k : ℕ) → shows k ≡ standingOf k (m .pending)
+    each k = h k ∙ ap (λ (x : Model). standingOf k (x .pending)) e
 
 -- What holds of the rules' turns and standings holds of the code's.
-now-is : {ts us : List Turn} {f g : ℕ → rules.Standing} → ts ≡ us → f ≡ g → Now (Punctual us) (ledgerOf us) g → Now (Punctual ts) (ledgerOf ts) f
+now-is : {ts us : List Turn} {f g : ℕ → Standing} → ts ≡ us → f ≡ g → Now (Punctual us) (ledgerOf us) g → Now (Punctual ts) (ledgerOf ts) f
 now-is {us = us} {f = f} p q n = subst (λ (x : List Turn). Now (Punctual x) (ledgerOf x) f) (sym p) (subst (Now (Punctual us) (ledgerOf us)) (sym q) n)
 
-next-is : {ts us : List Turn} {c d : Turn} {f g f′ g′ : ℕ → rules.Standing} → ts ≡ us → c ≡ d → f ≡ f′ → g ≡ g′
+next-is : {ts us : List Turn} {c d : Turn} {f g f′ g′ : ℕ → Standing} → ts ≡ us → c ≡ d → f ≡ f′ → g ≡ g′
     → Next (Punctual us) (ledgerOf us) d f′ g′ → Next (Punctual ts) (ledgerOf ts) c f g
 next-is {us = us} {c = c} {d = d} {f = f} {g = g} {f′ = f′} {g′ = g′} p q r s n =
     subst (λ (x : List Turn). Next (Punctual x) (ledgerOf x) c f g) (sym p)
     (subst (λ (x : Turn). Next (Punctual us) (ledgerOf us) x f g) (sym q)
-    (subst (λ (x : ℕ → rules.Standing). Next (Punctual us) (ledgerOf us) d x g) (sym r) (subst (Next (Punctual us) (ledgerOf us) d f′) (sym s) n)))
+    (subst (λ (x : ℕ → Standing). Next (Punctual us) (ledgerOf us) d x g) (sym r) (subst (Next (Punctual us) (ledgerOf us) d f′) (sym s) n)))
 
 -- The turns and the table of a run from a new table.
 module _ (rig : ℕ) (before : List Call) (first : Outcome) (q : first ≡ outcome (new rig)) (ts : List Turn) (t : Table) (p : Run (first .table) before ts t) where
   turns-are : ts ≡ turns step (new rig .model) before
-  turns-are = run-is p .0 ∙ ap (λ (x : Model). turns step x before) (table-of first (new rig) q)
+  turns-are = run-is p .0 ∙ ap (λ (x : Model). turns step x before) (outcome-model first (new rig) q)
 
   table-is : model t ≡ tableAfter step (new rig .model) before
-  table-is = run-is p .1 ∙ ap (λ (x : Model). tableAfter step x before) (table-of first (new rig) q)
+  table-is = run-is p .1 ∙ ap (λ (x : Model). tableAfter step x before) (outcome-model first (new rig) q)
 
 pub code-demand-3 : (rig : ℕ) (calls : List Call) → CodeDemand3 rig calls
 code-demand-3 rig calls = record {

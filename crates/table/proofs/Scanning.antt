@@ -14,13 +14,13 @@ use Rattle.rules.specs.declared.Claim.{Claim}
 use Rattle.rules.specs.Lists.{_∈_, any, keep}
 use Rattle.rules.specs.Plans.{Ascending}
 use Rattle.rules.specs.Claims.{on, at}
+use Rattle.rules.specs.declared.Standing.{Standing}
+use Rattle.rules.specs.declared.Standing.the-variants.{NotPending}
 use Rattle.rules.specs.Calls.{standing, standingOf}
 use Rattle.rules.specs.Tables.{vacant, pad}
 use Rattle.rules.proofs.Lists.{Each, here, there}
 use Rattle.table.proofs.Rows.{prefix-step, prefix-end, pad-over, over, over-step, over-rest}
-use Rattle.table.specs.declared.Standing.{Standing}
-use Rattle.table.specs.declared.Standing.the-variants.{NotPending}
-use Rattle.table.specs.Outcomes.{standingIn, pastEnd, without}
+use Rattle.table.specs.Outcomes.{pastEnd, without}
 
 ascending-drop : (i : ℕ) (l : List Claim) → Ascending l → Ascending (drop i l)
 ascending-drop zero l a = a
@@ -45,7 +45,7 @@ pub record Taking (k : ℕ) (l : List Claim) (n i : ℕ) (s : Standing) (m : ℕ
   pub over-row : row ≡ over (without k (take n l)) l m
   pub left : drop m (without k (take n l)) ≡ without k (drop i (take n l))
   pub told : ((m ≡ i) × (s ≡ NotPending) × (standingOf k (drop i (take n l)) ≡ standingOf k (take n l)))
-      ⊎ ((m + 1 ≡ i) × (s ≡ standingIn (standingOf k (take n l))) × Each (λ d. d .ticket ≢ k) (drop i (take n l)))
+      ⊎ ((m + 1 ≡ i) × (s ≡ standingOf k (take n l)) × Each (λ d. d .ticket ≢ k) (drop i (take n l)))
 
 module _ (k : ℕ) (l : List Claim) (n : ℕ) (few : n ≤ 64) (places : length l ≡ 64) where
   -- The claims, and those that stay.
@@ -100,7 +100,7 @@ module _ (k : ℕ) (l : List Claim) (n : ℕ) (few : n ≤ 64) (places : length 
           }
 
       -- The next claim is that of the ticket: it goes, and no other has its ticket.
-      taking-out : next .ticket ≡ k → (x : Standing) → x ≡ standingIn (standing next) → Ascending pending → Taking k l n (i + 1) x m row
+      taking-out : next .ticket ≡ k → (x : Standing) → x ≡ standing next → Ascending pending → Taking k l n (i + 1) x m row
       unfolding keep
       taking-out e x q a = record {
         within = omega arith;
@@ -111,7 +111,7 @@ module _ (k : ℕ) (l : List Claim) (n : ℕ) (few : n ≤ 64) (places : length 
             ⊎-elim
             (λ b. inr (
               omega (arith, b .0),
-              q ∙ ap standingIn (found k next behind e ∙ ap (standingOf k) (sym here-next) ∙ b .2),
+              q ∙ (found k next behind e ∙ ap (standingOf k) (sym here-next) ∙ b .2),
               λ d j z. omega (arith, subst Ascending here-next (ascending-drop i pending a) .0 d j, e, z),
             ))
             (λ b. absurd (b .2 next (subst (λ (r : List Claim). next ∈ r) (sym here-next) here) e))
@@ -122,9 +122,9 @@ module _ (k : ℕ) (l : List Claim) (n : ℕ) (few : n ≤ 64) (places : length 
       pub taking-kept : (getD row i vacant .ticket ≡ k → ⊥) → Taking k l n (i + 1) s (m + 1) (set row m (getD row i vacant))
       taking-kept e = subst (λ (c : Claim). Taking k l n (i + 1) s (m + 1) (set row m c)) (sym taking-rest) (taking-keep (λ q. e (ap (λ (c : Claim). c .ticket) taking-rest ∙ q)))
 
-      pub taking-gone : getD row i vacant .ticket ≡ k → (x : Standing) → x ≡ standingIn (standing (getD row i vacant)) → Ascending pending → Taking k l n (i + 1) x m row
+      pub taking-gone : getD row i vacant .ticket ≡ k → (x : Standing) → x ≡ standing (getD row i vacant) → Ascending pending → Taking k l n (i + 1) x m row
       taking-gone e x q a =
-          taking-out (ap (λ (c : Claim). c .ticket) (sym taking-rest) ∙ e) x (q ∙ ap (λ (c : Claim). standingIn (standing c)) taking-rest) a
+          taking-out (ap (λ (c : Claim). c .ticket) (sym taking-rest) ∙ e) x (q ∙ ap standing taking-rest) a
 
     -- All claims are done: m claims stay, and s is how the claim of the ticket stood.
     module _ (h : n ≤ i) where
@@ -135,9 +135,9 @@ module _ (k : ℕ) (l : List Claim) (n : ℕ) (few : n ≤ 64) (places : length 
       unfolding keep
       taking-count = let e : drop m staying ≡ [] = rw done at (w .left) in omega (arith, ap length e, length-drop m staying, w .few)
 
-      pub taking-told : s ≡ standingIn (standingOf k pending)
+      pub taking-told : s ≡ standingOf k pending
       unfolding standingOf
-      taking-told = ⊎-elim (λ b. b .1 ∙ ap standingIn (rw done at (b .2))) (λ b. b .1) (w .told)
+      taking-told = ⊎-elim (λ b. b .1 ∙ (rw done at (b .2))) (λ b. b .1) (w .told)
 
       whole : row ≡ staying ++ drop m l
       whole = w .over-row ∙ ap (λ (r : List Claim). r ++ drop m l) (take-all m staying (omega (arith, taking-count)))

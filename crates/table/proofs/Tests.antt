@@ -13,13 +13,13 @@ use Rattle.rules.specs.declared.Claim.{Claim}
 use Rattle.rules.specs.declared.Phase.the-variants.{Waiting, On}
 use Rattle.rules.specs.Lists.{any}
 use Rattle.rules.specs.Claims.{on, at}
-use Rattle.rules.specs.Calls.{Model, Call, claim, clock, lookup, Test, test, firstOf, named, late, backward, offRig, badLength, full, ticketless, tests, unchanged, act, step, unless, standing, standingOf}
-use Rattle.rules.specs.Calls as rules
+use Rattle.rules.specs.declared.Standing.{Standing}
+use Rattle.rules.specs.declared.Standing.the-variants.{Waits, Holds}
+use Rattle.rules.specs.Calls.{Model, Call, claim, clock, lookup, Test, test, firstOf, named, late, backward, offRig, badLength, full, ticketless, tests, unchanged, act, step, unless, standing, standingOf, standingValues}
 use Rattle.rules.specs.Plans.{Ascending}
 use Rattle.rules.proofs.Bools.{split, or-r}
 use Rattle.rules.proofs.Lists.{Each, any-false}
-use Rattle.table.specs.declared.Standing.the-variants.{Waits, Holds}
-use Rattle.table.specs.Outcomes.{standingIn, numberOf, timeNumber, phaseNumber, orElse, leaving}
+use Rattle.table.specs.Outcomes.{timeNumber, phaseNumber, orElse, leaving}
 
 -- ── the first test that fails ──
 pub first-fails : (b : Bool) (n : ℕ) (ts : List Test) → b ≡ true → firstOf (test b n ∷ ts) ≡ n
@@ -78,15 +78,15 @@ unfolding step
 step-accepted m c e = ap (λ (k : ℕ). unless m k (act m c)) e
 
 -- ── lookup, and the tests 8, 9 and 10 ──
-pub shown-waiting : (s : ℕ) (c : Claim) → c .phase ≡ Waiting s → Waits s ≡ standingIn (standing c)
+pub shown-waiting : (s : ℕ) (c : Claim) → c .phase ≡ Waiting s → Waits s ≡ standing c
 shown-waiting s c e = rw e
 
-pub shown-held : (g n : ℕ) (c : Claim) → c .phase ≡ On g → n ≡ c .length → Holds (g + n) ≡ standingIn (standing c)
+pub shown-held : (g n : ℕ) (c : Claim) → c .phase ≡ On g → n ≡ c .length → Holds (g + n) ≡ standing c
 shown-held g n c e q = rw e (ap (λ (x : ℕ). Holds (g + x)) q)
 
 -- The tests 8, then 9 or 10, of the first claim with the ticket; no later one has it.
 phase-first : (b : Bool) (k : ℕ) (ps : List Claim) → Ascending ps
-    → firstOf (test (not (any (named k) ps)) 8 ∷ test (any (λ c. named k c && cond b (not (on c)) (on c)) ps) (cond b 9 10) ∷ []) ≡ phaseNumber b (standingIn (standingOf k ps))
+    → firstOf (test (not (any (named k) ps)) 8 ∷ test (any (λ c. named k c && cond b (not (on c)) (on c)) ps) (cond b 9 10) ∷ []) ≡ phaseNumber b (standingOf k ps)
 unfolding firstOf any standingOf
 phase-first b k [] a = refl
 phase-first b k (c ∷ ps) a = go (named k c) refl (phase-first b k ps (a .1))
@@ -105,21 +105,21 @@ phase-first b k (c ∷ ps) a = go (named k c) refl (phase-first b k ps (a .1))
     none e = any-false (λ d. named k d && cond b (not (on d)) (on d)) ps (λ d m. ap (λ (x : Bool). x && cond b (not (on d)) (on d)) (later e d m))
 
     here-is : (b o : Bool) → on c ≡ o
-        → cond (cond b (not o) o || false) (cond b 9 10) 0 ≡ phaseNumber b (standingIn (cond o (rules.Holds (at c + c .length)) (rules.Waits (at c))))
+        → cond (cond b (not o) o || false) (cond b 9 10) 0 ≡ phaseNumber b (cond o (Holds (at c + c .length)) (Waits (at c)))
     here-is true true e = refl
     here-is true false e = refl
     here-is false true e = refl
     here-is false false e = refl
 
     go : (x : Bool) → named k c ≡ x
-        → cond (not (any (named k) ps)) 8 (cond (any (λ d. named k d && cond b (not (on d)) (on d)) ps) (cond b 9 10) 0) ≡ phaseNumber b (standingIn (standingOf k ps))
+        → cond (not (any (named k) ps)) 8 (cond (any (λ d. named k d && cond b (not (on d)) (on d)) ps) (cond b 9 10) 0) ≡ phaseNumber b (standingOf k ps)
         → cond (not (x || any (named k) ps)) 8 (cond ((x && cond b (not (on c)) (on c)) || any (λ d. named k d && cond b (not (on d)) (on d)) ps) (cond b 9 10) 0)
-        ≡ phaseNumber b (standingIn (cond x (standing c) (standingOf k ps)))
+        ≡ phaseNumber b (cond x (standing c) (standingOf k ps))
     go true e ih = rw (none e) (here-is b (on c) refl)
     go false e ih = ih
 
 pub leave-tests : (m : Model) (b : Bool) (t k n : ℕ) → Ascending (m .pending) → n ≡ timeNumber (m .clock) t → n ≡ 0
-    → firstOf (tests m (leaving b t k)) ≡ phaseNumber b (standingIn (standingOf k (m .pending)))
+    → firstOf (tests m (leaving b t k)) ≡ phaseNumber b (standingOf k (m .pending))
 unfolding tests
 leave-tests m true t k n a e z = timed-passes m t n _ e z ∙ phase-first true k (m .pending) a
 leave-tests m false t k n a e z = timed-passes m t n _ e z ∙ phase-first false k (m .pending) a
@@ -130,21 +130,21 @@ leave-timed m true t k n e z = timed-fails m t n _ e z
 leave-timed m false t k n e z = timed-fails m t n _ e z
 
 -- The number of a lookup's answer.
-number-first : (k : ℕ) (ps : List Claim) → numberOf (standingIn (standingOf k ps)) ≡ cond (not (any (named k) ps)) 8 0
+number-first : (k : ℕ) (ps : List Claim) → standingValues (standingOf k ps) .number ≡ cond (not (any (named k) ps)) 8 0
 unfolding any standingOf
 number-first k [] = refl
 number-first k (c ∷ ps) = go (named k c) (number-first k ps)
   where
-    found : (o : Bool) → numberOf (standingIn (cond o (rules.Holds (at c + c .length)) (rules.Waits (at c)))) ≡ 0
+    found : (o : Bool) → standingValues (cond o (Holds (at c + c .length)) (Waits (at c))) .number ≡ 0
     found true = refl
     found false = refl
 
-    go : (x : Bool) → numberOf (standingIn (standingOf k ps)) ≡ cond (not (any (named k) ps)) 8 0
-        → numberOf (standingIn (cond x (standing c) (standingOf k ps))) ≡ cond (not (x || any (named k) ps)) 8 0
+    go : (x : Bool) → standingValues (standingOf k ps) .number ≡ cond (not (any (named k) ps)) 8 0
+        → standingValues (cond x (standing c) (standingOf k ps)) .number ≡ cond (not (x || any (named k) ps)) 8 0
     go true ih = found (on c)
     go false ih = ih
 
-pub lookup-number : (m : Model) (k : ℕ) → numberOf (standingIn (standingOf k (m .pending))) ≡ step m (lookup k) .answer .number
+pub lookup-number : (m : Model) (k : ℕ) → standingValues (standingOf k (m .pending)) .number ≡ step m (lookup k) .answer .number
 unfolding step tests act firstOf
 lookup-number m k = number-first k (m .pending) ∙ go (cond (not (any (named k) (m .pending))) 8 0)
   where

@@ -6,14 +6,13 @@ use lib.Dec.{ltb}
 use lib.ListN.{length, replicate}
 use Rattle.rules.specs.declared.Claim.{Claim}
 use Rattle.rules.specs.declared.Table.{Table}
-use Rattle.rules.specs.Calls as rules
+use Rattle.rules.specs.declared.Standing.{Standing}
+use Rattle.rules.specs.declared.Standing.the-variants.{NotPending, Waits, Holds}
 use Rattle.rules.specs.Calls.{Call, release, withdraw, Step, named}
 use Rattle.rules.specs.Lists.{keep}
 use Rattle.rules.specs.Claims.{on, at}
 use Rattle.rules.specs.Tables.{encode, pad}
 use Rattle.table.specs.declared.Outcome.{Outcome}
-use Rattle.table.specs.declared.Standing.{Standing}
-use Rattle.table.specs.declared.Standing.the-variants.{NotPending, Waits, Holds}
 
 -- A step's table and answer; the grants in the first places, 0 behind them.
 abbrev pub outcome : Step → Outcome
@@ -33,18 +32,6 @@ outcome s =
 -- The table handed in, and a number.
 abbrev pub refusalOf : Table → ℕ → Outcome
 refusalOf t n = record { table = t; number = n; ticket = 0; start = 0; contention = 0; bound = 0; granted = 0; grants = replicate 64 0 }
-
--- ── lookup ──
-abbrev pub standingIn : rules.Standing → Standing
-standingIn rules.NotPending = NotPending
-standingIn (rules.Waits s) = Waits s
-standingIn (rules.Holds e) = Holds e
-
--- Document 01's number for each case of a lookup's answer; its value is the planned start or the promised end that the case holds.
-abbrev pub numberOf : Standing → ℕ
-numberOf NotPending = 8
-numberOf (Waits s) = 0
-numberOf (Holds e) = 0
 
 -- ── the tests 5 and 4, and those of a release and a withdrawal ──
 unfoldable pub timeNumber : ℕ → ℕ → ℕ

@@ -5,16 +5,14 @@ use mathlib.Core.List.{List, [], _∷_, _++_}
 use Prim.Native.Nat.{ℕ}
 use lib.ListN.{take}
 use Rattle.rules.specs.declared.Table.{Table}
-use Rattle.rules.specs.Calls as rules
-use Rattle.rules.specs.Calls.{Call, lookup, timed, Answer, step, standingOf, new}
+use Rattle.rules.specs.declared.Standing.{Standing}
+use Rattle.rules.specs.Calls.{Call, lookup, timed, Answer, step, standingOf, standingValues, new}
 use Rattle.rules.specs.Tables.{model}
 use Rattle.promises.specs.Ledger.{Turn, ledgerOf, Punctual}
 use Rattle.promises.specs.Demand3.{Now, Next}
 use Rattle.promises.specs.WholeCalls.{WholeCalls}
 use Rattle.table.specs.declared.Outcome.{Outcome}
-use Rattle.table.specs.declared.Standing.{Standing}
-use Rattle.table.specs.declared.Standing.the-variants.{NotPending, Waits, Holds}
-use Rattle.table.specs.Outcomes.{outcome, standingIn, numberOf}
+use Rattle.table.specs.Outcomes.{outcome}
 
 -- The answer in what a call handed back, and in what a lookup told.
 abbrev pub answered : Outcome → Answer
@@ -29,18 +27,13 @@ answered r =
     }
 
 abbrev pub looked : Standing → Answer
-looked s = record { number = numberOf s; ticket = 0; start = 0; contention = 0; bound = 0; grants = [] }
-
-abbrev pub standingOut : Standing → rules.Standing
-standingOut NotPending = rules.NotPending
-standingOut (Waits s) = rules.Waits s
-standingOut (Holds e) = rules.Holds e
+looked s = record { number = standingValues s .number; ticket = 0; start = 0; contention = 0; bound = 0; grants = [] }
 
 -- A call made of table t, by kind: what the code answers, and the table it leaves. Claim, release, withdraw and clock promise an
--- `outcome (step ..)`, lookup a `standingIn (standingOf ..)`.
+-- `outcome (step ..)`, lookup a `standingOf ..`.
 pub data Made (t : Table) : Call → Answer → Table → Type 0 where
   by-timed : (c : Call) → timed c ≡ true → (r : Outcome) → r ≡ outcome (step (model t) c) → Made t c (answered r) (r .table)
-  by-lookup : (k : ℕ) (s : Standing) → s ≡ standingIn (standingOf k (model t .pending)) → Made t (lookup k) (looked s) t
+  by-lookup : (k : ℕ) (s : Standing) → s ≡ standingOf k (model t .pending) → Made t (lookup k) (looked s) t
 
 -- Calls made one after the other from table t, with their answers, and the table they left.
 pub data Run : Table → List Call → List Turn → Table → Type 0 where
@@ -50,22 +43,19 @@ pub data Run : Table → List Call → List Turn → Table → Type 0 where
 
 -- What lookup answers of each ticket, asked of table t.
 abbrev pub Looks : Table → (ℕ → Standing) → Type 0
-Looks t shows = (k : ℕ) → shows k ≡ standingIn (standingOf k (model t .pending))
-
-abbrev pub tells : (ℕ → Standing) → ℕ → rules.Standing
-tells shows k = standingOut (shows k)
+Looks t shows = (k : ℕ) → shows k ≡ standingOf k (model t .pending)
 
 -- Of every list of calls that begins with a table from `new`: what `promises` says of the rules, of the answers given and what lookup shows.
 pub record CodeDemand3 (rig : ℕ) (calls : List Call) : Type 0 where
   pub at-any-time : (before rest : List Call) → before ++ rest ≡ calls
       → (first : Outcome) → first ≡ outcome (new rig) → (ts : List Turn) (t : Table) → Run (first .table) before ts t
       → (shows : ℕ → Standing) → Looks t shows
-      → Now (Punctual ts) (ledgerOf ts) (tells shows)
+      → Now (Punctual ts) (ledgerOf ts) shows
   pub at-any-call : (before : List Call) (c : Call) (rest : List Call) → before ++ (c ∷ rest) ≡ calls
       → (first : Outcome) → first ≡ outcome (new rig) → (ts : List Turn) (t : Table) → Run (first .table) before ts t
       → (a : Answer) (u : Table) → Made t c a u
       → (old new : ℕ → Standing) → Looks t old → Looks u new
-      → Next (Punctual ts) (ledgerOf ts) (record { call = c; answer = a }) (tells old) (tells new)
+      → Next (Punctual ts) (ledgerOf ts) (record { call = c; answer = a }) old new
 
 -- What `promises` says of whole calls, of every table that such a list of calls left.
 abbrev pub CodeWholeCalls : ℕ → List Call → Type 0

@@ -4,11 +4,11 @@
 ghost use mathlib.Core.Path.{_≡_};
 ghost use Prim.Native.Nat.{_+_, _≤_, _<_};
 ghost use Rattle.rules.specs.Claims.{at};
-ghost use Rattle.rules.specs.Calls.{Call, step, firstOf, tests, advance, finish, remove, admit, new, standing, standingOf};
+ghost use Rattle.rules.specs.Calls.{Call, step, firstOf, tests, advance, finish, remove, admit, new, standing, standingOf, standingValues};
 ghost use Rattle.rules.specs.Tables.{encode, model};
 ghost use Rattle.rules.specs.Invariants.{Still};
 ghost use Rattle.table.specs.Valid.{Formed, Valid};
-ghost use Rattle.table.specs.Outcomes.{outcome, refusalOf, standingIn, numberOf, timeNumber, pastEnd, phaseNumber, leaving};
+ghost use Rattle.table.specs.Outcomes.{outcome, refusalOf, timeNumber, pastEnd, phaseNumber, leaving};
 
 mod claims;
 mod granting;
@@ -17,6 +17,7 @@ mod placing;
 
 use rules::Claim;
 use rules::Phase;
+use rules::Standing;
 use rules::Table;
 
 // What a call hands back. `number` is 0 or the refusal's; `contention` and `bound` are document 01's crowd and ceiling; the first
@@ -30,13 +31,6 @@ pub struct Outcome {
     pub bound: u64,
     pub granted: usize,
     pub grants: [u16; 64],
-}
-
-// What a lookup tells: not pending (8), waiting with its planned start, or on with its promised end.
-pub enum Standing {
-    NotPending,
-    Waits(u64),
-    Holds(u64),
 }
 
 // The table handed in, and a number.
@@ -82,7 +76,7 @@ pub fn new(rig: u64) -> Outcome
 
 fn shown(c: Claim) -> Standing
     requires { ⌜ at c ≤ 1000000000000000000 ⌝ }
-    ensures { λ r. ⌜ r ≡ standingIn (standing c) ⌝ }
+    ensures { λ r. ⌜ r ≡ standing c ⌝ }
 {
     let p = c.phase;
     let n = claims::wide(c.length);
@@ -95,7 +89,7 @@ fn shown(c: Claim) -> Standing
 // How the claim of a ticket stands. Cost: one pass at most.
 pub fn lookup(t: Table, ticket: u16) -> Standing
     requires { ⌜ Valid t ⌝ }
-    ensures { λ r. ⌜ (r ≡ standingIn (standingOf ticket (model t .pending))) × (numberOf r ≡ step (model t) (Call.lookup ticket) .answer .number) ⌝ }
+    ensures { λ r. ⌜ (r ≡ standingOf ticket (model t .pending)) × (standingValues r .number ≡ step (model t) (Call.lookup ticket) .answer .number) ⌝ }
 {
     let count = t.count;
     let mut i: usize = 0;
@@ -219,7 +213,7 @@ pub struct Taken {
 // Takes the claim of a ticket out of a table; those behind it move up, and the last place becomes vacant. Cost: one pass.
 fn removed(mut t: Table, ticket: u16) -> Taken
     requires { ⌜ Formed t ⌝ }
-    ensures { λ r. ⌜ (r .standing ≡ standingIn (standingOf ticket (model t .pending))) × (r .table ≡ encode (remove (model t) ticket)) × Formed (r .table) ⌝ }
+    ensures { λ r. ⌜ (r .standing ≡ standingOf ticket (model t .pending)) × (r .table ≡ encode (remove (model t) ticket)) × Formed (r .table) ⌝ }
 {
     let count = t.count;
     let mut s = Standing::NotPending;

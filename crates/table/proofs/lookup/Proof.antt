@@ -2,10 +2,10 @@ use mathlib.Core.Path.{_≡_, refl, _∙_, ap}
 use Prim.Native.Nat.{_-_, _≤_}
 use native.Mathlib.Omega.{arith}
 use lib.ListN.{take, drop, getD}
-use Rattle.rules.specs.Calls.{standingOf}
+use Rattle.rules.specs.declared.Standing.{Standing}
+use Rattle.rules.specs.Calls.{standingOf, standingValues}
 use Rattle.rules.specs.Tables.{model, vacant}
 use Rattle.table.proofs.Rows.{prefix-step, prefix-end, row-small}
-use Rattle.table.specs.Outcomes.{standingIn, numberOf}
 use Rattle.table.proofs.Ranges.{formed-few, formed-length, formed-row}
 use Rattle.table.proofs.Scanning.{found, passed-by}
 use Rattle.table.proofs.Tests.{lookup-number}
@@ -45,8 +45,8 @@ returns c =
     let t = b .args .t1 in
     let e = prefix-step vacant (t .claims) (t .count) (z .loop .i) (omega arith) (omega (arith, formed-length t (b .pre .formed), formed-few t (b .pre .formed))) in
     let h = rw e at (z .loop .inv .1) in
-    let r = c .shown .ensures ∙ ap standingIn (found (b .args .ticket) (getD (t .claims) (z .loop .i) vacant) _ (c .before .if1 .taken) ∙ h) in
-    (r, ap numberOf r ∙ lookup-number (model t) (b .args .ticket))
+    let r = c .shown .ensures ∙ (found (b .args .ticket) (getD (t .claims) (z .loop .i) vacant) _ (c .before .if1 .taken) ∙ h) in
+    (r, ap (λ (s : Standing). standingValues s .number) r ∙ lookup-number (model t) (b .args .ticket))
 
 add-i : tie.Need-add-i Inv-loop μ-loop
 add-i c =
@@ -71,8 +71,8 @@ returns-2 c =
     let z = c .before in
     let b = z .before in
     let t = b .args .t1 in
-    let r = ap standingIn (rw (prefix-end (t .claims) (t .count) (z .loop .i) (c .loop-test .left)) at (z .loop .inv .1)) in
-    (r, ap numberOf r ∙ lookup-number (model t) (b .args .ticket))
+    let r = (rw (prefix-end (t .claims) (t .count) (z .loop .i) (c .loop-test .left)) at (z .loop .inv .1)) in
+    (r, ap (λ (s : Standing). standingValues s .number) r ∙ lookup-number (model t) (b .args .ticket))
 
 pub lookup-spec : {M : Type 1} → statement M
 lookup-spec =
