@@ -14,28 +14,29 @@ use Rattle.load_text.specs.declared.parse.Parsed.the-variants.{Nothing, 
 use Rattle.load_text.specs.declared.words.Field.{Field}
 use Rattle.load_text.specs.declared.words.Field.the-variants.{Value, Wrong}
 use Rattle.load_text.specs.Parsing.{FirstWord, wordAt, wordsIn, groupsIn, clockIn, ticketIn, lengthIn, withField, rigIn, clockCallIn, leaveIn, claimIn, isWord, rigWord, claimWord, releaseWord, withdrawWord, clockWord, callOf, callIn}
+use Rattle.load_text.specs.Reasons.{unknown, missing, tooMany}
 
-pub rig-none : rigIn [] ≡ Bad 2
+pub rig-none : rigIn [] ≡ Bad missing
 unfolding rigIn
 rig-none = refl
 
-pub rig-many : (g a : List ℕ) (ws : List (List ℕ)) → rigIn (g ∷ a ∷ ws) ≡ Bad 3
+pub rig-many : (g a : List ℕ) (ws : List (List ℕ)) → rigIn (g ∷ a ∷ ws) ≡ Bad tooMany
 unfolding rigIn
 rig-many g a ws = refl
 
-pub clock-none : clockCallIn [] ≡ Bad 2
+pub clock-none : clockCallIn [] ≡ Bad missing
 unfolding clockCallIn
 clock-none = refl
 
-pub clock-many : (t a : List ℕ) (ws : List (List ℕ)) → clockCallIn (t ∷ a ∷ ws) ≡ Bad 3
+pub clock-many : (t a : List ℕ) (ws : List (List ℕ)) → clockCallIn (t ∷ a ∷ ws) ≡ Bad tooMany
 unfolding clockCallIn
 clock-many t a ws = refl
 
-pub leave-many : (leave : ℕ → ℕ → Call) (t k a : List ℕ) (ws : List (List ℕ)) → leaveIn leave (t ∷ k ∷ a ∷ ws) ≡ Bad 3
+pub leave-many : (leave : ℕ → ℕ → Call) (t k a : List ℕ) (ws : List (List ℕ)) → leaveIn leave (t ∷ k ∷ a ∷ ws) ≡ Bad tooMany
 unfolding leaveIn
 leave-many leave t k a ws = refl
 
-pub claim-many : (t g n a : List ℕ) (ws : List (List ℕ)) → claimIn (t ∷ g ∷ n ∷ a ∷ ws) ≡ Bad 3
+pub claim-many : (t g n a : List ℕ) (ws : List (List ℕ)) → claimIn (t ∷ g ∷ n ∷ a ∷ ws) ≡ Bad tooMany
 unfolding claimIn
 claim-many t g n a ws = refl
 
@@ -47,23 +48,23 @@ pub said-first : (k : List ℕ) (ws : List (List ℕ)) → callIn (k ∷ ws) ≡
 unfolding callIn
 said-first k ws = refl
 
-leave-none : (leave : ℕ → ℕ → Call) → leaveIn leave [] ≡ Bad 2
+leave-none : (leave : ℕ → ℕ → Call) → leaveIn leave [] ≡ Bad missing
 unfolding leaveIn
 leave-none leave = refl
 
-leave-one : (leave : ℕ → ℕ → Call) (t : List ℕ) → leaveIn leave (t ∷ []) ≡ Bad 2
+leave-one : (leave : ℕ → ℕ → Call) (t : List ℕ) → leaveIn leave (t ∷ []) ≡ Bad missing
 unfolding leaveIn
 leave-one leave t = refl
 
-claim-none : claimIn [] ≡ Bad 2
+claim-none : claimIn [] ≡ Bad missing
 unfolding claimIn
 claim-none = refl
 
-claim-one : (t : List ℕ) → claimIn (t ∷ []) ≡ Bad 2
+claim-one : (t : List ℕ) → claimIn (t ∷ []) ≡ Bad missing
 unfolding claimIn
 claim-one t = refl
 
-claim-two : (t g : List ℕ) → claimIn (t ∷ g ∷ []) ≡ Bad 2
+claim-two : (t g : List ℕ) → claimIn (t ∷ g ∷ []) ≡ Bad missing
 unfolding claimIn
 claim-two t g = refl
 
@@ -109,10 +110,10 @@ module _ {l : List ℕ} {at f t f₂ t₂ : ℕ} (a : FirstWord l at f t) (b : F
   pub over-one : leb t₂ f₂ ≡ false → wordsIn (drop at l) ≡ wordAt l f t ∷ wordAt l f₂ t₂ ∷ wordsIn (drop t₂ l)
   over-one e = word-some a (before e) ∙ ap (λ ws. wordAt l f t ∷ ws) (word-some b e)
 
-  pub less-two : leb t₂ f₂ ≡ true → (leave : ℕ → ℕ → Call) → Bad 2 ≡ leaveIn leave (wordsIn (drop at l))
+  pub less-two : leb t₂ f₂ ≡ true → (leave : ℕ → ℕ → Call) → Bad missing ≡ leaveIn leave (wordsIn (drop at l))
   less-two e leave = go (leb t f) refl
     where
-      go : (u : Bool) → leb t f ≡ u → Bad 2 ≡ leaveIn leave (wordsIn (drop at l))
+      go : (u : Bool) → leb t f ≡ u → Bad missing ≡ leaveIn leave (wordsIn (drop at l))
       go true q = sym (ap (leaveIn leave) (word-none a q) ∙ leave-none leave)
       go false q = sym (ap (leaveIn leave) (one q e .words) ∙ leave-one leave (wordAt l f t))
 
@@ -127,10 +128,10 @@ module _ {l : List ℕ} {at f t f₂ t₂ f₃ t₃ : ℕ} (a : FirstWord l at f
   pub over-two : leb t₃ f₃ ≡ false → wordsIn (drop at l) ≡ wordAt l f t ∷ wordAt l f₂ t₂ ∷ wordAt l f₃ t₃ ∷ wordsIn (drop t₃ l)
   over-two e = word-some a (before a b (before b c e)) ∙ ap (λ ws. wordAt l f t ∷ ws) (over-one b c e)
 
-  pub less-three : leb t₃ f₃ ≡ true → Bad 2 ≡ claimIn (wordsIn (drop at l))
+  pub less-three : leb t₃ f₃ ≡ true → Bad missing ≡ claimIn (wordsIn (drop at l))
   less-three e = go (leb t₂ f₂) (leb t f) refl refl
     where
-      go : (u v : Bool) → leb t₂ f₂ ≡ u → leb t f ≡ v → Bad 2 ≡ claimIn (wordsIn (drop at l))
+      go : (u v : Bool) → leb t₂ f₂ ≡ u → leb t f ≡ v → Bad missing ≡ claimIn (wordsIn (drop at l))
       go u true q r = sym (ap claimIn (word-none a r) ∙ claim-none)
       go true false q r = sym (ap claimIn (one a b r q .words) ∙ claim-one (wordAt l f t))
       go false false q r = sym (ap claimIn (two q e .words) ∙ claim-two (wordAt l f t) (wordAt l f₂ t₂))
@@ -264,6 +265,6 @@ module _ (k : List ℕ) (ws : List (List ℕ)) where
   unfolding callOf
   call-clock a b c d e = rw (a, b, c, d, e)
 
-  pub call-none : isWord k rigWord ≡ false → isWord k claimWord ≡ false → isWord k releaseWord ≡ false → isWord k withdrawWord ≡ false → isWord k clockWord ≡ false → Bad 1 ≡ callOf k ws
+  pub call-none : isWord k rigWord ≡ false → isWord k claimWord ≡ false → isWord k releaseWord ≡ false → isWord k withdrawWord ≡ false → isWord k clockWord ≡ false → Bad unknown ≡ callOf k ws
   unfolding callOf
   call-none a b c d e = rw (a, b, c, d, e)

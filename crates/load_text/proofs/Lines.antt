@@ -12,6 +12,7 @@ use Rattle.numerals.proofs.Laying.{width-small, decimal-length, column-length, 
 use Rattle.load.specs.declared.Call.{Call}
 use Rattle.load.specs.declared.Call.the-variants.{Rig, Claim, Release, Withdraw, Clock}
 use Rattle.load_text.specs.Lines.{glyphOf, hexUpTo, setOf, lineOf, stopLine, reasonText, reportOf}
+use Rattle.load_text.specs.Reasons.{unknown, missing, tooMany, noClock, noTicket, noLength, noGroups, tooLarge, over63, backward, outOfPlace, overlong}
 
 -- ── hex ──
 pub glyph-low : (v : ℕ) → v % 16 < 10 → 48 + v % 16 ≡ glyphOf v
@@ -75,18 +76,18 @@ shorter false x y m h k = k
 reason-length : (n : ℕ) → length (reasonText n) ≤ 29
 unfolding reasonText
 reason-length n =
-    shorter (eqb n 1) _ _ 29 (omega arith)
-    (shorter (eqb n 2) _ _ 29 (omega arith)
-    (shorter (eqb n 3) _ _ 29 (omega arith)
-    (shorter (eqb n 4) _ _ 29 (omega arith)
-    (shorter (eqb n 5) _ _ 29 (omega arith)
-    (shorter (eqb n 6) _ _ 29 (omega arith)
-    (shorter (eqb n 7) _ _ 29 (omega arith)
-    (shorter (eqb n 8) _ _ 29 (omega arith)
-    (shorter (eqb n 9) _ _ 29 (omega arith)
-    (shorter (eqb n 10) _ _ 29 (omega arith)
-    (shorter (eqb n 13) _ _ 29 (omega arith)
-    (shorter (eqb n 14) _ _ 29 (omega arith)
+    shorter (eqb n unknown) _ _ 29 (omega arith)
+    (shorter (eqb n missing) _ _ 29 (omega arith)
+    (shorter (eqb n tooMany) _ _ 29 (omega arith)
+    (shorter (eqb n noClock) _ _ 29 (omega arith)
+    (shorter (eqb n noTicket) _ _ 29 (omega arith)
+    (shorter (eqb n noLength) _ _ 29 (omega arith)
+    (shorter (eqb n noGroups) _ _ 29 (omega arith)
+    (shorter (eqb n tooLarge) _ _ 29 (omega arith)
+    (shorter (eqb n over63) _ _ 29 (omega arith)
+    (shorter (eqb n backward) _ _ 29 (omega arith)
+    (shorter (eqb n outOfPlace) _ _ 29 (omega arith)
+    (shorter (eqb n overlong) _ _ 29 (omega arith)
     (omega arith))))))))))))
 
 report-length : (line n : ℕ) → length (reportOf line n) ≤ 56
@@ -100,9 +101,9 @@ pub report-short : (line n : ℕ) → length (reportOf line n) < 2 ^ 64
 report-short line n = omega (arith, report-length line n)
 
 -- A number that is no reason by itself.
-pub reason-else : (n : ℕ) → (n ≡ 1 → ⊥) → (n ≡ 2 → ⊥) → (n ≡ 3 → ⊥) → (n ≡ 4 → ⊥) → (n ≡ 5 → ⊥) → (n ≡ 6 → ⊥) → (n ≡ 7 → ⊥) → (n ≡ 8 → ⊥) → (n ≡ 9 → ⊥) → (n ≡ 10 → ⊥) → (n ≡ 13 → ⊥) → (n ≡ 14 → ⊥) → reasonText 0 ≡ reasonText n
+pub reason-else : (n : ℕ) → (n ≡ unknown → ⊥) → (n ≡ missing → ⊥) → (n ≡ tooMany → ⊥) → (n ≡ noClock → ⊥) → (n ≡ noTicket → ⊥) → (n ≡ noLength → ⊥) → (n ≡ noGroups → ⊥) → (n ≡ tooLarge → ⊥) → (n ≡ over63 → ⊥) → (n ≡ backward → ⊥) → (n ≡ outOfPlace → ⊥) → (n ≡ overlong → ⊥) → reasonText 0 ≡ reasonText n
 unfolding reasonText
-reason-else n a b c d e f g h i j k l = rw (ne-eqb n 1 a, ne-eqb n 2 b, ne-eqb n 3 c, ne-eqb n 4 d, ne-eqb n 5 e, ne-eqb n 6 f, ne-eqb n 7 g, ne-eqb n 8 h, ne-eqb n 9 i, ne-eqb n 10 j, ne-eqb n 13 k, ne-eqb n 14 l)
+reason-else n a b c d e f g h i j k l = rw (ne-eqb n unknown a, ne-eqb n missing b, ne-eqb n tooMany c, ne-eqb n noClock d, ne-eqb n noTicket e, ne-eqb n noLength f, ne-eqb n noGroups g, ne-eqb n tooLarge h, ne-eqb n over63 i, ne-eqb n backward j, ne-eqb n outOfPlace k, ne-eqb n overlong l)
 
 -- ── lines by kind ──
 pub rig-line : (c : Call) (g : ℕ) → c ≡ Rig g → (114 ∷ 105 ∷ 103 ∷ 32 ∷ []) ++ setOf g 10 ≡ lineOf c

@@ -252,7 +252,7 @@ set-says v h = hex-says 15 v (omega arith)
 groups-said : (v : ℕ) → v < 2 ^ 64 → groupsIn (hexUpTo 15 v) ≡ Value v
 groups-said v h =
     let s = set-says v h in
-    sym (groups-hex (hexUpTo 15 v) (digits-no-list (hexUpTo 15 v) (s .digit))) ∙ number-said 16 18446744073709551615 7 8 v (hexUpTo 15 v) s (omega arith)
+    sym (groups-hex (hexUpTo 15 v) (digits-no-list (hexUpTo 15 v) (s .digit))) ∙ number-said 16 18446744073709551615 _ _ v (hexUpTo 15 v) s (omega arith)
 
 -- Decimal digits are hex digits.
 ten-sixteen : (w : List ℕ) → digitsIn 10 w ≡ true → digitsIn 16 w ≡ true
@@ -265,13 +265,13 @@ ten-sixteen (b ∷ w) h = go (ten-sixteen w) (ltb (digitOf b) 10) refl h
     go f false e h = absurd (false≢true h)
 
 clock-value : (v : ℕ) → v < 2 ^ 64 → clockIn (decimalOf v) ≡ Value v
-clock-value v h = number-said 10 18446744073709551615 4 8 v (decimalOf v) (decimal-says v h) (omega arith)
+clock-value v h = number-said 10 18446744073709551615 _ _ v (decimalOf v) (decimal-says v h) (omega arith)
 
 ticket-value : (v : ℕ) → v < 2 ^ 16 → ticketIn (decimalOf v) ≡ Value v
-ticket-value v h = number-said 10 65535 5 8 v (decimalOf v) (decimal-says v (omega arith)) (omega arith)
+ticket-value v h = number-said 10 65535 _ _ v (decimalOf v) (decimal-says v (omega arith)) (omega arith)
 
 length-value : (v : ℕ) → v < 2 ^ 32 → lengthIn (decimalOf v) ≡ Value v
-length-value v h = number-said 10 4294967295 6 8 v (decimalOf v) (decimal-says v (omega arith)) (omega arith)
+length-value v h = number-said 10 4294967295 _ _ v (decimalOf v) (decimal-says v (omega arith)) (omega arith)
 
 decimal-plain : (v : ℕ) → v < 2 ^ 64 → Plain (decimalOf v)
 decimal-plain v h = let s = decimal-says v h in digits-plain (decimalOf v) (s .some) (ten-sixteen (decimalOf v) (s .digit))

@@ -15,6 +15,7 @@ use Rattle.groups.specs.Groups.{setFrom, union}
 use Rattle.load_text.specs.declared.words.Field.{Field}
 use Rattle.load_text.specs.declared.words.Field.the-variants.{Value, Wrong}
 use Rattle.load_text.specs.Parsing.{until, since, placeOf, parts, isComma, isDash, isList, span, groupIn, upTo, rangeIn, itemIn, itemsIn, joined, withItems, wordAt, numberIn, groupsIn}
+use Rattle.load_text.specs.Reasons.{noGroups, tooLarge, backward}
 use Rattle.load_text.proofs.Parts.{until-take, since-drop, parts-cut}
 
 -- ── the groups from one to another ──
@@ -91,7 +92,7 @@ module _ (w : List ℕ) (i : ℕ) where
 
 -- ── a range ──
 module _ (low : ℕ) (f : Field) where
-  pub up-backward : (high : ℕ) → f ≡ Value high → high < low → Wrong 10 ≡ upTo low f
+  pub up-backward : (high : ℕ) → f ≡ Value high → high < low → Wrong backward ≡ upTo low f
   up-backward high e h = rw (e, lt-ltb high low h)
 
   pub up-span : (high : ℕ) → f ≡ Value high → low ≤ high → Value (span low high) ≡ upTo low f
@@ -150,6 +151,6 @@ pub groups-list : (w : List ℕ) → isList w ≡ true → withItems (Value 0) (
 unfolding groupsIn
 groups-list w e = rw e
 
-pub groups-hex : (w : List ℕ) → isList w ≡ false → numberIn 16 18446744073709551615 7 8 w ≡ groupsIn w
+pub groups-hex : (w : List ℕ) → isList w ≡ false → numberIn 16 18446744073709551615 noGroups tooLarge w ≡ groupsIn w
 unfolding groupsIn
 groups-hex w e = rw e

@@ -2,3 +2,4 @@ pub mod Lines
 pub mod Making
 pub mod Parsing
 pub mod ReadBack
+pub mod Reasons

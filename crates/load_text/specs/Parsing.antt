@@ -1,5 +1,4 @@
 -- What a text says. Bytes are ASCII: 9 is a tab, 10 a line feed, 13 a carriage return, 32 a space, 35 '#', 44 ',', 45 '-'.
--- The reasons are those of src/reasons.rt.
 use Prim.Native.Nat.{ℕ, _+_, _-_, _*_, _≤_, max}
 use mathlib.Core.Path.{_≡_}
 use mathlib.Core.Bool.{Bool, true, false, not, _&&_, _||_, cond}
@@ -13,6 +12,7 @@ use Rattle.load_text.specs.declared.parse.Parsed.{Parsed}
 use Rattle.load_text.specs.declared.parse.Parsed.the-variants.{Nothing, Said, Bad}
 use Rattle.load_text.specs.declared.words.Field.{Field}
 use Rattle.load_text.specs.declared.words.Field.the-variants.{Value, Wrong}
+use Rattle.load_text.specs.Reasons.{unknown, missing, tooMany, noClock, noTicket, noLength, noGroups, tooLarge, over63, backward}
 
 -- ── parts of a text ──
 -- The bytes before the first that passes p, and those from it on.
@@ -123,14 +123,14 @@ numberIn base most none large w = cond (isNumber base w) (upToMost most large (v
 
 -- ── sets of groups ──
 abbrev pub groupIn : List ℕ → Field
-groupIn w = numberIn 10 63 7 9 w
+groupIn w = numberIn 10 63 noGroups over63 w
 
 -- The groups from one to another.
 unfoldable pub span : ℕ → ℕ → ℕ
 span low high = setWhere (λ g. leb low g && leb g high)
 
 abbrev pub upTo : ℕ → Field → Field
-upTo low (Value high) = cond (ltb high low) (Wrong 10) (Value (span low high))
+upTo low (Value high) = cond (ltb high low) (Wrong backward) (Value (span low high))
 upTo low (Wrong n) = Wrong n
 
 -- A group, and what stands behind it from a dash on.
@@ -163,46 +163,46 @@ isList (b ∷ l) = isComma b || isDash b || isList l
 
 -- A word with a comma or a dash is a list, any other a set in hex.
 unfoldable pub groupsIn : List ℕ → Field
-groupsIn w = cond (isList w) (withItems (Value 0) (itemsIn w)) (numberIn 16 18446744073709551615 7 8 w)
+groupsIn w = cond (isList w) (withItems (Value 0) (itemsIn w)) (numberIn 16 18446744073709551615 noGroups tooLarge w)
 
 -- ── calls ──
 abbrev pub clockIn : List ℕ → Field
-clockIn w = numberIn 10 18446744073709551615 4 8 w
+clockIn w = numberIn 10 18446744073709551615 noClock tooLarge w
 
 abbrev pub ticketIn : List ℕ → Field
-ticketIn w = numberIn 10 65535 5 8 w
+ticketIn w = numberIn 10 65535 noTicket tooLarge w
 
 abbrev pub lengthIn : List ℕ → Field
-lengthIn w = numberIn 10 4294967295 6 8 w
+lengthIn w = numberIn 10 4294967295 noLength tooLarge w
 
 -- What a call makes of a field; its reason where it is wrong.
 abbrev pub withField : Field → (ℕ → Parsed) → Parsed
 withField (Value v) f = f v
 withField (Wrong n) f = Bad n
 
--- The words behind the first of a line: 2 where one is missing, 3 where there are too many.
+-- The words behind the first of a line, which are counted first.
 unfoldable pub rigIn : List (List ℕ) → Parsed
-rigIn [] = Bad 2
+rigIn [] = Bad missing
 rigIn (g ∷ []) = withField (groupsIn g) (λ s. Said (Rig s))
-rigIn (g ∷ a ∷ ws) = Bad 3
+rigIn (g ∷ a ∷ ws) = Bad tooMany
 
 unfoldable pub clockCallIn : List (List ℕ) → Parsed
-clockCallIn [] = Bad 2
+clockCallIn [] = Bad missing
 clockCallIn (t ∷ []) = withField (clockIn t) (λ c. Said (Clock c))
-clockCallIn (t ∷ a ∷ ws) = Bad 3
+clockCallIn (t ∷ a ∷ ws) = Bad tooMany
 
 unfoldable pub leaveIn : (ℕ → ℕ → Call) → List (List ℕ) → Parsed
-leaveIn f [] = Bad 2
-leaveIn f (t ∷ []) = Bad 2
+leaveIn f [] = Bad missing
+leaveIn f (t ∷ []) = Bad missing
 leaveIn f (t ∷ k ∷ []) = withField (clockIn t) (λ c. withField (ticketIn k) (λ n. Said (f c n)))
-leaveIn f (t ∷ k ∷ a ∷ ws) = Bad 3
+leaveIn f (t ∷ k ∷ a ∷ ws) = Bad tooMany
 
 unfoldable pub claimIn : List (List ℕ) → Parsed
-claimIn [] = Bad 2
-claimIn (t ∷ []) = Bad 2
-claimIn (t ∷ g ∷ []) = Bad 2
+claimIn [] = Bad missing
+claimIn (t ∷ []) = Bad missing
+claimIn (t ∷ g ∷ []) = Bad missing
 claimIn (t ∷ g ∷ n ∷ []) = withField (clockIn t) (λ c. withField (groupsIn g) (λ s. withField (lengthIn n) (λ l. Said (Claim c s l))))
-claimIn (t ∷ g ∷ n ∷ a ∷ ws) = Bad 3
+claimIn (t ∷ g ∷ n ∷ a ∷ ws) = Bad tooMany
 
 unfoldable pub isWord : List ℕ → List ℕ → Bool
 isWord [] [] = true
@@ -233,7 +233,7 @@ callOf k ws =
     (cond (isWord k releaseWord) (leaveIn Release ws)
     (cond (isWord k withdrawWord) (leaveIn Withdraw ws)
     (cond (isWord k clockWord) (clockCallIn ws)
-    (Bad 1)))))
+    (Bad unknown)))))
 
 unfoldable pub callIn : List (List ℕ) → Parsed
 callIn [] = Nothing
@@ -242,3 +242,7 @@ callIn (k ∷ ws) = callOf k ws
 -- What a line says.
 unfoldable pub lineSays : List ℕ → Parsed
 lineSays l = callIn (wordsIn (said l))
+
+-- A line that is wrong has a reason that is no number of document 01. proofs/Within has the proof: reasons-apart.
+abbrev pub ReasonsApart : Type 0
+ReasonsApart = (l : List ℕ) (n : ℕ) → lineSays l ≡ Bad n → 101 ≤ n

@@ -7,6 +7,18 @@ ghost use Rattle.numerals.specs.Digits.{column};
 ghost use Rattle.numerals.specs.Laid.{laid, Put};
 ghost use Rattle.load.specs.Reading.{walk};
 ghost use Rattle.load_text.specs.Lines.{glyphOf, hexUpTo, setOf, lineOf, stopLine, restOf, textOf, reasonText, reportOf};
+use crate::reasons::BACKWARD;
+use crate::reasons::MISFIT;
+use crate::reasons::MISSING;
+use crate::reasons::NO_CLOCK;
+use crate::reasons::NO_GROUPS;
+use crate::reasons::NO_LENGTH;
+use crate::reasons::NO_TICKET;
+use crate::reasons::OVER_63;
+use crate::reasons::OVERLONG;
+use crate::reasons::TOO_LARGE;
+use crate::reasons::TOO_MANY;
+use crate::reasons::UNKNOWN;
 use load::Call;
 use load::Item;
 
@@ -135,18 +147,18 @@ fn put_reason(out: &mut [u8], at: usize, reason: u8) -> usize
     ensures { λ r. ⌜ Put (now (out .entry)) at (reasonText reason) r (now (out .exit)) ⌝ }
 {
     match reason {
-        1 => numerals::put_bytes(out, at, b"unknown call\n"),
-        2 => numerals::put_bytes(out, at, b"a number is missing\n"),
-        3 => numerals::put_bytes(out, at, b"too many words\n"),
-        4 => numerals::put_bytes(out, at, b"clock is not a number\n"),
-        5 => numerals::put_bytes(out, at, b"ticket is not a number\n"),
-        6 => numerals::put_bytes(out, at, b"length is not a number\n"),
-        7 => numerals::put_bytes(out, at, b"groups are not hex or a list\n"),
-        8 => numerals::put_bytes(out, at, b"number too large\n"),
-        9 => numerals::put_bytes(out, at, b"group over 63\n"),
-        10 => numerals::put_bytes(out, at, b"range runs backward\n"),
-        13 => numerals::put_bytes(out, at, b"rig must be first\n"),
-        14 => numerals::put_bytes(out, at, b"load over 65,536 bytes\n"),
+        UNKNOWN => numerals::put_bytes(out, at, b"unknown call\n"),
+        MISSING => numerals::put_bytes(out, at, b"a number is missing\n"),
+        TOO_MANY => numerals::put_bytes(out, at, b"too many words\n"),
+        NO_CLOCK => numerals::put_bytes(out, at, b"clock is not a number\n"),
+        NO_TICKET => numerals::put_bytes(out, at, b"ticket is not a number\n"),
+        NO_LENGTH => numerals::put_bytes(out, at, b"length is not a number\n"),
+        NO_GROUPS => numerals::put_bytes(out, at, b"groups are not hex or a list\n"),
+        TOO_LARGE => numerals::put_bytes(out, at, b"number too large\n"),
+        OVER_63 => numerals::put_bytes(out, at, b"group over 63\n"),
+        BACKWARD => numerals::put_bytes(out, at, b"range runs backward\n"),
+        MISFIT => numerals::put_bytes(out, at, b"rig must be first\n"),
+        OVERLONG => numerals::put_bytes(out, at, b"load over 65,536 bytes\n"),
         _ => numerals::put_bytes(out, at, b"not written\n"),
     }
 }

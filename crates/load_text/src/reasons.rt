@@ -1,20 +1,27 @@
-// Why a line says no call, by number. 11 to 15 are document 01's own.
-pub const UNKNOWN: u8 = 1;
+// Why a line makes no record, by number: from 101 on what it says is wrong, so that no reason can be taken for a number of document 01.
+// 13, 14 and 15 are document 01's own. specs/Reasons.antt has the same numbers.
+pub const UNKNOWN: u8 = 101;
 
-pub const MISSING: u8 = 2;
+pub const MISSING: u8 = 102;
 
-pub const TOO_MANY: u8 = 3;
+pub const TOO_MANY: u8 = 103;
 
-pub const NO_CLOCK: u8 = 4;
+pub const NO_CLOCK: u8 = 104;
 
-pub const NO_TICKET: u8 = 5;
+pub const NO_TICKET: u8 = 105;
 
-pub const NO_LENGTH: u8 = 6;
+pub const NO_LENGTH: u8 = 106;
 
-pub const NO_GROUPS: u8 = 7;
+pub const NO_GROUPS: u8 = 107;
 
-pub const TOO_LARGE: u8 = 8;
+pub const TOO_LARGE: u8 = 108;
 
-pub const OVER_63: u8 = 9;
+pub const OVER_63: u8 = 109;
 
-pub const BACKWARD: u8 = 10;
+pub const BACKWARD: u8 = 110;
+
+pub const MISFIT: u8 = 13;
+
+pub const OVERLONG: u8 = 14;
+
+pub const NO_SPACE: u8 = 15;

@@ -1,0 +1,41 @@
+-- Why a line makes no record, by number, as in src/reasons.rt. From 101 on it says nothing that is a call; 13, 14 and 15 are document 01's.
+use Prim.Native.Nat.{ℕ}
+
+abbrev pub unknown : ℕ
+unknown = 101
+
+abbrev pub missing : ℕ
+missing = 102
+
+abbrev pub tooMany : ℕ
+tooMany = 103
+
+abbrev pub noClock : ℕ
+noClock = 104
+
+abbrev pub noTicket : ℕ
+noTicket = 105
+
+abbrev pub noLength : ℕ
+noLength = 106
+
+abbrev pub noGroups : ℕ
+noGroups = 107
+
+abbrev pub tooLarge : ℕ
+tooLarge = 108
+
+abbrev pub over63 : ℕ
+over63 = 109
+
+abbrev pub backward : ℕ
+backward = 110
+
+abbrev pub outOfPlace : ℕ
+outOfPlace = 13
+
+abbrev pub overlong : ℕ
+overlong = 14
+
+abbrev pub noSpace : ℕ
+noSpace = 15
