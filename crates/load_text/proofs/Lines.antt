@@ -2,17 +2,20 @@
 use Prim.Native.Nat.{ℕ, zero, suc, _+_, _-_, _/_, _%_, _^_, _≤_, _<_}
 use mathlib.Core.Bool.{Bool, true, false, cond}
 use mathlib.Core.List.{List, [], _∷_, _++_}
-use mathlib.Core.Path.{_≡_, refl}
+use mathlib.Core.Path.{_≡_, refl, ap}
 use native.Mathlib.Omega.{arith}
-use lib.Dec.{ltb, eqb}
+use lib.Dec.{ltb, leb, eqb}
 use lib.ListN.{length, length-append}
-use borrow.Author.Tests.{lt-ltb, le-ltb, ne-eqb}
+use borrow.Author.Tests.{lt-ltb, le-ltb, ne-eqb, leb-true}
 use Rattle.numerals.specs.Digits.{decimalOf, column, pair}
-use Rattle.numerals.proofs.Laying.{width-small, decimal-length, column-length, pair-length}
+use Rattle.numerals.specs.Laid.{Put, spaceNumber, lentOut}
+use Rattle.numerals.proofs.Laying.{width-small, decimal-length, column-length, pair-length, put-short, lent-all, lent-none}
 use Rattle.load.specs.declared.Call.{Call}
 use Rattle.load.specs.declared.Call.the-variants.{Rig, Claim, Release, Withdraw, Clock}
-use Rattle.load_text.specs.Lines.{glyphOf, hexUpTo, setOf, lineOf, stopLine, reasonText, reportOf}
-use Rattle.load_text.specs.Reasons.{unknown, missing, tooMany, noClock, noTicket, noLength, noGroups, tooLarge, over63, backward, outOfPlace, overlong}
+use Rattle.load.specs.declared.Written.the-variants.{Length, Refusal}
+use Rattle.load.specs.Writing.{answered}
+use Rattle.load_text.specs.Lines.{glyphOf, hexUpTo, setOf, lineOf, stopLine, reasonText, reportOf, printed}
+use Rattle.load_text.specs.Reasons.{unknown, missing, tooMany, noClock, noTicket, noLength, noGroups, tooLarge, over63, backward, outOfPlace, overlong, noSpace}
 
 -- ── hex ──
 pub glyph-low : (v : ℕ) → v % 16 < 10 → 48 + v % 16 ≡ glyphOf v
@@ -90,12 +93,9 @@ reason-length n =
     (shorter (eqb n overlong) _ _ 29 (omega arith)
     (omega arith))))))))))))
 
-report-length : (line n : ℕ) → length (reportOf line n) ≤ 56
+pub report-length : (line n : ℕ) → length (reportOf line n) ≤ 56
 unfolding reportOf
 report-length line n = omega (arith, length-append (decimalOf line) (58 ∷ 32 ∷ reasonText n), decimal-length line, width-small line, reason-length n)
-
-pub report-within : (line n r : ℕ) → r ≡ length (reportOf line n) → r ≤ 56
-report-within line n r e = omega (arith, report-length line n)
 
 pub report-short : (line n : ℕ) → length (reportOf line n) < 2 ^ 64
 report-short line n = omega (arith, report-length line n)
@@ -125,3 +125,24 @@ withdraw-line c k t e = rw e
 pub clock-line : (c : Call) (k : ℕ) → c ≡ Clock k → (99 ∷ 108 ∷ 111 ∷ 99 ∷ 107 ∷ 32 ∷ []) ++ column k 10 ≡ lineOf c
 unfolding lineOf
 clock-line c k e = rw e
+
+-- ── what is answered ──
+pub print-none : (text o : List ℕ) → length o < length text → (Refusal noSpace ≡ printed text o) × (o ≡ lentOut text o)
+unfolding printed
+print-none text o h = let l = lent-none text o h in (rw (l .0), l .1)
+
+pub print-all : (text o p : List ℕ) (r : ℕ) → length text < 2 ^ 64 → length text ≤ length o → Put o 0 text r p → (Length r ≡ printed text o) × (p ≡ lentOut text o)
+unfolding printed
+print-all text o p r s h w =
+    let e = put-short s w in
+    let l = lent-all text o p h (e .1) in
+    (rw (l .0) (ap Length (e .0)), l .1)
+
+-- A length that is answered is one of the buffer.
+pub printed-within : (text o : List ℕ) (n : ℕ) → printed text o ≡ Length n → n ≤ length o
+unfolding printed spaceNumber
+printed-within text o n e = go (leb (length text) (length o)) refl e
+  where
+    go : (b : Bool) → leb (length text) (length o) ≡ b → answered (cond b 0 15) (length text) ≡ Length n → n ≤ length o
+    go true l e = let k : length text ≡ n = cc in omega (arith, leb-true (length text) (length o) l)
+    go false l e = let z : _≡_ {A = ℕ} 0 1 = cc in absurd (omega arith)

@@ -3,6 +3,9 @@ use Prim.Native.Nat.{ℕ, zero, suc, _+_, _*_, _^_, _≤_, _<_}
 use mathlib.Core.List.{List, [], _∷_, _++_}
 use mathlib.Core.Path.{_≡_, refl, sym, ap, _∙_}
 use native.Mathlib.Omega.{arith}
+use mathlib.Core.Bool.{true}
+use lib.Dec.{leb}
+use borrow.Author.Tests.{le-leb}
 use lib.ListN.{length, length-append}
 use Rattle.numerals.specs.Laid.{Put}
 use Rattle.load.specs.declared.Call.{Call}
@@ -68,17 +71,24 @@ pub text-read : (s : List ℕ) (n : ℕ) → n ≡ openNumber s → n ≡ 0 → 
 unfolding textOf
 text-read s n p q = rw (sym p ∙ q)
 
--- A line has at most 65 bytes, and a load few records: the text's length is a usize.
+-- A line has at most 65 bytes, and a load at most 5,957 records.
 lines-length : (k : ℕ) (cs : List Call) (stop : ℕ) → length (linesOf k cs stop) ≤ 49 + 65 * length cs
 unfolding linesOf
 lines-length k [] zero = omega arith
 lines-length k [] (suc n) = omega (arith, stop-length (suc n) k)
 lines-length k (c ∷ cs) stop = omega (arith, length-append (lineOf c) (linesOf (k + 1) cs stop), line-length c, lines-length (k + 1) cs stop)
 
-pub text-short : (s : List ℕ) → length (textOf s) < 2 ^ 64
+text-length : (s : List ℕ) → length (textOf s) ≤ 387266
 unfolding textOf restOf
-text-short s = go (openNumber s) refl
+text-length s = go (openNumber s) refl
   where
-    go : (m : ℕ) → openNumber s ≡ m → length (opened m (linesOf 1 (walk s 1 .calls) (walk s 1 .stop))) < 2 ^ 64
+    go : (m : ℕ) → openNumber s ≡ m → length (opened m (linesOf 1 (walk s 1 .calls) (walk s 1 .stop))) ≤ 387266
     go zero e = omega (arith, open-known s e .2, walk-few s 1, lines-length 1 (walk s 1 .calls) (walk s 1 .stop))
     go (suc m) e = omega (arith, stop-length (suc m) 0)
+
+pub text-short : (s : List ℕ) → length (textOf s) < 2 ^ 64
+text-short s = omega (arith, text-length s)
+
+-- Where the room is that much, the text goes in.
+pub text-goes : (s : List ℕ) (room : ℕ) → 387266 ≤ room → true ≡ leb (length (textOf s)) room
+text-goes s room h = sym (le-leb (length (textOf s)) room (omega (arith, text-length s)))

@@ -3,10 +3,14 @@ use Prim.Native.Nat.{ℕ, zero, suc, _+_, _/_, _%_}
 use mathlib.Core.Bool.{cond}
 use mathlib.Core.List.{List, [], _∷_, _++_}
 use lib.Dec.{ltb, eqb}
+use lib.ListN.{length}
 use Rattle.numerals.specs.Digits.{decimalOf, column, pair}
+use Rattle.numerals.specs.Laid.{spaceNumber}
 use Rattle.load.specs.declared.Call.{Call}
 use Rattle.load.specs.declared.Call.the-variants.{Rig, Claim, Release, Withdraw, Clock}
+use Rattle.load.specs.declared.Written.{Written}
 use Rattle.load.specs.Reading.{Walk, walk, openNumber}
+use Rattle.load.specs.Writing.{answered}
 use Rattle.load_text.specs.Reasons.{unknown, missing, tooMany, noClock, noTicket, noLength, noGroups, tooLarge, over63, backward, outOfPlace, overlong}
 
 -- the lowest digit of v in base 16: 0 to 9, A to F
@@ -92,3 +96,8 @@ reasonText n =
 -- "line ", the line's number, ": ", and what is wrong
 unfoldable pub reportOf : ℕ → ℕ → List ℕ
 reportOf line n = (108 ∷ 105 ∷ 110 ∷ 101 ∷ 32 ∷ []) ++ (decimalOf line ++ ((58 ∷ 32 ∷ []) ++ reasonText n))
+
+-- ── what is answered ──
+-- The text's length, or 15; `answered` has the number and the length of each case. The buffer is `lentOut`.
+unfoldable pub printed : List ℕ → List ℕ → Written
+printed text out = answered (spaceNumber text out) (length text)

@@ -1,18 +1,21 @@
-// Calls, refusals and reports as lines, laid into a lent buffer as far as that goes.
+// Calls, refusals and reports as lines. The private functions lay them over a buffer as far as that goes, and so count them on one byte;
+// the public ones answer 15 and leave the buffer as it is where the whole does not go in.
 ghost use mathlib.Core.Path.{_≡_};
 ghost use mathlib.Core.List.{[], _∷_, _++_};
 ghost use Prim.Native.Nat.{_≤_};
+ghost use lib.Dec.{leb};
 ghost use lib.ListN.{length};
 ghost use Rattle.numerals.specs.Digits.{column};
-ghost use Rattle.numerals.specs.Laid.{laid, Put};
+ghost use Rattle.numerals.specs.Laid.{lentOut, Put};
 ghost use Rattle.load.specs.Reading.{walk};
-ghost use Rattle.load_text.specs.Lines.{glyphOf, hexUpTo, setOf, lineOf, stopLine, restOf, textOf, reasonText, reportOf};
+ghost use Rattle.load_text.specs.Lines.{glyphOf, hexUpTo, setOf, lineOf, stopLine, restOf, textOf, reasonText, reportOf, printed};
 use crate::reasons::BACKWARD;
 use crate::reasons::MISFIT;
 use crate::reasons::MISSING;
 use crate::reasons::NO_CLOCK;
 use crate::reasons::NO_GROUPS;
 use crate::reasons::NO_LENGTH;
+use crate::reasons::NO_SPACE;
 use crate::reasons::NO_TICKET;
 use crate::reasons::OVER_63;
 use crate::reasons::OVERLONG;
@@ -21,6 +24,7 @@ use crate::reasons::TOO_MANY;
 use crate::reasons::UNKNOWN;
 use load::Call;
 use load::Item;
+use load::Written;
 
 // A digit of base 16, upper case.
 fn glyph(d: u64) -> u8
@@ -91,11 +95,17 @@ fn put_call(out: &mut [u8], at: usize, call: Call) -> usize
     }
 }
 
-// The same at the start of a buffer, for any caller.
-pub fn put_line(call: Call, out: &mut [u8]) -> usize
-    ensures { λ r. ⌜ (r ≡ length (lineOf call)) × (now (out .exit) ≡ laid (now (out .entry)) 0 (lineOf call)) ⌝ }
+// The same at the start of a lent buffer. Cost: the line is counted first.
+pub fn put_line(call: Call, out: &mut [u8]) -> Written
+    ensures answer { λ r. ⌜ r ≡ printed (lineOf call) (now (out .entry)) ⌝ }
+    ensures buffer { λ _. ⌜ now (out .exit) ≡ lentOut (lineOf call) (now (out .entry)) ⌝ }
 {
-    put_call(out, 0, call)
+    let mut scrap = [0u8; 1];
+    if out.len() < put_call(&mut scrap, 0, call) {
+        return Written::Refusal(NO_SPACE);
+    }
+    let n = put_call(out, 0, call);
+    Written::Length(n)
 }
 
 fn put_stop(out: &mut [u8], at: usize, number: u8, k: u64) -> usize
@@ -130,9 +140,9 @@ fn put_records(out: &mut [u8], from: usize, load: &[u8]) -> usize
     }
 }
 
-// A load as text, and the text's length.
-pub fn show(load: &[u8], out: &mut [u8]) -> usize
-    ensures { λ r. ⌜ (r ≡ length (textOf (now (load .entry)))) × (now (out .exit) ≡ laid (now (out .entry)) 0 (textOf (now (load .entry)))) ⌝ }
+// A load as text.
+fn put_text(out: &mut [u8], load: &[u8]) -> usize
+    ensures { λ r. ⌜ Put (now (out .entry)) 0 (textOf (now (load .entry))) r (now (out .exit)) ⌝ }
 {
     let number = load::open_number(load);
     if number != 0 {
@@ -140,6 +150,29 @@ pub fn show(load: &[u8], out: &mut [u8]) -> usize
     }
     let n = numerals::put_bytes(out, 0, b"# edition 1\n");
     put_records(out, n, load)
+}
+
+// Whether a load's text goes into so much room. 387,266 bytes are room for any: a record has 11 bytes at least, its line 65 at most.
+fn goes_into(load: &[u8], room: usize) -> bool
+    ensures { λ r. ⌜ r ≡ leb (length (textOf (now (load .entry)))) room ⌝ }
+{
+    if 387266 <= room {
+        return true;
+    }
+    let mut scrap = [0u8; 1];
+    put_text(&mut scrap, load) <= room
+}
+
+// A load as text at the start of a lent buffer. Cost: one pass over the load; two where the buffer has under 387,266 bytes.
+pub fn show(load: &[u8], out: &mut [u8]) -> Written
+    ensures answer { λ r. ⌜ r ≡ printed (textOf (now (load .entry))) (now (out .entry)) ⌝ }
+    ensures buffer { λ _. ⌜ now (out .exit) ≡ lentOut (textOf (now (load .entry))) (now (out .entry)) ⌝ }
+{
+    if goes_into(load, out.len()) {
+        let n = put_text(out, load);
+        return Written::Length(n);
+    }
+    Written::Refusal(NO_SPACE)
 }
 
 // What is wrong, by number.
@@ -164,11 +197,24 @@ fn put_reason(out: &mut [u8], at: usize, reason: u8) -> usize
 }
 
 // A line that says what is wrong with a line of text.
-pub fn report(line: u64, reason: u8, out: &mut [u8]) -> usize
-    ensures { λ r. ⌜ (r ≡ length (reportOf line reason)) × (now (out .exit) ≡ laid (now (out .entry)) 0 (reportOf line reason)) ⌝ }
+fn put_report(out: &mut [u8], line: u64, reason: u8) -> usize
+    ensures { λ r. ⌜ Put (now (out .entry)) 0 (reportOf line reason) r (now (out .exit)) ⌝ }
 {
     let a = numerals::put_bytes(out, 0, b"line ");
     let b = numerals::put_decimal(out, a, line);
     let c = numerals::put_bytes(out, b, b": ");
     put_reason(out, c, reason)
+}
+
+// The same at the start of a lent buffer, at most 56 bytes. Cost: it is counted first.
+pub fn report(line: u64, reason: u8, out: &mut [u8]) -> Written
+    ensures answer { λ r. ⌜ r ≡ printed (reportOf line reason) (now (out .entry)) ⌝ }
+    ensures buffer { λ _. ⌜ now (out .exit) ≡ lentOut (reportOf line reason) (now (out .entry)) ⌝ }
+{
+    let mut scrap = [0u8; 1];
+    if out.len() < put_report(&mut scrap, line, reason) {
+        return Written::Refusal(NO_SPACE);
+    }
+    let n = put_report(out, line, reason);
+    Written::Length(n)
 }

@@ -7,12 +7,12 @@ use native.Mathlib.Omega.{arith}
 use native.Mathlib.Numerals.{add-one}
 use native.Mathlib.Nat.{add-zero, zero-add}
 use lib.Dec.{ltb, leb}
-use borrow.Author.Tests.{leb-true, leb-false}
+use borrow.Author.Tests.{leb-true, leb-false, le-leb, lt-leb}
 use mathlib.Core.Bool.{Bool, true, false, cond}
 use lib.ListN.{length, take, drop, getD, set, length-append}
 use lib.Seq.{sets, length-sets, sets-eq, set-comm, set-out, drop-cons, drop-length}
 use Rattle.numerals.specs.Digits.{digits, decimalOf, widthOf, widthUpTo, column, pair}
-use Rattle.numerals.specs.Laid.{behind, laid, Put}
+use Rattle.numerals.specs.Laid.{behind, laid, Put, spaceNumber, lentOut}
 use Rattle.numerals.proofs.Numbers.{stored}
 use Rattle.numerals.proofs.BigEndian.{digits-length}
 
@@ -139,6 +139,15 @@ put-as xs ys e w = rw e at w
 -- A piece laid at the start that is not too long for a usize: the place behind it is its length.
 pub put-short : {o xs : List ℕ} {r : ℕ} {p : List ℕ} → length xs < 2 ^ 64 → Put o 0 xs r p → (r ≡ length xs) × (p ≡ laid o 0 xs)
 put-short {xs = xs} h w = (w .next ∙ behind-small 0 (length xs) (omega arith) ∙ zero-add (length xs), w .is)
+
+-- An output that goes into a lent buffer, laid at its start, and one that does not.
+pub lent-all : (text out p : List ℕ) → length text ≤ length out → p ≡ laid out 0 text → (spaceNumber text out ≡ 0) × (p ≡ lentOut text out)
+unfolding spaceNumber lentOut
+lent-all text out p h e = rw (le-leb (length text) (length out) h) (refl, e ∙ laid-fits out text h)
+
+pub lent-none : (text out : List ℕ) → length out < length text → (spaceNumber text out ≡ 15) × (out ≡ lentOut text out)
+unfolding spaceNumber lentOut
+lent-none text out h = rw (lt-leb (length text) (length out) h) (refl, refl)
 
 -- One step of a copy.
 pub laid-turn : (o : List ℕ) (at i : ℕ) (s : List ℕ) → i < length s → laid (set o (at + i) (getD s i 0)) (at + (i + 1)) (drop (i + 1) s) ≡ laid o (at + i) (drop i s)

@@ -1,56 +1,40 @@
--- A report is its pieces laid one behind the other.
+-- Counted on one byte, it goes in or not.
 use native.Mathlib.Omega.{arith}
-use Rattle.numerals.proofs.Laying.{put, put-then, put-short}
-use Rattle.load_text.specs.Lines.{reportOf}
-use Rattle.load_text.proofs.Lines.{report-short}
+use Rattle.numerals.proofs.Laying.{put-short}
+use Rattle.load_text.proofs.Lines.{report-short, print-none, print-all}
 use borrow.Author.Needs.{needs}
 use Rattle.load_text.proofs.print.report.Statement.{statement}
 use Rattle.load_text.proofs.print.report.Tie as tie
 
-slice-aggregate-put-bytes : tie.Need-slice-aggregate-put-bytes
-slice-aggregate-put-bytes c = search needs
+slice-aggregate-put-report : tie.Need-slice-aggregate-put-report
+slice-aggregate-put-report c = search needs
 
-put-bytes-requires : tie.Need-put-bytes-requires
-put-bytes-requires c κs = search needs
+put-report-requires : tie.Need-put-report-requires
+put-report-requires c κs = search needs
 
-put-decimal-requires : tie.Need-put-decimal-requires
-put-decimal-requires c κs = search needs
+returns : tie.Need-returns
+returns c = print-none _ _ (omega (arith, c .if1 .taken, put-short (report-short _ _) (c .before .before .put-report .ensures) .0))
 
-slice-aggregate-put-bytes-2 : tie.Need-slice-aggregate-put-bytes-2
-slice-aggregate-put-bytes-2 c = search needs
-
-put-bytes-requires-2 : tie.Need-put-bytes-requires-2
-put-bytes-requires-2 c κs = search needs
-
-put-reason-requires : tie.Need-put-reason-requires
-put-reason-requires c κs = search needs
+put-report-requires-2 : tie.Need-put-report-requires-2
+put-report-requires-2 c κs = search needs
 
 same-length : tie.Need-same-length
 same-length c = search needs
 
-returns : tie.Need-returns
-unfolding reportOf
-returns c =
-    let r = c .before .before in
-    let b = r .before .before .before .before in
-    let d = b .before .before .before .before .before in
-    let a = d .before .before .before .before in
-    let k = a .before .before .before .before .good .1 .1 .0 in
-    let l = a .put-bytes .kept .0 in
-    let m = d .put-decimal .kept .0 in
-    put-short (report-short _ _)
-    (put-then _ _ _ _ _ _ _ _ (omega (arith, k)) (put (a .put-bytes .ensures))
-    (put-then _ _ _ _ _ _ _ _ (omega (arith, k, l)) (put (d .put-decimal .ensures)) (put-then _ _ _ _ _ _ _ _ (omega (arith, k, l, m)) (put (b .put-bytes2 .ensures)) (r .put-reason .ensures))))
+returns-2 : tie.Need-returns-2
+returns-2 c =
+    let p = c .before .before in
+    let i = p .before .before in
+    let n = put-short (report-short _ _) (i .before .before .put-report .ensures) .0 in
+    print-all _ _ _ _ (report-short _ _) (omega (arith, n, i .if1 .left)) (p .put-report2 .ensures)
 
 pub report-spec : {M : Type 1} → statement M
 report-spec =
     tie.close
     (tie.spec
-    slice-aggregate-put-bytes
-    put-bytes-requires
-    put-decimal-requires
-    slice-aggregate-put-bytes-2
-    put-bytes-requires-2
-    put-reason-requires
+    slice-aggregate-put-report
+    put-report-requires
+    returns
+    put-report-requires-2
     same-length
-    returns)
+    returns-2)

@@ -1,50 +1,29 @@
--- The header and the records, or a stop line alone.
+-- The text goes in, or nothing is written.
 use mathlib.Core.Path.{sym, _∙_}
-use native.Mathlib.Omega.{arith}
+use borrow.Author.Tests.{leb-true, leb-false}
+use Rattle.load_text.proofs.Lines.{print-none, print-all}
+use Rattle.load_text.proofs.Showing.{text-short}
 use borrow.Author.Needs.{needs}
-use Rattle.load_text.proofs.Showing.{text-open, text-read, text-short}
-use Rattle.load.proofs.Reading.{open-known}
-use Rattle.numerals.proofs.Laying.{put, put-then, put-as, put-short}
 use Rattle.load_text.proofs.print.show.Statement.{statement}
 use Rattle.load_text.proofs.print.show.Tie as tie
 
-open-number-requires : tie.Need-open-number-requires
-open-number-requires c κs = search needs
+goes-into-requires : tie.Need-goes-into-requires
+goes-into-requires c κs = search needs
 
-put-stop-requires : tie.Need-put-stop-requires
-put-stop-requires c κs = search needs
+put-text-requires : tie.Need-put-text-requires
+put-text-requires c κs = search needs
 
 same-length : tie.Need-same-length
 same-length c = search needs
 
 returns : tie.Need-returns
-returns c = put-short (text-short _) (put-as _ _ (text-open _ _ (c .before .before .before .before .before .open-number .ensures) (c .before .before .before .before .if1 .taken)) (c .before .before .put-stop .ensures))
-
-slice-aggregate-put-bytes : tie.Need-slice-aggregate-put-bytes
-slice-aggregate-put-bytes c = search needs
-
-put-bytes-requires : tie.Need-put-bytes-requires
-put-bytes-requires c κs = search needs
-
-put-records-requires : tie.Need-put-records-requires
-put-records-requires c κs = open-known _ (sym (c .before .before .before .before .before .before .before .open-number .ensures) ∙ c .before .before .before .before .before .before .if1 .left) .2
-
-same-length-2 : tie.Need-same-length-2
-same-length-2 c = search needs
+returns c =
+    let p = c .before .before in
+    let i = p .before .before in
+    print-all _ _ _ _ (text-short _) (leb-true _ _ (sym (i .before .goes-into .ensures) ∙ i .if1 .taken)) (p .put-text .ensures)
 
 returns-2 : tie.Need-returns-2
-returns-2 c = put-short (text-short _) (put-as _ _ (text-read _ _ (c .before .before .before .before .before .before .before .before .before .before .open-number .ensures) (c .before .before .before .before .before .before .before .before .before .if1 .left)) (put-then _ _ _ _ _ _ _ _ (omega arith) (put (c .before .before .before .before .before .before .put-bytes .ensures)) (c .before .before .put-records .ensures)))
+returns-2 c = print-none _ _ (leb-false _ _ (sym (c .before .goes-into .ensures) ∙ c .if1 .left))
 
 pub show-spec : {M : Type 1} → statement M
-show-spec =
-    tie.close
-    (tie.spec
-    open-number-requires
-    put-stop-requires
-    same-length
-    returns
-    slice-aggregate-put-bytes
-    put-bytes-requires
-    put-records-requires
-    same-length-2
-    returns-2)
+show-spec = tie.close (tie.spec goes-into-requires put-text-requires same-length returns returns-2)

@@ -1,0 +1,54 @@
+-- A report is its pieces laid one behind the other.
+use native.Mathlib.Omega.{arith}
+use Rattle.numerals.proofs.Laying.{put, put-then}
+use Rattle.load_text.specs.Lines.{reportOf}
+use borrow.Author.Needs.{needs}
+use Rattle.load_text.proofs.print.put_report.Statement.{statement}
+use Rattle.load_text.proofs.print.put_report.Tie as tie
+
+slice-aggregate-put-bytes : tie.Need-slice-aggregate-put-bytes
+slice-aggregate-put-bytes c = search needs
+
+put-bytes-requires : tie.Need-put-bytes-requires
+put-bytes-requires c κs = search needs
+
+put-decimal-requires : tie.Need-put-decimal-requires
+put-decimal-requires c κs = search needs
+
+slice-aggregate-put-bytes-2 : tie.Need-slice-aggregate-put-bytes-2
+slice-aggregate-put-bytes-2 c = search needs
+
+put-bytes-requires-2 : tie.Need-put-bytes-requires-2
+put-bytes-requires-2 c κs = search needs
+
+put-reason-requires : tie.Need-put-reason-requires
+put-reason-requires c κs = search needs
+
+same-length : tie.Need-same-length
+same-length c = search needs
+
+returns : tie.Need-returns
+unfolding reportOf
+returns c =
+    let r = c .before .before in
+    let b = r .before .before .before .before in
+    let d = b .before .before .before .before .before in
+    let a = d .before .before .before .before in
+    let k = a .before .before .before .before .good .1 .1 .0 in
+    let l = a .put-bytes .kept .0 in
+    let m = d .put-decimal .kept .0 in
+    put-then _ _ _ _ _ _ _ _ (omega (arith, k)) (put (a .put-bytes .ensures))
+    (put-then _ _ _ _ _ _ _ _ (omega (arith, k, l)) (put (d .put-decimal .ensures)) (put-then _ _ _ _ _ _ _ _ (omega (arith, k, l, m)) (put (b .put-bytes2 .ensures)) (r .put-reason .ensures)))
+
+pub put-report-spec : {M : Type 1} → statement M
+put-report-spec =
+    tie.close
+    (tie.spec
+    slice-aggregate-put-bytes
+    put-bytes-requires
+    put-decimal-requires
+    slice-aggregate-put-bytes-2
+    put-bytes-requires-2
+    put-reason-requires
+    same-length
+    returns)
