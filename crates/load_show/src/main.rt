@@ -1,10 +1,13 @@
 // A load on standard input to lines of calls on standard output.
+use load_text::Written;
 
-// `room` is for the text of any load: a record of 11 bytes or more is a line of at most 65.
+// `room` is for the text of any load.
 fn print(load: &[u8], mut room: [u8; 393216]) {
-    let n = load_text::show(load, &mut room);
-    if n <= 393216 {
-        io::write_all(1, &room[..n]);
+    match load_text::show(load, &mut room) {
+        Written::Length(n) => {
+            io::write_all(1, &room[..n]);
+        }
+        Written::Refusal(_n) => {}
     }
 }
 

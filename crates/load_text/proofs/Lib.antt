@@ -1,5 +1,4 @@
 pub mod Calls
-pub mod Growing
 pub mod Lines
 pub mod Making
 pub mod Numbers

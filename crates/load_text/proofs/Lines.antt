@@ -4,12 +4,12 @@ use mathlib.Core.Bool.{Bool, true, false, cond}
 use mathlib.Core.List.{List, [], _∷_, _++_}
 use mathlib.Core.Path.{_≡_, refl, ap}
 use native.Mathlib.Omega.{arith}
-use lib.Dec.{ltb, leb, eqb}
+use lib.Dec.{ltb, eqb}
 use lib.ListN.{length, length-append}
-use borrow.Author.Tests.{lt-ltb, le-ltb, ne-eqb, leb-true}
+use borrow.Author.Tests.{lt-ltb, le-ltb, ne-eqb}
 use Rattle.numerals.specs.Digits.{decimalOf, column, pair}
 use Rattle.numerals.specs.Laid.{Put, spaceNumber, lentOut}
-use Rattle.numerals.proofs.Laying.{width-small, decimal-length, column-length, pair-length, put-short, lent-all, lent-none}
+use Rattle.numerals.proofs.Laying.{width-small, decimal-length, column-length, pair-length, put-short, lent-all, lent-none, lent-known}
 use Rattle.load.specs.declared.Call.{Call}
 use Rattle.load.specs.declared.Call.the-variants.{Rig, Claim, Release, Withdraw, Clock}
 use Rattle.load.specs.declared.Written.the-variants.{Length, Refusal}
@@ -138,11 +138,13 @@ print-all text o p r s h w =
     let l = lent-all text o p h (e .1) in
     (rw (l .0) (ap Length (e .0)), l .1)
 
+pub answer-length : (k m n : ℕ) → answered k m ≡ Length n → (k ≡ 0) × (m ≡ n)
+answer-length zero m n e = (refl, cc)
+answer-length (suc k) m n e = let z : _≡_ {A = ℕ} 0 1 = cc in absurd (omega arith)
+
 -- A length that is answered is one of the buffer.
 pub printed-within : (text o : List ℕ) (n : ℕ) → printed text o ≡ Length n → n ≤ length o
-unfolding printed spaceNumber
-printed-within text o n e = go (leb (length text) (length o)) refl e
-  where
-    go : (b : Bool) → leb (length text) (length o) ≡ b → answered (cond b 0 15) (length text) ≡ Length n → n ≤ length o
-    go true l e = let k : length text ≡ n = cc in omega (arith, leb-true (length text) (length o) l)
-    go false l e = let z : _≡_ {A = ℕ} 0 1 = cc in absurd (omega arith)
+unfolding printed
+printed-within text o n e =
+    let a = answer-length (spaceNumber text o) (length text) n e in
+    omega (arith, a .1, lent-known text o (a .0) .0)

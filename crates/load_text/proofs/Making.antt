@@ -1,25 +1,38 @@
--- The load of a text line by line: the loop of `make`, and that a load made so reads to its end.
+-- The load of a text line by line: what a line adds, the loop over the lines, the copy into a lent buffer, and that the load reads as the
+-- calls that the lines say.
 use Prim.Native.Nat.{ℕ, zero, suc, _+_, _-_, _≤_, _<_}
-use mathlib.Core.List.{List, [], _∷_, _++_, append-nil}
+use mathlib.Core.Bool.{Bool, true, false, not, _||_, cond}
+use mathlib.Core.List.{List, [], _∷_, _++_, map, append-nil}
 use mathlib.Core.Path.{_≡_, refl, sym, ap, _∙_}
 use native.Mathlib.Omega.{arith}
-use lib.ListN.{length, take, drop, set, replicate, length-set, length-replicate}
-use lib.Seq.{length-take-le, drop-set-lt, append-snoc}
+use native.Mathlib.Nat.{add-zero}
+use lib.Dec.{ltb}
+use borrow.Author.Tests.{ltb-false}
+use lib.ListN.{length, take, drop, replicate, length-replicate, length-append}
+use lib.Seq.{take-at, append-snoc}
+use Rattle.numerals.specs.Laid.{behind, laid, spaceNumber, lentOut}
+use Rattle.numerals.proofs.Laying.{laid-append, laid-length, laid-none, laid-first, behind-small, lent-all, lent-none, lent-known}
 use Rattle.load.specs.declared.Call.{Call}
 use Rattle.load.specs.declared.Written.{Written}
 use Rattle.load.specs.declared.Written.the-variants.{Length, Refusal}
-use Rattle.load.specs.Reading.{loadNumber}
-use Rattle.load.specs.Writing.{grown, appendNumber, appendAnswer, answered, lent}
+use Rattle.load.specs.Calls.{carries, kindOf}
+use Rattle.load.specs.Bytes.{recordBytes, recordsBytes}
+use Rattle.load.specs.Reading.{inPlace, loadNumber, walk}
+use Rattle.load.specs.Writing.{grown, roomNumber, growNumber, appendNumber, appendAnswer, appendOut, answered, lent}
 use Rattle.load.specs.RoundTrip.{Typed, Appended}
+use Rattle.load.proofs.Reading.{load-known}
+use Rattle.load.proofs.Writing.{append-grow}
 use Rattle.load.proofs.RoundTrip.{written-reads}
+use Rattle.load_text.specs.declared.Made.{Made}
 use Rattle.load_text.specs.declared.Made.the-variants.{Load, Mistake}
 use Rattle.load_text.specs.declared.parse.Parsed.{Parsed}
 use Rattle.load_text.specs.declared.parse.Parsed.the-variants.{Nothing, Said, Bad}
-use Rattle.load_text.specs.Parsing.{isFeed, placeOf, linesIn, lineSays}
-use Rattle.load_text.specs.Making.{Added, added, Making, onFrom, gathered, made, madeOf, atStart, madeOut, andSaid, callsIn, MadeReads}
+use Rattle.load_text.specs.Parsing.{isFeed, placeOf, linesIn, lineSays, callsOf}
+use Rattle.load_text.specs.Reasons.{noSpace}
+use Rattle.load_text.specs.Making.{Making, whole, wrong, lineNumber, lineBytes, onFrom, gathered, made, madeAs, answerOn, bufferOn, madeOf, madeOut, Gathers, callsIn, MadeReads}
+use Rattle.load_text.proofs.Lines.{answer-length}
 use Rattle.load_text.proofs.Parts.{place-low, place-high, parts-cut, parts-end}
-use Rattle.load_text.proofs.Growing.{start-own, start-take, start-length, start-over, added-longer, added-fits, added-length, grown-first}
-use Rattle.load_text.proofs.Within.{says-typed}
+use Rattle.load_text.proofs.Within.{says-typed, reasons-apart}
 
 -- ── lines from a place on ──
 lines-cut : (text : List ℕ) (at e : ℕ) → at < length text → e ≡ placeOf isFeed text at
@@ -35,168 +48,216 @@ lines-end text at h = parts-end isFeed text at h
 pub line-reach : (text : List ℕ) (at e : ℕ) → at < length text → e ≡ placeOf isFeed text at → (at ≤ e) × (e ≤ length text)
 line-reach text at e h i = (omega (arith, i, place-low isFeed text at), omega (arith, i, place-high isFeed text at))
 
--- ── what a line adds is what the writer makes ──
--- A call that the writer takes where there is room, taken.
-append-more : (cs : List Call) (s : List ℕ) (c : Call) (room : ℕ) → Appended 1 cs s → Typed c → appendNumber s c room ≡ 0 → Appended 1 (cs ++ (c ∷ [])) (grown s c)
-unfolding appendAnswer
-append-more cs s c room a t z =
-    let out : List ℕ = replicate room 0 in
-    let e : answered (appendNumber s c (length out)) (length (grown s c)) ≡ Length (length (grown s c)) = rw (length-replicate, z) in
-    rw (grown-first s c out (length (grown s c)) e) at (Appended.one c out (length (grown s c)) a t e)
-
--- The same for what a line says.
-line-more : (cs : List Call) (s l : List ℕ) (room n : ℕ) → Appended 1 cs s → added s room (lineSays l) .answer ≡ Length n → Appended 1 (cs ++ andSaid (lineSays l) []) (added s room (lineSays l) .load)
-line-more cs s l room n a e = go (lineSays l) refl e
+-- ── what a line adds ──
+-- A call that is taken leaves the load within its bound.
+grow-small : (n : ℕ) (c : Call) (room : ℕ) → growNumber 1 n c room ≡ 0 → n + length (recordBytes 1 c) ≤ 65536
+unfolding growNumber roomNumber
+grow-small n c room = go (not (inPlace (kindOf c) n) || not (carries 1 c)) (ltb 65536 w) (ltb room w) refl
   where
-    go : (p : Parsed) → lineSays l ≡ p → added s room p .answer ≡ Length n → Appended 1 (cs ++ andSaid p []) (added s room p .load)
-    go Nothing i e = rw append-nil a
-    go (Bad j) i e = let z : _≡_ {A = ℕ} 0 1 = cc in absurd (omega arith)
-    go (Said c) i e = call (appendNumber s c room) refl e
-      where
-        call : (j : ℕ) → appendNumber s c room ≡ j → answered j (length (grown s c)) ≡ Length n → Appended 1 (cs ++ (c ∷ [])) (lent j (grown s c) s)
-        call zero z e = append-more cs s c room a (says-typed l c i) z
-        call (suc j) z e = let y : _≡_ {A = ℕ} 0 1 = cc in absurd (omega arith)
+    w : ℕ
+    w = n + length (recordBytes 1 c)
+
+    go : (a x y : Bool) → ltb 65536 w ≡ x → cond {A = ℕ} a 13 (cond x 14 (cond y 15 0)) ≡ 0 → w ≤ 65536
+    go true x y u h = absurd (omega arith)
+    go false true y u h = absurd (omega arith)
+    go false false y u h = ltb-false 65536 w u
+
+pub said-bytes : (c : Call) → lineBytes (Said c) ≡ recordBytes 1 c
+unfolding lineBytes recordsBytes
+said-bytes c = append-nil (recordBytes 1 c)
+
+-- The answer on a line that says p behind a load of n bytes, and the buffer, which was o.
+abbrev Adds : ℕ → List ℕ → Parsed → Written → List ℕ → Type 0
+Adds n o p r q = (r ≡ answered (lineNumber n p) (n + length (lineBytes p))) × (q ≡ lent (lineNumber n p) (laid o n (lineBytes p)) o)
+
+module _ (n : ℕ) (o : List ℕ) (p : Parsed) where
+  pub add-nothing : p ≡ Nothing → Adds n o p (Length n) o
+  unfolding lineNumber lineBytes recordsBytes
+  add-nothing e = rw e (ap Length (sym (add-zero n)), sym (laid-none o n))
+
+  -- Refused by k, which is the line's own number or that of its call.
+  refused : (k : ℕ) → lineNumber n p ≡ k → (k ≡ 0 → ⊥) → Adds n o p (Refusal k) o
+  refused zero e h = absurd (h refl)
+  refused (suc k) e h = rw e (refl, refl)
+
+  pub add-bad : (l : List ℕ) (k : ℕ) → p ≡ lineSays l → p ≡ Bad k → Adds n o p (Refusal k) o
+  unfolding lineNumber
+  add-bad l zero i e = absurd (omega (arith, reasons-apart l 0 (sym i ∙ e)))
+  add-bad l (suc k) i e = refused (suc k) (rw e) (λ z. omega arith)
+
+  module _ (c : Call) (e : p ≡ Said c) (k : ℕ) (g : k ≡ growNumber 1 n c 65536) where
+    number : lineNumber n p ≡ k
+    unfolding lineNumber
+    number = rw e (sym g)
+
+    pub add-refused : (k ≡ 0 → ⊥) → Adds n o p (Refusal k) o
+    add-refused h = refused k number h
+
+    pub add-taken : k ≡ 0 → (r : ℕ) (q : List ℕ) → r ≡ behind n (length (recordBytes 1 c)) → q ≡ laid o n (recordBytes 1 c) → Adds n o p (Length r) q
+    add-taken z r q x y =
+        let b = ap lineBytes e ∙ said-bytes c in
+        let l = grow-small n c 65536 (sym g ∙ z) in
+        rw (number ∙ z, b) (ap Length (x ∙ behind-small n (length (recordBytes 1 c)) (omega arith)), y)
 
 -- ── the loop ──
--- Behind `line` lines, at a place: a load stands in the buffer's first bytes, of which the lines from there on make what the text makes.
-pub record Gathers (text o₀ o : List ℕ) (size at line : ℕ) : Type 0 where
+-- Behind `line` lines, at a place: the edition byte and `rest` are laid, of which the lines from there on make what the text makes.
+-- The buffer was o₀, with the edition byte.
+pub record Turn (text o₀ o : List ℕ) (size at line : ℕ) : Type 0 where
   pub few : line ≤ at
-  pub begun : 1 ≤ size
-  pub held : size ≤ length o
-  pub same : length o ≡ length o₀
-  pub kept : o ≡ atStart (take size o) o₀
-  pub is : gathered (length o₀) line (take size o) (linesIn (drop at text)) ≡ made text (length o₀)
-  pub calls : List Call
-  pub appended : Appended 1 calls (take size o)
+  pub rest : List ℕ
+  pub long : size ≡ suc (length rest)
+  pub lays : o ≡ laid o₀ 1 rest
+  pub is : gathered line (1 ∷ rest) (map lineSays (linesIn (drop at text))) ≡ made text
 
--- So the load reads to its end.
-pub gathers-reads : {text o₀ o : List ℕ} {size at line : ℕ} → Gathers text o₀ o size at line → loadNumber (take size o) ≡ 0
-gathers-reads g = written-reads 1 (g .calls) _ (g .appended) .0
+pub turn-size : {text o₀ o : List ℕ} {size at line : ℕ} → Turn text o₀ o size at line → length o ≡ length o₀
+turn-size {o₀ = o₀} t = ap length (t .lays) ∙ laid-length o₀ 1 (t .rest)
 
-pub made-none : (text o : List ℕ) → length o ≡ 0 → (Mistake 0 15 ≡ madeOf text (length o)) × (o ≡ madeOut text o)
-unfolding madeOf madeOut made atStart
-made-none text [] h = (refl, refl)
-made-none text (b ∷ o) h = absurd (omega arith)
-
-pub gathers-start : (text o : List ℕ) → (length o ≡ 0 → ⊥) → Gathers text (set o 0 1) (set o 0 1) 1 0 0
+pub turn-start : (text o : List ℕ) (size : ℕ) → size ≡ behind 0 1 → Turn text o o size 0 0
 unfolding made
-gathers-start text [] h = absurd (h refl)
-gathers-start text (b ∷ o) h = record { few = omega arith; begun = omega arith; held = omega arith; same = refl; kept = start-own (1 ∷ o) 1 (omega arith); is = refl; calls = []; appended = Appended.none refl }
+turn-start text o size e = record { few = omega arith; rest = []; long = e ∙ behind-small 0 1 (omega arith); lays = sym (laid-none o 1); is = refl }
 
--- The caller's buffer is o, of which the first byte was set.
-ended : (text o p : List ℕ) (m : Making) → made text (length (set o 0 1)) ≡ m → 1 ≤ length (m .load) → p ≡ atStart (m .load) (set o 0 1)
-    → (m .answer ≡ madeOf text (length o)) × (p ≡ madeOut text o)
-unfolding madeOf madeOut atStart
-ended text o p m e h k =
-    let f : made text (length o) ≡ m = ap (made text) (sym (length-set o 0 1)) ∙ e in
-    let b : p ≡ m .load ++ drop (length (m .load)) o = k ∙ ap (λ r. m .load ++ r) (drop-set-lt (length (m .load)) o 0 1 (omega arith)) in
-    (sym (ap (λ (x : Making). x .answer) f), b ∙ sym (ap (λ (x : Making). x .load ++ drop (length (x .load)) o) f))
-
-module _ (text o p : List ℕ) (size at line : ℕ) (g : Gathers text (set o 0 1) p size at line) where
-  size-is : length (take size p) ≡ size
-  size-is = length-take-le size p (g .held)
-
-  pub gathers-end : length text ≤ at → (Load size ≡ madeOf text (length o)) × (p ≡ madeOut text o)
+module _ (text e o₀ o : List ℕ) (b : o₀ ≡ laid e 0 (1 ∷ [])) (size at line : ℕ) (t : Turn text o₀ o size at line) where
+  pub turn-end : length text ≤ at → Gathers (made text) e (Load size) o
   unfolding gathered
-  gathers-end h =
-      let m : Making = record { load = take size p; answer = Load size } in
-      let n : _≡_ {A = Making} (record { load = take size p; answer = Load (length (take size p)) }) m = rw size-is in
-      let e : made text (length (set o 0 1)) ≡ m = sym (g .is) ∙ ap (gathered (length (set o 0 1)) line (take size p)) (lines-end text at h) ∙ n in
-      ended text o p m e (omega (arith, size-is, g .begun)) (g .kept)
+  turn-end h =
+      let w : whole (1 ∷ t .rest) ≡ made text = rw (lines-end text at h) at (t .is) in
+      rw (← w) (ap Load (t .long), t .lays ∙ ap (λ x. laid x 1 (t .rest)) b ∙ sym (laid-append e 0 (1 ∷ []) (t .rest)))
 
-  -- A line: e is where it ends, r the answer on it, q the buffer behind it.
-  module _ (h : at < length text) (e : ℕ) (i : e ≡ placeOf isFeed text at) (r : Written) (q : List ℕ)
-      (x : r ≡ added (take size p) (length p) (lineSays (take (e - at) (drop at text))) .answer)
-      (y : q ≡ atStart (added (take size p) (length p) (lineSays (take (e - at) (drop at text))) .load) p) where
-    abbrev a : Added
-    a = added (take size p) (length p) (lineSays (take (e - at) (drop at text)))
+  -- A line: j is where it ends, r the answer on it, q the buffer behind it.
+  module _ (h : at < length text) (j : ℕ) (i : j ≡ placeOf isFeed text at) (r : Written) (q : List ℕ)
+      (x : Adds size o (lineSays (take (j - at) (drop at text))) r q) where
+    abbrev says : Parsed
+    says = lineSays (take (j - at) (drop at text))
 
-    longer : size ≤ length (a .load)
-    longer = omega (arith, size-is, added-longer (take size p) (length p) (lineSays (take (e - at) (drop at text))))
-
-    fits : length (a .load) ≤ length p
-    fits = added-fits (take size p) (length p) (lineSays (take (e - at) (drop at text))) (omega (arith, size-is, g .held))
-
-    over : q ≡ atStart (a .load) (set o 0 1)
-    over = y ∙ ap (atStart (a .load)) (g .kept) ∙ start-over (take size p) (a .load) (set o 0 1) (omega (arith, size-is, longer))
-
-    on : made text (length (set o 0 1)) ≡ onFrom (λ t. gathered (length (set o 0 1)) (line + 1) t (linesIn (drop (e + 1) text))) (line + 1) (a .load) r
+    on : made text ≡ onFrom (lineNumber size says) (line + 1) (gathered (line + 1) (1 ∷ (t .rest ++ lineBytes says)) (map lineSays (linesIn (drop (j + 1) text))))
     unfolding gathered
-    on = sym (g .is) ∙ rw (← (g .same), lines-cut text at e h i, x)
+    on = sym (t .is) ∙ rw (lines-cut text at j h i, t .long)
 
-    pub gathers-more : (n : ℕ) → r ≡ Length n → Gathers text (set o 0 1) q n (e + 1) (line + 1)
-    gathers-more n z =
-        let l : length (a .load) ≡ n = added-length (take size p) (length p) (lineSays (take (e - at) (drop at text))) n (sym x ∙ z) in
-        let t : take n q ≡ a .load = ap (take n) y ∙ start-take (a .load) p n l in
-        let w : length q ≡ length p = ap length y ∙ start-length (a .load) p fits in
+    pub turn-more : (n : ℕ) → r ≡ Length n → Turn text o₀ q n (j + 1) (line + 1)
+    turn-more n z =
+        let a = answer-length (lineNumber size says) (size + length (lineBytes says)) n (sym (x .0) ∙ z) in
+        let l = t .long in
         record {
-          few = omega (arith, g .few, line-reach text at e h i .0);
-          begun = omega (arith, l, longer, g .begun);
-          held = omega (arith, l, fits, w);
-          same = w ∙ g .same;
-          kept = rw t over;
-          is = rw t (sym (rw z at on));
-          calls = g .calls ++ andSaid (lineSays (take (e - at) (drop at text))) [];
-          appended = rw t (line-more (g .calls) (take size p) (take (e - at) (drop at text)) (length p) n (g .appended) (sym x ∙ z));
+          few = omega (arith, t .few, line-reach text at j h i .0);
+          rest = t .rest ++ lineBytes says;
+          long = omega (arith, a .1, length-append (t .rest) (lineBytes says));
+          lays = (rw (a .0) at (x .1)) ∙ ap (λ y. laid y size (lineBytes says)) (t .lays) ∙ ap (λ k. laid (laid o₀ 1 (t .rest)) k (lineBytes says)) (omega arith)
+              ∙ sym (laid-append o₀ 1 (t .rest) (lineBytes says));
+          is = sym (rw (a .0) at on);
         }
 
-    pub gathers-wrong : (n : ℕ) → r ≡ Refusal n → (Mistake (line + 1) n ≡ madeOf text (length o)) × (q ≡ madeOut text o)
-    gathers-wrong n z =
-        let m : Making = record { load = a .load; answer = Mistake (line + 1) n } in
-        ended text o q m (rw z at on) (omega (arith, longer, g .begun)) over
+    pub turn-wrong : (n : ℕ) → r ≡ Refusal n → Gathers (made text) e (Mistake (line + 1) n) q
+    turn-wrong n z = rw on (go (lineNumber size says) _ (sym (x .0) ∙ z))
+      where
+        go : (k : ℕ) (m : Making) → answered k (size + length (lineBytes says)) ≡ Refusal n → Gathers (onFrom k (line + 1) m) e (Mistake (line + 1) n) q
+        go zero m u = let y : _≡_ {A = ℕ} 0 1 = cc in absurd (omega arith)
+        go (suc k) m u = let y : suc k ≡ n = cc in ap (Mistake (line + 1)) (sym y)
 
 -- ── a made load reads as its calls ──
--- What lines make of a load, if it ends well.
-record Reads (cs : List Call) (m : Making) (n : ℕ) : Type 0 where
-  pub appended : Appended 1 cs (m .load)
-  pub is : length (m .load) ≡ n
+-- A call that the writer takes where there is room, taken.
+append-more : (cs : List Call) (s : List ℕ) (c : Call) (room : ℕ) → Appended 1 cs s → Typed c → growNumber 1 (length s) c room ≡ 0 → Appended 1 (cs ++ (c ∷ [])) (s ++ recordBytes 1 c)
+unfolding appendAnswer appendOut grown
+append-more cs s c room a t z =
+    let w = written-reads 1 cs s a .0 in
+    let e = load-known s w .1 in
+    let out : List ℕ = replicate room 0 in
+    let g : appendNumber s c (length out) ≡ 0 = sym (append-grow s c (length out) 0 (sym w) refl) ∙ rw (length-replicate, e) z in
+    let l : appendAnswer s c out ≡ Length (length (grown s c)) = rw g in
+    let f : take (length (grown s c)) (appendOut s c out) ≡ s ++ recordBytes 1 c = rw g (take-at (grown s c) (drop (length (grown s c)) out) (length (grown s c)) refl ∙ rw e) in
+    rw f at (Appended.one c out (length (grown s c)) a t l)
 
-gathered-reads : (room k : ℕ) (ls : List (List ℕ)) (cs : List Call) (s : List ℕ) (n : ℕ) → Appended 1 cs s → gathered room k s ls .answer ≡ Load n → Reads (cs ++ callsIn ls) (gathered room k s ls) n
-unfolding gathered callsIn
-gathered-reads room k [] cs s n a e = record { appended = rw append-nil a; is = cc }
-gathered-reads room k (l ∷ ls) cs s n a e = go (lineSays l) refl e (λ ds r b. gathered-reads room (k + 1) ls ds r n b)
+gathered-reads : (k : ℕ) (ls : List (List ℕ)) (cs : List Call) (s u : List ℕ) → Appended 1 cs s → gathered k s (map lineSays ls) ≡ whole u → Appended 1 (cs ++ callsIn (map lineSays ls)) u
+unfolding gathered callsIn lineNumber lineBytes recordsBytes
+gathered-reads k [] cs s u a e = let i : s ≡ u = cc in rw (append-nil, ← i) a
+gathered-reads k (l ∷ ls) cs s u a e = go (lineSays l) refl e (λ ds r b. gathered-reads (k + 1) ls ds r u b)
   where
-    go : (p : Parsed) → lineSays l ≡ p → onFrom (λ r. gathered room (k + 1) r ls) (k + 1) (added s room p .load) (added s room p .answer) .answer ≡ Load n
-        → ((ds : List Call) (r : List ℕ) → Appended 1 ds r → gathered room (k + 1) r ls .answer ≡ Load n → Reads (ds ++ callsIn ls) (gathered room (k + 1) r ls) n)
-        → Reads (cs ++ andSaid p (callsIn ls)) (onFrom (λ r. gathered room (k + 1) r ls) (k + 1) (added s room p .load) (added s room p .answer)) n
-    go Nothing i e f = f cs s a e
-    go (Bad j) i e f = let z : _≡_ {A = ℕ} 0 1 = cc in absurd (omega arith)
-    go (Said c) i e f = call (appendNumber s c room) refl e
+    ps : List Parsed
+    ps = map lineSays ls
+
+    go : (p : Parsed) → lineSays l ≡ p → onFrom (lineNumber (length s) p) (k + 1) (gathered (k + 1) (s ++ lineBytes p) ps) ≡ whole u
+        → ((ds : List Call) (r : List ℕ) → Appended 1 ds r → gathered (k + 1) r ps ≡ whole u → Appended 1 (ds ++ callsIn ps) u)
+        → Appended 1 (cs ++ (callsOf p ++ callsIn ps)) u
+    go Nothing i e f = f cs s a (rw append-nil at e)
+    go (Bad zero) i e f = absurd (omega (arith, reasons-apart l 0 i))
+    go (Bad (suc j)) i e f = let z : _≡_ {A = ℕ} 0 1 = cc in absurd (omega arith)
+    go (Said c) i e f = call (growNumber 1 (length s) c 65536) refl e
       where
-        call : (j : ℕ) → appendNumber s c room ≡ j
-            → onFrom (λ r. gathered room (k + 1) r ls) (k + 1) (lent j (grown s c) s) (answered j (length (grown s c))) .answer ≡ Load n
-            → Reads (cs ++ (c ∷ callsIn ls)) (onFrom (λ r. gathered room (k + 1) r ls) (k + 1) (lent j (grown s c) s) (answered j (length (grown s c)))) n
-        call zero z e = rw (append-snoc cs c (callsIn ls)) at (f (cs ++ (c ∷ [])) (grown s c) (append-more cs s c room a (says-typed l c i) z) e)
+        call : (j : ℕ) → growNumber 1 (length s) c 65536 ≡ j → onFrom j (k + 1) (gathered (k + 1) (s ++ lineBytes (Said c)) ps) ≡ whole u → Appended 1 (cs ++ (c ∷ callsIn ps)) u
+        call zero z e = rw (append-snoc cs c (callsIn ps)) at (f (cs ++ (c ∷ [])) (s ++ recordBytes 1 c) (append-more cs s c 65536 a (says-typed l c i) z) (rw (said-bytes c) at e))
         call (suc j) z e = let y : _≡_ {A = ℕ} 0 1 = cc in absurd (omega arith)
 
-made-ends : (text : List ℕ) (room n : ℕ) → made text room .answer ≡ Load n → Reads (callsIn (linesIn text)) (made text room) n
+made-ends : (text s : List ℕ) → made text ≡ whole s → Appended 1 (callsIn (map lineSays (linesIn text))) s
 unfolding made
-made-ends text zero n e = let z : _≡_ {A = ℕ} 0 1 = cc in absurd (omega arith)
-made-ends text (suc room) n e = gathered-reads (suc room) 0 (linesIn text) [] (1 ∷ []) n (Appended.none refl) e
+made-ends text s e = gathered-reads 0 (linesIn text) [] (1 ∷ []) s (Appended.none refl) e
 
-gathered-fits : (room k : ℕ) (ls : List (List ℕ)) (s : List ℕ) → length s ≤ room → length (gathered room k s ls .load) ≤ room
+-- A line that is wrong has a number.
+gathered-wrong : (k : ℕ) (s : List ℕ) (ps : List Parsed) (i n : ℕ) → gathered k s ps ≡ wrong i n → 0 < n
 unfolding gathered
-gathered-fits room k [] s h = h
-gathered-fits room k (l ∷ ls) s h = go (added s room (lineSays l) .load) (added s room (lineSays l) .answer) (added-fits s room (lineSays l) h) (gathered-fits room (k + 1) ls)
+gathered-wrong k s [] i n e = let z : _≡_ {A = ℕ} 0 1 = cc in absurd (omega arith)
+gathered-wrong k s (p ∷ ps) i n e = go (lineNumber (length s) p) e (gathered-wrong (k + 1) (s ++ lineBytes p) ps i n)
   where
-    go : (t : List ℕ) (w : Written) → length t ≤ room → ((r : List ℕ) → length r ≤ room → length (gathered room (k + 1) r ls .load) ≤ room)
-        → length (onFrom (λ r. gathered room (k + 1) r ls) (k + 1) t w .load) ≤ room
-    go t (Length n) i f = f t i
-    go t (Refusal n) i f = i
+    go : (j : ℕ) {m : Making} → onFrom j (k + 1) m ≡ wrong i n → (m ≡ wrong i n → 0 < n) → 0 < n
+    go zero e f = f e
+    go (suc j) e f = let z : suc j ≡ n = cc in omega arith
 
-made-fits : (text : List ℕ) (room : ℕ) → length (made text room .load) ≤ room
+-- ── into a lent buffer ──
+wrong-is : (text : List ℕ) (k n : ℕ) → made text ≡ wrong k n → madeAs n k 0 ≡ Mistake k n
 unfolding made
-made-fits text zero = omega arith
-made-fits text (suc room) = gathered-fits (suc room) 0 (linesIn text) (1 ∷ []) (omega arith)
+wrong-is text k zero e = absurd (omega (arith, gathered-wrong 0 (1 ∷ []) (map lineSays (linesIn text)) k 0 e))
+wrong-is text k (suc n) e = refl
 
-pub made-bound : (text : List ℕ) (room n : ℕ) → madeOf text room ≡ Load n → n ≤ room
-unfolding madeOf
-made-bound text room n e = omega (arith, made-ends text room n e .is, made-fits text room)
+-- What `gather` has of a text that makes a load of n bytes.
+pub record Loaded (text p : List ℕ) (n : ℕ) : Type 0 where
+  pub load : List ℕ
+  pub is : made text ≡ whole load
+  pub long : length load ≡ n
+  pub small : n ≤ 65536
+  pub first : take n p ≡ load
+
+pub loaded : (text o : List ℕ) (r : Made) (p : List ℕ) (n : ℕ) → Gathers (made text) o r p → r ≡ Load n → 65536 ≡ length o → Loaded text p n
+loaded text o r p n g e h = go (made text) refl g
+  where
+    go : (m : Making) → made text ≡ m → Gathers m o r p → Loaded text p n
+    go (whole s) i g =
+        let l : length s ≡ n = cc in
+        let b = load-known s (written-reads 1 _ s (made-ends text s i) .0) .2 in
+        record { load = s; is = i; long = l; small = omega arith; first = ap (take n) (g .1) ∙ laid-first o s n l (omega arith) }
+    go (wrong k j) i g = let y = wrong-is text k j i in let z : _≡_ {A = ℕ} 0 1 = cc in absurd (omega arith)
+
+module _ (text p : List ℕ) (n : ℕ) (l : Loaded text p n) (out : List ℕ) where
+  pub make-none : length out < n → (Mistake 0 noSpace ≡ madeOf text out) × (out ≡ madeOut text out)
+  unfolding madeOf madeOut
+  make-none h = let k = l .long in let w = lent-none (l .load) out (omega arith) in rw (l .is) (rw (w .0), w .1)
+
+  pub make-all : n ≤ length out → (q : List ℕ) → q ≡ laid out 0 (take n p) → (Load n ≡ madeOf text out) × (q ≡ madeOut text out)
+  unfolding madeOf madeOut
+  make-all h q e =
+      let k = l .long in
+      let w = lent-all (l .load) out q (omega arith) (e ∙ ap (laid out 0) (l .first)) in
+      rw (l .is) (rw (w .0) (ap Load (sym k)), w .1)
+
+pub make-wrong : (text o : List ℕ) (r : Made) (p : List ℕ) (k n : ℕ) → Gathers (made text) o r p → r ≡ Mistake k n → (out : List ℕ) → (Mistake k n ≡ madeOf text out) × (out ≡ madeOut text out)
+unfolding madeOf madeOut
+make-wrong text o r p k n g e out = go (made text) g
+  where
+    go : (m : Making) → Gathers m o r p → (Mistake k n ≡ answerOn m out) × (out ≡ bufferOn m out)
+    go (whole s) g = let z : _≡_ {A = ℕ} 0 1 = cc in absurd (omega arith)
+    go (wrong i j) g = (sym e ∙ g, refl)
+
+made-length : (k line m n : ℕ) → madeAs k line m ≡ Load n → (k ≡ 0) × (m ≡ n)
+made-length zero line m n e = (refl, cc)
+made-length (suc k) line m n e = let z : _≡_ {A = ℕ} 0 1 = cc in absurd (omega arith)
 
 pub made-reads : MadeReads
 unfolding madeOf madeOut
-made-reads text out n e =
-    let r = made-ends text (length out) n e in
-    let t : take n (atStart (made text (length out) .load) out) ≡ made text (length out) .load = start-take (made text (length out) .load) out n (r .is) in
-    let w = written-reads 1 _ _ (r .appended) in
-    (made-bound text (length out) n e, rw t (w .0), rw t (w .1))
+made-reads text out n e = go (made text) refl e
+  where
+    go : (m : Making) → made text ≡ m → answerOn m out ≡ Load n
+        → (n ≤ length out) × (loadNumber (take n (bufferOn m out)) ≡ 0) × (walk (take n (bufferOn m out)) 1 ≡ record { calls = callsIn (map lineSays (linesIn text)); stop = 0 })
+    go (whole s) i e =
+        let q = made-length (spaceNumber s out) 0 (length s) n e in
+        let l = lent-known s out (q .0) in
+        let t : take n (lentOut s out) ≡ s = rw (← (q .1)) (l .1) in
+        let w = written-reads 1 _ s (made-ends text s i) in
+        (omega (arith, q .1, l .0), rw t (w .0), rw t (w .1))
+    go (wrong k j) i e = let y = wrong-is text k j i in let z : _≡_ {A = ℕ} 0 1 = cc in absurd (omega arith)

@@ -1,72 +1,54 @@
 -- A load printed as text makes that load again: ShownMakes of specs/ReadBack. The lines say the load's calls, and the writer takes each.
-use Prim.Native.Nat.{ℕ, zero, suc, _+_, _≤_}
+use Prim.Native.Nat.{ℕ, _+_, _≤_}
 use mathlib.Core.Bool.{true}
 use mathlib.Core.List.{List, [], _∷_, _++_, map, append-assoc, append-nil}
 use mathlib.Core.Path.{_≡_, refl, sym, ap, _∙_}
 use native.Mathlib.Omega.{arith}
 use lib.ListN.{length}
 use Rattle.load.specs.declared.Call.{Call}
-use Rattle.load.specs.Bytes.{recordsBytes, loadBytes}
+use Rattle.load.specs.Bytes.{recordBytes, recordsBytes, loadBytes}
 use Rattle.load.specs.Reading.{walk}
-use Rattle.load.specs.Writing.{grown, appendNumber}
-use Rattle.load.proofs.Bytes.{load-longer}
+use Rattle.load.specs.Writing.{growNumber}
+use Rattle.load.proofs.Bytes.{load-append, load-longer, load-edition}
 use Rattle.load.proofs.Reading.{load-known}
+use Rattle.load.proofs.Writing.{append-parts}
 use Rattle.load.proofs.Loads.{Loadable, loadable-at, read-loadable}
 use Rattle.load.proofs.RoundTrip.{next-taken, read-written}
-use Rattle.load_text.specs.declared.Made.the-variants.{Load}
 use Rattle.load_text.specs.declared.parse.Parsed.the-variants.{Nothing, Said}
-use Rattle.load_text.specs.Lines.{textOf}
-use Rattle.load_text.specs.Parsing.{linesIn, lineSays}
-use Rattle.load_text.specs.Making.{Making, gathered, made}
+use Rattle.load_text.specs.Making.{whole, lineNumber, lineBytes, gathered, made}
 use Rattle.load_text.specs.ReadBack.{ShownMakes}
+use Rattle.load_text.proofs.Making.{said-bytes}
 use Rattle.load_text.proofs.ReadBack.{text-read-back}
 
--- What a text makes that ends well with load s.
-abbrev whole : List ℕ → Making
-whole s = record { load = s; answer = Load (length s) }
-
--- A line that says nothing, and one that says a call which the writer takes.
-skipped : (room k : ℕ) (s l : List ℕ) (ls : List (List ℕ)) → lineSays l ≡ Nothing → gathered room k s (l ∷ ls) ≡ gathered room (k + 1) s ls
-unfolding gathered
-skipped room k s l ls e = rw e
-
-taken : (room k : ℕ) (s l : List ℕ) (ls : List (List ℕ)) (c : Call) → lineSays l ≡ Said c → appendNumber s c room ≡ 0 → gathered room k s (l ∷ ls) ≡ gathered room (k + 1) (grown s c) ls
-unfolding gathered
-taken room k s l ls c e z = rw (e, z)
+-- A call that the writer takes, and one line more.
+taken : (k : ℕ) (s : List ℕ) (c : Call) (cs : List Call) → growNumber 1 (length s) c 65536 ≡ 0
+    → gathered k s (map Said (c ∷ cs)) ≡ gathered (k + 1) (s ++ recordBytes 1 c) (map Said cs)
+unfolding gathered lineNumber
+taken k s c cs z = rw (z, said-bytes c)
 
 -- Lines that say calls, behind a load of other calls, make the load of all.
-gathered-all : (room k : ℕ) (ls : List (List ℕ)) (cs ds : List Call) → map lineSays ls ≡ map Said cs → Loadable 1 true (ds ++ cs) → length (loadBytes 1 (ds ++ cs)) ≤ 65536
-    → length (loadBytes 1 (ds ++ cs)) ≤ room → gathered room k (loadBytes 1 ds) ls ≡ whole (loadBytes 1 (ds ++ cs))
+gathered-all : (k : ℕ) (cs ds : List Call) → Loadable 1 true (ds ++ cs) → length (loadBytes 1 (ds ++ cs)) ≤ 65536 → gathered k (loadBytes 1 ds) (map Said cs) ≡ whole (loadBytes 1 (ds ++ cs))
 unfolding gathered
-gathered-all room k [] [] ds e l b h = rw append-nil
-gathered-all room k [] (c ∷ cs) ds e l b h = absurd (omega (arith, ap length e))
-gathered-all room k (x ∷ ls) [] ds e l b h = absurd (omega (arith, ap length e))
-gathered-all room k (x ∷ ls) (c ∷ cs) ds e l b h =
-    let p : lineSays x ≡ Said c = cc in
-    let q : map lineSays ls ≡ map Said cs = cc in
+gathered-all k [] ds l b = rw append-nil
+gathered-all k (c ∷ cs) ds l b =
     let a = append-assoc ds (c ∷ []) cs in
     let v = loadable-at 1 true ds c cs l in
     let n = load-longer 1 (ds ++ (c ∷ [])) cs in
-    let i = ap (λ (y : List Call). length (loadBytes 1 y)) a in
-    let t = next-taken 1 ds c room refl (v .0) (v .1) (omega (arith, i, n, b)) (omega (arith, i, n, h)) in
-    taken room k (loadBytes 1 ds) x ls c p (t .0) ∙ ap (λ (y : List ℕ). gathered room (k + 1) y ls) (t .1)
-    ∙ (rw a at (gathered-all room (k + 1) ls cs (ds ++ (c ∷ [])) q (rw a l) (rw a b) (rw a h)))
+    let h : length (loadBytes 1 (ds ++ (c ∷ []))) ≤ 65536 = omega (arith, ap (λ (y : List Call). length (loadBytes 1 y)) a, n, b) in
+    let t = next-taken 1 ds c 65536 refl (v .0) (v .1) h h in
+    let z : growNumber 1 (length (loadBytes 1 ds)) c 65536 ≡ 0 = rw (load-edition 1 ds) at (append-parts (loadBytes 1 ds) c 65536 (t .0) .1) in
+    taken k (loadBytes 1 ds) c cs z ∙ ap (λ (y : List ℕ). gathered (k + 1) y (map Said cs)) (sym (load-append 1 ds c))
+    ∙ (rw a at (gathered-all (k + 1) cs (ds ++ (c ∷ [])) (rw a l) (rw a b)))
 
--- The same behind the header, from the edition byte on.
-from-header : (room : ℕ) (ls : List (List ℕ)) (cs : List Call) → map lineSays ls ≡ Nothing ∷ map Said cs → Loadable 1 true cs → length (loadBytes 1 cs) ≤ 65536 → length (loadBytes 1 cs) ≤ room
-    → gathered room 0 (1 ∷ []) ls ≡ whole (loadBytes 1 cs)
-unfolding loadBytes recordsBytes
-from-header room [] cs e l b h = absurd (omega (arith, ap length e))
-from-header room (x ∷ ls) cs e l b h =
-    let p : lineSays x ≡ Nothing = cc in
-    let q : map lineSays ls ≡ map Said cs = cc in
-    skipped room 0 (1 ∷ []) x ls p ∙ gathered-all room 1 ls cs [] q l b h
+-- The header's line says nothing.
+skipped : (s : List ℕ) (cs : List Call) → gathered 0 s (Nothing ∷ map Said cs) ≡ gathered 1 s (map Said cs)
+unfolding gathered lineNumber lineBytes recordsBytes
+skipped s cs = rw append-nil
 
 pub shown-makes : ShownMakes
-unfolding made
-shown-makes s b z zero h = absurd (omega (arith, load-known s z))
-shown-makes s b z (suc room) h =
+unfolding made loadBytes recordsBytes
+shown-makes s b z =
     let k = load-known s z in
     let r : s ≡ loadBytes 1 (walk s 1 .calls) = read-written s b z .0 ∙ ap (λ (e : ℕ). loadBytes e (walk s 1 .calls)) (k .1) in
-    let n = ap length r in
-    from-header (suc room) (linesIn (textOf s)) (walk s 1 .calls) (text-read-back s b z) (rw (k .1) at (read-loadable s b)) (omega (arith, n, k .2)) (omega (arith, n, h)) ∙ ap whole (sym r)
+    ap (gathered 0 (1 ∷ [])) (text-read-back s b z) ∙ skipped (1 ∷ []) (walk s 1 .calls)
+    ∙ gathered-all 1 (walk s 1 .calls) [] (rw (k .1) at (read-loadable s b)) (omega (arith, ap length r, k .2)) ∙ ap whole (sym r)

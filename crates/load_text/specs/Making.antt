@@ -1,80 +1,86 @@
--- The load that a text makes, line by line.
+-- The load that a text makes, line by line, and what `make` answers of it and leaves in a lent buffer.
 use Prim.Native.Nat.{ℕ, zero, suc, _+_, _≤_}
-use mathlib.Core.List.{List, [], _∷_, _++_}
+use mathlib.Core.List.{List, [], _∷_, _++_, map}
 use mathlib.Core.Path.{_≡_}
-use lib.ListN.{length, take, drop}
+use lib.ListN.{length, take}
+use Rattle.numerals.specs.Laid.{laid, spaceNumber, lentOut}
 use Rattle.load.specs.declared.Call.{Call}
-use Rattle.load.specs.declared.Written.{Written}
-use Rattle.load.specs.declared.Written.the-variants.{Length, Refusal}
-use Rattle.load.specs.Reading.{loadNumber, walk}
-use Rattle.load.specs.Writing.{grown, appendNumber, answered, lent}
+use Rattle.load.specs.Bytes.{recordsBytes}
+use Rattle.load.specs.Reading.{loadNumber, walk, orElse}
+use Rattle.load.specs.Writing.{growNumber}
 use Rattle.load_text.specs.declared.Made.{Made}
 use Rattle.load_text.specs.declared.Made.the-variants.{Load, Mistake}
 use Rattle.load_text.specs.declared.parse.Parsed.{Parsed}
-use Rattle.load_text.specs.declared.parse.Parsed.the-variants.{Nothing, Said, Bad}
-use Rattle.load_text.specs.Parsing.{linesIn, lineSays}
-
--- ── a line ──
--- A load behind a line, and the answer on that line: the load's length, or what is wrong.
-pub record Added : Type 0 where
-  pub load : List ℕ
-  pub answer : Written
-
--- What a line makes of a load s where there is room for `room` bytes: a call is appended, as by the writer.
-abbrev pub added : List ℕ → ℕ → Parsed → Added
-added s room Nothing = record { load = s; answer = Length (length s) }
-added s room (Said c) = record { load = lent (appendNumber s c room) (grown s c) s; answer = answered (appendNumber s c room) (length (grown s c)) }
-added s room (Bad n) = record { load = s; answer = Refusal n }
+use Rattle.load_text.specs.Parsing.{linesIn, lineSays, numberOf, callsOf}
 
 -- ── a text ──
--- A load behind a text, and the answer on that text: the load's length, or the first line that is wrong, counted from 1, and the reason.
-pub record Making : Type 0 where
-  pub load : List ℕ
-  pub answer : Made
+-- What lines make: a load, or the first line that is wrong, counted from 1, and its number.
+pub data Making : Type 0 where
+  whole : List ℕ → Making
+  wrong : ℕ → ℕ → Making
 
--- On from a line: `f` has the lines behind it to the end, and k is the line's number.
-abbrev pub onFrom : (List ℕ → Making) → ℕ → List ℕ → Written → Making
-onFrom f k s (Length n) = f s
-onFrom f k s (Refusal n) = record { load = s; answer = Mistake k n }
+-- The number of calls behind a load of n bytes, 0 for none. A call is tested as by the writer, in room for the longest load: 13, then 14.
+abbrev pub callsNumber : ℕ → List Call → ℕ
+callsNumber n [] = 0
+callsNumber n (c ∷ cs) = growNumber 1 n c 65536
+
+-- The number of a line behind a load of n bytes, 0 for one that is not wrong, and the record that it adds.
+unfoldable pub lineNumber : ℕ → Parsed → ℕ
+lineNumber n p = orElse (numberOf p) (callsNumber n (callsOf p))
+
+unfoldable pub lineBytes : Parsed → List ℕ
+lineBytes p = recordsBytes 1 (callsOf p)
+
+-- On to what the later lines make, unless line k has a number.
+abbrev pub onFrom : ℕ → ℕ → Making → Making
+onFrom zero k m = m
+onFrom (suc n) k m = wrong k (suc n)
 
 -- What lines make of a load s, behind k lines.
-unfoldable pub gathered : ℕ → ℕ → List ℕ → List (List ℕ) → Making
-gathered room k s [] = record { load = s; answer = Load (length s) }
-gathered room k s (l ∷ ls) =
-    let a : Added = added s room (lineSays l) in
-    onFrom (λ r. gathered room (k + 1) r ls) (k + 1) (a .load) (a .answer)
+unfoldable pub gathered : ℕ → List ℕ → List Parsed → Making
+gathered k s [] = whole s
+gathered k s (p ∷ ps) = onFrom (lineNumber (length s) p) (k + 1) (gathered (k + 1) (s ++ lineBytes p) ps)
 
--- What a text makes: "Writing begins from the edition byte alone", for which there must be room.
-unfoldable pub made : List ℕ → ℕ → Making
-made text zero = record { load = []; answer = Mistake 0 15 }
-made text (suc room) = gathered (suc room) 0 (1 ∷ []) (linesIn text)
+-- What a text makes: "Writing begins from the edition byte alone".
+unfoldable pub made : List ℕ → Making
+made text = gathered 0 (1 ∷ []) (map lineSays (linesIn text))
 
--- The answer on a text.
-unfoldable pub madeOf : List ℕ → ℕ → Made
-madeOf text room = made text room .answer
+-- ── `make` ──
+-- The cases of `Made` by their number, line and length: 0 is a load of that length, any other number is told with its line.
+abbrev pub madeAs : ℕ → ℕ → ℕ → Made
+madeAs zero line n = Load n
+madeAs (suc k) line n = Mistake line (suc k)
 
--- A load at the start of a buffer, whose later bytes keep their contents.
-unfoldable pub atStart : List ℕ → List ℕ → List ℕ
-atStart s out = s ++ drop (length s) out
+-- The first line that is wrong, else 15, whose line is 0, for a load that does not go in.
+abbrev pub answerOn : Making → List ℕ → Made
+answerOn (whole s) out = madeAs (spaceNumber s out) 0 (length s)
+answerOn (wrong k n) out = madeAs n k 0
 
--- The buffer behind a text.
+-- The buffer behind it: where a number is answered, "no byte of a lent buffer differs".
+abbrev pub bufferOn : Making → List ℕ → List ℕ
+bufferOn (whole s) out = lentOut s out
+bufferOn (wrong k n) out = out
+
+unfoldable pub madeOf : List ℕ → List ℕ → Made
+madeOf text out = answerOn (made text) out
+
 unfoldable pub madeOut : List ℕ → List ℕ → List ℕ
-madeOut text out = atStart (made text (length out) .load) out
+madeOut text out = bufferOn (made text) out
+
+-- What `gather` answers and leaves in its own buffer o, of which nothing is said where a line is wrong.
+abbrev pub Gathers : Making → List ℕ → Made → List ℕ → Type 0
+Gathers (whole s) o r p = (r ≡ Load (length s)) × (p ≡ laid o 0 s)
+Gathers (wrong k n) o r p = r ≡ madeAs n k 0
 
 -- ── what it reads as ──
--- The calls that lines say. (A wrong line says none, and no load is made of a text that has one.)
-abbrev pub andSaid : Parsed → List Call → List Call
-andSaid Nothing cs = cs
-andSaid (Said c) cs = c ∷ cs
-andSaid (Bad n) cs = cs
-
-unfoldable pub callsIn : List (List ℕ) → List Call
+-- The calls that lines say.
+unfoldable pub callsIn : List Parsed → List Call
 callsIn [] = []
-callsIn (l ∷ ls) = andSaid (lineSays l) (callsIn ls)
+callsIn (p ∷ ps) = callsOf p ++ callsIn ps
 
 -- A load that is answered with its length stands in the buffer's first bytes, and reads as the calls that the lines say, to its end.
 -- proofs/Making has the proof: made-reads.
 abbrev pub MadeReads : Type 0
-MadeReads = (text out : List ℕ) (n : ℕ) → madeOf text (length out) ≡ Load n
+MadeReads = (text out : List ℕ) (n : ℕ) → madeOf text out ≡ Load n
     → (n ≤ length out) × (loadNumber (take n (madeOut text out)) ≡ 0)
-    × (walk (take n (madeOut text out)) 1 ≡ record { calls = callsIn (linesIn text); stop = 0 })
+    × (walk (take n (madeOut text out)) 1 ≡ record { calls = callsIn (map lineSays (linesIn text)); stop = 0 })

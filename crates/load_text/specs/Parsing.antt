@@ -243,6 +243,17 @@ callIn (k ∷ ws) = callOf k ws
 unfoldable pub lineSays : List ℕ → Parsed
 lineSays l = callIn (wordsIn (said l))
 
+-- The cases of `Parsed` by their number, 0 for a line that is not wrong, and by the calls that they say.
+abbrev pub numberOf : Parsed → ℕ
+numberOf Nothing = 0
+numberOf (Said c) = 0
+numberOf (Bad n) = n
+
+abbrev pub callsOf : Parsed → List Call
+callsOf Nothing = []
+callsOf (Said c) = c ∷ []
+callsOf (Bad n) = []
+
 -- A line that is wrong has a reason that is no number of document 01. proofs/Within has the proof: reasons-apart.
 abbrev pub ReasonsApart : Type 0
 ReasonsApart = (l : List ℕ) (n : ℕ) → lineSays l ≡ Bad n → 101 ≤ n

@@ -1,16 +1,14 @@
 -- What is printed is read back. proofs/ReadBack has the proofs of the first two, line-read-back and text-read-back, proofs/Remaking that of
 -- the third, shown-makes.
-use Prim.Native.Nat.{ℕ, _≤_}
+use Prim.Native.Nat.{ℕ}
 use mathlib.Core.List.{List, _∷_, _++_, map}
 use mathlib.Core.Path.{_≡_}
-use lib.ListN.{length}
 use Rattle.load.specs.declared.Call.{Call}
 use Rattle.load.specs.Reading.{walk, loadNumber}
 use Rattle.load.specs.RoundTrip.{Bytes, Typed}
 use Rattle.load_text.specs.declared.parse.Parsed.the-variants.{Nothing, Said}
-use Rattle.load_text.specs.declared.Made.the-variants.{Load}
 use Rattle.load_text.specs.Lines.{lineOf, textOf}
-use Rattle.load_text.specs.Making.{made}
+use Rattle.load_text.specs.Making.{whole, made}
 use Rattle.load_text.specs.Parsing.{linesIn, lineSays}
 
 -- The line that a call is printed as says that call, in front of any other lines.
@@ -21,6 +19,6 @@ LineReadBack = (c : Call) → Typed c → (rest : List ℕ) → map lineSays (li
 abbrev pub TextReadBack : Type 0
 TextReadBack = (s : List ℕ) → Bytes s → loadNumber s ≡ 0 → map lineSays (linesIn (textOf s)) ≡ Nothing ∷ map Said (walk s 1 .calls)
 
--- The text that such a load is printed as makes that load again, where there is room for it.
+-- The text that such a load is printed as makes that load again.
 abbrev pub ShownMakes : Type 0
-ShownMakes = (s : List ℕ) → Bytes s → loadNumber s ≡ 0 → (room : ℕ) → length s ≤ room → made (textOf s) room ≡ record { load = s; answer = Load (length s) }
+ShownMakes = (s : List ℕ) → Bytes s → loadNumber s ≡ 0 → made (textOf s) ≡ whole s

@@ -2,12 +2,12 @@
 // No public function asks anything of its slices. What a line says is defined in specs/Parsing.antt, the load that lines make in
 // specs/Making.antt, and the lines of a load in specs/Lines.antt.
 ghost use mathlib.Core.Path.{_≡_};
-ghost use Prim.Native.Nat.{_≤_};
-ghost use lib.ListN.{length, take};
-ghost use Rattle.load.specs.Reading.{loadNumber};
-ghost use Rattle.load.specs.Writing.{appendAnswer, appendOut};
+ghost use Prim.Native.Nat.{_+_};
+ghost use lib.ListN.{length};
+ghost use Rattle.numerals.specs.Laid.{laid};
+ghost use Rattle.load.specs.Writing.{answered, lent};
 ghost use Rattle.load_text.specs.Parsing.{lineSays};
-ghost use Rattle.load_text.specs.Making.{added, atStart, madeOf, madeOut};
+ghost use Rattle.load_text.specs.Making.{lineNumber, lineBytes, Gathers, made, madeOf, madeOut};
 
 mod parse;
 mod print;
@@ -15,59 +15,44 @@ mod reasons;
 mod sets;
 mod words;
 
-use load::Call;
-use load::Written;
+use crate::reasons::NO_SPACE;
+pub use load::Written;
 pub use parse::Parsed;
 pub use parse::parse_line;
 pub use print::put_line;
 pub use print::report;
 pub use print::show;
 
-// The length of the load that a text says, or the first line that is wrong, and the reason.
+// The length of the load that a text makes; or the first line that is wrong, and its number; or 15, at line 0.
 pub enum Made {
     Load(usize),
     Mistake(u64, u8),
 }
 
-// One record more behind the load in a buffer's first bytes, which reads to its end and so is not tested again: the writer's answer, and
-// its buffer. Cost: that of the record.
-fn grow(out: &mut [u8], size: usize, call: Call) -> Written
-    requires { ⌜ (size ≤ length (now out)) × (loadNumber (take size (now out)) ≡ 0) ⌝ }
-    ensures answer { λ r. ⌜ r ≡ appendAnswer (take size (now (out .entry))) call (now (out .entry)) ⌝ }
-    ensures buffer { λ _. ⌜ now (out .exit) ≡ appendOut (take size (now (out .entry))) call (now (out .entry)) ⌝ }
-{
-    let n = load::grow_number(1, size, call, out.len());
-    if n != 0 {
-        return Written::Refusal(n);
-    }
-    let r = load::put_record(out, size, call);
-    Written::Length(r)
-}
-
-// The load in a buffer's first bytes with what a line says.
+// The record of a line laid behind a load of so many bytes, and the load's length with it; or the line's number, and nothing is laid.
 fn add(out: &mut [u8], size: usize, line: &[u8]) -> Written
-    requires { ⌜ (size ≤ length (now out)) × (loadNumber (take size (now out)) ≡ 0) ⌝ }
-    ensures answer { λ r. ⌜ r ≡ added (take size (now (out .entry))) (length (now (out .entry))) (lineSays (now (line .entry))) .answer ⌝ }
-    ensures buffer { λ _. ⌜ now (out .exit) ≡ atStart (added (take size (now (out .entry))) (length (now (out .entry))) (lineSays (now (line .entry))) .load) (now (out .entry)) ⌝ }
+    ensures answer { λ r. ⌜ r ≡ answered (lineNumber size (lineSays (now (line .entry)))) (size + length (lineBytes (lineSays (now (line .entry))))) ⌝ }
+    ensures buffer { λ _. ⌜ now (out .exit) ≡ lent (lineNumber size (lineSays (now (line .entry)))) (laid (now (out .entry)) size (lineBytes (lineSays (now (line .entry))))) (now (out .entry)) ⌝ }
 {
     match parse::parse_line(line) {
         Parsed::Nothing => Written::Length(size),
-        Parsed::Said(call) => grow(out, size, call),
+        Parsed::Said(call) => {
+            let n = load::grow_number(1, size, call, 65536);
+            if n != 0 {
+                return Written::Refusal(n);
+            }
+            let r = load::put_record(out, size, call);
+            Written::Length(r)
+        }
         Parsed::Bad(n) => Written::Refusal(n),
     }
 }
 
-// The load that a text says line by line, at the start of a buffer. It reads as the calls that the lines say: MadeReads in specs/Making.antt.
-// Cost: one pass over the text.
-pub fn make(text: &[u8], out: &mut [u8]) -> Made
-    ensures answer { λ r. ⌜ r ≡ madeOf (now (text .entry)) (length (now (out .entry))) ⌝ }
-    ensures buffer { λ _. ⌜ now (out .exit) ≡ madeOut (now (text .entry)) (now (out .entry)) ⌝ }
+// The load that a text makes, laid over a buffer as far as that goes.
+fn gather(text: &[u8], out: &mut [u8]) -> Made
+    ensures { λ r. ⌜ Gathers (made (now (text .entry))) (now (out .entry)) r (now (out .exit)) ⌝ }
 {
-    if out.len() == 0 {
-        return Made::Mistake(0, 15);
-    }
-    out[0] = 1;
-    let mut size: usize = 1;
+    let mut size = numerals::put_byte(out, 0, 1);
     let mut at: usize = 0;
     let mut line: u64 = 0;
     while at < text.len() {
@@ -84,4 +69,30 @@ pub fn make(text: &[u8], out: &mut [u8]) -> Made
         at = end + 1;
     }
     Made::Load(size)
+}
+
+// Room for any load.
+fn room() -> [u8; 65536]
+    ensures { λ r. ⌜ 65536 ≡ length r ⌝ }
+{
+    [0; 65536]
+}
+
+// The load that a text makes, at the start of a lent buffer. It reads as the calls that the lines say: MadeReads in specs/Making.antt.
+// Cost: one pass over the text into a buffer of its own, of 65,536 bytes, and a copy of the load.
+pub fn make(text: &[u8], out: &mut [u8]) -> Made
+    ensures answer { λ r. ⌜ r ≡ madeOf (now (text .entry)) (now (out .entry)) ⌝ }
+    ensures buffer { λ _. ⌜ now (out .exit) ≡ madeOut (now (text .entry)) (now (out .entry)) ⌝ }
+{
+    let mut load = room();
+    match gather(text, &mut load) {
+        Made::Load(n) => {
+            if out.len() < n {
+                return Made::Mistake(0, NO_SPACE);
+            }
+            numerals::put_bytes(out, 0, &load[..n]);
+            Made::Load(n)
+        }
+        Made::Mistake(line, n) => Made::Mistake(line, n),
+    }
 }

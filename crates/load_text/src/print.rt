@@ -1,7 +1,7 @@
 // Calls, refusals and reports as lines. The private functions lay them over a buffer as far as that goes, and so count them on one byte;
 // the public ones answer 15 and leave the buffer as it is where the whole does not go in.
 ghost use mathlib.Core.Path.{_≡_};
-ghost use mathlib.Core.List.{[], _∷_, _++_};
+ghost use mathlib.Core.List.{_++_};
 ghost use Prim.Native.Nat.{_≤_};
 ghost use lib.Dec.{leb};
 ghost use lib.ListN.{length};

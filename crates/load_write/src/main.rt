@@ -1,11 +1,17 @@
 // Lines of calls on standard input to a load on standard output.
 // A line that is wrong is reported on standard error, and then nothing is written.
 use load_text::Made;
+use load_text::Written;
 
+// `text` is for any report.
 fn fail(line: u64, reason: u8) {
     let mut text = [0u8; 64];
-    let n = load_text::report(line, reason, &mut text);
-    io::write_all(2, &text[..n]);
+    match load_text::report(line, reason, &mut text) {
+        Written::Length(n) => {
+            io::write_all(2, &text[..n]);
+        }
+        Written::Refusal(_n) => {}
+    }
 }
 
 fn write(text: &[u8]) {

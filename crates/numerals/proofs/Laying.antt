@@ -10,7 +10,7 @@ use lib.Dec.{ltb, leb}
 use borrow.Author.Tests.{leb-true, leb-false, le-leb, lt-leb}
 use mathlib.Core.Bool.{Bool, true, false, cond}
 use lib.ListN.{length, take, drop, getD, set, length-append}
-use lib.Seq.{sets, length-sets, sets-eq, set-comm, set-out, drop-cons, drop-length}
+use lib.Seq.{sets, length-sets, sets-eq, set-comm, set-out, drop-cons, drop-length, take-at}
 use Rattle.numerals.specs.Digits.{digits, decimalOf, widthOf, widthUpTo, column, pair}
 use Rattle.numerals.specs.Laid.{behind, laid, Put, spaceNumber, lentOut}
 use Rattle.numerals.proofs.Numbers.{stored}
@@ -148,6 +148,20 @@ lent-all text out p h e = rw (le-leb (length text) (length out) h) (refl, e ∙ 
 pub lent-none : (text out : List ℕ) → length out < length text → (spaceNumber text out ≡ 15) × (out ≡ lentOut text out)
 unfolding spaceNumber lentOut
 lent-none text out h = rw (lt-leb (length text) (length out) h) (refl, refl)
+
+-- What number 0 says: it went in, and the buffer begins with it.
+pub lent-known : (text out : List ℕ) → spaceNumber text out ≡ 0 → (length text ≤ length out) × (take (length text) (lentOut text out) ≡ text)
+unfolding spaceNumber lentOut
+lent-known text out = go (leb (length text) (length out)) refl
+  where
+    go : (b : Bool) → leb (length text) (length out) ≡ b → cond {A = ℕ} b 0 15 ≡ 0
+        → (length text ≤ length out) × (take (length text) (cond b (text ++ drop (length text) out) out) ≡ text)
+    go true l e = (leb-true (length text) (length out) l, take-at text (drop (length text) out) (length text) refl)
+    go false l e = absurd (omega arith)
+
+-- Bytes laid at the start of a buffer that has room for them are its first.
+pub laid-first : (o xs : List ℕ) (n : ℕ) → length xs ≡ n → length xs ≤ length o → take n (laid o 0 xs) ≡ xs
+laid-first o xs n e h = ap (take n) (laid-fits o xs h) ∙ take-at xs (drop (length xs) o) n e
 
 -- One step of a copy.
 pub laid-turn : (o : List ℕ) (at i : ℕ) (s : List ℕ) → i < length s → laid (set o (at + i) (getD s i 0)) (at + (i + 1)) (drop (i + 1) s) ≡ laid o (at + i) (drop i s)

@@ -1,7 +1,7 @@
 -- What the line says decides.
-use mathlib.Core.Path.{sym, _∙_}
+use mathlib.Core.Path.{refl, sym, _∙_}
+use Rattle.load_text.proofs.Making.{add-nothing, add-bad, add-refused, add-taken}
 use borrow.Author.Needs.{needs}
-use Rattle.load_text.proofs.Growing.{add-nothing, add-said, add-bad}
 use Rattle.load_text.proofs.add.Statement.{statement}
 use Rattle.load_text.proofs.add.Tie as tie
 
@@ -14,28 +14,39 @@ enum-told c = search needs
 enum-known-call : tie.Need-enum-known-call
 enum-known-call c = search needs
 
-grow-requires : tie.Need-grow-requires
-grow-requires c κs = search needs
+grow-number-requires : tie.Need-grow-number-requires
+grow-number-requires c κs = search needs
+
+returns : tie.Need-returns
+returns c =
+    let g = c .before in
+    let p = g .before .before .before .before in
+    add-refused _ _ _ _ (sym (p .parse-line .ensures) ∙ g .before .before .call .given .1) _ (g .grow-number .ensures) (c .if1 .taken)
+
+put-record-requires : tie.Need-put-record-requires
+put-record-requires c κs = search needs
 
 enum-known-n : tie.Need-enum-known-n
 enum-known-n c = search needs
 
-returns : tie.Need-returns
-returns c = add-nothing _ _ (c .before .before .before .before .before .pre .0) _ (sym (c .before .before .parse-line .ensures) ∙ c .enum-told .given .1)
+returns-2 : tie.Need-returns-2
+returns-2 c = add-nothing _ _ _ (sym (c .before .before .parse-line .ensures) ∙ c .enum-told .given .1)
 
 same-length : tie.Need-same-length
 same-length c = search needs
 
-returns-2 : tie.Need-returns-2
-returns-2 c =
-    let g = c .before .before in
-    let p = g .before .before .before .before .before in
-    add-said _ _ (p .before .before .before .pre .0) _ _ _ _ (sym (p .parse-line .ensures) ∙ g .before .before .before .call .given .1) (g .grow .ensures .0) (g .grow .ensures .1)
-
 returns-3 : tie.Need-returns-3
 returns-3 c =
+    let r = c .before .before in
+    let i = r .before .before in
+    let g = i .before in
+    let p = g .before .before .before .before in
+    add-taken _ _ _ _ (sym (p .parse-line .ensures) ∙ g .before .before .call .given .1) _ (g .grow-number .ensures) (i .if1 .left) _ _ (r .put-record .ensures .0) (r .put-record .ensures .1)
+
+returns-4 : tie.Need-returns-4
+returns-4 c =
     let p = c .before .before .before in
-    add-bad _ _ (p .before .before .before .pre .0) _ _ (sym (p .parse-line .ensures) ∙ c .before .n .given .1)
+    add-bad _ _ _ _ _ refl (sym (p .parse-line .ensures) ∙ c .before .n .given .1)
 
 pub add-spec : {M : Type 1} → statement M
 add-spec =
@@ -44,9 +55,11 @@ add-spec =
     parse-line-requires
     enum-told
     enum-known-call
-    grow-requires
-    enum-known-n
+    grow-number-requires
     returns
-    same-length
+    put-record-requires
+    enum-known-n
     returns-2
-    returns-3)
+    same-length
+    returns-3
+    returns-4)
