@@ -1,13 +1,13 @@
 // A load on standard input to lines of calls on standard output.
-use load_text::Written;
+use load_text::Printed;
 
 // `room` is for the text of any load.
 fn print(load: &[u8], mut room: [u8; 393216]) {
     match load_text::show(load, &mut room) {
-        Written::Length(n) => {
+        Printed::Length(n) => {
             io::write_all(1, &room[..n]);
         }
-        Written::Refusal(_n) => {}
+        Printed::Refusal(_n) => {}
     }
 }
 

@@ -12,9 +12,8 @@ use Rattle.numerals.specs.Laid.{Put, spaceNumber, lentOut}
 use Rattle.numerals.proofs.Laying.{width-small, decimal-length, column-length, pair-length, put-short, lent-all, lent-none, lent-known}
 use Rattle.load.specs.declared.Call.{Call}
 use Rattle.load.specs.declared.Call.the-variants.{Rig, Claim, Release, Withdraw, Clock}
-use Rattle.load.specs.declared.Written.the-variants.{Length, Refusal}
-use Rattle.load.specs.Writing.{answered}
-use Rattle.load_text.specs.Lines.{glyphOf, hexUpTo, setOf, lineOf, stopLine, reasonText, reportOf, printed}
+use Rattle.load_text.specs.declared.print.Printed.the-variants.{Length, Refusal}
+use Rattle.load_text.specs.Lines.{glyphOf, hexUpTo, setOf, lineOf, stopLine, reasonText, reportOf, printedAs, printed}
 use Rattle.load_text.specs.Reasons.{unknown, missing, tooMany, noClock, noTicket, noLength, noGroups, tooLarge, over63, backward, outOfPlace, overlong, noSpace}
 
 -- ── hex ──
@@ -138,13 +137,13 @@ print-all text o p r s h w =
     let l = lent-all text o p h (e .1) in
     (rw (l .0) (ap Length (e .0)), l .1)
 
-pub answer-length : (k m n : ℕ) → answered k m ≡ Length n → (k ≡ 0) × (m ≡ n)
-answer-length zero m n e = (refl, cc)
-answer-length (suc k) m n e = let z : _≡_ {A = ℕ} 0 1 = cc in absurd (omega arith)
+printed-length : (k m n : ℕ) → printedAs k m ≡ Length n → (k ≡ 0) × (m ≡ n)
+printed-length zero m n e = (refl, cc)
+printed-length (suc k) m n e = let z : _≡_ {A = ℕ} 0 1 = cc in absurd (omega arith)
 
 -- A length that is answered is one of the buffer.
 pub printed-within : (text o : List ℕ) (n : ℕ) → printed text o ≡ Length n → n ≤ length o
 unfolding printed
 printed-within text o n e =
-    let a = answer-length (spaceNumber text o) (length text) n e in
+    let a = printed-length (spaceNumber text o) (length text) n e in
     omega (arith, a .1, lent-known text o (a .0) .0)

@@ -30,7 +30,6 @@ use Rattle.load_text.specs.declared.parse.Parsed.the-variants.{Nothing, 
 use Rattle.load_text.specs.Parsing.{isFeed, placeOf, linesIn, lineSays, callsOf}
 use Rattle.load_text.specs.Reasons.{noSpace}
 use Rattle.load_text.specs.Making.{Making, whole, wrong, lineNumber, lineBytes, onFrom, gathered, made, madeAs, answerOn, bufferOn, madeOf, madeOut, Gathers, callsIn, MadeReads}
-use Rattle.load_text.proofs.Lines.{answer-length}
 use Rattle.load_text.proofs.Parts.{place-low, place-high, parts-cut, parts-end}
 use Rattle.load_text.proofs.Within.{says-typed, reasons-apart}
 
@@ -65,6 +64,10 @@ grow-small n c room = go (not (inPlace (kindOf c) n) || not (carries 1 c)) (ltb 
 pub said-bytes : (c : Call) → lineBytes (Said c) ≡ recordBytes 1 c
 unfolding lineBytes recordsBytes
 said-bytes c = append-nil (recordBytes 1 c)
+
+answer-length : (k m n : ℕ) → answered k m ≡ Length n → (k ≡ 0) × (m ≡ n)
+answer-length zero m n e = (refl, cc)
+answer-length (suc k) m n e = let z : _≡_ {A = ℕ} 0 1 = cc in absurd (omega arith)
 
 -- The answer on a line that says p behind a load of n bytes, and the buffer, which was o.
 abbrev Adds : ℕ → List ℕ → Parsed → Written → List ℕ → Type 0

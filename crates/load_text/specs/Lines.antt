@@ -8,9 +8,9 @@ use Rattle.numerals.specs.Digits.{decimalOf, column, pair}
 use Rattle.numerals.specs.Laid.{spaceNumber}
 use Rattle.load.specs.declared.Call.{Call}
 use Rattle.load.specs.declared.Call.the-variants.{Rig, Claim, Release, Withdraw, Clock}
-use Rattle.load.specs.declared.Written.{Written}
 use Rattle.load.specs.Reading.{Walk, walk, openNumber}
-use Rattle.load.specs.Writing.{answered}
+use Rattle.load_text.specs.declared.print.Printed.{Printed}
+use Rattle.load_text.specs.declared.print.Printed.the-variants.{Length, Refusal}
 use Rattle.load_text.specs.Reasons.{unknown, missing, tooMany, noClock, noTicket, noLength, noGroups, tooLarge, over63, backward, outOfPlace, overlong}
 
 -- the lowest digit of v in base 16: 0 to 9, A to F
@@ -98,6 +98,11 @@ unfoldable pub reportOf : ℕ → ℕ → List ℕ
 reportOf line n = (108 ∷ 105 ∷ 110 ∷ 101 ∷ 32 ∷ []) ++ (decimalOf line ++ ((58 ∷ 32 ∷ []) ++ reasonText n))
 
 -- ── what is answered ──
--- The text's length, or 15; `answered` has the number and the length of each case. The buffer is `lentOut`.
-unfoldable pub printed : List ℕ → List ℕ → Written
-printed text out = answered (spaceNumber text out) (length text)
+-- The cases of `Printed` by their number and length: 0 is a text of that length.
+abbrev pub printedAs : ℕ → ℕ → Printed
+printedAs zero n = Length n
+printedAs (suc k) n = Refusal (suc k)
+
+-- The text's length, or 15 where it does not go into the lent buffer. The buffer is then `lentOut text out`.
+unfoldable pub printed : List ℕ → List ℕ → Printed
+printed text out = printedAs (spaceNumber text out) (length text)

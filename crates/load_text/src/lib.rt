@@ -16,9 +16,10 @@ mod sets;
 mod words;
 
 use crate::reasons::NO_SPACE;
-pub use load::Written;
+use load::Written;
 pub use parse::Parsed;
 pub use parse::parse_line;
+pub use print::Printed;
 pub use print::put_line;
 pub use print::report;
 pub use print::show;

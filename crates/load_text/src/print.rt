@@ -24,7 +24,12 @@ use crate::reasons::TOO_MANY;
 use crate::reasons::UNKNOWN;
 use load::Call;
 use load::Item;
-use load::Written;
+
+// The length of a text that stands at the start of a lent buffer, or 15 for one that does not go in.
+pub enum Printed {
+    Length(usize),
+    Refusal(u8),
+}
 
 // A digit of base 16, upper case.
 fn glyph(d: u64) -> u8
@@ -96,16 +101,16 @@ fn put_call(out: &mut [u8], at: usize, call: Call) -> usize
 }
 
 // The same at the start of a lent buffer. Cost: the line is counted first.
-pub fn put_line(call: Call, out: &mut [u8]) -> Written
+pub fn put_line(call: Call, out: &mut [u8]) -> Printed
     ensures answer { λ r. ⌜ r ≡ printed (lineOf call) (now (out .entry)) ⌝ }
     ensures buffer { λ _. ⌜ now (out .exit) ≡ lentOut (lineOf call) (now (out .entry)) ⌝ }
 {
     let mut scrap = [0u8; 1];
     if out.len() < put_call(&mut scrap, 0, call) {
-        return Written::Refusal(NO_SPACE);
+        return Printed::Refusal(NO_SPACE);
     }
     let n = put_call(out, 0, call);
-    Written::Length(n)
+    Printed::Length(n)
 }
 
 fn put_stop(out: &mut [u8], at: usize, number: u8, k: u64) -> usize
@@ -164,15 +169,15 @@ fn goes_into(load: &[u8], room: usize) -> bool
 }
 
 // A load as text at the start of a lent buffer. Cost: one pass over the load; two where the buffer has under 387,266 bytes.
-pub fn show(load: &[u8], out: &mut [u8]) -> Written
+pub fn show(load: &[u8], out: &mut [u8]) -> Printed
     ensures answer { λ r. ⌜ r ≡ printed (textOf (now (load .entry))) (now (out .entry)) ⌝ }
     ensures buffer { λ _. ⌜ now (out .exit) ≡ lentOut (textOf (now (load .entry))) (now (out .entry)) ⌝ }
 {
     if goes_into(load, out.len()) {
         let n = put_text(out, load);
-        return Written::Length(n);
+        return Printed::Length(n);
     }
-    Written::Refusal(NO_SPACE)
+    Printed::Refusal(NO_SPACE)
 }
 
 // What is wrong, by number.
@@ -207,14 +212,14 @@ fn put_report(out: &mut [u8], line: u64, reason: u8) -> usize
 }
 
 // The same at the start of a lent buffer, at most 56 bytes. Cost: it is counted first.
-pub fn report(line: u64, reason: u8, out: &mut [u8]) -> Written
+pub fn report(line: u64, reason: u8, out: &mut [u8]) -> Printed
     ensures answer { λ r. ⌜ r ≡ printed (reportOf line reason) (now (out .entry)) ⌝ }
     ensures buffer { λ _. ⌜ now (out .exit) ≡ lentOut (reportOf line reason) (now (out .entry)) ⌝ }
 {
     let mut scrap = [0u8; 1];
     if out.len() < put_report(&mut scrap, line, reason) {
-        return Written::Refusal(NO_SPACE);
+        return Printed::Refusal(NO_SPACE);
     }
     let n = put_report(out, line, reason);
-    Written::Length(n)
+    Printed::Length(n)
 }

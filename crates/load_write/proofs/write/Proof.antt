@@ -3,7 +3,7 @@ use lib.ListN.{length-take}
 use mathlib.Core.Path.{sym, _∙_}
 use native.Mathlib.Omega.{arith}
 use borrow.Author.Needs.{needs}
-use Rattle.load_text.proofs.Making.{made-bound}
+use Rattle.load_text.proofs.Making.{made-reads}
 use Rattle.load_write.proofs.write.Statement.{statement}
 use Rattle.load_write.proofs.write.Tie as tie
 
@@ -22,12 +22,12 @@ enum-known-n c = search needs
 array-share-prefix-load : tie.Need-array-share-prefix-load
 array-share-prefix-load c =
     let m = c .before .before .before .before in
-    omega (arith, made-bound _ _ _ (sym (m .make .ensures .0) ∙ c .before .n .given .1), m .make .kept .1 .0)
+    omega (arith, made-reads _ _ _ (sym (m .make .ensures .0) ∙ c .before .n .given .1) .0, m .make .kept .1 .0)
 
 slice-aggregate-write-all : tie.Need-slice-aggregate-write-all
 slice-aggregate-write-all c =
     let m = c .before .before .before .before .before in
-    simp length-take (omega (arith, made-bound _ _ _ (sym (m .make .ensures .0) ∙ c .before .before .n .given .1), m .make .kept .1 .0))
+    simp length-take (omega (arith, made-reads _ _ _ (sym (m .make .ensures .0) ∙ c .before .before .n .given .1) .0, m .make .kept .1 .0))
 
 write-all-requires : tie.Need-write-all-requires
 write-all-requires c κs = search needs
