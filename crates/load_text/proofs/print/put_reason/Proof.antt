@@ -1,4 +1,4 @@
--- Each number's words are those of the definition.
+-- Each number's words are those of the definition. What `search` closes stands in the list: the words' slice and the call of each arm, and the length.
 use mathlib.Core.Path.{sym, ap}
 use Rattle.numerals.proofs.Laying.{put, put-as}
 use Rattle.load_text.specs.Lines.{reasonText}
@@ -6,171 +6,6 @@ use Rattle.load_text.proofs.Lines.{reason-else}
 use borrow.Author.Needs.{needs}
 use Rattle.load_text.proofs.print.put_reason.Statement.{statement}
 use Rattle.load_text.proofs.print.put_reason.Tie as tie
-
-slice-aggregate-put-bytes : tie.Need-slice-aggregate-put-bytes
-slice-aggregate-put-bytes c = search needs
-
-put-bytes-requires : tie.Need-put-bytes-requires
-put-bytes-requires c κs = search needs
-
-slice-aggregate-put-bytes-2 : tie.Need-slice-aggregate-put-bytes-2
-slice-aggregate-put-bytes-2 c = search needs
-
-put-bytes-requires-2 : tie.Need-put-bytes-requires-2
-put-bytes-requires-2 c κs = search needs
-
-slice-aggregate-put-bytes-3 : tie.Need-slice-aggregate-put-bytes-3
-slice-aggregate-put-bytes-3 c = search needs
-
-put-bytes-requires-3 : tie.Need-put-bytes-requires-3
-put-bytes-requires-3 c κs = search needs
-
-slice-aggregate-put-bytes-4 : tie.Need-slice-aggregate-put-bytes-4
-slice-aggregate-put-bytes-4 c = search needs
-
-put-bytes-requires-4 : tie.Need-put-bytes-requires-4
-put-bytes-requires-4 c κs = search needs
-
-slice-aggregate-put-bytes-5 : tie.Need-slice-aggregate-put-bytes-5
-slice-aggregate-put-bytes-5 c = search needs
-
-put-bytes-requires-5 : tie.Need-put-bytes-requires-5
-put-bytes-requires-5 c κs = search needs
-
-slice-aggregate-put-bytes-6 : tie.Need-slice-aggregate-put-bytes-6
-slice-aggregate-put-bytes-6 c = search needs
-
-put-bytes-requires-6 : tie.Need-put-bytes-requires-6
-put-bytes-requires-6 c κs = search needs
-
-slice-aggregate-put-bytes-7 : tie.Need-slice-aggregate-put-bytes-7
-slice-aggregate-put-bytes-7 c = search needs
-
-put-bytes-requires-7 : tie.Need-put-bytes-requires-7
-put-bytes-requires-7 c κs = search needs
-
-slice-aggregate-put-bytes-8 : tie.Need-slice-aggregate-put-bytes-8
-slice-aggregate-put-bytes-8 c = search needs
-
-put-bytes-requires-8 : tie.Need-put-bytes-requires-8
-put-bytes-requires-8 c κs = search needs
-
-slice-aggregate-put-bytes-9 : tie.Need-slice-aggregate-put-bytes-9
-slice-aggregate-put-bytes-9 c = search needs
-
-put-bytes-requires-9 : tie.Need-put-bytes-requires-9
-put-bytes-requires-9 c κs = search needs
-
-slice-aggregate-put-bytes-10 : tie.Need-slice-aggregate-put-bytes-10
-slice-aggregate-put-bytes-10 c = search needs
-
-put-bytes-requires-10 : tie.Need-put-bytes-requires-10
-put-bytes-requires-10 c κs = search needs
-
-slice-aggregate-put-bytes-11 : tie.Need-slice-aggregate-put-bytes-11
-slice-aggregate-put-bytes-11 c = search needs
-
-put-bytes-requires-11 : tie.Need-put-bytes-requires-11
-put-bytes-requires-11 c κs = search needs
-
-slice-aggregate-put-bytes-12 : tie.Need-slice-aggregate-put-bytes-12
-slice-aggregate-put-bytes-12 c = search needs
-
-put-bytes-requires-12 : tie.Need-put-bytes-requires-12
-put-bytes-requires-12 c κs = search needs
-
-slice-aggregate-put-bytes-13 : tie.Need-slice-aggregate-put-bytes-13
-slice-aggregate-put-bytes-13 c = search needs
-
-put-bytes-requires-13 : tie.Need-put-bytes-requires-13
-put-bytes-requires-13 c κs = search needs
-
-same-length : tie.Need-same-length
-same-length c = search needs
-
-returns : tie.Need-returns
-unfolding reasonText
-returns c = let b = c .before .before in put-as _ _ (ap reasonText (sym (b .before .before .before .match .keys1))) (put (b .put-bytes .ensures))
-
-same-length-2 : tie.Need-same-length-2
-same-length-2 c = search needs
-
-returns-2 : tie.Need-returns-2
-unfolding reasonText
-returns-2 c = let b = c .before .before in put-as _ _ (ap reasonText (sym (b .before .before .before .match .keys2))) (put (b .put-bytes2 .ensures))
-
-same-length-3 : tie.Need-same-length-3
-same-length-3 c = search needs
-
-returns-3 : tie.Need-returns-3
-unfolding reasonText
-returns-3 c = let b = c .before .before in put-as _ _ (ap reasonText (sym (b .before .before .before .match .keys3))) (put (b .put-bytes3 .ensures))
-
-same-length-4 : tie.Need-same-length-4
-same-length-4 c = search needs
-
-returns-4 : tie.Need-returns-4
-unfolding reasonText
-returns-4 c = let b = c .before .before in put-as _ _ (ap reasonText (sym (b .before .before .before .match .keys4))) (put (b .put-bytes4 .ensures))
-
-same-length-5 : tie.Need-same-length-5
-same-length-5 c = search needs
-
-returns-5 : tie.Need-returns-5
-unfolding reasonText
-returns-5 c = let b = c .before .before in put-as _ _ (ap reasonText (sym (b .before .before .before .match .keys5))) (put (b .put-bytes5 .ensures))
-
-same-length-6 : tie.Need-same-length-6
-same-length-6 c = search needs
-
-returns-6 : tie.Need-returns-6
-unfolding reasonText
-returns-6 c = let b = c .before .before in put-as _ _ (ap reasonText (sym (b .before .before .before .match .keys6))) (put (b .put-bytes6 .ensures))
-
-same-length-7 : tie.Need-same-length-7
-same-length-7 c = search needs
-
-returns-7 : tie.Need-returns-7
-unfolding reasonText
-returns-7 c = let b = c .before .before in put-as _ _ (ap reasonText (sym (b .before .before .before .match .keys7))) (put (b .put-bytes7 .ensures))
-
-same-length-8 : tie.Need-same-length-8
-same-length-8 c = search needs
-
-returns-8 : tie.Need-returns-8
-unfolding reasonText
-returns-8 c = let b = c .before .before in put-as _ _ (ap reasonText (sym (b .before .before .before .match .keys8))) (put (b .put-bytes8 .ensures))
-
-same-length-9 : tie.Need-same-length-9
-same-length-9 c = search needs
-
-returns-9 : tie.Need-returns-9
-unfolding reasonText
-returns-9 c = let b = c .before .before in put-as _ _ (ap reasonText (sym (b .before .before .before .match .keys9))) (put (b .put-bytes9 .ensures))
-
-same-length-10 : tie.Need-same-length-10
-same-length-10 c = search needs
-
-returns-10 : tie.Need-returns-10
-unfolding reasonText
-returns-10 c = let b = c .before .before in put-as _ _ (ap reasonText (sym (b .before .before .before .match .keys10))) (put (b .put-bytes10 .ensures))
-
-same-length-11 : tie.Need-same-length-11
-same-length-11 c = search needs
-
-returns-11 : tie.Need-returns-11
-unfolding reasonText
-returns-11 c = let b = c .before .before in put-as _ _ (ap reasonText (sym (b .before .before .before .match .keys11))) (put (b .put-bytes11 .ensures))
-
-same-length-12 : tie.Need-same-length-12
-same-length-12 c = search needs
-
-returns-12 : tie.Need-returns-12
-unfolding reasonText
-returns-12 c = let b = c .before .before in put-as _ _ (ap reasonText (sym (b .before .before .before .match .keys12))) (put (b .put-bytes12 .ensures))
-
-same-length-13 : tie.Need-same-length-13
-same-length-13 c = search needs
 
 returns-13 : tie.Need-returns-13
 unfolding reasonText
@@ -180,58 +15,33 @@ returns-13 c =
     put-as _ _ (reason-else _ (r .0 .0 .0 .0 .0 .0 .0 .0 .0 .0 .0 .1) (r .0 .0 .0 .0 .0 .0 .0 .0 .0 .0 .1) (r .0 .0 .0 .0 .0 .0 .0 .0 .0 .1) (r .0 .0 .0 .0 .0 .0 .0 .0 .1) (r .0 .0 .0 .0 .0 .0 .0 .1) (r .0 .0 .0 .0 .0 .0 .1) (r .0 .0 .0 .0 .0 .1) (r .0 .0 .0 .0 .1) (r .0 .0 .0 .1) (r .0 .0 .1) (r .0 .1) (r .1)) (put (b .put-bytes13 .ensures))
 
 pub put-reason-spec : {M : Type 1} → statement M
+unfolding reasonText
 put-reason-spec =
     tie.close
     (tie.spec
-    slice-aggregate-put-bytes
-    put-bytes-requires
-    slice-aggregate-put-bytes-2
-    put-bytes-requires-2
-    slice-aggregate-put-bytes-3
-    put-bytes-requires-3
-    slice-aggregate-put-bytes-4
-    put-bytes-requires-4
-    slice-aggregate-put-bytes-5
-    put-bytes-requires-5
-    slice-aggregate-put-bytes-6
-    put-bytes-requires-6
-    slice-aggregate-put-bytes-7
-    put-bytes-requires-7
-    slice-aggregate-put-bytes-8
-    put-bytes-requires-8
-    slice-aggregate-put-bytes-9
-    put-bytes-requires-9
-    slice-aggregate-put-bytes-10
-    put-bytes-requires-10
-    slice-aggregate-put-bytes-11
-    put-bytes-requires-11
-    slice-aggregate-put-bytes-12
-    put-bytes-requires-12
-    slice-aggregate-put-bytes-13
-    put-bytes-requires-13
-    same-length
-    returns
-    same-length-2
-    returns-2
-    same-length-3
-    returns-3
-    same-length-4
-    returns-4
-    same-length-5
-    returns-5
-    same-length-6
-    returns-6
-    same-length-7
-    returns-7
-    same-length-8
-    returns-8
-    same-length-9
-    returns-9
-    same-length-10
-    returns-10
-    same-length-11
-    returns-11
-    same-length-12
-    returns-12
-    same-length-13
-    returns-13)
+    (λ c. search needs) (λ c κs. search needs)
+    (λ c. search needs) (λ c κs. search needs)
+    (λ c. search needs) (λ c κs. search needs)
+    (λ c. search needs) (λ c κs. search needs)
+    (λ c. search needs) (λ c κs. search needs)
+    (λ c. search needs) (λ c κs. search needs)
+    (λ c. search needs) (λ c κs. search needs)
+    (λ c. search needs) (λ c κs. search needs)
+    (λ c. search needs) (λ c κs. search needs)
+    (λ c. search needs) (λ c κs. search needs)
+    (λ c. search needs) (λ c κs. search needs)
+    (λ c. search needs) (λ c κs. search needs)
+    (λ c. search needs) (λ c κs. search needs)
+    (λ c. search needs) (λ c. let b = c .before .before in put-as _ _ (ap reasonText (sym (b .before .before .before .match .keys1))) (put (b .put-bytes .ensures)))
+    (λ c. search needs) (λ c. let b = c .before .before in put-as _ _ (ap reasonText (sym (b .before .before .before .match .keys2))) (put (b .put-bytes2 .ensures)))
+    (λ c. search needs) (λ c. let b = c .before .before in put-as _ _ (ap reasonText (sym (b .before .before .before .match .keys3))) (put (b .put-bytes3 .ensures)))
+    (λ c. search needs) (λ c. let b = c .before .before in put-as _ _ (ap reasonText (sym (b .before .before .before .match .keys4))) (put (b .put-bytes4 .ensures)))
+    (λ c. search needs) (λ c. let b = c .before .before in put-as _ _ (ap reasonText (sym (b .before .before .before .match .keys5))) (put (b .put-bytes5 .ensures)))
+    (λ c. search needs) (λ c. let b = c .before .before in put-as _ _ (ap reasonText (sym (b .before .before .before .match .keys6))) (put (b .put-bytes6 .ensures)))
+    (λ c. search needs) (λ c. let b = c .before .before in put-as _ _ (ap reasonText (sym (b .before .before .before .match .keys7))) (put (b .put-bytes7 .ensures)))
+    (λ c. search needs) (λ c. let b = c .before .before in put-as _ _ (ap reasonText (sym (b .before .before .before .match .keys8))) (put (b .put-bytes8 .ensures)))
+    (λ c. search needs) (λ c. let b = c .before .before in put-as _ _ (ap reasonText (sym (b .before .before .before .match .keys9))) (put (b .put-bytes9 .ensures)))
+    (λ c. search needs) (λ c. let b = c .before .before in put-as _ _ (ap reasonText (sym (b .before .before .before .match .keys10))) (put (b .put-bytes10 .ensures)))
+    (λ c. search needs) (λ c. let b = c .before .before in put-as _ _ (ap reasonText (sym (b .before .before .before .match .keys11))) (put (b .put-bytes11 .ensures)))
+    (λ c. search needs) (λ c. let b = c .before .before in put-as _ _ (ap reasonText (sym (b .before .before .before .match .keys12))) (put (b .put-bytes12 .ensures)))
+    (λ c. search needs) returns-13)
