@@ -14,7 +14,7 @@ use Rattle.load.specs.declared.Call.{Call}
 use Rattle.load.specs.declared.Call.the-variants.{Rig, Claim, Release, Withdraw, Clock}
 use Rattle.load_text.specs.declared.print.Printed.the-variants.{Length, Refusal}
 use Rattle.load_text.specs.Lines.{glyphOf, hexUpTo, setOf, lineOf, stopLine, reasonText, reportOf, printedAs, printed}
-use Rattle.load_text.specs.Reasons.{unknown, missing, tooMany, noClock, noTicket, noLength, noGroups, tooLarge, over63, backward, outOfPlace, overlong, noSpace}
+use Rattle.load_text.specs.Reasons.{unknown, missing, tooMany, noClock, noTicket, noLength, noGroups, tooLarge, over63, backward, misfit, overlong, noSpace}
 
 -- ── hex ──
 pub glyph-low : (v : ℕ) → v % 16 < 10 → 48 + v % 16 ≡ glyphOf v
@@ -88,7 +88,7 @@ reason-length n =
     (shorter (eqb n tooLarge) _ _ 29 (omega arith)
     (shorter (eqb n over63) _ _ 29 (omega arith)
     (shorter (eqb n backward) _ _ 29 (omega arith)
-    (shorter (eqb n outOfPlace) _ _ 29 (omega arith)
+    (shorter (eqb n misfit) _ _ 29 (omega arith)
     (shorter (eqb n overlong) _ _ 29 (omega arith)
     (omega arith))))))))))))
 
@@ -100,9 +100,9 @@ pub report-short : (line n : ℕ) → length (reportOf line n) < 2 ^ 64
 report-short line n = omega (arith, report-length line n)
 
 -- A number that is no reason by itself.
-pub reason-else : (n : ℕ) → (n ≡ unknown → ⊥) → (n ≡ missing → ⊥) → (n ≡ tooMany → ⊥) → (n ≡ noClock → ⊥) → (n ≡ noTicket → ⊥) → (n ≡ noLength → ⊥) → (n ≡ noGroups → ⊥) → (n ≡ tooLarge → ⊥) → (n ≡ over63 → ⊥) → (n ≡ backward → ⊥) → (n ≡ outOfPlace → ⊥) → (n ≡ overlong → ⊥) → reasonText 0 ≡ reasonText n
+pub reason-else : (n : ℕ) → (n ≡ unknown → ⊥) → (n ≡ missing → ⊥) → (n ≡ tooMany → ⊥) → (n ≡ noClock → ⊥) → (n ≡ noTicket → ⊥) → (n ≡ noLength → ⊥) → (n ≡ noGroups → ⊥) → (n ≡ tooLarge → ⊥) → (n ≡ over63 → ⊥) → (n ≡ backward → ⊥) → (n ≡ misfit → ⊥) → (n ≡ overlong → ⊥) → reasonText 0 ≡ reasonText n
 unfolding reasonText
-reason-else n a b c d e f g h i j k l = rw (ne-eqb n unknown a, ne-eqb n missing b, ne-eqb n tooMany c, ne-eqb n noClock d, ne-eqb n noTicket e, ne-eqb n noLength f, ne-eqb n noGroups g, ne-eqb n tooLarge h, ne-eqb n over63 i, ne-eqb n backward j, ne-eqb n outOfPlace k, ne-eqb n overlong l)
+reason-else n a b c d e f g h i j k l = rw (ne-eqb n unknown a, ne-eqb n missing b, ne-eqb n tooMany c, ne-eqb n noClock d, ne-eqb n noTicket e, ne-eqb n noLength f, ne-eqb n noGroups g, ne-eqb n tooLarge h, ne-eqb n over63 i, ne-eqb n backward j, ne-eqb n misfit k, ne-eqb n overlong l)
 
 -- ── lines by kind ──
 pub rig-line : (c : Call) (g : ℕ) → c ≡ Rig g → (114 ∷ 105 ∷ 103 ∷ 32 ∷ []) ++ setOf g 10 ≡ lineOf c

@@ -18,7 +18,7 @@ use Rattle.load.specs.declared.Written.the-variants.{Length, Refusal}
 use Rattle.load.specs.Calls.{carries, kindOf}
 use Rattle.load.specs.Bytes.{recordBytes, recordsBytes}
 use Rattle.load.specs.Reading.{inPlace, loadNumber, walk}
-use Rattle.load.specs.Writing.{grown, roomNumber, growNumber, appendNumber, appendAnswer, appendOut, answered, lent}
+use Rattle.load.specs.Writing.{grown, roomNumber, growNumber, appendNumber, appendAnswer, appendOut, answered}
 use Rattle.load.specs.RoundTrip.{Typed, Appended}
 use Rattle.load.proofs.Reading.{load-known}
 use Rattle.load.proofs.Writing.{append-grow}
@@ -29,7 +29,7 @@ use Rattle.load_text.specs.declared.parse.Parsed.{Parsed}
 use Rattle.load_text.specs.declared.parse.Parsed.the-variants.{Nothing, Said, Bad}
 use Rattle.load_text.specs.Parsing.{isFeed, placeOf, linesIn, lineSays, callsOf}
 use Rattle.load_text.specs.Reasons.{noSpace}
-use Rattle.load_text.specs.Making.{Making, whole, wrong, lineNumber, lineBytes, onFrom, gathered, made, madeAs, answerOn, bufferOn, madeOf, madeOut, Gathers, callsIn, MadeReads}
+use Rattle.load_text.specs.Making.{Making, whole, wrong, lineNumber, lineBytes, onFrom, gathered, made, madeAs, answerOn, bufferOn, madeOf, madeOut, Adds, Gathers, callsIn, MadeReads}
 use Rattle.load_text.proofs.Parts.{place-low, place-high, parts-cut, parts-end}
 use Rattle.load_text.proofs.Within.{says-typed, reasons-apart}
 
@@ -68,10 +68,6 @@ said-bytes c = append-nil (recordBytes 1 c)
 answer-length : (k m n : ℕ) → answered k m ≡ Length n → (k ≡ 0) × (m ≡ n)
 answer-length zero m n e = (refl, cc)
 answer-length (suc k) m n e = let z : _≡_ {A = ℕ} 0 1 = cc in absurd (omega arith)
-
--- The answer on a line that says p behind a load of n bytes, and the buffer, which was o.
-abbrev Adds : ℕ → List ℕ → Parsed → Written → List ℕ → Type 0
-Adds n o p r q = (r ≡ answered (lineNumber n p) (n + length (lineBytes p))) × (q ≡ lent (lineNumber n p) (laid o n (lineBytes p)) o)
 
 module _ (n : ℕ) (o : List ℕ) (p : Parsed) where
   pub add-nothing : p ≡ Nothing → Adds n o p (Length n) o

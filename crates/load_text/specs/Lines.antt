@@ -11,7 +11,7 @@ use Rattle.load.specs.declared.Call.the-variants.{Rig, Claim, Release, Withdraw
 use Rattle.load.specs.Reading.{Walk, walk, openNumber}
 use Rattle.load_text.specs.declared.print.Printed.{Printed}
 use Rattle.load_text.specs.declared.print.Printed.the-variants.{Length, Refusal}
-use Rattle.load_text.specs.Reasons.{unknown, missing, tooMany, noClock, noTicket, noLength, noGroups, tooLarge, over63, backward, outOfPlace, overlong}
+use Rattle.load_text.specs.Reasons.{unknown, missing, tooMany, noClock, noTicket, noLength, noGroups, tooLarge, over63, backward, misfit, overlong}
 
 -- the lowest digit of v in base 16: 0 to 9, A to F
 unfoldable pub glyphOf : ℕ → ℕ
@@ -87,7 +87,7 @@ reasonText n =
     -- "range runs backward"
     (cond (eqb n backward) (114 ∷ 97 ∷ 110 ∷ 103 ∷ 101 ∷ 32 ∷ 114 ∷ 117 ∷ 110 ∷ 115 ∷ 32 ∷ 98 ∷ 97 ∷ 99 ∷ 107 ∷ 119 ∷ 97 ∷ 114 ∷ 100 ∷ 10 ∷ [])
     -- "rig must be first"
-    (cond (eqb n outOfPlace) (114 ∷ 105 ∷ 103 ∷ 32 ∷ 109 ∷ 117 ∷ 115 ∷ 116 ∷ 32 ∷ 98 ∷ 101 ∷ 32 ∷ 102 ∷ 105 ∷ 114 ∷ 115 ∷ 116 ∷ 10 ∷ [])
+    (cond (eqb n misfit) (114 ∷ 105 ∷ 103 ∷ 32 ∷ 109 ∷ 117 ∷ 115 ∷ 116 ∷ 32 ∷ 98 ∷ 101 ∷ 32 ∷ 102 ∷ 105 ∷ 114 ∷ 115 ∷ 116 ∷ 10 ∷ [])
     -- "load over 65,536 bytes"
     (cond (eqb n overlong) (108 ∷ 111 ∷ 97 ∷ 100 ∷ 32 ∷ 111 ∷ 118 ∷ 101 ∷ 114 ∷ 32 ∷ 54 ∷ 53 ∷ 44 ∷ 53 ∷ 51 ∷ 54 ∷ 32 ∷ 98 ∷ 121 ∷ 116 ∷ 101 ∷ 115 ∷ 10 ∷ [])
     -- "not written"

@@ -5,9 +5,10 @@ use mathlib.Core.Path.{_≡_}
 use lib.ListN.{length, take}
 use Rattle.numerals.specs.Laid.{laid, spaceNumber, lentOut}
 use Rattle.load.specs.declared.Call.{Call}
+use Rattle.load.specs.declared.Written.{Written}
 use Rattle.load.specs.Bytes.{recordsBytes}
 use Rattle.load.specs.Reading.{loadNumber, walk, orElse}
-use Rattle.load.specs.Writing.{growNumber}
+use Rattle.load.specs.Writing.{growNumber, answered, lent}
 use Rattle.load_text.specs.declared.Made.{Made}
 use Rattle.load_text.specs.declared.Made.the-variants.{Load, Mistake}
 use Rattle.load_text.specs.declared.parse.Parsed.{Parsed}
@@ -67,10 +68,14 @@ madeOf text out = answerOn (made text) out
 unfoldable pub madeOut : List ℕ → List ℕ → List ℕ
 madeOut text out = bufferOn (made text) out
 
--- What `gather` answers and leaves in its own buffer o, of which nothing is said where a line is wrong.
+-- What the code has in a buffer o of its own: q behind a line that says p and a load of n bytes, with the answer r on the line; and behind a
+-- text, unless a line is wrong.
+abbrev pub Adds : ℕ → List ℕ → Parsed → Written → List ℕ → Type 0
+Adds n o p r q = (r ≡ answered (lineNumber n p) (n + length (lineBytes p))) × (q ≡ lent (lineNumber n p) (laid o n (lineBytes p)) o)
+
 abbrev pub Gathers : Making → List ℕ → Made → List ℕ → Type 0
-Gathers (whole s) o r p = (r ≡ Load (length s)) × (p ≡ laid o 0 s)
-Gathers (wrong k n) o r p = r ≡ madeAs n k 0
+Gathers (whole s) o r q = (r ≡ Load (length s)) × (q ≡ laid o 0 s)
+Gathers (wrong k n) o r q = r ≡ madeAs n k 0
 
 -- ── what it reads as ──
 -- The calls that lines say.

@@ -31,8 +31,8 @@ over63 = 109
 abbrev pub backward : ℕ
 backward = 110
 
-abbrev pub outOfPlace : ℕ
-outOfPlace = 13
+abbrev pub misfit : ℕ
+misfit = 13
 
 abbrev pub overlong : ℕ
 overlong = 14

@@ -2,12 +2,9 @@
 // No public function asks anything of its slices. What a line says is defined in specs/Parsing.antt, the load that lines make in
 // specs/Making.antt, and the lines of a load in specs/Lines.antt.
 ghost use mathlib.Core.Path.{_≡_};
-ghost use Prim.Native.Nat.{_+_};
 ghost use lib.ListN.{length};
-ghost use Rattle.numerals.specs.Laid.{laid};
-ghost use Rattle.load.specs.Writing.{answered, lent};
 ghost use Rattle.load_text.specs.Parsing.{lineSays};
-ghost use Rattle.load_text.specs.Making.{lineNumber, lineBytes, Gathers, made, madeOf, madeOut};
+ghost use Rattle.load_text.specs.Making.{Adds, Gathers, made, madeOf, madeOut};
 
 mod parse;
 mod print;
@@ -15,7 +12,6 @@ mod reasons;
 mod sets;
 mod words;
 
-use crate::reasons::NO_SPACE;
 use load::Written;
 pub use parse::Parsed;
 pub use parse::parse_line;
@@ -32,8 +28,7 @@ pub enum Made {
 
 // The record of a line laid behind a load of so many bytes, and the load's length with it; or the line's number, and nothing is laid.
 fn add(out: &mut [u8], size: usize, line: &[u8]) -> Written
-    ensures answer { λ r. ⌜ r ≡ answered (lineNumber size (lineSays (now (line .entry)))) (size + length (lineBytes (lineSays (now (line .entry))))) ⌝ }
-    ensures buffer { λ _. ⌜ now (out .exit) ≡ lent (lineNumber size (lineSays (now (line .entry)))) (laid (now (out .entry)) size (lineBytes (lineSays (now (line .entry))))) (now (out .entry)) ⌝ }
+    ensures { λ r. ⌜ Adds size (now (out .entry)) (lineSays (now (line .entry))) r (now (out .exit)) ⌝ }
 {
     match parse::parse_line(line) {
         Parsed::Nothing => Written::Length(size),
@@ -89,7 +84,7 @@ pub fn make(text: &[u8], out: &mut [u8]) -> Made
     match gather(text, &mut load) {
         Made::Load(n) => {
             if out.len() < n {
-                return Made::Mistake(0, NO_SPACE);
+                return Made::Mistake(0, reasons::NO_SPACE);
             }
             numerals::put_bytes(out, 0, &load[..n]);
             Made::Load(n)

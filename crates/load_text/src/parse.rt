@@ -5,13 +5,7 @@ ghost use Prim.Native.Nat.{_≤_};
 ghost use lib.ListN.{length, drop};
 ghost use Rattle.load.specs.declared.Call.the-variants.{Release, Withdraw};
 ghost use Rattle.load_text.specs.Parsing.{callIn, callOf, claimIn, clockCallIn, clockIn, groupsIn, leaveIn, lengthIn, lineSays, rigIn, said, ticketIn, wordAt, wordsIn};
-use crate::reasons::MISSING;
-use crate::reasons::NO_CLOCK;
-use crate::reasons::NO_LENGTH;
-use crate::reasons::NO_TICKET;
-use crate::reasons::TOO_LARGE;
-use crate::reasons::TOO_MANY;
-use crate::reasons::UNKNOWN;
+use crate::reasons;
 use crate::sets::groups_of;
 use crate::words::Field;
 use crate::words::Word;
@@ -54,7 +48,13 @@ fn clock_at(said: &[u8], w: Word) -> Field
 {
     let from = w.from;
     let to = w.to;
-    number(&said[from..to], 10, u64::MAX, NO_CLOCK, TOO_LARGE)
+    number(
+        &said[from..to],
+        10,
+        u64::MAX,
+        reasons::NO_CLOCK,
+        reasons::TOO_LARGE,
+    )
 }
 
 fn ticket_at(said: &[u8], w: Word) -> Field
@@ -63,7 +63,13 @@ fn ticket_at(said: &[u8], w: Word) -> Field
 {
     let from = w.from;
     let to = w.to;
-    number(&said[from..to], 10, 65535, NO_TICKET, TOO_LARGE)
+    number(
+        &said[from..to],
+        10,
+        65535,
+        reasons::NO_TICKET,
+        reasons::TOO_LARGE,
+    )
 }
 
 fn length_at(said: &[u8], w: Word) -> Field
@@ -72,7 +78,13 @@ fn length_at(said: &[u8], w: Word) -> Field
 {
     let from = w.from;
     let to = w.to;
-    number(&said[from..to], 10, 4294967295, NO_LENGTH, TOO_LARGE)
+    number(
+        &said[from..to],
+        10,
+        4294967295,
+        reasons::NO_LENGTH,
+        reasons::TOO_LARGE,
+    )
 }
 
 fn groups_at(said: &[u8], w: Word) -> Field
@@ -91,10 +103,10 @@ fn rig(said: &[u8], at: usize) -> Parsed
     let a = next_word(said, at);
     let more = next_word(said, a.to);
     if is_empty(a) {
-        return Parsed::Bad(MISSING);
+        return Parsed::Bad(reasons::MISSING);
     }
     if !is_empty(more) {
-        return Parsed::Bad(TOO_MANY);
+        return Parsed::Bad(reasons::TOO_MANY);
     }
     match groups_at(said, a) {
         Field::Value(g) => Parsed::Said(Call::Rig(g)),
@@ -108,10 +120,10 @@ fn clock(said: &[u8], at: usize) -> Parsed
     let a = next_word(said, at);
     let more = next_word(said, a.to);
     if is_empty(a) {
-        return Parsed::Bad(MISSING);
+        return Parsed::Bad(reasons::MISSING);
     }
     if !is_empty(more) {
-        return Parsed::Bad(TOO_MANY);
+        return Parsed::Bad(reasons::TOO_MANY);
     }
     match clock_at(said, a) {
         Field::Value(t) => Parsed::Said(Call::Clock(t)),
@@ -126,10 +138,10 @@ fn leave(said: &[u8], at: usize, release: bool) -> Parsed
     let b = next_word(said, a.to);
     let more = next_word(said, b.to);
     if is_empty(b) {
-        return Parsed::Bad(MISSING);
+        return Parsed::Bad(reasons::MISSING);
     }
     if !is_empty(more) {
-        return Parsed::Bad(TOO_MANY);
+        return Parsed::Bad(reasons::TOO_MANY);
     }
     match clock_at(said, a) {
         Field::Value(t) => match ticket_at(said, b) {
@@ -153,10 +165,10 @@ fn claim(said: &[u8], at: usize) -> Parsed
     let c = next_word(said, b.to);
     let more = next_word(said, c.to);
     if is_empty(c) {
-        return Parsed::Bad(MISSING);
+        return Parsed::Bad(reasons::MISSING);
     }
     if !is_empty(more) {
-        return Parsed::Bad(TOO_MANY);
+        return Parsed::Bad(reasons::TOO_MANY);
     }
     match clock_at(said, a) {
         Field::Value(t) => match groups_at(said, b) {
@@ -189,7 +201,7 @@ fn call(word: &[u8], said: &[u8], at: usize) -> Parsed
     if check::same(word, b"clock") {
         return clock(said, at);
     }
-    Parsed::Bad(UNKNOWN)
+    Parsed::Bad(reasons::UNKNOWN)
 }
 
 // A line's part before its end or its comment.

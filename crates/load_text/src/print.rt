@@ -9,19 +9,7 @@ ghost use Rattle.numerals.specs.Digits.{column};
 ghost use Rattle.numerals.specs.Laid.{lentOut, Put};
 ghost use Rattle.load.specs.Reading.{walk};
 ghost use Rattle.load_text.specs.Lines.{glyphOf, hexUpTo, setOf, lineOf, stopLine, restOf, textOf, reasonText, reportOf, printed};
-use crate::reasons::BACKWARD;
-use crate::reasons::MISFIT;
-use crate::reasons::MISSING;
-use crate::reasons::NO_CLOCK;
-use crate::reasons::NO_GROUPS;
-use crate::reasons::NO_LENGTH;
-use crate::reasons::NO_SPACE;
-use crate::reasons::NO_TICKET;
-use crate::reasons::OVER_63;
-use crate::reasons::OVERLONG;
-use crate::reasons::TOO_LARGE;
-use crate::reasons::TOO_MANY;
-use crate::reasons::UNKNOWN;
+use crate::reasons;
 use load::Call;
 use load::Item;
 
@@ -107,7 +95,7 @@ pub fn put_line(call: Call, out: &mut [u8]) -> Printed
 {
     let mut scrap = [0u8; 1];
     if out.len() < put_call(&mut scrap, 0, call) {
-        return Printed::Refusal(NO_SPACE);
+        return Printed::Refusal(reasons::NO_SPACE);
     }
     let n = put_call(out, 0, call);
     Printed::Length(n)
@@ -177,7 +165,7 @@ pub fn show(load: &[u8], out: &mut [u8]) -> Printed
         let n = put_text(out, load);
         return Printed::Length(n);
     }
-    Printed::Refusal(NO_SPACE)
+    Printed::Refusal(reasons::NO_SPACE)
 }
 
 // What is wrong, by number.
@@ -185,18 +173,18 @@ fn put_reason(out: &mut [u8], at: usize, reason: u8) -> usize
     ensures { λ r. ⌜ Put (now (out .entry)) at (reasonText reason) r (now (out .exit)) ⌝ }
 {
     match reason {
-        UNKNOWN => numerals::put_bytes(out, at, b"unknown call\n"),
-        MISSING => numerals::put_bytes(out, at, b"a number is missing\n"),
-        TOO_MANY => numerals::put_bytes(out, at, b"too many words\n"),
-        NO_CLOCK => numerals::put_bytes(out, at, b"clock is not a number\n"),
-        NO_TICKET => numerals::put_bytes(out, at, b"ticket is not a number\n"),
-        NO_LENGTH => numerals::put_bytes(out, at, b"length is not a number\n"),
-        NO_GROUPS => numerals::put_bytes(out, at, b"groups are not hex or a list\n"),
-        TOO_LARGE => numerals::put_bytes(out, at, b"number too large\n"),
-        OVER_63 => numerals::put_bytes(out, at, b"group over 63\n"),
-        BACKWARD => numerals::put_bytes(out, at, b"range runs backward\n"),
-        MISFIT => numerals::put_bytes(out, at, b"rig must be first\n"),
-        OVERLONG => numerals::put_bytes(out, at, b"load over 65,536 bytes\n"),
+        reasons::UNKNOWN => numerals::put_bytes(out, at, b"unknown call\n"),
+        reasons::MISSING => numerals::put_bytes(out, at, b"a number is missing\n"),
+        reasons::TOO_MANY => numerals::put_bytes(out, at, b"too many words\n"),
+        reasons::NO_CLOCK => numerals::put_bytes(out, at, b"clock is not a number\n"),
+        reasons::NO_TICKET => numerals::put_bytes(out, at, b"ticket is not a number\n"),
+        reasons::NO_LENGTH => numerals::put_bytes(out, at, b"length is not a number\n"),
+        reasons::NO_GROUPS => numerals::put_bytes(out, at, b"groups are not hex or a list\n"),
+        reasons::TOO_LARGE => numerals::put_bytes(out, at, b"number too large\n"),
+        reasons::OVER_63 => numerals::put_bytes(out, at, b"group over 63\n"),
+        reasons::BACKWARD => numerals::put_bytes(out, at, b"range runs backward\n"),
+        reasons::MISFIT => numerals::put_bytes(out, at, b"rig must be first\n"),
+        reasons::OVERLONG => numerals::put_bytes(out, at, b"load over 65,536 bytes\n"),
         _ => numerals::put_bytes(out, at, b"not written\n"),
     }
 }
@@ -218,7 +206,7 @@ pub fn report(line: u64, reason: u8, out: &mut [u8]) -> Printed
 {
     let mut scrap = [0u8; 1];
     if out.len() < put_report(&mut scrap, line, reason) {
-        return Printed::Refusal(NO_SPACE);
+        return Printed::Refusal(reasons::NO_SPACE);
     }
     let n = put_report(out, line, reason);
     Printed::Length(n)

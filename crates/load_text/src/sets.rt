@@ -3,10 +3,7 @@ ghost use mathlib.Core.Path.{_≡_};
 ghost use Prim.Native.Nat.{_≤_};
 ghost use Rattle.load_text.specs.declared.words.Field.the-variants.{Value};
 ghost use Rattle.load_text.specs.Parsing.{groupIn, groupsIn, isList, itemIn, itemsIn, span, upTo, withItems};
-use crate::reasons::BACKWARD;
-use crate::reasons::NO_GROUPS;
-use crate::reasons::OVER_63;
-use crate::reasons::TOO_LARGE;
+use crate::reasons;
 use crate::words::Field;
 use crate::words::number;
 use crate::words::place;
@@ -40,7 +37,7 @@ fn span(low: u64, high: u64) -> u64
 fn group(word: &[u8]) -> Field
     ensures { λ r. ⌜ r ≡ groupIn (now (word .entry)) ⌝ }
 {
-    number(word, 10, 63, NO_GROUPS, OVER_63)
+    number(word, 10, 63, reasons::NO_GROUPS, reasons::OVER_63)
 }
 
 // The groups from one to the one that a word says.
@@ -50,7 +47,7 @@ fn range(low: u64, word: &[u8]) -> Field
     match group(word) {
         Field::Value(high) => {
             if high < low {
-                return Field::Wrong(BACKWARD);
+                return Field::Wrong(reasons::BACKWARD);
             }
             Field::Value(span(low, high))
         }
@@ -101,5 +98,5 @@ pub(crate) fn groups_of(word: &[u8]) -> Field
     if is_list(word) {
         return list(word);
     }
-    number(word, 16, u64::MAX, NO_GROUPS, TOO_LARGE)
+    number(word, 16, u64::MAX, reasons::NO_GROUPS, reasons::TOO_LARGE)
 }
