@@ -1,4 +1,5 @@
--- Why a line makes no record, by number, as in src/reasons.rt. From 101 on it says nothing that is a call; 13, 14 and 15 are document 01's.
+-- Why a text makes no load, by number, as in src/reasons.rt: from 101 on for a line that says no call, so that no reason can be taken for a
+-- number of document 01; 13, 14 and 15 are document 01's own.
 use Prim.Native.Nat.{ℕ}
 
 abbrev pub unknown : ℕ

@@ -1,5 +1,5 @@
-// Why a line makes no record, by number: from 101 on what it says is wrong, so that no reason can be taken for a number of document 01.
-// 13, 14 and 15 are document 01's own. specs/Reasons.antt has the same numbers.
+// Why a text makes no load, by number, as in specs/Reasons.antt: from 101 on for a line that says no call, so that no reason can be taken
+// for a number of document 01; 13, 14 and 15 are document 01's own.
 pub const UNKNOWN: u8 = 101;
 
 pub const MISSING: u8 = 102;
