@@ -10,7 +10,7 @@ use borrow.Author.Tests.{leb-true}
 use Rattle.rules.specs.declared.Table.{Table}
 use Rattle.rules.specs.Calls.{Model, claim, release, withdraw, clock, blank, new}
 use Rattle.rules.specs.Tables.{model}
-use Rattle.numerals.specs.Laid.{laid, Put}
+use Rattle.numerals.specs.Laid.{laid, lentOut, Put}
 use Rattle.numerals.proofs.Laying.{laid-fits}
 use Rattle.table.specs.declared.Outcome.{Outcome}
 use Rattle.table.specs.Valid.{Valid}
@@ -22,7 +22,7 @@ use Rattle.load.specs.declared.Item.the-variants.{Record, End, Refused}
 use Rattle.load.specs.Reading.{itemAt, walk, openNumber}
 use Rattle.load.proofs.Reading.{walk-record, walk-end, walk-refused, step-refused, step-next}
 use Rattle.listing.specs.Lines.{header, lineOf, onLines, stopLine}
-use Rattle.listing.specs.Text.{stepOf, entryOf, ending, stopOr, linesFrom, linesOf, listingOf, answerOf, bufferOf}
+use Rattle.listing.specs.Text.{stepOf, entryOf, ending, stopOr, linesFrom, linesOf, listingOf, answerOf}
 use Rattle.numerals.proofs.Going.{Going, going-start, going-step, going-as, going-none, going-last}
 
 -- ── what an outcome prints ──
@@ -134,12 +134,12 @@ unfolding listingOf
 text-read s n p q = ap (λ (r : List ℕ). header ++ r) (sym (rw (sym p) (stop-none n 0 _ q)))
 
 -- ── the player's call ──
-pub listing-none : (x out : List ℕ) → leb (length x) (length out) ≡ false → (15 ≡ answerOf x out) × (out ≡ bufferOf x out)
-unfolding answerOf bufferOf
+pub listing-none : (x out : List ℕ) → leb (length x) (length out) ≡ false → (15 ≡ answerOf x out) × (out ≡ lentOut x out)
+unfolding answerOf lentOut
 listing-none x out e = rw e (refl, refl)
 
-pub listing-all : (x out : List ℕ) → leb (length x) (length out) ≡ true → (r : ℕ) (p : List ℕ) → (r ≡ length x) × (p ≡ laid out 0 x) → (r ≡ answerOf x out) × (p ≡ bufferOf x out)
-unfolding answerOf bufferOf
+pub listing-all : (x out : List ℕ) → leb (length x) (length out) ≡ true → (r : ℕ) (p : List ℕ) → (r ≡ length x) × (p ≡ laid out 0 x) → (r ≡ answerOf x out) × (p ≡ lentOut x out)
+unfolding answerOf lentOut
 listing-all x out e r p w = rw e (w .0, w .1 ∙ laid-fits out x (leb-true (length x) (length out) e))
 
 -- The answer is a count of the buffer's bytes, where it has 15.

@@ -4,7 +4,7 @@ use mathlib.Core.Bool.{cond}
 use mathlib.Core.List.{List, [], _∷_, _++_}
 use Prim.Native.Nat.{ℕ, zero, suc, _+_}
 use lib.Dec.{leb}
-use lib.ListN.{length, drop}
+use lib.ListN.{length}
 use Rattle.rules.specs.Calls.{Model, Step, claim, release, withdraw, clock, step, blank, new}
 use Rattle.load.specs.declared.Call.{Call}
 use Rattle.load.specs.declared.Call.the-variants.{Rig, Claim, Release, Withdraw, Clock}
@@ -53,10 +53,7 @@ unfoldable pub listingOf : List ℕ → List ℕ
 listingOf load = header ++ stopOr (openNumber load) 0 (linesOf 1 (blank 0) (walk load 1))
 
 -- ── the player's call ──
--- "answers the count of bytes written, a stop line included"; "it answers 15 if the whole listing doesn't go in".
+-- "answers the count of bytes written, a stop line included"; "it answers 15 if the whole listing doesn't go in". What it leaves in the
+-- buffer is `lentOut` of numerals/specs/Laid.
 unfoldable pub answerOf : List ℕ → List ℕ → ℕ
 answerOf text out = cond (leb (length text) (length out)) (length text) 15
-
--- It "keeps the buffer's later bytes", and where it answers 15 all of them.
-unfoldable pub bufferOf : List ℕ → List ℕ → List ℕ
-bufferOf text out = cond (leb (length text) (length out)) (text ++ drop (length text) out) out

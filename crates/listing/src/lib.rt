@@ -6,13 +6,13 @@ ghost use lib.Dec.{leb};
 ghost use lib.ListN.{length, take};
 ghost use Rattle.rules.specs.Calls.{blank};
 ghost use Rattle.rules.specs.Tables.{model};
-ghost use Rattle.numerals.specs.Laid.{laid, Put};
+ghost use Rattle.numerals.specs.Laid.{laid, lentOut, Put};
 ghost use Rattle.load.specs.Reading.{walk};
 ghost use Rattle.table.specs.Valid.{Valid};
 ghost use Rattle.table.specs.Outcomes.{outcome};
 ghost use Rattle.listing.specs.Lines.{lineOf, onLine, onLines, stopLine};
 ghost use Rattle.listing.specs.Room.{roomFor};
-ghost use Rattle.listing.specs.Text.{stepOf, ending, linesOf, listingOf, answerOf, bufferOf};
+ghost use Rattle.listing.specs.Text.{stepOf, ending, linesOf, listingOf, answerOf};
 use load::Call;
 use load::Item;
 use rules::Table;
@@ -163,7 +163,7 @@ fn goes_into(load: &[u8], room: usize) -> bool
 #[no_mangle]
 pub extern "C" fn belgwyth_listing(load: &[u8], out: &mut [u8]) -> usize
     ensures answer { λ r. ⌜ r ≡ answerOf (listingOf (now (load .entry))) (now (out .entry)) ⌝ }
-    ensures buffer { λ _. ⌜ now (out .exit) ≡ bufferOf (listingOf (now (load .entry))) (now (out .entry)) ⌝ }
+    ensures buffer { λ _. ⌜ now (out .exit) ≡ lentOut (listingOf (now (load .entry))) (now (out .entry)) ⌝ }
 {
     if goes_into(load, out.len()) {
         return run(load, out);

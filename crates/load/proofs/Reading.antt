@@ -2,7 +2,7 @@
 use Prim.Native.Nat.{ℕ, zero, suc, _+_, _-_, _*_, _≤_, _<_}
 use mathlib.Core.Bool.{Bool, true, false, not, _||_, cond, true≢false}
 use mathlib.Core.List.{List, [], _∷_}
-use mathlib.Core.Path.{_≡_, refl, ap}
+use mathlib.Core.Path.{_≡_, refl, ap, _∙_}
 use native.Mathlib.Omega.{arith}
 use lib.Dec.{ltb, eqb}
 use borrow.Author.Tests.{ltb-false, eqb-true, eqb-false, le-ltb, eq-eqb, ne-eqb}
@@ -61,6 +61,9 @@ item-numbered s at =
     go false true m c next = refl
     go false false true c next = refl
     go false false false c next = refl
+
+pub with-number : (s : List ℕ) (at : ℕ) (r : Item) → r ≡ itemAt s at → (r ≡ itemAt s at) × (itemValues at r .number ≡ recordNumber s at)
+with-number s at r e = (e, ap (λ (x : Item). itemValues at x .number) e ∙ item-numbered s at)
 
 -- A record stands at a position.
 pub record Stands (s : List ℕ) (at : ℕ) (c : Call) (next : ℕ) : Type 0 where

@@ -5,9 +5,9 @@ ghost use mathlib.Core.List.{_++_};
 ghost use lib.ListN.{length};
 ghost use Rattle.numerals.specs.Laid.{behind, laid, Put};
 ghost use Rattle.load.specs.Calls.{valuesOf, kindOf, lengthOf, callOf, widths};
-ghost use Rattle.load.specs.Answers.{writtenValues};
+ghost use Rattle.load.specs.Answers.{itemValues, writtenValues};
 ghost use Rattle.load.specs.Bytes.{recordBytes, fieldBytes, big, fieldValues};
-ghost use Rattle.load.specs.Reading.{inPlace, openNumber, misfit, itemAt, loadNumber};
+ghost use Rattle.load.specs.Reading.{inPlace, openNumber, misfit, itemAt, recordNumber, loadNumber};
 ghost use Rattle.load.specs.Writing.{growNumber, appendNumber, appendAnswer, appendValues, appendOut};
 
 // One record of a load, with its fields in the order of the format.
@@ -126,7 +126,7 @@ fn call_of(fields: &[u8], kind: u8) -> Call
 // What stands at a position of a load: a record's call, the end, or 12 or 13. The first record stands at 1. Reads that record alone,
 // whatever the load's length.
 pub fn record_at(load: &[u8], at: usize) -> Item
-    ensures { λ r. ⌜ r ≡ itemAt (now (load .entry)) at ⌝ }
+    ensures { λ r. ⌜ (r ≡ itemAt (now (load .entry)) at) × (itemValues at r .number ≡ recordNumber (now (load .entry)) at) ⌝ }
 {
     let size = load.len();
     if size <= at {

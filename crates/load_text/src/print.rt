@@ -7,7 +7,7 @@ ghost use lib.Dec.{leb};
 ghost use lib.ListN.{length};
 ghost use Rattle.numerals.specs.Digits.{column};
 ghost use Rattle.numerals.specs.Laid.{lentOut, Put};
-ghost use Rattle.load.specs.Reading.{walk};
+ghost use Rattle.load.specs.Reading.{walk, openNumber};
 ghost use Rattle.load_text.specs.Lines.{glyphOf, hexUpTo, setOf, lineOf, stopLine, restOf, textOf, reasonText, reportOf, printed};
 use crate::reasons;
 use load::Call;
@@ -108,16 +108,16 @@ fn put_stop(out: &mut [u8], at: usize, number: u8, k: u64) -> usize
     numerals::put_pair(out, m, number as u64, k, 10)
 }
 
-// The records of a load that opens, to its end or to the first that is refused.
+// The records that a reader gives of a load that opens, to its end or to the first that is refused.
 fn put_records(out: &mut [u8], from: usize, load: &[u8]) -> usize
-    requires { ⌜ length (now load) ≤ 65536 ⌝ }
+    requires { ⌜ openNumber (now load) ≡ 0 ⌝ }
     ensures { λ r. ⌜ Put (now (out .entry)) from (restOf 1 (walk (now (load .entry)) 1)) r (now (out .exit)) ⌝ }
 {
     let mut at: usize = 1;
     let mut k: u64 = 1;
     let mut n = from;
     loop {
-        match load::record_at(load, at) {
+        match reader::item_at(load, at) {
             Item::Record(call, next) => {
                 n = put_call(out, n, call);
                 at = next;

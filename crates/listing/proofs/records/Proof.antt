@@ -42,7 +42,7 @@ returns : tie.Need-returns Inv-loop μ-loop
 returns c =
     let e = c .before .before .before .before .before in
     let l = e .before .before .before .before .before in
-    run-stop _ _ _ _ _ _ _ _ _ (l .before .loop .inv .going) _ _ (sym (l .record-at .ensures) ∙ e .before .before .before .call .given .1) _ (e .before .act .ensures .0) _ (e .ending-of .ensures) _ _ (c .before .before .before .before .if1 .taken) (c .before .before .put-stop .ensures)
+    run-stop _ _ _ _ _ _ _ _ _ (l .before .loop .inv .going) _ _ (sym (l .record-at .ensures .0) ∙ e .before .before .before .call .given .1) _ (e .before .act .ensures .0) _ (e .ending-of .ensures) _ _ (c .before .before .before .before .if1 .taken) (c .before .before .put-stop .ensures)
 
 put-entry-requires : tie.Need-put-entry-requires Inv-loop μ-loop
 put-entry-requires c κs =
@@ -55,7 +55,7 @@ add-k c = let i = c .before .before .before .before .before .before .before .bef
 loop-less : tie.Need-loop-less Inv-loop μ-loop
 loop-less c =
     let a = c .before .before .before .before .before .before .before .before in
-    let q = step-next _ _ _ _ (sym (a .before .before .record-at .ensures) ∙ a .call .given .1) in
+    let q = step-next _ _ _ _ (sym (a .before .before .record-at .ensures .0) ∙ a .call .given .1) in
     omega (arith, q .0, q .1)
 
 loop-again : tie.Need-loop-again Inv-loop μ-loop
@@ -63,7 +63,7 @@ loop-again c =
     let e = c .before .before .before .before .before in
     let l = e .before .before .before .before .before in
     let a = e .before .act .ensures in
-    turn-more _ _ _ _ _ _ _ _ (l .before .loop .inv) (l .before .before .before .before .before .pre) _ _ (sym (l .record-at .ensures) ∙ e .before .before .before .call .given .1) _ (a .0) (a .1) _ (e .ending-of .ensures) (c .before .before .before .before .if1 .left) _ _ (c .before .before .put-entry .ensures)
+    turn-more _ _ _ _ _ _ _ _ (l .before .loop .inv) (l .before .before .before .before .before .pre) _ _ (sym (l .record-at .ensures .0) ∙ e .before .before .before .call .given .1) _ (a .0) (a .1) _ (e .ending-of .ensures) (c .before .before .before .before .if1 .left) _ _ (c .before .before .put-entry .ensures)
 
 enum-told : tie.Need-enum-told Inv-loop μ-loop
 enum-told c = search needs
@@ -72,7 +72,7 @@ same-length-2 : tie.Need-same-length-2 Inv-loop μ-loop
 same-length-2 c = c .before .before .before .loop .inv .going .size
 
 returns-2 : tie.Need-returns-2 Inv-loop μ-loop
-returns-2 c = run-end _ _ _ _ _ _ _ _ _ (c .before .before .before .loop .inv .going) (sym (c .before .before .record-at .ensures) ∙ c .enum-told .given .1)
+returns-2 c = run-end _ _ _ _ _ _ _ _ _ (c .before .before .before .loop .inv .going) (sym (c .before .before .record-at .ensures .0) ∙ c .enum-told .given .1)
 
 enum-known-r : tie.Need-enum-known-r Inv-loop μ-loop
 enum-known-r c = search needs
@@ -86,7 +86,7 @@ same-length-3 c = c .before .before .put-stop2 .kept .0 ∙ c .before .before .b
 returns-3 : tie.Need-returns-3 Inv-loop μ-loop
 returns-3 c =
     let l = c .before .before .before .before .before .before .before in
-    run-refused _ _ _ _ _ _ _ _ _ (l .before .loop .inv .going) _ _ _ (sym (l .record-at .ensures) ∙ c .before .before .before .before .before .r .given .1) (c .before .before .put-stop2 .ensures)
+    run-refused _ _ _ _ _ _ _ _ _ (l .before .loop .inv .going) _ _ _ (sym (l .record-at .ensures .0) ∙ c .before .before .before .before .before .r .given .1) (c .before .before .put-stop2 .ensures)
 
 pub records-spec : {M : Type 1} → statement M
 records-spec =

@@ -34,13 +34,13 @@ enum-known--c c = search needs
 loop-less : tie.Need-loop-less Inv-loop μ-loop
 loop-less c =
     let r = c .before .before .before in
-    let q = step-next _ _ _ _ (sym (r .record-at .ensures) ∙ c .before .-c .given .1) in
+    let q = step-next _ _ _ _ (sym (r .record-at .ensures .0) ∙ c .before .-c .given .1) in
     omega (arith, q .0, q .1)
 
 loop-again : tie.Need-loop-again Inv-loop μ-loop
 loop-again c =
     let r = c .before .before .before in
-    ap (λ (w : Walk). w .stop) (sym (walk-record _ _ _ _ (sym (r .record-at .ensures) ∙ c .before .-c .given .1))) ∙ r .before .loop .inv
+    ap (λ (w : Walk). w .stop) (sym (walk-record _ _ _ _ (sym (r .record-at .ensures .0) ∙ c .before .-c .given .1))) ∙ r .before .loop .inv
 
 enum-told : tie.Need-enum-told Inv-loop μ-loop
 enum-told c = search needs
@@ -49,7 +49,7 @@ returns-2 : tie.Need-returns-2 Inv-loop μ-loop
 returns-2 c =
     let r = c .before .before in
     let e = r .before .before in
-    ap (λ (w : Walk). w .stop) (sym (walk-end _ _ (sym (r .record-at .ensures) ∙ c .enum-told .given .1))) ∙ r .before .loop .inv ∙ test-walk _ _ (e .before .open-number .ensures) (e .if1 .left)
+    ap (λ (w : Walk). w .stop) (sym (walk-end _ _ (sym (r .record-at .ensures .0) ∙ c .enum-told .given .1))) ∙ r .before .loop .inv ∙ test-walk _ _ (e .before .open-number .ensures) (e .if1 .left)
 
 enum-known-n : tie.Need-enum-known-n Inv-loop μ-loop
 enum-known-n c = search needs
@@ -58,7 +58,7 @@ returns-3 : tie.Need-returns-3 Inv-loop μ-loop
 returns-3 c =
     let r = c .before .before .before in
     let e = r .before .before in
-    ap (λ (w : Walk). w .stop) (sym (walk-refused _ _ _ (sym (r .record-at .ensures) ∙ c .before .n .given .1))) ∙ r .before .loop .inv ∙ test-walk _ _ (e .before .open-number .ensures) (e .if1 .left)
+    ap (λ (w : Walk). w .stop) (sym (walk-refused _ _ _ (sym (r .record-at .ensures .0) ∙ c .before .n .given .1))) ∙ r .before .loop .inv ∙ test-walk _ _ (e .before .open-number .ensures) (e .if1 .left)
 
 pub load-number-spec : {M : Type 1} → statement M
 load-number-spec =

@@ -1,20 +1,20 @@
 -- `load::record_at` meets its contract: each test of `itemAt` in its order, then the record.
 use native.Mathlib.Omega.{arith}
 use mathlib.Core.Path.{sym, _∙_}
-use Rattle.load.proofs.Reading.{step-past}
+use Rattle.load.proofs.Reading.{step-past, with-number}
 use Rattle.load.proofs.Decoding.{step-short, step-misfit, step-record, misfit-empty}
 use borrow.Author.Needs.{needs}
 use Rattle.load.proofs.record_at.Statement.{statement}
 use Rattle.load.proofs.record_at.Tie as tie
 
 returns : tie.Need-returns
-returns c = sym (step-past _ _ (c .if1 .taken))
+returns c = with-number _ _ _ (sym (step-past _ _ (c .if1 .taken)))
 
 sub-left : tie.Need-sub-left
 sub-left c = search needs
 
 returns-2 : tie.Need-returns-2
-returns-2 c = sym (step-short _ _ (c .before .if1 .left) (omega (arith, c .if2 .taken)))
+returns-2 c = with-number _ _ _ (sym (step-short _ _ (c .before .if1 .left) (omega (arith, c .if2 .taken))))
 
 be16-requires : tie.Need-be16-requires
 be16-requires c κs = search needs
@@ -23,10 +23,13 @@ cast-n : tie.Need-cast-n
 cast-n c = search needs
 
 returns-3 : tie.Need-returns-3
-returns-3 c = sym (step-short _ _ (c .before .before .before .if1 .left) (omega (arith, c .if3 .taken, c .before .be16 .ensures, c .before .before .if2 .left)))
+returns-3 c =
+    with-number _ _ _ (sym (step-short _ _ (c .before .before .before .if1 .left) (omega (arith, c .if3 .taken, c .before .be16 .ensures, c .before .before .if2 .left))))
 
 returns-4 : tie.Need-returns-4
-returns-4 c = let b = c .before .before in sym (step-misfit _ _ _ (b .be16 .ensures) (omega (arith, c .before .if3 .left, b .before .if2 .left)) (misfit-empty _ _ _ _ (c .if4 .taken)))
+returns-4 c =
+    let b = c .before .before in
+    with-number _ _ _ (sym (step-misfit _ _ _ (b .be16 .ensures) (omega (arith, c .before .if3 .left, b .before .if2 .left)) (misfit-empty _ _ _ _ (c .if4 .taken))))
 
 add-kind : tie.Need-add-kind
 add-kind c = search needs
@@ -41,7 +44,10 @@ misfits-requires : tie.Need-misfits-requires
 misfits-requires c κs = search needs
 
 returns-5 : tie.Need-returns-5
-returns-5 c = let b = c .before .before .before .before .before .before in sym (step-misfit _ _ _ (b .be16 .ensures) (omega (arith, c .before .before .before .before .before .if3 .left, b .before .if2 .left)) (sym (c .before .misfits .ensures) ∙ c .if5 .taken))
+returns-5 c =
+    let b = c .before .before .before .before .before .before in
+    with-number _ _ _
+    (sym (step-misfit _ _ _ (b .be16 .ensures) (omega (arith, c .before .before .before .before .before .if3 .left, b .before .if2 .left)) (sym (c .before .misfits .ensures) ∙ c .if5 .taken)))
 
 add-from : tie.Need-add-from
 add-from c = search needs
@@ -68,7 +74,8 @@ returns-6 : tie.Need-returns-6
 returns-6 c =
     let m = c .before .before .before in
     let b = m .before .before .before .before .before in
-    step-record _ _ _ (b .be16 .ensures) (omega (arith, m .before .before .before .before .if3 .left, b .before .if2 .left)) _ (sym (m .misfits .ensures) ∙ c .before .before .if5 .left) (c .call-of .ensures)
+    with-number _ _ _
+    (step-record _ _ _ (b .be16 .ensures) (omega (arith, m .before .before .before .before .if3 .left, b .before .if2 .left)) _ (sym (m .misfits .ensures) ∙ c .before .before .if5 .left) (c .call-of .ensures))
 
 pub record-at-spec : {M : Type 1} → statement M
 record-at-spec =

@@ -17,7 +17,7 @@ record-at-requires c κs = search needs
 returns-2 : tie.Need-returns-2
 returns-2 c =
     let o = c .before in
-    with-number _ _ _ (c .record-at .ensures ∙ item-opened _ _ _ (o .before .open-number .ensures) (o .if1 .left))
+    with-number _ _ _ (c .record-at .ensures .0 ∙ item-opened _ _ _ (o .before .open-number .ensures) (o .if1 .left))
 
 pub item-at-spec : {M : Type 1} → statement M
 item-at-spec = tie.close (tie.spec open-number-requires returns record-at-requires returns-2)

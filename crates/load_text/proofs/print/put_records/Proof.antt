@@ -1,11 +1,13 @@
 -- What is laid so far with what is left gives the whole: the invariant is `Turn` of Showing.
-use mathlib.Core.Path.{sym, _∙_}
+use mathlib.Core.Path.{_≡_, refl, sym, _∙_}
 use Prim.Native.Nat.{_-_}
 use lib.ListN.{length}
 use native.Mathlib.Omega.{arith}
 use borrow.Author.Needs.{needs}
 use Rattle.load_text.proofs.Showing.{Turn, turn-start, turn-more, turn-refused, turn-end}
-use Rattle.load.proofs.Reading.{step-next}
+use Rattle.load.specs.Reading.{itemAt}
+use Rattle.load.proofs.Reading.{step-next, open-known}
+use Rattle.reader.proofs.Items.{item-opened}
 use Rattle.load_text.proofs.print.put_records.Statement.{statement}
 use Rattle.load_text.proofs.print.put_records.Tie as tie
 
@@ -15,11 +17,15 @@ Inv-loop out₀ from load at₀ k₀ n₀ out at k n = Turn load out₀ from out
 abbrev μ-loop : tie.MeasureT-loop
 μ-loop out₀ from load at₀ k₀ n₀ out at k n = length load - at
 
+-- The load opens, so that what the reader answers is what stands there.
+read : (c : tie.After-item-at Inv-loop μ-loop) → itemAt (c .before .before .before .before .args .load .now) (c .before .loop .at) ≡ c .item-at .result
+read c = item-opened _ _ _ refl (c .before .before .before .before .pre) ∙ sym (c .item-at .ensures .0)
+
 loop-holds : tie.Need-loop-holds Inv-loop μ-loop
 loop-holds c = turn-start _ _ _ (omega arith) (omega arith)
 
-record-at-requires : tie.Need-record-at-requires Inv-loop μ-loop
-record-at-requires c κs = search needs
+item-at-requires : tie.Need-item-at-requires Inv-loop μ-loop
+item-at-requires c κs = search needs
 
 enum-known-call : tie.Need-enum-known-call Inv-loop μ-loop
 enum-known-call c = search needs
@@ -31,10 +37,10 @@ add-k : tie.Need-add-k Inv-loop μ-loop
 add-k c = omega (arith, c .before .before .before .before .before .before .before .before .loop .inv .few, c .before .before .before .before .before .before .before .before .loop .inv .inside)
 
 loop-less : tie.Need-loop-less Inv-loop μ-loop
-loop-less c = let q = step-next _ _ _ _ (sym (c .before .before .before .before .before .before .before .record-at .ensures) ∙ c .before .before .before .before .before .call .given .1) in omega (arith, q .0, q .1)
+loop-less c = let q = step-next _ _ _ _ (read (c .before .before .before .before .before .before .before) ∙ c .before .before .before .before .before .call .given .1) in omega (arith, q .0, q .1)
 
 loop-again : tie.Need-loop-again Inv-loop μ-loop
-loop-again c = turn-more _ _ _ _ _ _ _ (c .before .before .before .before .before .before .before .before .loop .inv) _ _ (c .before .before .before .before .before .before .before .before .before .before .before .pre) _ _ (sym (c .before .before .before .before .before .before .before .record-at .ensures) ∙ c .before .before .before .before .before .call .given .1) (c .before .before .put-call .ensures)
+loop-again c = turn-more _ _ _ _ _ _ _ (c .before .before .before .before .before .before .before .before .loop .inv) _ _ (open-known _ (c .before .before .before .before .before .before .before .before .before .before .before .pre) .2) _ _ (read (c .before .before .before .before .before .before .before) ∙ c .before .before .before .before .before .call .given .1) (c .before .before .put-call .ensures)
 
 enum-told : tie.Need-enum-told Inv-loop μ-loop
 enum-told c = search needs
@@ -43,7 +49,7 @@ same-length : tie.Need-same-length Inv-loop μ-loop
 same-length c = c .before .before .before .loop .inv .going .size
 
 returns : tie.Need-returns Inv-loop μ-loop
-returns c = turn-end _ _ _ _ _ _ _ (c .before .before .before .loop .inv) (sym (c .before .before .record-at .ensures) ∙ c .enum-told .given .1)
+returns c = turn-end _ _ _ _ _ _ _ (c .before .before .before .loop .inv) (read (c .before .before) ∙ c .enum-told .given .1)
 
 enum-known-r : tie.Need-enum-known-r Inv-loop μ-loop
 enum-known-r c = search needs
@@ -55,7 +61,7 @@ same-length-2 : tie.Need-same-length-2 Inv-loop μ-loop
 same-length-2 c = c .before .before .put-stop .kept .0 ∙ c .before .before .before .before .before .before .before .before .loop .inv .going .size
 
 returns-2 : tie.Need-returns-2 Inv-loop μ-loop
-returns-2 c = turn-refused _ _ _ _ _ _ _ (c .before .before .before .before .before .before .before .before .loop .inv) _ _ _ (sym (c .before .before .before .before .before .before .before .record-at .ensures) ∙ c .before .before .before .before .before .r .given .1) (c .before .before .put-stop .ensures)
+returns-2 c = turn-refused _ _ _ _ _ _ _ (c .before .before .before .before .before .before .before .before .loop .inv) _ _ _ (read (c .before .before .before .before .before .before .before) ∙ c .before .before .before .before .before .r .given .1) (c .before .before .put-stop .ensures)
 
 pub put-records-spec : {M : Type 1} → statement M
 put-records-spec =
@@ -64,7 +70,7 @@ put-records-spec =
     Inv-loop
     μ-loop
     loop-holds
-    record-at-requires
+    item-at-requires
     enum-known-call
     put-call-requires
     add-k

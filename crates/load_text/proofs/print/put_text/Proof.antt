@@ -3,7 +3,6 @@ use mathlib.Core.Path.{sym, _∙_}
 use native.Mathlib.Omega.{arith}
 use borrow.Author.Needs.{needs}
 use Rattle.load_text.proofs.Showing.{text-open, text-read}
-use Rattle.load.proofs.Reading.{open-known}
 use Rattle.numerals.proofs.Laying.{put, put-then, put-as}
 use Rattle.load_text.proofs.print.put_text.Statement.{statement}
 use Rattle.load_text.proofs.print.put_text.Tie as tie
@@ -27,7 +26,7 @@ put-bytes-requires : tie.Need-put-bytes-requires
 put-bytes-requires c κs = search needs
 
 put-records-requires : tie.Need-put-records-requires
-put-records-requires c κs = open-known _ (sym (c .before .before .before .before .before .before .before .open-number .ensures) ∙ c .before .before .before .before .before .before .if1 .left) .2
+put-records-requires c κs = sym (c .before .before .before .before .before .before .before .open-number .ensures) ∙ c .before .before .before .before .before .before .if1 .left
 
 same-length-2 : tie.Need-same-length-2
 same-length-2 c = search needs
