@@ -6,15 +6,6 @@ use borrow.Author.Needs.{needs}
 use Rattle.cue.proofs.print.Statement.{statement}
 use Rattle.cue.proofs.print.Tie as tie
 
-listing-buffer-requires : tie.Need-listing-buffer-requires
-listing-buffer-requires c κs = search needs
-
-slice-aggregate-belgwyth-listing : tie.Need-slice-aggregate-belgwyth-listing
-slice-aggregate-belgwyth-listing c = search needs
-
-belgwyth-listing-requires : tie.Need-belgwyth-listing-requires
-belgwyth-listing-requires c κs = search needs
-
 array-share-prefix-out : tie.Need-array-share-prefix-out
 array-share-prefix-out c =
     let r = c .before .belgwyth-listing in
@@ -25,20 +16,14 @@ slice-aggregate-write-all c =
     let r = c .before .before .belgwyth-listing in
     sym (length-take-le (r .result) (r .last .1 .0) (array-share-prefix-out (c .before)))
 
-write-all-requires : tie.Need-write-all-requires
-write-all-requires c κs = search needs
-
-returns : tie.Need-returns
-returns c = search needs
-
 pub print-spec : {M : Type 1} → statement M
 print-spec =
     tie.close
     (tie.spec
-    listing-buffer-requires
-    slice-aggregate-belgwyth-listing
-    belgwyth-listing-requires
+    (λ c κs. search needs)
+    (λ c. search needs)
+    (λ c κs. search needs)
     array-share-prefix-out
     slice-aggregate-write-all
-    write-all-requires
-    returns)
+    (λ c κs. search needs)
+    (λ c. search needs))

@@ -11,11 +11,8 @@ use Rattle.groups.proofs.others.Tie as tie
 returns : tie.Need-returns
 returns c = let a = c .before .args .a in omega (arith, others-word a (c .before .fits .a .fits), and-le-l a (a - 1))
 
-sub-result : tie.Need-sub-result
-sub-result c = search needs
-
 returns-2 : tie.Need-returns-2
 returns-2 c = sym (others-word (c .before .args .a) (c .before .fits .a .fits))
 
 pub others-spec : {M : Type 1} → statement M
-others-spec = tie.close (tie.spec returns sub-result returns-2)
+others-spec = tie.close (tie.spec returns (λ c. search needs) returns-2)

@@ -4,15 +4,6 @@ use borrow.Author.Needs.{needs}
 use Rattle.listing.proofs.belgwyth_listing.Statement.{statement}
 use Rattle.listing.proofs.belgwyth_listing.Tie as tie
 
-goes-into-requires : tie.Need-goes-into-requires
-goes-into-requires c κs = search needs
-
-run-requires : tie.Need-run-requires
-run-requires c κs = search needs
-
-same-length : tie.Need-same-length
-same-length c = search needs
-
 returns : tie.Need-returns
 returns c = listing-all _ _ (sym (c .before .before .before .before .before .goes-into .ensures) ∙ c .before .before .before .before .if1 .taken) _ _ (c .before .before .run .ensures)
 
@@ -21,4 +12,4 @@ returns-2 c = listing-none _ _ (sym (c .before .goes-into .ensures) ∙ c .if1 .
 
 pub belgwyth-listing-spec : {M : Type 1} → statement M
 belgwyth-listing-spec =
-    tie.close (tie.spec goes-into-requires run-requires same-length returns returns-2)
+    tie.close (tie.spec (λ c κs. search needs) (λ c κs. search needs) (λ c. search needs) returns returns-2)

@@ -5,21 +5,12 @@ use borrow.Author.Needs.{needs}
 use Rattle.listing.proofs.goes_into.Statement.{statement}
 use Rattle.listing.proofs.goes_into.Tie as tie
 
-room-for-requires : tie.Need-room-for-requires
-room-for-requires c κs = search needs
-
 returns : tie.Need-returns
 returns c = goes-surely _ _ _ (c .before .room-for .ensures) (c .if1 .taken)
-
-slice-aggregate-run : tie.Need-slice-aggregate-run
-slice-aggregate-run c = search needs
-
-run-requires : tie.Need-run-requires
-run-requires c κs = search needs
 
 returns-2 : tie.Need-returns-2
 returns-2 c = ap (λ n. leb n (c .before .before .before .before .before .before .args .room)) (c .before .run .ensures .0)
 
 pub goes-into-spec : {M : Type 1} → statement M
 goes-into-spec =
-    tie.close (tie.spec room-for-requires returns slice-aggregate-run run-requires returns-2)
+    tie.close (tie.spec (λ c κs. search needs) returns (λ c. search needs) (λ c κs. search needs) returns-2)

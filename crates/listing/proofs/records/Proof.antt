@@ -14,26 +14,11 @@ Inv-loop load out₀ from o₀ at₀ k₀ n₀ out o at k n = Turn load out₀ f
 abbrev μ-loop : tie.MeasureT-loop
 μ-loop load out₀ from o₀ at₀ k₀ n₀ out o at k n = length load - at
 
-new-requires : tie.Need-new-requires Inv-loop μ-loop
-new-requires c κs = search needs
-
 loop-holds : tie.Need-loop-holds Inv-loop μ-loop
 loop-holds c = turn-start _ _ _ _ (omega arith) (omega arith) (c .new .ensures .0) (c .new .ensures .1)
 
-record-at-requires : tie.Need-record-at-requires Inv-loop μ-loop
-record-at-requires c κs = search needs
-
-enum-known-call : tie.Need-enum-known-call Inv-loop μ-loop
-enum-known-call c = search needs
-
 act-requires : tie.Need-act-requires Inv-loop μ-loop
 act-requires c κs = c .before .before .before .before .loop .inv .valid
-
-ending-of-requires : tie.Need-ending-of-requires Inv-loop μ-loop
-ending-of-requires c κs = search needs
-
-put-stop-requires : tie.Need-put-stop-requires Inv-loop μ-loop
-put-stop-requires c κs = search needs
 
 same-length : tie.Need-same-length Inv-loop μ-loop
 same-length c = c .before .before .put-stop .kept .0 ∙ c .before .before .before .before .before .before .before .before .before .before .before .loop .inv .going .size
@@ -65,20 +50,11 @@ loop-again c =
     let a = e .before .act .ensures in
     turn-more _ _ _ _ _ _ _ _ (l .before .loop .inv) (l .before .before .before .before .before .pre) _ _ (sym (l .record-at .ensures .0) ∙ e .before .before .before .call .given .1) _ (a .0) (a .1) _ (e .ending-of .ensures) (c .before .before .before .before .if1 .left) _ _ (c .before .before .put-entry .ensures)
 
-enum-told : tie.Need-enum-told Inv-loop μ-loop
-enum-told c = search needs
-
 same-length-2 : tie.Need-same-length-2 Inv-loop μ-loop
 same-length-2 c = c .before .before .before .loop .inv .going .size
 
 returns-2 : tie.Need-returns-2 Inv-loop μ-loop
 returns-2 c = run-end _ _ _ _ _ _ _ _ _ (c .before .before .before .loop .inv .going) (sym (c .before .before .record-at .ensures .0) ∙ c .enum-told .given .1)
-
-enum-known-r : tie.Need-enum-known-r Inv-loop μ-loop
-enum-known-r c = search needs
-
-put-stop-requires-2 : tie.Need-put-stop-requires-2 Inv-loop μ-loop
-put-stop-requires-2 c κs = search needs
 
 same-length-3 : tie.Need-same-length-3 Inv-loop μ-loop
 same-length-3 c = c .before .before .put-stop2 .kept .0 ∙ c .before .before .before .before .before .before .before .before .loop .inv .going .size
@@ -94,23 +70,23 @@ records-spec =
     (tie.spec
     Inv-loop
     μ-loop
-    new-requires
+    (λ c κs. search needs)
     loop-holds
-    record-at-requires
-    enum-known-call
+    (λ c κs. search needs)
+    (λ c. search needs)
     act-requires
-    ending-of-requires
-    put-stop-requires
+    (λ c κs. search needs)
+    (λ c κs. search needs)
     same-length
     returns
     put-entry-requires
     add-k
     loop-less
     loop-again
-    enum-told
+    (λ c. search needs)
     same-length-2
     returns-2
-    enum-known-r
-    put-stop-requires-2
+    (λ c. search needs)
+    (λ c κs. search needs)
     same-length-3
     returns-3)

@@ -8,15 +8,9 @@ returns : tie.Need-returns
 unfolding roomFor
 returns c = rw (lt-ltb _ _ (c .if1 .taken))
 
-mul-result : tie.Need-mul-result
-mul-result c = search needs
-
-add-result : tie.Need-add-result
-add-result c = search needs
-
 returns-2 : tie.Need-returns-2
 unfolding roomFor
 returns-2 c = rw (le-ltb _ _ (c .if1 .left))
 
 pub room-for-spec : {M : Type 1} → statement M
-room-for-spec = tie.close (tie.spec returns mul-result add-result returns-2)
+room-for-spec = tie.close (tie.spec returns (λ c. search needs) (λ c. search needs) returns-2)

@@ -8,21 +8,6 @@ use borrow.Author.Needs.{needs}
 use Rattle.listing.proofs.run.Statement.{statement}
 use Rattle.listing.proofs.run.Tie as tie
 
-slice-aggregate-put-bytes : tie.Need-slice-aggregate-put-bytes
-slice-aggregate-put-bytes c = search needs
-
-put-bytes-requires : tie.Need-put-bytes-requires
-put-bytes-requires c κs = search needs
-
-open-number-requires : tie.Need-open-number-requires
-open-number-requires c κs = search needs
-
-put-stop-requires : tie.Need-put-stop-requires
-put-stop-requires c κs = search needs
-
-same-length : tie.Need-same-length
-same-length c = search needs
-
 returns : tie.Need-returns
 returns c =
     let b = c .before .before .before .before in
@@ -30,9 +15,6 @@ returns c =
 
 records-requires : tie.Need-records-requires
 records-requires c κs = open-known _ (sym (c .before .before .open-number .ensures) ∙ c .before .if1 .left) .2
-
-same-length-2 : tie.Need-same-length-2
-same-length-2 c = search needs
 
 returns-2 : tie.Need-returns-2
 returns-2 c =
@@ -43,12 +25,12 @@ pub run-spec : {M : Type 1} → statement M
 run-spec =
     tie.close
     (tie.spec
-    slice-aggregate-put-bytes
-    put-bytes-requires
-    open-number-requires
-    put-stop-requires
-    same-length
+    (λ c. search needs)
+    (λ c κs. search needs)
+    (λ c κs. search needs)
+    (λ c κs. search needs)
+    (λ c. search needs)
     returns
     records-requires
-    same-length-2
+    (λ c. search needs)
     returns-2)

@@ -8,22 +8,10 @@ use borrow.Author.Needs.{needs}
 use Rattle.load.proofs.append.Statement.{statement}
 use Rattle.load.proofs.append.Tie as tie
 
-append-number-requires : tie.Need-append-number-requires
-append-number-requires c κs = search needs
-
 returns : tie.Need-returns
 returns c =
     let q = append-refused _ _ _ _ (c .before .append-number .ensures) (c .if1 .taken) in
     (q .0, (q .1, ap writtenValues (q .0) ∙ append-values _ _ _))
-
-put-bytes-requires : tie.Need-put-bytes-requires
-put-bytes-requires c κs = search needs
-
-put-record-requires : tie.Need-put-record-requires
-put-record-requires c κs = search needs
-
-same-length : tie.Need-same-length
-same-length c = search needs
 
 returns-2 : tie.Need-returns-2
 returns-2 c =
@@ -38,9 +26,9 @@ pub append-spec : {M : Type 1} → statement M
 append-spec =
     tie.close
     (tie.spec
-    append-number-requires
+    (λ c κs. search needs)
     returns
-    put-bytes-requires
-    put-record-requires
-    same-length
+    (λ c κs. search needs)
+    (λ c κs. search needs)
+    (λ c. search needs)
     returns-2)

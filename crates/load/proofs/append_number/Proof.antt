@@ -7,9 +7,6 @@ use Rattle.load.proofs.Writing.{append-load, append-grow}
 use Rattle.load.proofs.append_number.Statement.{statement}
 use Rattle.load.proofs.append_number.Tie as tie
 
-load-number-requires : tie.Need-load-number-requires
-load-number-requires c κs = search needs
-
 returns : tie.Need-returns
 returns c = append-load _ _ _ _ (c .before .load-number .ensures) (c .if1 .taken)
 
@@ -18,13 +15,10 @@ shared-slice-read-grow-number c =
     let o = c .before in
     omega (arith, load-known _ (sym (o .before .load-number .ensures) ∙ o .if1 .left) .0)
 
-grow-number-requires : tie.Need-grow-number-requires
-grow-number-requires c κs = search needs
-
 returns-2 : tie.Need-returns-2
 returns-2 c =
     let o = c .before .before in
     c .grow-number .ensures ∙ append-grow _ _ _ _ (o .before .load-number .ensures) (o .if1 .left)
 
 pub append-number-spec : {M : Type 1} → statement M
-append-number-spec = tie.close (tie.spec load-number-requires returns shared-slice-read-grow-number grow-number-requires returns-2)
+append-number-spec = tie.close (tie.spec (λ c κs. search needs) returns shared-slice-read-grow-number (λ c κs. search needs) returns-2)

@@ -6,15 +6,6 @@ use Rattle.load.proofs.Writing.{grow-place, grow-kind, grow-long, grow-
 use Rattle.load.proofs.grow_number.Statement.{statement}
 use Rattle.load.proofs.grow_number.Tie as tie
 
-kind-of-requires : tie.Need-kind-of-requires
-kind-of-requires c κs = search needs
-
-placed-requires : tie.Need-placed-requires
-placed-requires c κs = search needs
-
-length-of-requires : tie.Need-length-of-requires
-length-of-requires c κs = search needs
-
 returns : tie.Need-returns
 returns c =
     let l = c .before in
@@ -66,9 +57,9 @@ pub grow-number-spec : {M : Type 1} → statement M
 grow-number-spec =
     tie.close
     (tie.spec
-    kind-of-requires
-    placed-requires
-    length-of-requires
+    (λ c κs. search needs)
+    (λ c κs. search needs)
+    (λ c κs. search needs)
     returns
     add-more
     sub-if3

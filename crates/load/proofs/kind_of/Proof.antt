@@ -5,21 +5,6 @@ use borrow.Author.Needs.{needs}
 use Rattle.load.proofs.kind_of.Statement.{statement}
 use Rattle.load.proofs.kind_of.Tie as tie
 
-enum-known-call : tie.Need-enum-known-call
-enum-known-call c = search needs
-
-enum-known-call-2 : tie.Need-enum-known-call-2
-enum-known-call-2 c = search needs
-
-enum-known-call-3 : tie.Need-enum-known-call-3
-enum-known-call-3 c = search needs
-
-enum-known-call-4 : tie.Need-enum-known-call-4
-enum-known-call-4 c = search needs
-
-enum-known-call-5 : tie.Need-enum-known-call-5
-enum-known-call-5 c = search needs
-
 returns : tie.Need-returns
 unfolding kindOf
 returns c = sym (ap kindOf (c .before .call .given .1))
@@ -44,11 +29,11 @@ pub kind-of-spec : {M : Type 1} → statement M
 kind-of-spec =
     tie.close
     (tie.spec
-    enum-known-call
-    enum-known-call-2
-    enum-known-call-3
-    enum-known-call-4
-    enum-known-call-5
+    (λ c. search needs)
+    (λ c. search needs)
+    (λ c. search needs)
+    (λ c. search needs)
+    (λ c. search needs)
     returns
     returns-2
     returns-3

@@ -16,20 +16,11 @@ Inv-loop load «open» at₀ at = walk load at .stop ≡ walk load 1 .stop
 abbrev μ-loop : tie.MeasureT-loop
 μ-loop load «open» at₀ at = length load - at
 
-open-number-requires : tie.Need-open-number-requires Inv-loop μ-loop
-open-number-requires c κs = search needs
-
 returns : tie.Need-returns Inv-loop μ-loop
 returns c = test-open _ _ (c .before .open-number .ensures) (c .if1 .taken)
 
 loop-holds : tie.Need-loop-holds Inv-loop μ-loop
 loop-holds c = refl
-
-record-at-requires : tie.Need-record-at-requires Inv-loop μ-loop
-record-at-requires c κs = search needs
-
-enum-known--c : tie.Need-enum-known--c Inv-loop μ-loop
-enum-known--c c = search needs
 
 loop-less : tie.Need-loop-less Inv-loop μ-loop
 loop-less c =
@@ -42,17 +33,11 @@ loop-again c =
     let r = c .before .before .before in
     ap (λ (w : Walk). w .stop) (sym (walk-record _ _ _ _ (sym (r .record-at .ensures .0) ∙ c .before .-c .given .1))) ∙ r .before .loop .inv
 
-enum-told : tie.Need-enum-told Inv-loop μ-loop
-enum-told c = search needs
-
 returns-2 : tie.Need-returns-2 Inv-loop μ-loop
 returns-2 c =
     let r = c .before .before in
     let e = r .before .before in
     ap (λ (w : Walk). w .stop) (sym (walk-end _ _ (sym (r .record-at .ensures .0) ∙ c .enum-told .given .1))) ∙ r .before .loop .inv ∙ test-walk _ _ (e .before .open-number .ensures) (e .if1 .left)
-
-enum-known-n : tie.Need-enum-known-n Inv-loop μ-loop
-enum-known-n c = search needs
 
 returns-3 : tie.Need-returns-3 Inv-loop μ-loop
 returns-3 c =
@@ -66,14 +51,14 @@ load-number-spec =
     (tie.spec
     Inv-loop
     μ-loop
-    open-number-requires
+    (λ c κs. search needs)
     returns
     loop-holds
-    record-at-requires
-    enum-known--c
+    (λ c κs. search needs)
+    (λ c. search needs)
     loop-less
     loop-again
-    enum-told
+    (λ c. search needs)
     returns-2
-    enum-known-n
+    (λ c. search needs)
     returns-3)

@@ -11,15 +11,9 @@ returns : tie.Need-returns
 unfolding misfit
 returns c = rw (eq-eqb _ _ (c .if1 .taken))
 
-length-of-requires : tie.Need-length-of-requires
-length-of-requires c κs = search needs
-
 returns-2 : tie.Need-returns-2
 unfolding misfit
 returns-2 c = let e = c .before .length-of .ensures in rw (ne-eqb _ _ (c .before .before .if1 .left), ne-eqb _ _ (λ z. c .if2 .taken (z ∙ sym e)))
-
-placed-requires : tie.Need-placed-requires
-placed-requires c κs = search needs
 
 returns-3 : tie.Need-returns-3
 unfolding misfit
@@ -28,4 +22,4 @@ returns-3 c =
     rw (ne-eqb _ _ (n .before .if1 .left), eq-eqb _ _ (c .before .if2 .left ∙ n .length-of .ensures)) (ap not (c .placed .ensures))
 
 pub misfits-spec : {M : Type 1} → statement M
-misfits-spec = tie.close (tie.spec returns length-of-requires returns-2 placed-requires returns-3)
+misfits-spec = tie.close (tie.spec returns (λ c κs. search needs) returns-2 (λ c κs. search needs) returns-3)

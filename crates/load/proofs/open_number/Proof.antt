@@ -13,9 +13,6 @@ returns-2 : tie.Need-returns-2
 unfolding openNumber
 returns-2 c = rw (le-ltb 65536 _ (c .before .if1 .left), eq-eqb _ _ (c .if2 .taken))
 
-shared-slice-read-if3 : tie.Need-shared-slice-read-if3
-shared-slice-read-if3 c = search needs
-
 returns-3 : tie.Need-returns-3
 unfolding openNumber
 returns-3 c = rw (le-ltb 65536 _ (c .before .before .before .if1 .left), ne-eqb _ _ (c .before .before .if2 .left), eq-eqb _ _ (c .if3 .taken))
@@ -25,4 +22,4 @@ unfolding openNumber
 returns-4 c = rw (le-ltb 65536 _ (c .before .before .before .if1 .left), ne-eqb _ _ (c .before .before .if2 .left), ne-eqb _ _ (c .if3 .left))
 
 pub open-number-spec : {M : Type 1} → statement M
-open-number-spec = tie.close (tie.spec returns returns-2 shared-slice-read-if3 returns-3 returns-4)
+open-number-spec = tie.close (tie.spec returns returns-2 (λ c. search needs) returns-3 returns-4)

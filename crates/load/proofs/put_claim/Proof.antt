@@ -5,18 +5,6 @@ use borrow.Author.Needs.{needs}
 use Rattle.load.proofs.put_claim.Statement.{statement}
 use Rattle.load.proofs.put_claim.Tie as tie
 
-put-big-requires : tie.Need-put-big-requires
-put-big-requires c κs = search needs
-
-put-big-requires-2 : tie.Need-put-big-requires-2
-put-big-requires-2 c κs = search needs
-
-put-big-requires-3 : tie.Need-put-big-requires-3
-put-big-requires-3 c κs = search needs
-
-same-length : tie.Need-same-length
-same-length c = search needs
-
 returns : tie.Need-returns
 returns c =
     let l = c .before .before in
@@ -26,4 +14,4 @@ returns c =
 
 pub put-claim-spec : {M : Type 1} → statement M
 put-claim-spec =
-    tie.close (tie.spec put-big-requires put-big-requires-2 put-big-requires-3 same-length returns)
+    tie.close (tie.spec (λ c κs. search needs) (λ c κs. search needs) (λ c κs. search needs) (λ c. search needs) returns)

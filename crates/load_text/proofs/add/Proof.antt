@@ -5,35 +5,14 @@ use borrow.Author.Needs.{needs}
 use Rattle.load_text.proofs.add.Statement.{statement}
 use Rattle.load_text.proofs.add.Tie as tie
 
-parse-line-requires : tie.Need-parse-line-requires
-parse-line-requires c κs = search needs
-
-enum-told : tie.Need-enum-told
-enum-told c = search needs
-
-enum-known-call : tie.Need-enum-known-call
-enum-known-call c = search needs
-
-grow-number-requires : tie.Need-grow-number-requires
-grow-number-requires c κs = search needs
-
 returns : tie.Need-returns
 returns c =
     let g = c .before in
     let p = g .before .before .before .before in
     add-refused _ _ _ _ (sym (p .parse-line .ensures) ∙ g .before .before .call .given .1) _ (g .grow-number .ensures) (c .if1 .taken)
 
-put-record-requires : tie.Need-put-record-requires
-put-record-requires c κs = search needs
-
-enum-known-n : tie.Need-enum-known-n
-enum-known-n c = search needs
-
 returns-2 : tie.Need-returns-2
 returns-2 c = add-nothing _ _ _ (sym (c .before .before .parse-line .ensures) ∙ c .enum-told .given .1)
-
-same-length : tie.Need-same-length
-same-length c = search needs
 
 returns-3 : tie.Need-returns-3
 returns-3 c =
@@ -52,14 +31,14 @@ pub add-spec : {M : Type 1} → statement M
 add-spec =
     tie.close
     (tie.spec
-    parse-line-requires
-    enum-told
-    enum-known-call
-    grow-number-requires
+    (λ c κs. search needs)
+    (λ c. search needs)
+    (λ c. search needs)
+    (λ c κs. search needs)
     returns
-    put-record-requires
-    enum-known-n
+    (λ c κs. search needs)
+    (λ c. search needs)
     returns-2
-    same-length
+    (λ c. search needs)
     returns-3
     returns-4)

@@ -14,17 +14,11 @@ Inv-loop text out₀ size₀ at₀ line₀ out size at line = Turn text out₀ o
 abbrev μ-loop : tie.MeasureT-loop
 μ-loop text out₀ size₀ at₀ line₀ out size at line = length text - at
 
-put-byte-requires : tie.Need-put-byte-requires Inv-loop μ-loop
-put-byte-requires c κs = search needs
-
 loop-holds : tie.Need-loop-holds Inv-loop μ-loop
 loop-holds c = turn-start _ _ _ (c .before .before .put-byte .ensures .0)
 
 add-line : tie.Need-add-line Inv-loop μ-loop
 add-line c = omega (arith, c .before .loop .inv .few)
-
-place-requires : tie.Need-place-requires Inv-loop μ-loop
-place-requires c κs = search needs
 
 sub-add : tie.Need-sub-add Inv-loop μ-loop
 sub-add c = line-reach _ _ _ (c .before .before .loop-test .taken) (c .before .place .ensures) .0
@@ -34,15 +28,6 @@ part-add-start c = line-reach _ _ _ (c .before .before .loop-test .taken) (c .be
 
 part-add-end : tie.Need-part-add-end Inv-loop μ-loop
 part-add-end c = line-reach _ _ _ (c .before .before .loop-test .taken) (c .before .place .ensures) .1
-
-add-requires : tie.Need-add-requires Inv-loop μ-loop
-add-requires c κs = search needs
-
-enum-known-n : tie.Need-enum-known-n Inv-loop μ-loop
-enum-known-n c = search needs
-
-enum-known-n-2 : tie.Need-enum-known-n-2 Inv-loop μ-loop
-enum-known-n-2 c = search needs
 
 same-length : tie.Need-same-length Inv-loop μ-loop
 same-length c =
@@ -90,16 +75,16 @@ gather-spec =
     (tie.spec
     Inv-loop
     μ-loop
-    put-byte-requires
+    (λ c κs. search needs)
     loop-holds
     add-line
-    place-requires
+    (λ c κs. search needs)
     sub-add
     part-add-start
     part-add-end
-    add-requires
-    enum-known-n
-    enum-known-n-2
+    (λ c κs. search needs)
+    (λ c. search needs)
+    (λ c. search needs)
     same-length
     returns
     add-at

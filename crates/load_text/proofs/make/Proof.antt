@@ -6,18 +6,6 @@ use borrow.Author.Needs.{needs}
 use Rattle.load_text.proofs.make.Statement.{statement}
 use Rattle.load_text.proofs.make.Tie as tie
 
-room-requires : tie.Need-room-requires
-room-requires c κs = search needs
-
-slice-aggregate-gather : tie.Need-slice-aggregate-gather
-slice-aggregate-gather c = search needs
-
-gather-requires : tie.Need-gather-requires
-gather-requires c κs = search needs
-
-enum-known-n : tie.Need-enum-known-n
-enum-known-n c = search needs
-
 returns : tie.Need-returns
 returns c =
     let k = c .before in
@@ -39,15 +27,6 @@ slice-aggregate-put-bytes c =
     let l = loaded _ _ _ _ _ (g .gather .ensures) (k .before .n .given .1) (g .before .before .room .ensures) in
     simp length-take (omega (arith, l .small, g .gather .kept .1 .0, g .before .before .room .ensures))
 
-put-bytes-requires : tie.Need-put-bytes-requires
-put-bytes-requires c κs = search needs
-
-enum-known-line : tie.Need-enum-known-line
-enum-known-line c = search needs
-
-same-length : tie.Need-same-length
-same-length c = search needs
-
 returns-2 : tie.Need-returns-2
 returns-2 c =
     let p = c .before .before in
@@ -64,15 +43,15 @@ pub make-spec : {M : Type 1} → statement M
 make-spec =
     tie.close
     (tie.spec
-    room-requires
-    slice-aggregate-gather
-    gather-requires
-    enum-known-n
+    (λ c κs. search needs)
+    (λ c. search needs)
+    (λ c κs. search needs)
+    (λ c. search needs)
     returns
     array-share-prefix-load
     slice-aggregate-put-bytes
-    put-bytes-requires
-    enum-known-line
-    same-length
+    (λ c κs. search needs)
+    (λ c. search needs)
+    (λ c. search needs)
     returns-2
     returns-3)

@@ -17,32 +17,14 @@ Inv-loop s at n m v₀ i₀ v i = (i ≤ m) × (v < 256 ^ i) × (numeral v (drop
 abbrev μ-loop : tie.MeasureT-loop
 μ-loop s at n m v₀ i₀ v i = m - i
 
-readable-requires : tie.Need-readable-requires Inv-loop μ-loop
-readable-requires c κs = search needs
-
 loop-holds : tie.Need-loop-holds Inv-loop μ-loop
 loop-holds c = (omega arith, omega arith, refl)
 
 mul-v : tie.Need-mul-v Inv-loop μ-loop
 mul-v c = let l = c .before in let k = grown (l .loop .v) (l .loop .i) 0 (l .loop .inv .1) (omega arith) in omega (arith, k, fits8 (suc (l .loop .i)) (omega arith))
 
-add-wide : tie.Need-add-wide Inv-loop μ-loop
-add-wide c = omega arith
-
-shared-slice-read-wide : tie.Need-shared-slice-read-wide Inv-loop μ-loop
-shared-slice-read-wide c = omega arith
-
-wide-requires : tie.Need-wide-requires Inv-loop μ-loop
-wide-requires c κs = search needs
-
 add-v : tie.Need-add-v Inv-loop μ-loop
 add-v c = let l = c .before .before .before in let k = grown (l .loop .v) (l .loop .i) (c .wide .result) (l .loop .inv .1) (c .wide .ensures .1) in omega (arith, k, fits8 (suc (l .loop .i)) (omega arith))
-
-add-i : tie.Need-add-i Inv-loop μ-loop
-add-i c = omega arith
-
-loop-less : tie.Need-loop-less Inv-loop μ-loop
-loop-less c = omega arith
 
 loop-again : tie.Need-loop-again Inv-loop μ-loop
 unfolding numeral
@@ -74,14 +56,14 @@ number-spec =
     (tie.spec
     Inv-loop
     μ-loop
-    readable-requires
+    (λ c κs. search needs)
     loop-holds
     mul-v
-    add-wide
-    shared-slice-read-wide
-    wide-requires
+    (λ c. omega arith)
+    (λ c. omega arith)
+    (λ c κs. search needs)
     add-v
-    add-i
-    loop-less
+    (λ c. omega arith)
+    (λ c. omega arith)
     loop-again
     returns)

@@ -6,24 +6,12 @@ use borrow.Author.Needs.{needs}
 use Rattle.numerals.proofs.put_byte.Statement.{statement}
 use Rattle.numerals.proofs.put_byte.Tie as tie
 
-behind-requires : tie.Need-behind-requires
-behind-requires c κs = search needs
-
 returns : tie.Need-returns
 returns c = (c .behind .ensures, sym (laid-out _ _ _ (c .before .if1 .taken)))
-
-slice-write-out : tie.Need-slice-write-out
-slice-write-out c = search needs
-
-add-result : tie.Need-add-result
-add-result c = search needs
-
-same-length : tie.Need-same-length
-same-length c = search needs
 
 returns-2 : tie.Need-returns-2
 returns-2 c = (sym (behind-small _ _ (omega arith)), sym (laid-one _ _ _))
 
 pub put-byte-spec : {M : Type 1} → statement M
 put-byte-spec =
-    tie.close (tie.spec behind-requires returns slice-write-out add-result same-length returns-2)
+    tie.close (tie.spec (λ c κs. search needs) returns (λ c. search needs) (λ c. search needs) (λ c. search needs) returns-2)

@@ -16,9 +16,6 @@ Inv-loop out₀ at src n m i₀ out i = (i ≤ m) × (length out ≡ length out�
 abbrev μ-loop : tie.MeasureT-loop
 μ-loop out₀ at src n m i₀ out i = m - i
 
-room-requires : tie.Need-room-requires Inv-loop μ-loop
-room-requires c κs = search needs
-
 loop-holds : tie.Need-loop-holds Inv-loop μ-loop
 loop-holds c = (omega arith, refl, rw add-zero)
 
@@ -31,19 +28,10 @@ add-out c = omega (arith, c .before .before .before .room .ensures)
 slice-write-out : tie.Need-slice-write-out Inv-loop μ-loop
 slice-write-out c = omega (arith, c .before .before .before .room .ensures)
 
-add-i : tie.Need-add-i Inv-loop μ-loop
-add-i c = omega arith
-
-loop-less : tie.Need-loop-less Inv-loop μ-loop
-loop-less c = omega arith
-
 loop-again : tie.Need-loop-again Inv-loop μ-loop
 loop-again c =
     let l = c .before .before in
     (omega arith, simp length-set (l .loop .inv .1), laid-turn (l .loop .out) _ (l .loop .i) _ (omega (arith, l .before .room .ensures)) ∙ l .loop .inv .2)
-
-behind-requires : tie.Need-behind-requires Inv-loop μ-loop
-behind-requires c κs = search needs
 
 same-length : tie.Need-same-length Inv-loop μ-loop
 same-length c = c .before .before .loop .inv .1
@@ -59,14 +47,14 @@ put-bytes-spec =
     (tie.spec
     Inv-loop
     μ-loop
-    room-requires
+    (λ c κs. search needs)
     loop-holds
     shared-slice-read-out
     add-out
     slice-write-out
-    add-i
-    loop-less
+    (λ c. omega arith)
+    (λ c. omega arith)
     loop-again
-    behind-requires
+    (λ c κs. search needs)
     same-length
     returns)

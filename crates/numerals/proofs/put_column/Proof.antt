@@ -6,15 +6,6 @@ use borrow.Author.Needs.{needs}
 use Rattle.numerals.proofs.put_column.Statement.{statement}
 use Rattle.numerals.proofs.put_column.Tie as tie
 
-put-decimal-requires : tie.Need-put-decimal-requires
-put-decimal-requires c κs = search needs
-
-put-byte-requires : tie.Need-put-byte-requires
-put-byte-requires c κs = search needs
-
-same-length : tie.Need-same-length
-same-length c = search needs
-
 returns : tie.Need-returns
 unfolding column
 returns c =
@@ -22,4 +13,4 @@ returns c =
     (w .next, w .is)
 
 pub put-column-spec : {M : Type 1} → statement M
-put-column-spec = tie.close (tie.spec put-decimal-requires put-byte-requires same-length returns)
+put-column-spec = tie.close (tie.spec (λ c κs. search needs) (λ c κs. search needs) (λ c. search needs) returns)

@@ -5,15 +5,6 @@ use borrow.Author.Needs.{needs}
 use Rattle.numerals.proofs.put_decimal.Statement.{statement}
 use Rattle.numerals.proofs.put_decimal.Tie as tie
 
-width-requires : tie.Need-width-requires
-width-requires c κs = search needs
-
-put-digits-requires : tie.Need-put-digits-requires
-put-digits-requires c κs = search needs
-
-same-length : tie.Need-same-length
-same-length c = search needs
-
 returns : tie.Need-returns
 unfolding decimalOf
 returns c =
@@ -21,4 +12,4 @@ returns c =
     rw (← (c .before .before .before .before .width .ensures)) (d .next, d .is)
 
 pub put-decimal-spec : {M : Type 1} → statement M
-put-decimal-spec = tie.close (tie.spec width-requires put-digits-requires same-length returns)
+put-decimal-spec = tie.close (tie.spec (λ c κs. search needs) (λ c κs. search needs) (λ c. search needs) returns)

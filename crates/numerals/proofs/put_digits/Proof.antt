@@ -19,9 +19,6 @@ abbrev μ-loop : tie.MeasureT-loop
 loop-holds : tie.Need-loop-holds Inv-loop μ-loop
 loop-holds c = (omega arith, refl, refl)
 
-sub-i : tie.Need-sub-i Inv-loop μ-loop
-sub-i c = omega arith
-
 rem-store : tie.Need-rem-store Inv-loop μ-loop
 rem-store c = omega (arith, c .before .before .before .before .pre .0)
 
@@ -37,14 +34,8 @@ add-store c =
     let p = l .before .before .pre in
     omega (arith, mod-lt (l .loop .v) (p .0), p .1)
 
-store-requires : tie.Need-store-requires Inv-loop μ-loop
-store-requires c κs = search needs
-
 div-v : tie.Need-div-v Inv-loop μ-loop
 div-v c = omega (arith, c .before .before .before .before .before .before .before .pre .0)
-
-loop-less : tie.Need-loop-less Inv-loop μ-loop
-loop-less c = omega arith
 
 loop-again : tie.Need-loop-again Inv-loop μ-loop
 loop-again c =
@@ -57,9 +48,6 @@ loop-again c =
       s .store .kept .0 ∙ l .loop .inv .1,
       rw (s .store .ensures) (stored-turn (a .base) (a .zero) (a .at) (l .loop .i) (l .loop .v) _ (l .loop .out) (s .before .before .loop-test .taken) (omega (arith, d, b .pre .1))) ∙ l .loop .inv .2,
     )
-
-behind-requires : tie.Need-behind-requires Inv-loop μ-loop
-behind-requires c κs = search needs
 
 same-length : tie.Need-same-length Inv-loop μ-loop
 same-length c = c .before .before .loop .inv .1
@@ -77,14 +65,14 @@ put-digits-spec =
     Inv-loop
     μ-loop
     loop-holds
-    sub-i
+    (λ c. omega arith)
     rem-store
     cast-store
     add-store
-    store-requires
+    (λ c κs. search needs)
     div-v
-    loop-less
+    (λ c. omega arith)
     loop-again
-    behind-requires
+    (λ c κs. search needs)
     same-length
     returns)

@@ -6,15 +6,6 @@ use borrow.Author.Needs.{needs}
 use Rattle.numerals.proofs.put_pair.Statement.{statement}
 use Rattle.numerals.proofs.put_pair.Tie as tie
 
-put-column-requires : tie.Need-put-column-requires
-put-column-requires c κs = search needs
-
-put-column-requires-2 : tie.Need-put-column-requires-2
-put-column-requires-2 c κs = search needs
-
-same-length : tie.Need-same-length
-same-length c = search needs
-
 returns : tie.Need-returns
 unfolding pair
 returns c =
@@ -22,4 +13,4 @@ returns c =
     (w .next, w .is)
 
 pub put-pair-spec : {M : Type 1} → statement M
-put-pair-spec = tie.close (tie.spec put-column-requires put-column-requires-2 same-length returns)
+put-pair-spec = tie.close (tie.spec (λ c κs. search needs) (λ c κs. search needs) (λ c. search needs) returns)

@@ -16,9 +16,6 @@ loop-holds c = counting-start _ (c .fits .value .fits)
 add-n : tie.Need-add-n Inv-loop μ-loop
 add-n c = omega (arith, c .before .loop .inv .spent)
 
-loop-less : tie.Need-loop-less Inv-loop μ-loop
-loop-less c = omega arith
-
 loop-again : tie.Need-loop-again Inv-loop μ-loop
 loop-again c = counting-more _ _ _ (c .loop-test .taken) (c .before .loop .inv)
 
@@ -26,4 +23,4 @@ returns : tie.Need-returns Inv-loop μ-loop
 returns c = counting-end _ _ _ (c .loop-test .left) (c .before .loop .inv)
 
 pub width-spec : {M : Type 1} → statement M
-width-spec = tie.close (tie.spec Inv-loop μ-loop loop-holds add-n loop-less loop-again returns)
+width-spec = tie.close (tie.spec Inv-loop μ-loop loop-holds add-n (λ c. omega arith) loop-again returns)

@@ -5,14 +5,8 @@ use Rattle.reader.proofs.Items.{with-number, item-refused, item-opened}
 use Rattle.reader.proofs.item_at.Statement.{statement}
 use Rattle.reader.proofs.item_at.Tie as tie
 
-open-number-requires : tie.Need-open-number-requires
-open-number-requires c κs = search needs
-
 returns : tie.Need-returns
 returns c = with-number _ _ _ (item-refused _ _ _ (c .before .open-number .ensures) (c .if1 .taken))
-
-record-at-requires : tie.Need-record-at-requires
-record-at-requires c κs = search needs
 
 returns-2 : tie.Need-returns-2
 returns-2 c =
@@ -20,4 +14,4 @@ returns-2 c =
     with-number _ _ _ (c .record-at .ensures .0 ∙ item-opened _ _ _ (o .before .open-number .ensures) (o .if1 .left))
 
 pub item-at-spec : {M : Type 1} → statement M
-item-at-spec = tie.close (tie.spec open-number-requires returns record-at-requires returns-2)
+item-at-spec = tie.close (tie.spec (λ c κs. search needs) returns (λ c κs. search needs) returns-2)

@@ -6,12 +6,6 @@ use Rattle.reader.proofs.Items.{record-inside, record-shown, end-shown,
 use Rattle.reader.proofs.part_at.Statement.{statement}
 use Rattle.reader.proofs.part_at.Tie as tie
 
-item-at-requires : tie.Need-item-at-requires
-item-at-requires c κs = search needs
-
-enum-known--c : tie.Need-enum-known--c
-enum-known--c c = search needs
-
 sub-result : tie.Need-sub-result
 sub-result c = let q = record-inside _ _ _ _ (sym (c .before .before .before .item-at .ensures .0) ∙ c .before .-c .given .1) in omega (arith, q .0, q .1)
 
@@ -20,18 +14,6 @@ part-result-start c = let q = record-inside _ _ _ _ (sym (c .before .before .bef
 
 part-result-end : tie.Need-part-result-end
 part-result-end c = let q = record-inside _ _ _ _ (sym (c .before .before .before .item-at .ensures .0) ∙ c .before .-c .given .1) in omega (arith, q .0, q .1)
-
-enum-told : tie.Need-enum-told
-enum-told c = search needs
-
-slice-aggregate-result : tie.Need-slice-aggregate-result
-slice-aggregate-result c = search needs
-
-enum-known--n : tie.Need-enum-known--n
-enum-known--n c = search needs
-
-slice-aggregate-result-2 : tie.Need-slice-aggregate-result-2
-slice-aggregate-result-2 c = search needs
 
 returns : tie.Need-returns
 returns c = record-shown _ _ _ _ _ (sym (c .before .before .before .before .item-at .ensures .0) ∙ c .before .before .-c .given .1)
@@ -46,15 +28,15 @@ pub part-at-spec : {M : Type 1} → statement M
 part-at-spec =
     tie.close
     (tie.spec
-    item-at-requires
-    enum-known--c
+    (λ c κs. search needs)
+    (λ c. search needs)
     sub-result
     part-result-start
     part-result-end
-    enum-told
-    slice-aggregate-result
-    enum-known--n
-    slice-aggregate-result-2
+    (λ c. search needs)
+    (λ c. search needs)
+    (λ c. search needs)
+    (λ c. search needs)
     returns
     returns-2
     returns-3)

@@ -45,9 +45,6 @@ returns c = c .advanced .ensures
 add-i : tie.Need-add-i Inv-loop μ-loop
 add-i c = let b = c .before .before .before .before .before in omega (arith, formed-few (b .args .t1) (b .pre .0 .formed))
 
-loop-less : tie.Need-loop-less Inv-loop μ-loop
-loop-less c = omega arith
-
 loop-again : tie.Need-loop-again Inv-loop μ-loop
 loop-again c =
     let o = c .before in
@@ -81,6 +78,6 @@ at-clock-spec =
     advanced-requires
     returns
     add-i
-    loop-less
+    (λ c. omega arith)
     loop-again
     returns-2)

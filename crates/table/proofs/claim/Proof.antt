@@ -9,12 +9,6 @@ use borrow.Author.Needs.{needs}
 use Rattle.table.proofs.claim.Statement.{statement}
 use Rattle.table.proofs.claim.Tie as tie
 
-claim-number-requires : tie.Need-claim-number-requires
-claim-number-requires c κs = search needs
-
-refusal-requires : tie.Need-refusal-requires
-refusal-requires c κs = search needs
-
 returns : tie.Need-returns
 returns c =
     let n = c .before .before in
@@ -52,8 +46,8 @@ pub claim-spec : {M : Type 1} → statement M
 claim-spec =
     tie.close
     (tie.spec
-    claim-number-requires
-    refusal-requires
+    (λ c κs. search needs)
+    (λ c κs. search needs)
     returns
     at-clock-requires
     admitted-requires

@@ -8,17 +8,11 @@ use borrow.Author.Needs.{needs}
 use Rattle.table.proofs.claim_number.Statement.{statement}
 use Rattle.table.proofs.claim_number.Tie as tie
 
-time-number-requires : tie.Need-time-number-requires
-time-number-requires c κs = search needs
-
 returns : tie.Need-returns
 returns c =
     let n = c .before in
     let a = n .before .args in
     claim-timed (model (a .t)) (a .clock) (a .groups) (a .length) _ (n .time-number .ensures) (c .if1 .taken)
-
-empty-requires : tie.Need-empty-requires
-empty-requires c κs = search needs
 
 returns-2 : tie.Need-returns-2
 returns-2 c =
@@ -26,9 +20,6 @@ returns-2 c =
     let n = m .before .before in
     let a = n .before .args in
     claim-dark (model (a .t)) (a .clock) (a .groups) (a .length) _ (n .time-number .ensures) (m .before .if1 .left) (sym (m .empty .ensures) ∙ c .if2 .taken)
-
-within-requires : tie.Need-within-requires
-within-requires c κs = search needs
 
 returns-3 : tie.Need-returns-3
 returns-3 c =
@@ -93,11 +84,11 @@ pub claim-number-spec : {M : Type 1} → statement M
 claim-number-spec =
     tie.close
     (tie.spec
-    time-number-requires
+    (λ c κs. search needs)
     returns
-    empty-requires
+    (λ c κs. search needs)
     returns-2
-    within-requires
+    (λ c κs. search needs)
     returns-3
     returns-4
     returns-5

@@ -7,12 +7,6 @@ use borrow.Author.Needs.{needs}
 use Rattle.table.proofs.clock.Statement.{statement}
 use Rattle.table.proofs.clock.Tie as tie
 
-time-number-requires : tie.Need-time-number-requires
-time-number-requires c κs = search needs
-
-refusal-requires : tie.Need-refusal-requires
-refusal-requires c κs = search needs
-
 returns : tie.Need-returns
 returns c =
     let n = c .before .before in
@@ -27,9 +21,6 @@ at-clock-requires c κs =
     let o = time-ok (b .args .t .clock) (b .args .clock) (sym (n .time-number .ensures) ∙ c .if1 .left) in
     (b .pre, o .0, o .1)
 
-finished-requires : tie.Need-finished-requires
-finished-requires c κs = search needs
-
 returns-2 : tie.Need-returns-2
 returns-2 c =
     let u = c .before in
@@ -42,9 +33,9 @@ pub clock-spec : {M : Type 1} → statement M
 clock-spec =
     tie.close
     (tie.spec
-    time-number-requires
-    refusal-requires
+    (λ c κs. search needs)
+    (λ c κs. search needs)
     returns
     at-clock-requires
-    finished-requires
+    (λ c κs. search needs)
     returns-2)

@@ -7,12 +7,6 @@ use borrow.Author.Needs.{needs}
 use Rattle.table.proofs.leave.Statement.{statement}
 use Rattle.table.proofs.leave.Tie as tie
 
-time-number-requires : tie.Need-time-number-requires
-time-number-requires c κs = search needs
-
-refusal-requires : tie.Need-refusal-requires
-refusal-requires c κs = search needs
-
 returns : tie.Need-returns
 returns c =
     let n = c .before .before in
@@ -23,12 +17,6 @@ returns c =
 
 removed-requires : tie.Need-removed-requires
 removed-requires c κs = c .before .before .pre .formed
-
-phase-number-requires : tie.Need-phase-number-requires
-phase-number-requires c κs = search needs
-
-refusal-requires-2 : tie.Need-refusal-requires-2
-refusal-requires-2 c κs = search needs
 
 returns-2 : tie.Need-returns-2
 returns-2 c =
@@ -72,12 +60,12 @@ pub leave-spec : {M : Type 1} → statement M
 leave-spec =
     tie.close
     (tie.spec
-    time-number-requires
-    refusal-requires
+    (λ c κs. search needs)
+    (λ c κs. search needs)
     returns
     removed-requires
-    phase-number-requires
-    refusal-requires-2
+    (λ c κs. search needs)
+    (λ c κs. search needs)
     returns-2
     advanced-requires
     finished-requires

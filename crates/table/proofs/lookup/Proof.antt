@@ -53,9 +53,6 @@ add-i c =
     let b = c .before .before .before .before .before in
     omega (arith, formed-few (b .args .t1) (b .pre .formed))
 
-loop-less : tie.Need-loop-less Inv-loop μ-loop
-loop-less c = omega arith
-
 loop-again : tie.Need-loop-again Inv-loop μ-loop
 loop-again c =
     let z = c .before .before .before .before in
@@ -86,6 +83,6 @@ lookup-spec =
     shown-requires
     returns
     add-i
-    loop-less
+    (λ c. omega arith)
     loop-again
     returns-2)

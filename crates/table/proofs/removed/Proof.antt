@@ -63,9 +63,6 @@ add-i c =
     let v = b .pre in
     omega (arith, z .loop .inv .1 .within, taking-few _ _ _ (formed-few _ v) (formed-length _ v) _ _ _ _ (z .loop .inv .1), formed-few (b .args .t1) v)
 
-loop-less : tie.Need-loop-less Inv-loop μ-loop
-loop-less c = omega arith
-
 loop-again : tie.Need-loop-again Inv-loop μ-loop
 loop-again c =
     let z = c .before .before .before .before in
@@ -131,7 +128,7 @@ removed-spec =
     element-set-from-c
     add-n
     add-i
-    loop-less
+    (λ c. omega arith)
     loop-again
     mul-t20
     element-set-from-t

@@ -6,15 +6,6 @@ use borrow.Author.Needs.{needs}
 use Rattle.table.proofs.shown.Statement.{statement}
 use Rattle.table.proofs.shown.Tie as tie
 
-wide-requires : tie.Need-wide-requires
-wide-requires c κs = search needs
-
-enum-known-p : tie.Need-enum-known-p
-enum-known-p c = search needs
-
-enum-known-p-2 : tie.Need-enum-known-p-2
-enum-known-p-2 c = search needs
-
 add-t7 : tie.Need-add-t7
 add-t7 c = omega (arith, ap mark (c .before .p2 .given .1))
 
@@ -26,4 +17,4 @@ returns-2 c = shown-held _ _ (c .before .before .before .before .args .c) (c .be
 
 pub shown-spec : {M : Type 1} → statement M
 shown-spec =
-    tie.close (tie.spec wide-requires enum-known-p enum-known-p-2 add-t7 returns returns-2)
+    tie.close (tie.spec (λ c κs. search needs) (λ c. search needs) (λ c. search needs) add-t7 returns returns-2)

@@ -5,62 +5,17 @@ use Rattle.load_text.proofs.Calls.{word-test, call-rig, call-claim, cal
 use Rattle.load_text.proofs.parse.call.Statement.{statement}
 use Rattle.load_text.proofs.parse.call.Tie as tie
 
-slice-aggregate-same : tie.Need-slice-aggregate-same
-slice-aggregate-same c = search needs
-
-same-requires : tie.Need-same-requires
-same-requires c κs = search needs
-
-rig-requires : tie.Need-rig-requires
-rig-requires c κs = search needs
-
 returns : tie.Need-returns
 returns c = c .rig .ensures ∙ call-rig _ _ (word-test _ _ _ (c .before .before .same .ensures) ∙ c .before .if1 .taken)
-
-slice-aggregate-same-2 : tie.Need-slice-aggregate-same-2
-slice-aggregate-same-2 c = search needs
-
-same-requires-2 : tie.Need-same-requires-2
-same-requires-2 c κs = search needs
-
-claim-requires : tie.Need-claim-requires
-claim-requires c κs = search needs
 
 returns-2 : tie.Need-returns-2
 returns-2 c = c .claim .ensures ∙ call-claim _ _ (word-test _ _ _ (c .before .before .before .before .before .same .ensures) ∙ c .before .before .before .before .if1 .left) (word-test _ _ _ (c .before .before .same2 .ensures) ∙ c .before .if2 .taken)
 
-slice-aggregate-same-3 : tie.Need-slice-aggregate-same-3
-slice-aggregate-same-3 c = search needs
-
-same-requires-3 : tie.Need-same-requires-3
-same-requires-3 c κs = search needs
-
-leave-requires : tie.Need-leave-requires
-leave-requires c κs = search needs
-
 returns-3 : tie.Need-returns-3
 returns-3 c = c .leave .ensures ∙ call-release _ _ (word-test _ _ _ (c .before .before .before .before .before .before .before .before .same .ensures) ∙ c .before .before .before .before .before .before .before .if1 .left) (word-test _ _ _ (c .before .before .before .before .before .same2 .ensures) ∙ c .before .before .before .before .if2 .left) (word-test _ _ _ (c .before .before .same3 .ensures) ∙ c .before .if3 .taken)
 
-slice-aggregate-same-4 : tie.Need-slice-aggregate-same-4
-slice-aggregate-same-4 c = search needs
-
-same-requires-4 : tie.Need-same-requires-4
-same-requires-4 c κs = search needs
-
-leave-requires-2 : tie.Need-leave-requires-2
-leave-requires-2 c κs = search needs
-
 returns-4 : tie.Need-returns-4
 returns-4 c = c .leave2 .ensures ∙ call-withdraw _ _ (word-test _ _ _ (c .before .before .before .before .before .before .before .before .before .before .before .same .ensures) ∙ c .before .before .before .before .before .before .before .before .before .before .if1 .left) (word-test _ _ _ (c .before .before .before .before .before .before .before .before .same2 .ensures) ∙ c .before .before .before .before .before .before .before .if2 .left) (word-test _ _ _ (c .before .before .before .before .before .same3 .ensures) ∙ c .before .before .before .before .if3 .left) (word-test _ _ _ (c .before .before .same4 .ensures) ∙ c .before .if4 .taken)
-
-slice-aggregate-same-5 : tie.Need-slice-aggregate-same-5
-slice-aggregate-same-5 c = search needs
-
-same-requires-5 : tie.Need-same-requires-5
-same-requires-5 c κs = search needs
-
-clock-requires : tie.Need-clock-requires
-clock-requires c κs = search needs
 
 returns-5 : tie.Need-returns-5
 returns-5 c = c .clock .ensures ∙ call-clock _ _ (word-test _ _ _ (c .before .before .before .before .before .before .before .before .before .before .before .before .before .before .same .ensures) ∙ c .before .before .before .before .before .before .before .before .before .before .before .before .before .if1 .left) (word-test _ _ _ (c .before .before .before .before .before .before .before .before .before .before .before .same2 .ensures) ∙ c .before .before .before .before .before .before .before .before .before .before .if2 .left) (word-test _ _ _ (c .before .before .before .before .before .before .before .before .same3 .ensures) ∙ c .before .before .before .before .before .before .before .if3 .left) (word-test _ _ _ (c .before .before .before .before .before .same4 .ensures) ∙ c .before .before .before .before .if4 .left) (word-test _ _ _ (c .before .before .same5 .ensures) ∙ c .before .if5 .taken)
@@ -72,24 +27,24 @@ pub call-spec : {M : Type 1} → statement M
 call-spec =
     tie.close
     (tie.spec
-    slice-aggregate-same
-    same-requires
-    rig-requires
+    (λ c. search needs)
+    (λ c κs. search needs)
+    (λ c κs. search needs)
     returns
-    slice-aggregate-same-2
-    same-requires-2
-    claim-requires
+    (λ c. search needs)
+    (λ c κs. search needs)
+    (λ c κs. search needs)
     returns-2
-    slice-aggregate-same-3
-    same-requires-3
-    leave-requires
+    (λ c. search needs)
+    (λ c κs. search needs)
+    (λ c κs. search needs)
     returns-3
-    slice-aggregate-same-4
-    same-requires-4
-    leave-requires-2
+    (λ c. search needs)
+    (λ c κs. search needs)
+    (λ c κs. search needs)
     returns-4
-    slice-aggregate-same-5
-    same-requires-5
-    clock-requires
+    (λ c. search needs)
+    (λ c κs. search needs)
+    (λ c κs. search needs)
     returns-5
     returns-6)

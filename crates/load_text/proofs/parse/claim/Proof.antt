@@ -20,28 +20,10 @@ counted e =
     let z = e .before .before .before .before in
     three (z .before .before .before .next-word .ensures) (z .before .before .next-word2 .ensures) (z .before .next-word3 .ensures) (z .next-word4 .ensures) (sym (e .before .before .before .is-empty .ensures) ∙ e .before .before .if1 .left) (sym (e .before .is-empty2 .ensures) ∙ not-false _ (e .if2 .left))
 
-next-word-requires : tie.Need-next-word-requires
-next-word-requires c κs = search needs
-
-next-word-requires-2 : tie.Need-next-word-requires-2
-next-word-requires-2 c κs = search needs
-
-next-word-requires-3 : tie.Need-next-word-requires-3
-next-word-requires-3 c κs = search needs
-
-next-word-requires-4 : tie.Need-next-word-requires-4
-next-word-requires-4 c κs = search needs
-
-is-empty-requires : tie.Need-is-empty-requires
-is-empty-requires c κs = search needs
-
 returns : tie.Need-returns
 returns c =
     let z = c .before .before in
     less-three (z .before .before .before .next-word .ensures) (z .before .before .next-word2 .ensures) (z .before .next-word3 .ensures) (sym (c .before .is-empty .ensures) ∙ c .if1 .taken)
-
-is-empty-requires-2 : tie.Need-is-empty-requires-2
-is-empty-requires-2 c κs = search needs
 
 returns-2 : tie.Need-returns-2
 returns-2 c =
@@ -51,32 +33,14 @@ returns-2 c =
 clock-at-requires : tie.Need-clock-at-requires
 clock-at-requires c κs = counted c .first
 
-enum-known-t : tie.Need-enum-known-t
-enum-known-t c = search needs
-
 groups-at-requires : tie.Need-groups-at-requires
 groups-at-requires c κs = counted (c .before .before .before .before) .second
-
-enum-known-g : tie.Need-enum-known-g
-enum-known-g c = search needs
 
 length-at-requires : tie.Need-length-at-requires
 length-at-requires c κs = counted (c .before .before .before .before .before .before .before .before) .third
 
-enum-known-l : tie.Need-enum-known-l
-enum-known-l c = search needs
-
 cast-t22 : tie.Need-cast-t22
 cast-t22 c = omega (arith, number-most _ _ _ _ _ _ (sym (c .before .before .before .length-at .ensures) ∙ c .before .l .given .1))
-
-enum-known-n : tie.Need-enum-known-n
-enum-known-n c = search needs
-
-enum-known-n-2 : tie.Need-enum-known-n-2
-enum-known-n-2 c = search needs
-
-enum-known-n-3 : tie.Need-enum-known-n-3
-enum-known-n-3 c = search needs
 
 returns-3 : tie.Need-returns-3
 returns-3 c =
@@ -98,24 +62,24 @@ pub claim-spec : {M : Type 1} → statement M
 claim-spec =
     tie.close
     (tie.spec
-    next-word-requires
-    next-word-requires-2
-    next-word-requires-3
-    next-word-requires-4
-    is-empty-requires
+    (λ c κs. search needs)
+    (λ c κs. search needs)
+    (λ c κs. search needs)
+    (λ c κs. search needs)
+    (λ c κs. search needs)
     returns
-    is-empty-requires-2
+    (λ c κs. search needs)
     returns-2
     clock-at-requires
-    enum-known-t
+    (λ c. search needs)
     groups-at-requires
-    enum-known-g
+    (λ c. search needs)
     length-at-requires
-    enum-known-l
+    (λ c. search needs)
     cast-t22
-    enum-known-n
-    enum-known-n-2
-    enum-known-n-3
+    (λ c. search needs)
+    (λ c. search needs)
+    (λ c. search needs)
     returns-3
     returns-4
     returns-5

@@ -22,25 +22,10 @@ counted e =
     let z = e .before .before .before .before in
     two (z .before .before .next-word .ensures) (z .before .next-word2 .ensures) (z .next-word3 .ensures) (sym (e .before .before .before .is-empty .ensures) ∙ e .before .before .if1 .left) (sym (e .before .is-empty2 .ensures) ∙ not-false _ (e .if2 .left))
 
-next-word-requires : tie.Need-next-word-requires
-next-word-requires c κs = search needs
-
-next-word-requires-2 : tie.Need-next-word-requires-2
-next-word-requires-2 c κs = search needs
-
-next-word-requires-3 : tie.Need-next-word-requires-3
-next-word-requires-3 c κs = search needs
-
-is-empty-requires : tie.Need-is-empty-requires
-is-empty-requires c κs = search needs
-
 returns : tie.Need-returns
 returns c =
     let z = c .before .before in
     less-two (z .before .before .next-word .ensures) (z .before .next-word2 .ensures) (sym (c .before .is-empty .ensures) ∙ c .if1 .taken) _
-
-is-empty-requires-2 : tie.Need-is-empty-requires-2
-is-empty-requires-2 c κs = search needs
 
 returns-2 : tie.Need-returns-2
 returns-2 c =
@@ -50,14 +35,8 @@ returns-2 c =
 clock-at-requires : tie.Need-clock-at-requires
 clock-at-requires c κs = counted c .first
 
-enum-known-t : tie.Need-enum-known-t
-enum-known-t c = search needs
-
 ticket-at-requires : tie.Need-ticket-at-requires
 ticket-at-requires c κs = counted (c .before .before .before .before) .second
-
-enum-known-k : tie.Need-enum-known-k
-enum-known-k c = search needs
 
 cast-t19 : tie.Need-cast-t19
 cast-t19 c = omega (arith, number-most _ _ _ _ _ _ (sym (c .before .before .before .before .ticket-at .ensures) ∙ c .before .before .k .given .1))
@@ -69,12 +48,6 @@ returns-3 c =
 
 cast-t21 : tie.Need-cast-t21
 cast-t21 c = omega (arith, number-most _ _ _ _ _ _ (sym (c .before .before .before .before .ticket-at .ensures) ∙ c .before .before .k .given .1))
-
-enum-known-n : tie.Need-enum-known-n
-enum-known-n c = search needs
-
-enum-known-n-2 : tie.Need-enum-known-n-2
-enum-known-n-2 c = search needs
 
 returns-4 : tie.Need-returns-4
 returns-4 c =
@@ -93,22 +66,22 @@ pub leave-spec : {M : Type 1} → statement M
 leave-spec =
     tie.close
     (tie.spec
-    next-word-requires
-    next-word-requires-2
-    next-word-requires-3
-    is-empty-requires
+    (λ c κs. search needs)
+    (λ c κs. search needs)
+    (λ c κs. search needs)
+    (λ c κs. search needs)
     returns
-    is-empty-requires-2
+    (λ c κs. search needs)
     returns-2
     clock-at-requires
-    enum-known-t
+    (λ c. search needs)
     ticket-at-requires
-    enum-known-k
+    (λ c. search needs)
     cast-t19
     returns-3
     cast-t21
-    enum-known-n
-    enum-known-n-2
+    (λ c. search needs)
+    (λ c. search needs)
     returns-4
     returns-5
     returns-6)

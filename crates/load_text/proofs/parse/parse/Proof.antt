@@ -6,26 +6,8 @@ use Rattle.load_text.proofs.Calls.{word-none, word-some, said-none, sai
 use Rattle.load_text.proofs.parse.parse.Statement.{statement}
 use Rattle.load_text.proofs.parse.parse.Tie as tie
 
-next-word-requires : tie.Need-next-word-requires
-next-word-requires c κs = search needs
-
-is-empty-requires : tie.Need-is-empty-requires
-is-empty-requires c κs = search needs
-
 returns : tie.Need-returns
 returns c = sym (ap callIn (word-none (c .before .before .next-word .ensures) (sym (c .before .is-empty .ensures) ∙ c .if1 .taken)) ∙ said-none)
-
-sub-call : tie.Need-sub-call
-sub-call c = search needs
-
-part-call-start : tie.Need-part-call-start
-part-call-start c = search needs
-
-part-call-end : tie.Need-part-call-end
-part-call-end c = search needs
-
-call-requires : tie.Need-call-requires
-call-requires c κs = search needs
 
 returns-2 : tie.Need-returns-2
 returns-2 c = c .call .ensures ∙ sym (ap callIn (word-some (c .before .before .before .before .next-word .ensures) (sym (c .before .before .before .is-empty .ensures) ∙ c .before .before .if1 .left)) ∙ said-first _ _)
@@ -34,11 +16,11 @@ pub parse-spec : {M : Type 1} → statement M
 parse-spec =
     tie.close
     (tie.spec
-    next-word-requires
-    is-empty-requires
+    (λ c κs. search needs)
+    (λ c κs. search needs)
     returns
-    sub-call
-    part-call-start
-    part-call-end
-    call-requires
+    (λ c. search needs)
+    (λ c. search needs)
+    (λ c. search needs)
+    (λ c κs. search needs)
     returns-2)

@@ -8,14 +8,8 @@ use Rattle.load_text.proofs.Reading.{said-take, said-within}
 use Rattle.load_text.proofs.parse.parse_line.Statement.{statement}
 use Rattle.load_text.proofs.parse.parse_line.Tie as tie
 
-said-end-requires : tie.Need-said-end-requires
-said-end-requires c κs = search needs
-
 slice-aggregate-parse : tie.Need-slice-aggregate-parse
 slice-aggregate-parse c = simp length-take (omega (arith, c .before .said-end .ensures, said-within (c .before .before .before .args .line .now)))
-
-parse-requires : tie.Need-parse-requires
-parse-requires c κs = search needs
 
 returns : tie.Need-returns
 unfolding lineSays
@@ -25,4 +19,4 @@ returns c =
 
 pub parse-line-spec : {M : Type 1} → statement M
 parse-line-spec =
-    tie.close (tie.spec said-end-requires slice-aggregate-parse parse-requires returns)
+    tie.close (tie.spec (λ c κs. search needs) slice-aggregate-parse (λ c κs. search needs) returns)

@@ -5,22 +5,10 @@ use Rattle.numerals.proofs.Laying.{put, put-then}
 use Rattle.load_text.proofs.print.put_claim.Statement.{statement}
 use Rattle.load_text.proofs.print.put_claim.Tie as tie
 
-put-column-requires : tie.Need-put-column-requires
-put-column-requires c κs = search needs
-
-put-set-requires : tie.Need-put-set-requires
-put-set-requires c κs = search needs
-
-put-column-requires-2 : tie.Need-put-column-requires-2
-put-column-requires-2 c κs = search needs
-
-same-length : tie.Need-same-length
-same-length c = search needs
-
 returns : tie.Need-returns
 returns c = put-then _ _ _ _ _ _ _ _ (omega arith) (put (c .before .before .before .before .before .before .before .before .before .before .put-column .ensures)) (put-then _ _ _ _ _ _ _ _ (omega arith) (c .before .before .before .before .before .before .put-set .ensures) (put (c .before .before .put-column2 .ensures)))
 
 pub put-claim-spec : {M : Type 1} → statement M
 put-claim-spec =
     tie.close
-    (tie.spec put-column-requires put-set-requires put-column-requires-2 same-length returns)
+    (tie.spec (λ c κs. search needs) (λ c κs. search needs) (λ c κs. search needs) (λ c. search needs) returns)

@@ -6,20 +6,8 @@ use borrow.Author.Needs.{needs}
 use Rattle.load_text.proofs.print.put_line.Statement.{statement}
 use Rattle.load_text.proofs.print.put_line.Tie as tie
 
-slice-aggregate-put-call : tie.Need-slice-aggregate-put-call
-slice-aggregate-put-call c = search needs
-
-put-call-requires : tie.Need-put-call-requires
-put-call-requires c κs = search needs
-
 returns : tie.Need-returns
 returns c = print-none _ _ (omega (arith, c .if1 .taken, put-short (line-short _) (c .before .before .put-call .ensures) .0))
-
-put-call-requires-2 : tie.Need-put-call-requires-2
-put-call-requires-2 c κs = search needs
-
-same-length : tie.Need-same-length
-same-length c = search needs
 
 returns-2 : tie.Need-returns-2
 returns-2 c =
@@ -32,9 +20,9 @@ pub put-line-spec : {M : Type 1} → statement M
 put-line-spec =
     tie.close
     (tie.spec
-    slice-aggregate-put-call
-    put-call-requires
+    (λ c. search needs)
+    (λ c κs. search needs)
     returns
-    put-call-requires-2
-    same-length
+    (λ c κs. search needs)
+    (λ c. search needs)
     returns-2)

@@ -24,15 +24,6 @@ read c = item-opened _ _ _ refl (c .before .before .before .before .pre) ∙ sym
 loop-holds : tie.Need-loop-holds Inv-loop μ-loop
 loop-holds c = turn-start _ _ _ (omega arith) (omega arith)
 
-item-at-requires : tie.Need-item-at-requires Inv-loop μ-loop
-item-at-requires c κs = search needs
-
-enum-known-call : tie.Need-enum-known-call Inv-loop μ-loop
-enum-known-call c = search needs
-
-put-call-requires : tie.Need-put-call-requires Inv-loop μ-loop
-put-call-requires c κs = search needs
-
 add-k : tie.Need-add-k Inv-loop μ-loop
 add-k c = omega (arith, c .before .before .before .before .before .before .before .before .loop .inv .few, c .before .before .before .before .before .before .before .before .loop .inv .inside)
 
@@ -42,20 +33,11 @@ loop-less c = let q = step-next _ _ _ _ (read (c .before .before .before .before
 loop-again : tie.Need-loop-again Inv-loop μ-loop
 loop-again c = turn-more _ _ _ _ _ _ _ (c .before .before .before .before .before .before .before .before .loop .inv) _ _ (open-known _ (c .before .before .before .before .before .before .before .before .before .before .before .pre) .2) _ _ (read (c .before .before .before .before .before .before .before) ∙ c .before .before .before .before .before .call .given .1) (c .before .before .put-call .ensures)
 
-enum-told : tie.Need-enum-told Inv-loop μ-loop
-enum-told c = search needs
-
 same-length : tie.Need-same-length Inv-loop μ-loop
 same-length c = c .before .before .before .loop .inv .going .size
 
 returns : tie.Need-returns Inv-loop μ-loop
 returns c = turn-end _ _ _ _ _ _ _ (c .before .before .before .loop .inv) (read (c .before .before) ∙ c .enum-told .given .1)
-
-enum-known-r : tie.Need-enum-known-r Inv-loop μ-loop
-enum-known-r c = search needs
-
-put-stop-requires : tie.Need-put-stop-requires Inv-loop μ-loop
-put-stop-requires c κs = search needs
 
 same-length-2 : tie.Need-same-length-2 Inv-loop μ-loop
 same-length-2 c = c .before .before .put-stop .kept .0 ∙ c .before .before .before .before .before .before .before .before .loop .inv .going .size
@@ -70,16 +52,16 @@ put-records-spec =
     Inv-loop
     μ-loop
     loop-holds
-    item-at-requires
-    enum-known-call
-    put-call-requires
+    (λ c κs. search needs)
+    (λ c. search needs)
+    (λ c κs. search needs)
     add-k
     loop-less
     loop-again
-    enum-told
+    (λ c. search needs)
     same-length
     returns
-    enum-known-r
-    put-stop-requires
+    (λ c. search needs)
+    (λ c κs. search needs)
     same-length-2
     returns-2)

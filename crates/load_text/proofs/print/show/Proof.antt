@@ -7,15 +7,6 @@ use borrow.Author.Needs.{needs}
 use Rattle.load_text.proofs.print.show.Statement.{statement}
 use Rattle.load_text.proofs.print.show.Tie as tie
 
-goes-into-requires : tie.Need-goes-into-requires
-goes-into-requires c κs = search needs
-
-put-text-requires : tie.Need-put-text-requires
-put-text-requires c κs = search needs
-
-same-length : tie.Need-same-length
-same-length c = search needs
-
 returns : tie.Need-returns
 returns c =
     let p = c .before .before in
@@ -26,4 +17,4 @@ returns-2 : tie.Need-returns-2
 returns-2 c = print-none _ _ (leb-false _ _ (sym (c .before .goes-into .ensures) ∙ c .if1 .left))
 
 pub show-spec : {M : Type 1} → statement M
-show-spec = tie.close (tie.spec goes-into-requires put-text-requires same-length returns returns-2)
+show-spec = tie.close (tie.spec (λ c κs. search needs) (λ c κs. search needs) (λ c. search needs) returns returns-2)

@@ -20,9 +20,6 @@ abbrev μ-loop : tie.MeasureT-loop
 loop-holds : tie.Need-loop-holds Inv-loop μ-loop
 loop-holds c = (omega arith, refl)
 
-place-requires : tie.Need-place-requires Inv-loop μ-loop
-place-requires c κs = search needs
-
 sub-item : tie.Need-sub-item Inv-loop μ-loop
 sub-item c =
     let p = c in
@@ -52,18 +49,6 @@ part-item-end c =
     let top = place-high isComma s (l .at) in
     let e = p .place .ensures in
     omega arith
-
-item-requires : tie.Need-item-requires Inv-loop μ-loop
-item-requires c κs = search needs
-
-enum-known-g : tie.Need-enum-known-g Inv-loop μ-loop
-enum-known-g c = search needs
-
-union-requires : tie.Need-union-requires Inv-loop μ-loop
-union-requires c κs = search needs
-
-enum-known-n : tie.Need-enum-known-n Inv-loop μ-loop
-enum-known-n c = search needs
 
 returns : tie.Need-returns Inv-loop μ-loop
 returns c =
@@ -115,14 +100,14 @@ list-spec =
     Inv-loop
     μ-loop
     loop-holds
-    place-requires
+    (λ c κs. search needs)
     sub-item
     part-item-start
     part-item-end
-    item-requires
-    enum-known-g
-    union-requires
-    enum-known-n
+    (λ c κs. search needs)
+    (λ c. search needs)
+    (λ c κs. search needs)
+    (λ c. search needs)
     returns
     add-at
     loop-less

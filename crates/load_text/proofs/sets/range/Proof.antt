@@ -7,12 +7,6 @@ use Rattle.load_text.proofs.Spans.{up-backward, up-span, up-wrong}
 use Rattle.load_text.proofs.sets.range.Statement.{statement}
 use Rattle.load_text.proofs.sets.range.Tie as tie
 
-group-requires : tie.Need-group-requires
-group-requires c κs = search needs
-
-enum-known-high : tie.Need-enum-known-high
-enum-known-high c = search needs
-
 returns : tie.Need-returns
 returns c =
     let g = c .before .before .before .before in
@@ -22,9 +16,6 @@ span-requires : tie.Need-span-requires
 span-requires c κs =
     let g = c .before .before .before .before in
     (c .if1 .left, number-most _ _ _ _ _ _ (sym (g .group .ensures) ∙ c .before .before .high .given .1))
-
-enum-known-n : tie.Need-enum-known-n
-enum-known-n c = search needs
 
 returns-2 : tie.Need-returns-2
 returns-2 c =
@@ -38,10 +29,10 @@ pub range-spec : {M : Type 1} → statement M
 range-spec =
     tie.close
     (tie.spec
-    group-requires
-    enum-known-high
+    (λ c κs. search needs)
+    (λ c. search needs)
     returns
     span-requires
-    enum-known-n
+    (λ c. search needs)
     returns-2
     returns-3)

@@ -6,12 +6,6 @@ use Rattle.load_text.proofs.Spans.{shifted, span-order, span-top, span-
 use Rattle.load_text.proofs.sets.span.Statement.{statement}
 use Rattle.load_text.proofs.sets.span.Tie as tie
 
-shl-top : tie.Need-shl-top
-shl-top c = search needs
-
-shl-result : tie.Need-shl-result
-shl-result c = search needs
-
 sub-result : tie.Need-sub-result
 sub-result c =
     let a = c .args in
@@ -45,4 +39,4 @@ returns c =
     omega arith
 
 pub span-spec : {M : Type 1} → statement M
-span-spec = tie.close (tie.spec shl-top shl-result sub-result add-result returns)
+span-spec = tie.close (tie.spec (λ c. search needs) (λ c. search needs) sub-result add-result returns)

@@ -6,21 +6,6 @@ use Rattle.load_text.proofs.Numbers.{digit-ten, digit-upper, digit-lowe
 use Rattle.load_text.proofs.words.digit.Statement.{statement}
 use Rattle.load_text.proofs.words.digit.Tie as tie
 
-wide-requires : tie.Need-wide-requires
-wide-requires c κs = search needs
-
-sub-wide : tie.Need-sub-wide
-sub-wide c = search needs
-
-wide-requires-2 : tie.Need-wide-requires-2
-wide-requires-2 c κs = search needs
-
-sub-wide-2 : tie.Need-sub-wide-2
-sub-wide-2 c = search needs
-
-wide-requires-3 : tie.Need-wide-requires-3
-wide-requires-3 c κs = search needs
-
 returns : tie.Need-returns
 returns c = (c .wide .ensures .0 ∙ digit-ten _ (omega arith) (omega arith), omega arith)
 
@@ -46,11 +31,11 @@ pub digit-spec : {M : Type 1} → statement M
 digit-spec =
     tie.close
     (tie.spec
-    wide-requires
-    sub-wide
-    wide-requires-2
-    sub-wide-2
-    wide-requires-3
+    (λ c κs. search needs)
+    (λ c. search needs)
+    (λ c κs. search needs)
+    (λ c. search needs)
+    (λ c κs. search needs)
     returns
     returns-2
     returns-3

@@ -4,14 +4,8 @@ use Rattle.load_text.proofs.Reading.{first-word}
 use Rattle.load_text.proofs.words.next_word.Statement.{statement}
 use Rattle.load_text.proofs.words.next_word.Tie as tie
 
-skip-requires : tie.Need-skip-requires
-skip-requires c κs = search needs
-
-word-end-requires : tie.Need-word-end-requires
-word-end-requires c κs = search needs
-
 returns : tie.Need-returns
 returns c = first-word _ _ _ _ (c .before .skip .ensures) (c .word-end .ensures)
 
 pub next-word-spec : {M : Type 1} → statement M
-next-word-spec = tie.close (tie.spec skip-requires word-end-requires returns)
+next-word-spec = tie.close (tie.spec (λ c κs. search needs) (λ c κs. search needs) returns)

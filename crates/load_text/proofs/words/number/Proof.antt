@@ -6,9 +6,6 @@ use Rattle.load_text.proofs.Numbers.{number-none, number-is, number-dig
 use Rattle.load_text.proofs.words.number.Statement.{statement}
 use Rattle.load_text.proofs.words.number.Tie as tie
 
-is-number-requires : tie.Need-is-number-requires
-is-number-requires c κs = search needs
-
 returns : tie.Need-returns
 returns c = number-none _ _ _ _ _ (sym (c .before .is-number .ensures) ∙ not-true _ (c .if1 .taken))
 
@@ -19,4 +16,4 @@ returns-2 : tie.Need-returns-2
 returns-2 c = c .value .ensures ∙ number-is _ _ _ _ _ (sym (c .before .before .is-number .ensures) ∙ not-false _ (c .before .if1 .left))
 
 pub number-spec : {M : Type 1} → statement M
-number-spec = tie.close (tie.spec is-number-requires returns value-requires returns-2)
+number-spec = tie.close (tie.spec (λ c κs. search needs) returns value-requires returns-2)

@@ -17,12 +17,6 @@ abbrev μ-loop : tie.MeasureT-loop
 loop-holds : tie.Need-loop-holds Inv-loop μ-loop
 loop-holds c = record { room = omega arith; digits = c .before .pre; is = refl }
 
-shared-slice-read-digit : tie.Need-shared-slice-read-digit Inv-loop μ-loop
-shared-slice-read-digit c = search needs
-
-digit-requires : tie.Need-digit-requires Inv-loop μ-loop
-digit-requires c κs = search needs
-
 returns : tie.Need-returns Inv-loop μ-loop
 returns c = sum-over _ _ _ _ _ (c .before .before .before .before .loop .inv) (omega arith) _ (c .before .digit .ensures .0) _ (omega arith)
 
@@ -40,12 +34,6 @@ mul-v c = omega (arith, digit-more _ _ _ _ (c .before .if1 .left) (c .if2 .left)
 add-v : tie.Need-add-v Inv-loop μ-loop
 add-v c = omega (arith, digit-more _ _ _ _ (c .before .if1 .left) (c .if2 .left))
 
-add-i : tie.Need-add-i Inv-loop μ-loop
-add-i c = search needs
-
-loop-less : tie.Need-loop-less Inv-loop μ-loop
-loop-less c = search needs
-
 loop-again : tie.Need-loop-again Inv-loop μ-loop
 loop-again c = sum-on _ _ _ _ _ (c .before .before .before .before .before .loop .inv) (omega arith) _ (c .before .before .digit .ensures .0) (digit-more _ _ _ _ (c .before .if1 .left) (c .if2 .left))
 
@@ -59,14 +47,14 @@ value-spec =
     Inv-loop
     μ-loop
     loop-holds
-    shared-slice-read-digit
-    digit-requires
+    (λ c. search needs)
+    (λ c κs. search needs)
     returns
     div-if2
     returns-2
     mul-v
     add-v
-    add-i
-    loop-less
+    (λ c. search needs)
+    (λ c. search needs)
     loop-again
     returns-3)

@@ -6,17 +6,8 @@ use borrow.Author.Needs.{needs}
 use Rattle.table.proofs.claims.end_of.Statement.{statement}
 use Rattle.table.proofs.claims.end_of.Tie as tie
 
-wide-requires : tie.Need-wide-requires
-wide-requires c κs = search needs
-
-enum-known-p : tie.Need-enum-known-p
-enum-known-p c = search needs
-
 add-result : tie.Need-add-result
 add-result c = omega (arith, ap mark (c .before .p .given .1))
-
-enum-known-p-2 : tie.Need-enum-known-p-2
-enum-known-p-2 c = search needs
 
 add-e : tie.Need-add-e
 add-e c = omega (arith, ap mark (c .before .p2 .given .1))
@@ -40,10 +31,10 @@ pub end-of-spec : {M : Type 1} → statement M
 end-of-spec =
     tie.close
     (tie.spec
-    wide-requires
-    enum-known-p
+    (λ c κs. search needs)
+    (λ c. search needs)
     add-result
-    enum-known-p-2
+    (λ c. search needs)
     add-e
     returns
     returns-2

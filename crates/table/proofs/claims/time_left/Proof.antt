@@ -7,18 +7,6 @@ use borrow.Author.Needs.{needs}
 use Rattle.table.proofs.claims.time_left.Statement.{statement}
 use Rattle.table.proofs.claims.time_left.Tie as tie
 
-enum-known-p : tie.Need-enum-known-p
-enum-known-p c = search needs
-
-wide-requires : tie.Need-wide-requires
-wide-requires c κs = search needs
-
-enum-known-p-2 : tie.Need-enum-known-p-2
-enum-known-p-2 c = search needs
-
-end-of-requires : tie.Need-end-of-requires
-end-of-requires c κs = search needs
-
 sub-result : tie.Need-sub-result
 sub-result c =
     let a = c .before .before .before .before .args in
@@ -36,10 +24,10 @@ pub time-left-spec : {M : Type 1} → statement M
 time-left-spec =
     tie.close
     (tie.spec
-    enum-known-p
-    wide-requires
-    enum-known-p-2
-    end-of-requires
+    (λ c. search needs)
+    (λ c κs. search needs)
+    (λ c. search needs)
+    (λ c κs. search needs)
     sub-result
     returns
     returns-2)

@@ -7,23 +7,11 @@ use Rattle.table.proofs.Holders.{not-yet, at-clock}
 use Rattle.table.proofs.granting.goes.Statement.{statement}
 use Rattle.table.proofs.granting.goes.Tie as tie
 
-is-on-requires : tie.Need-is-on-requires
-is-on-requires c κs = search needs
-
-returns : tie.Need-returns
-returns c = search needs
-
-start-or-grant-requires : tie.Need-start-or-grant-requires
-start-or-grant-requires c κs = search needs
-
 returns-2 : tie.Need-returns-2
 returns-2 c =
     let p = c .before in
     let a = p .before .before .before .args in
     not-yet (a .held) (a .c) (a .clock) _ (p .start-or-grant .ensures) (c .if2 .taken)
-
-shares-requires : tie.Need-shares-requires
-shares-requires c κs = search needs
 
 returns-3 : tie.Need-returns-3
 returns-3 c =
@@ -36,4 +24,4 @@ returns-3 c =
 pub goes-spec : {M : Type 1} → statement M
 goes-spec =
     tie.close
-    (tie.spec is-on-requires returns start-or-grant-requires returns-2 shares-requires returns-3)
+    (tie.spec (λ c κs. search needs) (λ c. search needs) (λ c κs. search needs) returns-2 (λ c κs. search needs) returns-3)

@@ -38,14 +38,8 @@ mul-c c = omega (arith, c .before .before .pre .0 .few)
 element-copy-out-c : tie.Need-element-copy-out-c Inv-loop μ-loop Inv-loop2 μ-loop2
 element-copy-out-c c = omega (arith, c .before .before .pre .0 .few)
 
-held-with-requires : tie.Need-held-with-requires Inv-loop μ-loop Inv-loop2 μ-loop2
-held-with-requires c κs = search needs
-
 add-i : tie.Need-add-i Inv-loop μ-loop Inv-loop2 μ-loop2
 add-i c = omega (arith, c .before .before .before .before .pre .0 .few)
-
-loop-less : tie.Need-loop-less Inv-loop μ-loop Inv-loop2 μ-loop2
-loop-less c = omega arith
 
 loop-again : tie.Need-loop-again Inv-loop μ-loop Inv-loop2 μ-loop2
 loop-again c =
@@ -66,12 +60,6 @@ mul-c-2 c = let z = c .before in omega (arith, z .before .before .before .pre .0
 element-copy-out-c-2 : tie.Need-element-copy-out-c-2 Inv-loop μ-loop Inv-loop2 μ-loop2
 element-copy-out-c-2 c = let z = c .before in omega (arith, z .before .before .before .pre .0 .few, z .loop2 .inv .1 .within, z .loop2 .inv .1 .fewer)
 
-goes-requires : tie.Need-goes-requires Inv-loop μ-loop Inv-loop2 μ-loop2
-goes-requires c κs = search needs
-
-on-since-requires : tie.Need-on-since-requires Inv-loop μ-loop Inv-loop2 μ-loop2
-on-since-requires c κs = search needs
-
 mul-t24 : tie.Need-mul-t24 Inv-loop μ-loop Inv-loop2 μ-loop2
 mul-t24 c = let z = c .before .before .before .before .before in omega (arith, z .before .before .before .pre .0 .few, z .loop2 .inv .1 .within, z .loop2 .inv .1 .fewer)
 
@@ -89,9 +77,6 @@ add-n c = let z = c .before .before .before .before .before in omega (arith, z .
 
 add-j : tie.Need-add-j Inv-loop μ-loop Inv-loop2 μ-loop2
 add-j c = let z = c .before .before .before .before in omega (arith, z .before .before .before .pre .0 .few, z .loop2 .inv .1 .within, z .loop2 .inv .1 .fewer)
-
-loop2-less : tie.Need-loop2-less Inv-loop μ-loop Inv-loop2 μ-loop2
-loop2-less c = omega arith
 
 loop2-again : tie.Need-loop2-again Inv-loop μ-loop Inv-loop2 μ-loop2
 loop2-again c =
@@ -132,21 +117,21 @@ grant-spec =
     loop-holds
     mul-c
     element-copy-out-c
-    held-with-requires
+    (λ c κs. search needs)
     add-i
-    loop-less
+    (λ c. omega arith)
     loop-again
     loop2-holds
     mul-c-2
     element-copy-out-c-2
-    goes-requires
-    on-since-requires
+    (λ c κs. search needs)
+    (λ c κs. search needs)
     mul-t24
     element-set-from-t
     mul-tickets
     array-write-tickets
     add-n
     add-j
-    loop2-less
+    (λ c. omega arith)
     loop2-again
     returns)

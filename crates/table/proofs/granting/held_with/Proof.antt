@@ -6,12 +6,6 @@ use Rattle.table.proofs.Holders.{with-holder, with-waiting}
 use Rattle.table.proofs.granting.held_with.Statement.{statement}
 use Rattle.table.proofs.granting.held_with.Tie as tie
 
-is-on-requires : tie.Need-is-on-requires
-is-on-requires c κs = search needs
-
-union-requires : tie.Need-union-requires
-union-requires c κs = search needs
-
 returns : tie.Need-returns
 returns c =
     let p = c .before .before in
@@ -25,4 +19,4 @@ returns-2 c =
     with-waiting (a .held) (a .c) (sym (p .is-on .ensures) ∙ c .if1 .left)
 
 pub held-with-spec : {M : Type 1} → statement M
-held-with-spec = tie.close (tie.spec is-on-requires union-requires returns returns-2)
+held-with-spec = tie.close (tie.spec (λ c κs. search needs) (λ c κs. search needs) returns returns-2)

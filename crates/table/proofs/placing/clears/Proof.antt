@@ -18,34 +18,16 @@ barring c =
     let z = c .before .before in
     (sym (z .before .shares .ensures) ∙ not-false _ (z .if1 .left), omega (arith, c .before .end-of .ensures))
 
-shares-requires : tie.Need-shares-requires
-shares-requires c κs = search needs
-
 returns : tie.Need-returns
 returns c = clear-apart _ _ _ _ (sym (c .before .shares .ensures) ∙ not-true _ (c .if1 .taken))
 
-end-of-requires : tie.Need-end-of-requires
-end-of-requires c κs = search needs
-
 returns-2 : tie.Need-returns-2
 returns-2 c = clear-ended _ _ _ _ (omega (arith, c .before .end-of .ensures))
-
-is-on-requires : tie.Need-is-on-requires
-is-on-requires c κs = search needs
 
 returns-3 : tie.Need-returns-3
 returns-3 c =
     let b = barring (c .before .before) in
     clear-held _ _ _ _ (b .0) (b .1) (sym (c .before .is-on .ensures) ∙ c .if3 .taken)
-
-start-or-grant-requires : tie.Need-start-or-grant-requires
-start-or-grant-requires c κs = search needs
-
-wide-requires : tie.Need-wide-requires
-wide-requires c κs = search needs
-
-add-result : tie.Need-add-result
-add-result c = search needs
 
 returns-4 : tie.Need-returns-4
 returns-4 c =
@@ -58,13 +40,13 @@ pub clears-spec : {M : Type 1} → statement M
 clears-spec =
     tie.close
     (tie.spec
-    shares-requires
+    (λ c κs. search needs)
     returns
-    end-of-requires
+    (λ c κs. search needs)
     returns-2
-    is-on-requires
+    (λ c κs. search needs)
     returns-3
-    start-or-grant-requires
-    wide-requires
-    add-result
+    (λ c κs. search needs)
+    (λ c κs. search needs)
+    (λ c. search needs)
     returns-4)
