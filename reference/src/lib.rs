@@ -17,3 +17,4 @@ pub mod refusal;
 pub mod shrink;
 pub mod table;
 pub mod text;
+pub mod tries;

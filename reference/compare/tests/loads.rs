@@ -1,0 +1,100 @@
+//! The proved reader and writer against the reference: the program `try_loads` prints what they answer on a load.
+
+use compare::{cases, output_of, report};
+use reference::generate;
+use reference::load::{self, Call};
+use reference::table::TimedCall;
+use reference::tries::tries;
+
+fn differs(load: &[u8]) -> bool {
+    output_of("try_loads", load) != tries(load)
+}
+
+/// What both print.
+fn agreed(load: &[u8]) -> String {
+    if differs(load) {
+        report(0, load, differs);
+    }
+    String::from_utf8(tries(load)).expect("lines of words and numbers")
+}
+
+/// The last lines: a rig and a clock call appended to the load as it stands, each with much room and with one byte.
+fn last_lines(answers: [(u8, usize); 4]) -> String {
+    answers
+        .map(|(number, length)| {
+            let kept = u8::from(number != 0);
+            format!("append {number} {length}\nkept {kept}\n")
+        })
+        .concat()
+}
+
+#[test]
+fn reader_and_writer_on_generated_loads() {
+    let count = cases("COMPARE_TRIES", 500);
+    let first = cases("COMPARE_SEED", 1);
+    println!(
+        "reader and writer on loads of seeds {first} to {}",
+        first + count - 1
+    );
+    for seed in first..first + count {
+        let load = generate::any_load(seed);
+        if differs(&load) {
+            report(seed, &load, differs);
+        }
+    }
+}
+
+#[test]
+fn reader_and_writer_on_short_loads() {
+    let alone = [(0, 12), (15, 0), (13, 0), (13, 0)];
+    for (load, lines, answers) in [
+        (&b""[..], "scan 0 12\nstop 1 12\n", [(12, 0); 4]),
+        (&[1], "scan 0 0\nstop 1 0\nsame 1\n", alone),
+        (&[0xFF], "scan 0 11\nstop 1 11\n", [(11, 0); 4]),
+        (&[1, 0], "scan 0 12\nstop 1 12\nsame 1\n", [(12, 0); 4]),
+        (&[1, 0, 0], "scan 0 13\nstop 1 13\nsame 1\n", [(13, 0); 4]),
+    ] {
+        assert_eq!(agreed(load), format!("{lines}{}", last_lines(answers)));
+    }
+}
+
+#[test]
+fn reader_and_writer_on_refused_records() {
+    let clock = Call::Timed(TimedCall::Clock { clock: 7 });
+    let good = load::join(&[Call::Rig(0xF), clock]);
+    let read = "record 1 11\nstop 12 13\nappend 0 12\nsame 1\n";
+    for edition in [0xFF, 2] {
+        let mut load = good.clone();
+        load[0] = edition;
+        let lines = last_lines([(11, 0); 4]);
+        assert_eq!(agreed(&load), format!("scan 0 11\nstop 1 11\n{lines}"));
+    }
+    let dark = load::join(&[Call::Rig(0)]);
+    let lines = last_lines([(13, 0), (13, 0), (0, 23), (15, 0)]);
+    assert_eq!(
+        agreed(&dark),
+        format!("scan 1 0\nrecord 1 11\nstop 12 0\nappend 0 12\nsame 1\n{lines}")
+    );
+    let second = load::join(&[Call::Rig(0xF), Call::Rig(0xF), clock]);
+    let lines = last_lines([(13, 0); 4]);
+    assert_eq!(agreed(&second), format!("scan 1 13\n{read}{lines}"));
+    for end in 13..good.len() {
+        let lines = last_lines([(12, 0); 4]);
+        let read = read.replace("12 13", "12 12");
+        assert_eq!(agreed(&good[..end]), format!("scan 1 12\n{read}{lines}"));
+    }
+}
+
+/// A clock record has 11 bytes: behind 65,525 it goes in, behind 65,526 it does not.
+#[test]
+fn reader_and_writer_on_the_longest_loads() {
+    for (size, answers) in [
+        (65_525, [(13, 0), (13, 0), (0, 65_536), (15, 0)]),
+        (65_526, [(13, 0), (13, 0), (14, 0), (14, 0)]),
+        (65_536, [(13, 0), (13, 0), (14, 0), (14, 0)]),
+        (65_537, [(14, 0); 4]),
+    ] {
+        let load = generate::sized_load(1, size).expect("a load of that size");
+        assert!(agreed(&load).ends_with(&last_lines(answers)), "{size}");
+    }
+}
