@@ -4,6 +4,7 @@ ghost use Prim.Native.Nat.{_≤_};
 ghost use Rattle.table.specs.Valid.{Valid};
 use load::Call;
 use load::Item;
+use rules::Request;
 use rules::Standing;
 use rules::Table;
 use table::Outcome;
@@ -61,7 +62,13 @@ fn act(t: Table, call: Call) -> Outcome
 {
     match call {
         Call::Rig(g) => table::new(g),
-        Call::Claim(c, g, n) => table::claim(t, c, g, n),
+        Call::Claim(c, g, n) => {
+            let ask = Request {
+                groups: g,
+                length: n,
+            };
+            table::claim(t, c, ask)
+        }
         Call::Release(c, k) => table::release(t, c, k),
         Call::Withdraw(c, k) => table::withdraw(t, c, k),
         Call::Clock(c) => table::clock(t, c),

@@ -8,7 +8,8 @@ use Rattle.rules.specs.Order.{precedes, before}
 use Rattle.rules.specs.Packing.{startFor, moved, ahead, startWithin, packedStart, pack}
 use Rattle.rules.specs.Placing.{clear, fits, seek, place, contention, startBound}
 use Rattle.rules.specs.Granting.{goes, granted, grant, grants}
-use Rattle.rules.specs.Calls.{firstOf, tests, advance, finish, join, remove, admit, act, step, new}
+use Rattle.rules.specs.Tests.{firstOf}
+use Rattle.rules.specs.Calls.{tests, advance, finish, join, remove, admit, act, step, new}
 use Rattle.numerals.specs.Digits.{numeral, digits, widthUpTo, widthOf, decimalOf, column, pair}
 use Rattle.load.specs.Calls.{total, widths1, widths, lengthIn, lengthOf, kindOf, fieldsOf, valuesOf, callOf}
 use Rattle.load.specs.Bytes.{fieldBytes, fieldValues, recordBytes, recordsBytes, loadBytes}

@@ -33,7 +33,7 @@ shown k o = lineOf k (o .number) (o .ticket) (o .start) ++ onLines (o .table .cl
 pub record-promised : (m : Model) (c : Call) → Promised m (stepOf m c)
 unfolding stepOf
 record-promised m (Rig g) = by-new g
-record-promised m (Claim t g n) = by-call (claim t g n)
+record-promised m (Claim t g n) = by-call (claim t (record { groups = g; length = n }))
 record-promised m (Release t k) = by-call (release t k)
 record-promised m (Withdraw t k) = by-call (withdraw t k)
 record-promised m (Clock t) = by-call (clock t)

@@ -14,7 +14,7 @@ use Rattle.listing.specs.Lines.{header, lineOf, onLines, stopLine}
 -- What a record does: the rig makes the table, each other is a call on it.
 unfoldable pub stepOf : Model → Call → Step
 stepOf m (Rig g) = new g
-stepOf m (Claim t g n) = step m (claim t g n)
+stepOf m (Claim t g n) = step m (claim t (record { groups = g; length = n }))
 stepOf m (Release t k) = step m (release t k)
 stepOf m (Withdraw t k) = step m (withdraw t k)
 stepOf m (Clock t) = step m (clock t)

@@ -15,6 +15,7 @@ ghost use Rattle.listing.specs.Room.{roomFor};
 ghost use Rattle.listing.specs.Text.{stepOf, ending, linesOf, listingOf, answerOf};
 use load::Call;
 use load::Item;
+use rules::Request;
 use rules::Table;
 use table::Outcome;
 
@@ -88,7 +89,13 @@ fn act(t: Table, call: Call) -> Outcome
     let kind = load::kind_of(call);
     match call {
         Call::Rig(g) => table::new(g),
-        Call::Claim(c, g, n) => table::claim(t, c, g, n),
+        Call::Claim(c, g, n) => {
+            let ask = Request {
+                groups: g,
+                length: n,
+            };
+            table::claim(t, c, ask)
+        }
         Call::Release(c, k) | Call::Withdraw(c, k) => table::leave(t, kind == 3, c, k),
         Call::Clock(c) => table::clock(t, c),
     }

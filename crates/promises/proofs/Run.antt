@@ -10,15 +10,19 @@ use lib.ListN.{length}
 use borrow.Author.Tests.{eq-eqb, ne-eqb}
 use Rattle.groups.specs.Groups.{shares}
 use Rattle.rules.specs.declared.Claim.{Claim}
+use Rattle.rules.specs.declared.Request.{Request}
 use Rattle.rules.specs.declared.Phase.the-variants.{On}
 use Rattle.rules.specs.Lists.{_∈_, any, keep}
-use Rattle.rules.specs.Claims.{Setting, on, at, withPhase, conflicts, heldUntil, endOf, remaining}
+use Rattle.rules.specs.declared.Setting.{Setting}
+use Rattle.rules.specs.Claims.{on, at, withPhase, conflicts, heldUntil, endOf, remaining}
 use Rattle.rules.specs.Order.{rivals}
 use Rattle.rules.specs.Packing.{packedStart, moved, pack}
 use Rattle.rules.specs.Placing.{place, contention, startBound}
 use Rattle.rules.specs.Granting.{goes, granted, grant, grants}
 use Rattle.rules.specs.declared.Standing.the-variants.{Waits, Holds}
-use Rattle.rules.specs.Calls.{Model, settingOf, Call, claim, release, withdraw, clock, timed, Answer, Step, named, unchanged, advance, finish, join, remove, fresh, admit, step, standing, standingOf, blank, new, after}
+use Rattle.rules.specs.Tests.{named}
+use Rattle.rules.specs.declared.Reply.{Reply}
+use Rattle.rules.specs.Calls.{Model, settingOf, plain, placing, ruled, Call, claim, release, withdraw, clock, timed, Answer, Step, unchanged, advance, finish, join, remove, fresh, admit, step, standing, standingOf, blank, new, after}
 use Rattle.rules.specs.Plans.{Ascending}
 use Rattle.rules.specs.Invariants.{IsSpaced, Invariant}
 use Rattle.rules.proofs.Bools.{split, clash, and-i}
@@ -31,15 +35,15 @@ use Rattle.rules.proofs.Invariants.{spaced-packs}
 use Rattle.rules.proofs.Calls.{OnTime, Admissible, advance-packed, finish-invariant, advance-same, finish-e, finish-clock, placed, join-spaced, Leaves, by-release, by-withdraw, by-clock, leaves-spaced, leaves-old, leaves-clock, join-old, Idle, step-cases, blank-invariant, new-cases}
 use Rattle.rules.proofs.Prompt.{Prompt, prompt-no-later}
 use Rattle.rules.proofs.Lookup.{lookup-absent, lookup-found, lookup-waits}
-use Rattle.promises.specs.Ledger.{Turn, turns, tableAfter, Entry, promised, Ledger, opening, issues, without, stay, hold, marked, noted, notedAll, ledgerOf, NoOverrun, NoOverruns, Punctual, remainingOf, rivalsOf, boundOn}
+use Rattle.promises.specs.Ledger.{Turn, turns, tableAfter, Entry, promised, Ledger, opening, issues, without, stay, hold, marked, noted, notedAll, ledgerOf, NoOverrun, NoOverruns, Punctual, ruledBy, remainingOf, rivalsOf, boundOn}
 use Rattle.promises.specs.Demand3.{TicketsAscend, Now, Next, tells, Demand3}
 use Rattle.promises.proofs.Matching.{Match, m-nil, m-cons, match-map, match-left, match-weaken, match-snoc, match-none, match-keep, match-length, match-sum, partner, partner-of, named-keep}
 
 -- A pending claim and its entry. P: no accepted call so far bore a clock past the promised end of a holder.
 record Tracks (P : Type 0) (c : Claim) (e : Entry) : Type 0 where
   ticket : c .ticket ≡ e .ticket
-  groups : c .groups ≡ e .groups
-  length : c .length ≡ e .length
+  groups : c .groups ≡ e .asked .groups
+  length : c .length ≡ e .asked .length
   held : on c ≡ e .held
   grant : on c ≡ true → at c ≡ e .grant
   early : P → on c ≡ false → at c ≤ e .first
@@ -72,7 +76,7 @@ now-of P l m s = record {
         (at (p .0), found k e i q ∙ ap (λ (b : Bool). cond b (Holds (at (p .0) + p .0 .length)) (Waits (at (p .0)))) (p .2 .held ∙ h));
     unknown = λ h. lookup-absent k (m .pending) (λ c i q. (let p = partner-of (s .match) i in h (p .0) (p .1) (sym (p .2 .ticket) ∙ q)));
   };
-  holders-apart = λ e f i j n p q. apart e f i j n p q (split (shares (e .groups) (f .groups)));
+  holders-apart = λ e f i j n p q. apart e f i j n p q (split (shares (e .asked .groups) (f .asked .groups)));
   no-wait-past = λ p e i o.
       let r = partner (s .match) i in
       let z : on (r .0) ≡ false = r .2 .held ∙ o in
@@ -85,7 +89,7 @@ now-of P l m s = record {
         ap (λ (x : ℕ). standingOf x (m .pending)) (sym q ∙ sym (p .2 .ticket)) ∙ lookup-found (m .pending) (s .inv .spaced .ascending) (p .0) (p .1)
 
     apart : (e f : Entry) → e ∈ l .claims → f ∈ l .claims → e .ticket ≢ f .ticket → e .held ≡ true → f .held ≡ true
-        → (shares (e .groups) (f .groups) ≡ true) ⊎ (shares (e .groups) (f .groups) ≡ false) → shares (e .groups) (f .groups) ≡ false
+        → (shares (e .asked .groups) (f .asked .groups) ≡ true) ⊎ (shares (e .asked .groups) (f .asked .groups) ≡ false) → shares (e .asked .groups) (f .asked .groups) ≡ false
     apart e f i j n p q (inr h) = h
     apart e f i j n p q (inl h) =
         let a = partner (s .match) i in
@@ -134,16 +138,16 @@ advance-match : (P T : Type 0) (l : List Entry) (m : Model) (t : ℕ) → Invari
     → Match (Tracks (P × T)) (advance m t .pending) l
 unfolding advance pack
 advance-match P T l m t i h pr ma =
-    match-left (moved (packedStart (record { clock = t }) (m .pending)))
-    (λ c e ci r. pack-tracks (P × T) (record { clock = t }) (m .pending) c e (tracks-weaken P (P × T) (λ x. x .0) c e r)
-    (λ p o. prompt-no-later (m .issued) (settingOf m) (record { clock = t }) (m .pending) i (record { later = h }) (pr (p .1)) c ci o))
+    match-left (moved (packedStart (ruled m t) (m .pending)))
+    (λ c e ci r. pack-tracks (P × T) (ruled m t) (m .pending) c e (tracks-weaken P (P × T) (λ x. x .0) c e r)
+    (λ p o. prompt-no-later (m .issued) (settingOf m) (ruled m t) (m .pending) i (record { later = h }) (pr (p .1)) c ci o))
     ma
 
 -- Packing again and granting: no start rises.
-finish-match : (P : Type 0) (l : List Entry) (m : Model) (k s n b : ℕ) → IsSpaced m → Match (Tracks P) (m .pending) l
-    → Match (Tracks P) (finish m k s n b .model .pending) (map (marked (m .clock) (finish m k s n b .answer .grants)) l)
+finish-match : (P : Type 0) (l : List Entry) (m : Model) (r : Reply) → IsSpaced m → Match (Tracks P) (m .pending) l
+    → Match (Tracks P) (finish m r .model .pending) (map (marked (m .clock) (finish m r .answer .grants)) l)
 unfolding finish pack grant grants
-finish-match P l m k s n b i ma =
+finish-match P l m r i ma =
     match-map (granted v ps) (marked (m .clock) (grants ps))
     (λ c e j r. grant-tracks P v ps (grants ps) c e r (named-keep (λ (x : Claim). x .ticket) (goes ps) ps (ascending-same ps (spaced-packs (m .issued) v (m .pending) i .spaced .ascending)) c j))
     (match-left (moved (packedStart v (m .pending))) (λ c e j r. pack-tracks P v (m .pending) c e r (λ _ o. pack-no-later v (m .pending) (i .fit) (i .low) c j o)) ma)
@@ -171,9 +175,9 @@ leaves-issued a (by-release t k) = omega arith
 leaves-issued a (by-withdraw t k) = omega arith
 leaves-issued a (by-clock t) = omega arith
 
-finish-issued : (m : Model) (k s n b : ℕ) → finish m k s n b .model .issued ≡ m .issued
+finish-issued : (m : Model) (r : Reply) → finish m r .model .issued ≡ m .issued
 unfolding finish
-finish-issued m k s n b = refl
+finish-issued m r = refl
 
 -- The holders are prompt where the call's clock is past no promised end.
 prompt-of : (P : Type 0) (t : ℕ) (ps : List Claim) (l : List Entry) → Match (Tracks P) ps l → ((e : Entry) → e ∈ l → e .held ≡ true → t ≤ promised e) → Prompt t ps
@@ -186,14 +190,14 @@ abbrev NotRaised : List Claim → List Claim → Type 0
 NotRaised ps qs = (c d : Claim) → c ∈ ps → d ∈ qs → d .ticket ≡ c .ticket → on c ≡ false → at d ≤ at c
 
 -- Where a claim comes from, through packing and granting.
-finish-from : (m : Model) (k s n b : ℕ) → IsSpaced m → (d : Claim) → d ∈ finish m k s n b .model .pending
+finish-from : (m : Model) (r : Reply) → IsSpaced m → (d : Claim) → d ∈ finish m r .model .pending
     → (x : Claim) × x ∈ m .pending × (d .ticket ≡ x .ticket) × (on x ≡ false → at d ≤ at x)
-finish-from m k s n b i d di =
+finish-from m r i d di =
     let v : Setting = settingOf m in
     let f = packedStart v (m .pending) in
     let p = spaced-packs (m .issued) v (m .pending) i in
     let sp = p .spaced in
-    let r = finish-e m k s n b di in (
+    let r = finish-e m r di in (
       r .0,
       r .1,
       r .2,
@@ -211,17 +215,17 @@ finish-from m k s n b i d di =
 advance-from : (m : Model) (t : ℕ) → Invariant m → m .clock ≤ t → Prompt t (m .pending) → (c d : Claim) → c ∈ m .pending → d ∈ advance m t .pending → d .ticket ≡ c .ticket
     → on c ≡ false → (on d ≡ false) × (at d ≤ at c)
 advance-from m t i h pr c d ci di e o =
-    let f = packedStart (record { clock = t }) (m .pending) in
+    let f = packedStart (ruled m t) (m .pending) in
     let q = advance-same m t i c d ci di e in (
       ap on q ∙ moved-phase f c ∙ o,
-      omega (arith, ap at q, moved-at f c o, prompt-no-later (m .issued) (settingOf m) (record { clock = t }) (m .pending) i (record { later = h }) pr c ci o),
+      omega (arith, ap at q, moved-at f c o, prompt-no-later (m .issued) (settingOf m) (ruled m t) (m .pending) i (record { later = h }) pr c ci o),
     )
 
 -- A call from m to `finish q`, where each claim of q that is not new is one of those that the first packing gave.
-finish-not-raised : (m q : Model) (t k s n b : ℕ) → Invariant m → m .clock ≤ t → Prompt t (m .pending) → IsSpaced q
-    → ((x : Claim) → x ∈ q .pending → (x ∈ advance m t .pending) ⊎ (m .issued < x .ticket)) → NotRaised (m .pending) (finish q k s n b .model .pending)
-finish-not-raised m q t k s n b i h pr sp old c d ci di e o =
-    let f = finish-from q k s n b sp d di in
+finish-not-raised : (m q : Model) (t : ℕ) (rep : Reply) → Invariant m → m .clock ≤ t → Prompt t (m .pending) → IsSpaced q
+    → ((x : Claim) → x ∈ q .pending → (x ∈ advance m t .pending) ⊎ (m .issued < x .ticket)) → NotRaised (m .pending) (finish q rep .model .pending)
+finish-not-raised m q t rep i h pr sp old c d ci di e o =
+    let f = finish-from q rep sp d di in
     go f (old (f .0) (f .1))
   where
     go : (f : (x : Claim) × x ∈ q .pending × (d .ticket ≡ x .ticket) × (on x ≡ false → at d ≤ at x)) → (f .0 ∈ advance m t .pending) ⊎ (m .issued < f .0 .ticket) → at d ≤ at c
@@ -250,16 +254,16 @@ remaining-is : (P : Type 0) (v : Setting) (c : Claim) (e : Entry) → Tracks P c
 unfolding remaining
 remaining-is P v c e r = go (on c) (e .held) refl (r .held)
   where
-    go : (a b : Bool) → on c ≡ a → a ≡ b → cond a (endOf v c - v .clock) (c .length) ≡ cond b (heldUntil v (promised e) - v .clock) (e .length)
+    go : (a b : Bool) → on c ≡ a → a ≡ b → cond a (endOf v c - v .clock) (c .length) ≡ cond b (heldUntil v (promised e) - v .clock) (e .asked .length)
     go true true o q = ap (λ (x : ℕ). x - v .clock) (end-on v c o ∙ ap (heldUntil v) (omega (arith, r .grant o, r .length)))
     go false false o q = r .length
     go true false o q = clash refl q
     go false true o q = clash q refl
 
-bound-is : (P : Type 0) (v : Setting) (ps : List Claim) (l : List Entry) (w : Claim) → Match (Tracks P) ps l → startBound v ps w ≡ boundOn v l (w .groups) (w .length)
+bound-is : (P : Type 0) (v : Setting) (ps : List Claim) (l : List Entry) (w : Claim) → Match (Tracks P) ps l → startBound v ps w ≡ boundOn v l (record { groups = w .groups; length = w .length })
 unfolding startBound contention boundOn
 bound-is P v ps l w m =
-    let rs : Match (Tracks P) (rivals ps w) (rivalsOf l (w .groups)) = match-keep (λ c. conflicts c w) (λ e. shares (e .groups) (w .groups)) (λ c e r. ap (λ (g : ℕ). shares g (w .groups)) (r .groups)) m in
+    let rs : Match (Tracks P) (rivals ps w) (rivalsOf l (record { groups = w .groups; length = w .length })) = match-keep (λ c. conflicts c w) (λ e. shares (e .asked .groups) (w .groups)) (λ c e r. ap (λ (g : ℕ). shares g (w .groups)) (r .groups)) m in
     cc (match-sum (remaining v) (remainingOf v) (remaining-is P v) rs, match-length rs)
 
 -- ── one call ──
@@ -281,8 +285,8 @@ module _ (P : Type 0) (l : Ledger) (m : Model) (s : Story P l m) where
   told-idle c n i =
       let z = idle-refused c n i in (
         record {
-          ticket-next = λ t g k q e. clash (and-i (timed c) (eqb n 0) (ap timed q) (eq-eqb n 0 e)) z;
-          start-bounded = λ t g k q e. clash (and-i (timed c) (eqb n 0) (ap timed q) (eq-eqb n 0 e)) z;
+          ticket-next = λ t ask q e. clash (and-i (timed c) (eqb n 0) (ap timed q) (eq-eqb n 0 e)) z;
+          start-bounded = λ t ask q e. clash (and-i (timed c) (eqb n 0) (ap timed q) (eq-eqb n 0 e)) z;
           never-raised = λ p h k x w. rw z (unraised P (m .pending) (m .pending) (l .claims) (s .match) same k x w);
         },
         record {
@@ -300,31 +304,31 @@ module _ (P : Type 0) (l : Ledger) (m : Model) (s : Story P l m) where
   prompt t h = prompt-of P t (m .pending) (l .claims) (s .match) h
 
   -- What the accepted timed calls have in common: q is what they leave before they pack again and grant, es the same of the ledger.
-  told-finish : (t j k x n b : ℕ) (q : Model) (es : List Entry) (T : Type 0) → m .clock ≤ t → (T → (e : Entry) → e ∈ l .claims → e .held ≡ true → t ≤ promised e)
+  told-finish : (t j : ℕ) (rep : Reply) (q : Model) (es : List Entry) (T : Type 0) → m .clock ≤ t → (T → (e : Entry) → e ∈ l .claims → e .held ≡ true → t ≤ promised e)
       → IsSpaced q → q .clock ≡ t → q .issued ≡ j
       → ((y : Claim) → y ∈ q .pending → (y ∈ advance m t .pending) ⊎ (m .issued < y .ticket)) → Match (Tracks (P × T)) (q .pending) es
-      → (T → Unraised (m .pending) (finish q k x n b .model .pending) (map (marked t (finish q k x n b .answer .grants)) es))
-      × Story (P × T) (record { clock = t; issued = j; claims = map (marked t (finish q k x n b .answer .grants)) es }) (finish q k x n b .model)
-  told-finish t j k x n b q es T h tm sp cl is old ma = (
-    λ z. unraised (P × T) (m .pending) (finish q k x n b .model .pending) (map (marked t (finish q k x n b .answer .grants)) es) done (finish-not-raised m q t k x n b (s .inv) h (prompt t (tm z)) sp old),
-    record { inv = finish-invariant q k x n b sp; clock = finish-clock q k x n b ∙ cl; issued = finish-issued q k x n b ∙ is; match = done },
+      → (T → Unraised (m .pending) (finish q rep .model .pending) (map (marked t (finish q rep .answer .grants)) es))
+      × Story (P × T) (record { clock = t; issued = j; claims = map (marked t (finish q rep .answer .grants)) es }) (finish q rep .model)
+  told-finish t j rep q es T h tm sp cl is old ma = (
+    λ z. unraised (P × T) (m .pending) (finish q rep .model .pending) (map (marked t (finish q rep .answer .grants)) es) done (finish-not-raised m q t rep (s .inv) h (prompt t (tm z)) sp old),
+    record { inv = finish-invariant q rep sp; clock = finish-clock q rep ∙ cl; issued = finish-issued q rep ∙ is; match = done },
   )
     where
-      done : Match (Tracks (P × T)) (finish q k x n b .model .pending) (map (marked t (finish q k x n b .answer .grants)) es)
-      done = subst (λ (u : ℕ). Match (Tracks (P × T)) (finish q k x n b .model .pending) (map (marked u (finish q k x n b .answer .grants)) es)) cl (finish-match (P × T) es q k x n b sp ma)
+      done : Match (Tracks (P × T)) (finish q rep .model .pending) (map (marked t (finish q rep .answer .grants)) es)
+      done = subst (λ (u : ℕ). Match (Tracks (P × T)) (finish q rep .model .pending) (map (marked u (finish q rep .answer .grants)) es)) cl (finish-match (P × T) es q rep sp ma)
 
-  told-claim : (t g n : ℕ) → Admissible m t g n → Told P l m (claim t g n) (admit (advance m t) g n)
+  told-claim : (t : ℕ) (ask : Request) → Admissible m t ask → Told P l m (claim t ask) (admit (advance m t) ask)
   unfolding admit finish join advance stay issues
-  told-claim t g n a =
-      let old = join-old (advance m t) (placed (advance m t) g n) refl in
+  told-claim t ask a =
+      let old = join-old (advance m t) (placed (advance m t) ask) refl in
       let next : suc (m .issued) ≡ l .issued + 1 = omega (arith, s .issued) in
       let r =
-      told-finish t (l .issued + 1) (w .ticket) x (contention ps w) (startBound v ps w) q _ T
+      told-finish t (l .issued + 1) (placing (advance m t) w) q _ T
       (a .clocked .later) (λ z. z refl) spaced refl next old (match-snoc _ _ first new) in (
         record {
-          ticket-next = λ t′ g′ n′ e _. omega (arith, s .issued);
-          start-bounded = λ t′ g′ n′ e _.
-              let same : boundOn (record { clock = t }) (l .claims) g n ≡ boundOn (record { clock = t′ }) (l .claims) g′ n′ = cc in
+          ticket-next = λ t′ ask′ e _. omega (arith, s .issued);
+          start-bounded = λ t′ ask′ e _.
+              let same : boundOn (ruledBy l t) (l .claims) ask ≡ boundOn (ruledBy l t′) (l .claims) ask′ = cc in
               omega (arith, place-bound v ps w, bound-is (P × T) v ps (l .claims) w first);
           never-raised = λ _. r .0;
         },
@@ -332,65 +336,65 @@ module _ (P : Type 0) (l : Ledger) (m : Model) (s : Story P l m) where
       )
     where
       v : Setting
-      v = record { clock = t }
+      v = ruled m t
 
       ps : List Claim
       ps = advance m t .pending
 
       w : Claim
-      w = fresh (advance m t) g n
+      w = fresh (advance m t) ask
 
       x : ℕ
-      x = place (record { clock = t }) (advance m t .pending) (fresh (advance m t) g n)
+      x = place (ruled m t) (advance m t .pending) (fresh (advance m t) ask)
 
       q : Model
-      q = join (advance m t) (placed (advance m t) g n)
+      q = join (advance m t) (placed (advance m t) ask)
 
       T : Type 0
-      T = NoOverrun l (record { call = claim t g n; answer = admit (advance m t) g n .answer })
+      T = NoOverrun l (record { call = claim t ask; answer = admit (advance m t) ask .answer })
 
       first : Match (Tracks (P × T)) (advance m t .pending) (l .claims)
       first = advance-match P T (l .claims) m t (s .inv) (a .clocked .later) (λ z. prompt t (z refl)) (s .match)
 
-      spaced : IsSpaced (join (advance m t) (placed (advance m t) g n))
-      spaced = join-spaced (advance m t) g n (a .long) (a .spare) (advance-packed m t (s .inv) (a .clocked .later) .spaced)
+      spaced : IsSpaced (join (advance m t) (placed (advance m t) ask))
+      spaced = join-spaced (advance m t) ask (a .long) (a .spare) (advance-packed m t (s .inv) (a .clocked .later) .spaced)
 
-      new : Tracks (P × T) (placed (advance m t) g n) (record { ticket = suc (m .issued); groups = g; length = n; first = place (record { clock = t }) (advance m t .pending) (fresh (advance m t) g n); held = false; grant = 0 })
+      new : Tracks (P × T) (placed (advance m t) ask) (record { ticket = suc (m .issued); asked = ask; first = place (ruled m t) (advance m t .pending) (fresh (advance m t) ask); held = false; grant = 0 })
       new = record { ticket = refl; groups = refl; length = refl; held = refl; grant = λ e. clash e refl; early = λ p o. omega arith }
 
   -- Release, withdraw and clock.
   left : {c : Call} {t k : ℕ} {q : Model} (a : Answer) (T : Type 0) → Leaves m c t k q → OnTime m t → (T → (e : Entry) → e ∈ l .claims → e .held ≡ true → t ≤ promised e)
-      → (let es = map (marked t (finish q k t 0 0 .answer .grants)) (stay c (l .claims) ++ issues c a) in
-      (T → Unraised (m .pending) (finish q k t 0 0 .model .pending) es)
-      × Story (P × T) (record { clock = t; issued = l .issued + length (issues c a); claims = es }) (finish q k t 0 0 .model))
+      → (let es = map (marked t (finish q (plain k t) .answer .grants)) (stay c (l .claims) ++ issues c a) in
+      (T → Unraised (m .pending) (finish q (plain k t) .model .pending) es)
+      × Story (P × T) (record { clock = t; issued = l .issued + length (issues c a); claims = es }) (finish q (plain k t) .model))
   left {c} {t} {k} {q} a T v o tm =
-      told-finish t (l .issued + length (issues c a)) k t 0 0 q (stay c (l .claims) ++ issues c a) T (o .later) tm
+      told-finish t (l .issued + length (issues c a)) (plain k t) q (stay c (l .claims) ++ issues c a) T (o .later) tm
       (leaves-spaced v (advance-packed m t (s .inv) (o .later))) (leaves-clock v .0) (omega (arith, leaves-issued a v, s .issued)) (λ y i. inl (leaves-old v y i))
       (leaves-match (P × T) (l .claims) a v (advance-match P T (l .claims) m t (s .inv) (o .later) (λ z. prompt t (tm z)) (s .match)))
 
-  no-claim : {A : Type 0} {c : Call} {t k : ℕ} {q : Model} {u g n : ℕ} → Leaves m c t k q → c ≡ claim u g n → A
+  no-claim : {A : Type 0} {c : Call} {t k : ℕ} {q : Model} {u : ℕ} {ask : Request} → Leaves m c t k q → c ≡ claim u ask → A
   no-claim (by-release t k) e = let z : _≡_ {A = ℕ} 0 1 = cc in absurd (omega arith)
   no-claim (by-withdraw t k) e = let z : _≡_ {A = ℕ} 0 1 = cc in absurd (omega arith)
   no-claim (by-clock t) e = let z : _≡_ {A = ℕ} 0 1 = cc in absurd (omega arith)
 
   next : {c : Call} {t k : ℕ} {q : Model} (a : Answer) → Leaves m c t k q
       → (let turn : Turn = record { call = c; answer = a } in
-      let n : Model = finish q k t 0 0 .model in
+      let n : Model = finish q (plain k t) .model in
       (NoOverrun l turn → Unraised (m .pending) (n .pending) (noted l turn .claims)) → Next P l turn (tells m) (tells n))
-  next a v h = record { ticket-next = λ u g n e _. no-claim v e; start-bounded = λ u g n e _. no-claim v e; never-raised = λ _. h }
+  next a v h = record { ticket-next = λ u ask e _. no-claim v e; start-bounded = λ u ask e _. no-claim v e; never-raised = λ _. h }
 
-  told-left : (c : Call) (t k : ℕ) (q : Model) → OnTime m t → Leaves m c t k q → Told P l m c (finish q k t 0 0)
+  told-left : (c : Call) (t k : ℕ) (q : Model) → OnTime m t → Leaves m c t k q → Told P l m c (finish q (plain k t))
   unfolding finish
   told-left c₀ t₀ k₀ q₀ o (by-release t k) =
-      let a : Answer = finish (remove (advance m t) k) k t 0 0 .answer in
+      let a : Answer = finish (remove (advance m t) k) (plain k t) .answer in
       let r = left a (NoOverrun l (record { call = release t k; answer = a })) (by-release t k) o (λ z. z refl) in
       (next a (by-release t k) (r .0), r .1)
   told-left c₀ t₀ k₀ q₀ o (by-withdraw t k) =
-      let a : Answer = finish (remove (advance m t) k) k t 0 0 .answer in
+      let a : Answer = finish (remove (advance m t) k) (plain k t) .answer in
       let r = left a (NoOverrun l (record { call = withdraw t k; answer = a })) (by-withdraw t k) o (λ z. z refl) in
       (next a (by-withdraw t k) (r .0), r .1)
   told-left c₀ t₀ k₀ q₀ o (by-clock t) =
-      let a : Answer = finish (advance m t) 0 t 0 0 .answer in
+      let a : Answer = finish (advance m t) (plain 0 t) .answer in
       let r = left a (NoOverrun l (record { call = clock t; answer = a })) (by-clock t) o (λ z. z refl) in
       (next a (by-clock t) (r .0), r .1)
 

@@ -5,14 +5,18 @@ use mathlib.Core.Bool.{true, false}
 use mathlib.Core.List.{List, [], _∷_, _++_, List·Memᴰ·append-cases, List·Memᴰ·eq-of-singleton, Memᴰ·append-right}
 use Prim.Native.Nat.{ℕ, suc, _≤_, _<_}
 use native.Mathlib.Omega.{arith}
+use Rattle.numbers.specs.Numbers.{mostTickets}
 use Rattle.rules.specs.declared.Claim.{Claim}
+use Rattle.rules.specs.declared.Request.{Request}
 use Rattle.rules.specs.Lists.{_∈_}
-use Rattle.rules.specs.Claims.{Setting, on, at, withPhase, conflicts, endOf}
+use Rattle.rules.specs.declared.Setting.{Setting}
+use Rattle.rules.specs.Claims.{on, at, withPhase, conflicts, endOf}
 use Rattle.rules.specs.declared.Phase.the-variants.{On}
 use Rattle.rules.specs.Order.{precedes}
 use Rattle.rules.specs.Packing.{packedStart, moved, pack}
 use Rattle.rules.specs.Granting.{goes, granted, grant}
-use Rattle.rules.specs.Calls.{Model, settingOf, Call, claim, release, withdraw, clock, lookup, timed, clockOf, Step, advance, finish, join, admit, step, new, after}
+use Rattle.rules.specs.declared.Reply.{Reply}
+use Rattle.rules.specs.Calls.{Model, settingOf, plain, ruled, Call, claim, release, withdraw, clock, lookup, timed, clockOf, Step, advance, finish, join, admit, step, new, after}
 use Rattle.rules.specs.Invariants.{IsSpaced, IsPacked, Still, Invariant}
 use Rattle.rules.proofs.Bools.{clash}
 use Rattle.rules.proofs.Lists.{here, map-e}
@@ -30,7 +34,7 @@ advance-precedes : (m : Model) (t : ℕ) → Invariant m → (d w : Claim) → d
     → (x y : Claim) → x ∈ advance m t .pending → y ∈ advance m t .pending → x .ticket ≡ d .ticket → y .ticket ≡ w .ticket
     → (on y ≡ false) × (precedes x y ≡ true)
 advance-precedes m t i d w di wi o p x y xi yi e h =
-    let v : Setting = record { clock = t } in
+    let v : Setting = ruled m t in
     let f = packedStart v (m .pending) in
     let a = advance-same m t i d x di xi e in
     let b = advance-same m t i w y wi yi h in
@@ -52,13 +56,13 @@ finish-precedes m i x y xi xj o p =
     (ap on (g .0) ∙ moved-phase f y ∙ o, ap (precedes (granted v ps (moved f x))) (g .0) ∙ g .1)
 
 -- Of a call from m to `finish q`, where each claim of q that is not new is one of those that the first packing gave.
-finish-order : (m q : Model) (t k s n b : ℕ) → Invariant m → IsSpaced q → ((x : Claim) → x ∈ q .pending → (x ∈ advance m t .pending) ⊎ (m .issued < x .ticket))
-    → (d d′ w w′ : Claim) → Becomes m (finish q k s n b .model) d d′ → Becomes m (finish q k s n b .model) w w′ → on w ≡ false → precedes d w ≡ true
+finish-order : (m q : Model) (t : ℕ) (rep : Reply) → Invariant m → IsSpaced q → ((x : Claim) → x ∈ q .pending → (x ∈ advance m t .pending) ⊎ (m .issued < x .ticket))
+    → (d d′ w w′ : Claim) → Becomes m (finish q rep .model) d d′ → Becomes m (finish q rep .model) w w′ → on w ≡ false → precedes d w ≡ true
     → (on w′ ≡ false) × (precedes d′ w′ ≡ true)
 unfolding regranted
-finish-order m q t k s n b i sp old d d′ w w′ f g o p =
-    let x = finish-e q k s n b (f .new) in
-    let y = finish-e q k s n b (g .new) in
+finish-order m q t rep i sp old d d′ w w′ f g o p =
+    let x = finish-e q rep (f .new) in
+    let y = finish-e q rep (g .new) in
     let xi = mine d (f .old) (x .0) (sym (x .2) ∙ f .same) (old (x .0) (x .1)) in
     let yi = mine w (g .old) (y .0) (sym (y .2) ∙ g .same) (old (y .0) (y .1)) in
     let r = advance-precedes m t i d w (f .old) (g .old) o p (x .0) (y .0) xi yi (sym (x .2) ∙ f .same) (sym (y .2) ∙ g .same) in
@@ -70,15 +74,15 @@ finish-order m q t k s n b i sp old d d′ w w′ f g o p =
     mine d di x e (inr l) = absurd (omega (arith, i .spaced .proper d di .issued))
 
 -- ── every accepted timed call ──
-timed-finish : (m q : Model) (c : Call) (t k s n b : ℕ) → Invariant m → IsSpaced q → q .clock ≡ t → clockOf c ≡ t
-    → ((x : Claim) → x ∈ q .pending → (x ∈ advance m t .pending) ⊎ (m .issued < x .ticket)) → TimedCall m c (finish q k s n b)
-timed-finish m q c t k s n b i sp e h old = record {
-  clock-set = finish-clock q k s n b ∙ e ∙ sym h;
-  starts-packed = settled-starts (r .issued) (settingOf r) (r .pending) (finish-invariant q k s n b sp);
+timed-finish : (m q : Model) (c : Call) (t : ℕ) (rep : Reply) → Invariant m → IsSpaced q → q .clock ≡ t → clockOf c ≡ t
+    → ((x : Claim) → x ∈ q .pending → (x ∈ advance m t .pending) ⊎ (m .issued < x .ticket)) → TimedCall m c (finish q rep)
+timed-finish m q c t rep i sp e h old = record {
+  clock-set = finish-clock q rep ∙ e ∙ sym h;
+  starts-packed = settled-starts (r .issued) (settingOf r) (r .pending) (finish-invariant q rep sp);
   order-kept = λ d d′ w w′ f g x od ow od′ ow′ l.
-      let r = finish-order m q t k s n b i sp old d d′ w w′ f g ow (precedes-lt d w x l) in
+      let r = finish-order m q t rep i sp old d d′ w w′ f g ow (precedes-lt d w x l) in
       smaller d′ w′ od′ (precedes-e d′ w′ (r .1));
-  none-overtaken = finish-order m q t k s n b i sp old;
+  none-overtaken = finish-order m q t rep i sp old;
 }
   where
     smaller : (d w : Claim) → on d ≡ false → (on d ≡ true) ⊎ (at d < at w) → at d < at w
@@ -86,19 +90,19 @@ timed-finish m q c t k s n b i sp e h old = record {
     smaller d w o (inr l) = l
 
     r : Model
-    r = finish q k s n b .model
+    r = finish q rep .model
 
 -- ── an accepted claim ──
-module _ (m : Model) (i : Invariant m) (t g n : ℕ) (a : Admissible m t g n) where
+module _ (m : Model) (i : Invariant m) (t : ℕ) (ask : Request) (a : Admissible m t ask) where
   -- The table that the first packing gave; the claims after the call; and the new one among them.
   abbrev first : Model
   first = advance m t
 
   abbrev last : List Claim
-  last = admit (advance m t) g n .model .pending
+  last = admit (advance m t) ask .model .pending
 
   abbrev w : Claim
-  w = joined (advance m t) g n
+  w = joined (advance m t) ask
 
   packed : IsPacked first
   packed = advance-packed m t i (a .clocked .later)
@@ -106,32 +110,32 @@ module _ (m : Model) (i : Invariant m) (t g n : ℕ) (a : Admissible m t g n) wh
   still : Still first
   still = advance-still m t (λ c k. i .spaced .proper c k .sane) (i .spaced .ascending)
 
-  spare : first .issued < 65535
-  spare = advance-spare m t g n a
+  spare : first .issued < mostTickets
+  spare = advance-spare m t ask a
 
-  claim-timed : TimedCall m (claim t g n) (admit first g n)
+  claim-timed : TimedCall m (claim t ask) (admit first ask)
   unfolding admit join advance
   claim-timed =
-      timed-finish m (join first (placed first g n)) (claim t g n) t _ _ _ _ i (join-spaced first g n (a .long) spare (packed .spaced)) refl refl
-      (join-old first (placed first g n) refl)
+      timed-finish m (join first (placed first ask)) (claim t ask) t _ i (join-spaced first ask (a .long) spare (packed .spaced)) refl refl
+      (join-old first (placed first ask) refl)
 
   -- The others, as after a clock call, and the new one.
-  last-is : last ≡ finish first 0 t 0 0 .model .pending ++ (w ∷ [])
-  last-is = claim-pending first packed still g n (a .long) spare 0 t 0 0
+  last-is : last ≡ finish first (plain 0 t) .model .pending ++ (w ∷ [])
+  last-is = claim-pending first packed still ask (a .long) spare (plain 0 t)
 
   new-last : w ∈ last
-  new-last = subst (λ (l : List Claim). w ∈ l) (sym last-is) (Memᴰ·append-right (finish first 0 t 0 0 .model .pending) here)
+  new-last = subst (λ (l : List Claim). w ∈ l) (sym last-is) (Memᴰ·append-right (finish first (plain 0 t) .model .pending) here)
 
   -- Where nothing moves, a claim stays or is granted at its start.
-  stays : (d : Claim) → d ∈ finish first 0 t 0 0 .model .pending → (x : Claim) × x ∈ first .pending × Stays t x d
+  stays : (d : Claim) → d ∈ finish first (plain 0 t) .model .pending → (x : Claim) × x ∈ first .pending × Stays t x d
   unfolding grant advance
   stays d j =
-      let e = ap (λ (s : Step). s .model .pending) (finish-still first 0 t 0 0 still) in
+      let e = ap (λ (s : Step). s .model .pending) (finish-still first (plain 0 t) still) in
       let r = map-e (granted v ps) ps (subst (λ (l : List Claim). d ∈ l) e j) in
       (r .0, r .1, subst (Stays t (r .0)) (sym (r .2)) (granted-cases (Stays t (r .0)) v ps (r .0) (went (r .0) (r .1)) (λ e. inl refl)))
     where
       v : Setting
-      v = record { clock = t }
+      v = ruled m t
 
       ps : List Claim
       ps = advance m t .pending
@@ -140,32 +144,32 @@ module _ (m : Model) (i : Invariant m) (t g n : ℕ) (a : Admissible m t g n) wh
       went x k e = inr (goes-wait ps x e, goes-at v ps (packed .spaced .low) (packed .tight) (λ c k. packed .spaced .proper c k .sane) x k e, refl)
 
   others : (d : Claim) → d ∈ last → d .ticket ≢ w .ticket → (x : Claim) × x ∈ first .pending × Stays t x d
-  others d j ne = go (List·Memᴰ·append-cases (finish first 0 t 0 0 .model .pending) (subst (λ (l : List Claim). d ∈ l) last-is j))
+  others d j ne = go (List·Memᴰ·append-cases (finish first (plain 0 t) .model .pending) (subst (λ (l : List Claim). d ∈ l) last-is j))
     where
-      go : (d ∈ finish first 0 t 0 0 .model .pending) ⊎ (d ∈ (w ∷ [])) → (x : Claim) × x ∈ first .pending × Stays t x d
+      go : (d ∈ finish first (plain 0 t) .model .pending) ⊎ (d ∈ (w ∷ [])) → (x : Claim) × x ∈ first .pending × Stays t x d
       go (inl k) = stays d k
       go (inr k) = absurd (ne (ap (λ (c : Claim). c .ticket) (List·Memᴰ·eq-of-singleton k)))
 
   clear-of : (d : Claim) → d ∈ last → d .ticket ≢ w .ticket → conflicts d w ≡ true
-      → (let v : Setting = record { clock = t } in (endOf v d ≤ at w) ⊎ ((on d ≡ false) × (endOf v w ≤ at d)))
+      → (let v : Setting = ruled m t in (endOf v d ≤ at w) ⊎ ((on d ≡ false) × (endOf v w ≤ at d)))
   unfolding admit finish join advance
-  clear-of d j ne h = go (spaced-clear _ v _ (admit-invariant first g n (a .long) spare packed .spaced) d w j new-last ne h)
+  clear-of d j ne h = go (spaced-clear _ v _ (admit-invariant first ask (a .long) spare packed .spaced) d w j new-last ne h)
     where
       v : Setting
-      v = record { clock = t }
+      v = ruled m t
 
       go : ((on w ≡ false) × (endOf v d ≤ at w)) ⊎ ((on d ≡ false) × (endOf v w ≤ at d)) → (endOf v d ≤ at w) ⊎ ((on d ≡ false) × (endOf v w ≤ at d))
       go (inl r) = inl (r .1)
       go (inr r) = inr r
 
-  claim-whole : ClaimCall m t g n (admit first g n)
+  claim-whole : ClaimCall m t ask (admit first ask)
   unfolding admit finish
   claim-whole = record {
     new = w;
-    groups = joined-cases first g n (λ (x : Claim). x .groups ≡ g) refl refl;
-    length = joined-cases first g n (λ (x : Claim). x .length ≡ n) refl refl;
-    ticket = joined-cases first g n (λ (x : Claim). x .ticket ≡ suc (first .issued)) refl refl;
-    start = joined-at first packed still g n (a .long) spare;
+    groups = joined-cases first ask (λ (x : Claim). x .groups ≡ ask .groups) refl refl;
+    length = joined-cases first ask (λ (x : Claim). x .length ≡ ask .length) refl refl;
+    ticket = joined-cases first ask (λ (x : Claim). x .ticket ≡ suc (first .issued)) refl refl;
+    start = joined-at first packed still ask (a .long) spare;
     overlaps-none = clear-of;
     pushes-none = others;
     others-same = last-is ∙ ap (λ (s : Step). s .model .pending ++ (w ∷ [])) (sym (clock-accepted m t (a .clocked)));
@@ -178,25 +182,25 @@ refused c n (inr e) p q = absurd (e q)
 pub of-timed : (m : Model) → Invariant m → (c : Call) → timed c ≡ true → step m c .answer .number ≡ 0 → TimedCall m c (step m c)
 of-timed m i =
     step-cases (λ c s. timed c ≡ true → s .answer .number ≡ 0 → TimedCall m c s) m (λ c n z p q. refused c n z p q)
-    (λ t g n a p q. claim-timed m i t g n a)
-    (λ c t k q o v p e. timed-finish m q c t k t 0 0 i (leaves-spaced v (advance-packed m t i (o .later))) (leaves-clock v .0) (leaves-clock v .1)
+    (λ t ask a p q. claim-timed m i t ask a)
+    (λ c t k q o v p e. timed-finish m q c t (plain k t) i (leaves-spaced v (advance-packed m t i (o .later))) (leaves-clock v .0) (leaves-clock v .1)
     (λ x j. inl (leaves-old v x j)))
 
 -- Of a claim; nothing of the other calls.
 OfClaim : Model → Call → Step → Type 0
-OfClaim m (claim t g n) s = ClaimCall m t g n s
+OfClaim m (claim t ask) s = ClaimCall m t ask s
 OfClaim m (release t k) s = Unit {0}
 OfClaim m (withdraw t k) s = Unit {0}
 OfClaim m (clock t) s = Unit {0}
 OfClaim m (lookup k) s = Unit {0}
 
-pub of-claim : (m : Model) → Invariant m → (t g n : ℕ) → step m (claim t g n) .answer .number ≡ 0 → ClaimCall m t g n (step m (claim t g n))
+pub of-claim : (m : Model) → Invariant m → (t : ℕ) (ask : Request) → step m (claim t ask) .answer .number ≡ 0 → ClaimCall m t ask (step m (claim t ask))
 unfolding OfClaim
-of-claim m i t g n =
+of-claim m i t ask =
     step-cases (λ c s. timed c ≡ true → s .answer .number ≡ 0 → OfClaim m c s) m (λ c k z p q. refused c k z p q)
-    (λ t g n a p q. claim-whole m i t g n a) (λ c t k q o v p e. none v) (claim t g n) refl
+    (λ t ask a p q. claim-whole m i t ask a) (λ c t k q o v p e. none v) (claim t ask) refl
   where
-    none : {c : Call} {t k : ℕ} {q : Model} → Leaves m c t k q → OfClaim m c (finish q k t 0 0)
+    none : {c : Call} {t k : ℕ} {q : Model} → Leaves m c t k q → OfClaim m c (finish q (plain k t))
     none (by-release t k) = tt
     none (by-withdraw t k) = tt
     none (by-clock t) = tt

@@ -12,11 +12,12 @@ use Rattle.rules.specs.Packing.{startFor, moved, ahead, startWithin, packedStar
 use Rattle.rules.specs.Placing.{clear, fits, seek, place, contention, startBound}
 use Rattle.rules.specs.Granting.{goes, granted, grant, grants}
 use Rattle.rules.specs.declared.Standing.the-variants.{NotPending, Holds}
-use Rattle.rules.specs.Calls.{Call, claim, clock, firstOf, tests, advance, finish, join, remove, admit, act, step, new, standingOf}
+use Rattle.rules.specs.Tests.{firstOf}
+use Rattle.rules.specs.Calls.{Call, clock, tests, advance, finish, join, remove, admit, act, step, new, standingOf}
 use Rattle.rules.proofs.Bools.{clash}
 use Rattle.rules.proofs.Lists.{here, none}
 use Rattle.promises.specs.Ledger.{Entry, turns, tableAfter, issues, stay, marked, notedAll}
-use Rattle.promises.specs.Worthless.{neverGrants, untouched, echoes, AllRefused}
+use Rattle.promises.specs.Worthless.{claim, neverGrants, untouched, echoes, AllRefused}
 
 pub all-refused : AllRefused
 unfolding someFrom shares empty within greatest least sum all any keep heldUntil endOf remaining precedes before startFor moved ahead startWithin packedStart pack clear fits seek place contention startBound goes granted grant grants firstOf tests advance finish join remove admit act step new standingOf turns tableAfter issues stay marked notedAll neverGrants untouched echoes
@@ -31,6 +32,6 @@ all-refused = (
       let z : _≡_ {A = ℕ} 0 1 = cc in
       omega arith,
   λ d.
-      let z : _≡_ {A = ℕ} 1 2 = d .at-any-call (claim 0 0x1 10 ∷ []) (claim 0 0x1 10) [] refl .ticket-next 0 0x1 10 refl refl in
+      let z : _≡_ {A = ℕ} 1 2 = d .at-any-call (claim 0 0x1 10 ∷ []) (claim 0 0x1 10) [] refl .ticket-next 0 _ refl refl in
       omega arith,
 )

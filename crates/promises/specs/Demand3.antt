@@ -6,11 +6,12 @@ use mathlib.Core.Bool.{true, false}
 use mathlib.Core.List.{List, [], _∷_, _++_}
 use Prim.Native.Nat.{ℕ, _+_, _≤_, _<_}
 use Rattle.groups.specs.Groups.{shares}
+use Rattle.rules.specs.declared.Request.{Request}
 use Rattle.rules.specs.Lists.{_∈_}
 use Rattle.rules.specs.declared.Standing.{Standing}
 use Rattle.rules.specs.declared.Standing.the-variants.{NotPending, Waits, Holds}
 use Rattle.rules.specs.Calls.{Model, Call, claim, standingOf, step, new}
-use Rattle.promises.specs.Ledger.{Turn, Steps, turns, tableAfter, Entry, promised, Ledger, noted, ledgerOf, NoOverrun, Punctual, boundOn}
+use Rattle.promises.specs.Ledger.{Turn, Steps, turns, tableAfter, Entry, promised, Ledger, noted, ledgerOf, NoOverrun, Punctual, ruledBy, boundOn}
 
 -- "Look, asked after any call of the list, says the same: waiting, on with that promised end, or 8."
 pub record Agrees (l : List Entry) (k : ℕ) (told : Standing) : Type 0 where
@@ -29,16 +30,16 @@ pub record Now (P : Type 0) (l : Ledger) (told : ℕ → Standing) : Type 0 wher
   pub tickets-ascend : TicketsAscend (l .claims)
   pub lookup-agrees : (k : ℕ) → Agrees (l .claims) k (told k)
   -- Holders share no group.
-  pub holders-apart : (e f : Entry) → e ∈ l .claims → f ∈ l .claims → e .ticket ≢ f .ticket → e .held ≡ true → f .held ≡ true → shares (e .groups) (f .groups) ≡ false
+  pub holders-apart : (e f : Entry) → e ∈ l .claims → f ∈ l .claims → e .ticket ≢ f .ticket → e .held ≡ true → f .held ≡ true → shares (e .asked .groups) (f .asked .groups) ≡ false
   -- Nobody waits past the first planned start.
   pub no-wait-past : P → (e : Entry) → e ∈ l .claims → e .held ≡ false → l .clock ≤ e .first
 
 -- Of one call, with what lookup told before and tells after it.
 pub record Next (P : Type 0) (l : Ledger) (t : Turn) (before after : ℕ → Standing) : Type 0 where
   -- "Tickets are issued 1, 2, 3 .. and never again": that of an accepted claim is one more than the count of claims accepted before it.
-  pub ticket-next : (u g n : ℕ) → t .call ≡ claim u g n → t .answer .number ≡ 0 → t .answer .ticket ≡ l .issued + 1
+  pub ticket-next : (u : ℕ) (ask : Request) → t .call ≡ claim u ask → t .answer .number ≡ 0 → t .answer .ticket ≡ l .issued + 1
   -- A first planned start is within its bound.
-  pub start-bounded : (u g n : ℕ) → t .call ≡ claim u g n → t .answer .number ≡ 0 → t .answer .start ≤ boundOn (record { clock = u }) (l .claims) g n
+  pub start-bounded : (u : ℕ) (ask : Request) → t .call ≡ claim u ask → t .answer .number ≡ 0 → t .answer .start ≤ boundOn (ruledBy l u) (l .claims) ask
   -- No start is raised. "A call raises it if the claim waits before the call and after it waits with a greater start, or is on with a
   -- grant greater than that start."
   pub never-raised : P → NoOverrun l t → (k s : ℕ) → before k ≡ Waits s

@@ -7,8 +7,10 @@ use Prim.Native.Nat.{ℕ, _+_, _-_, _*_, _≤_}
 use lib.Dec.{eqb}
 use lib.ListN.{length}
 use Rattle.groups.specs.Groups.{shares}
+use Rattle.rules.specs.declared.Request.{Request}
 use Rattle.rules.specs.Lists.{_∈_, sum, any, keep}
-use Rattle.rules.specs.Claims.{Setting, heldUntil}
+use Rattle.rules.specs.declared.Setting.{Setting}
+use Rattle.rules.specs.Claims.{heldUntil}
 use Rattle.rules.specs.Calls.{Model, Call, claim, release, withdraw, clock, lookup, timed, clockOf, Answer, Step}
 
 -- A call with its answer.
@@ -38,14 +40,13 @@ accepted t = timed (t .call) && eqb (t .answer .number) 0
 -- counts from then on, and "its promised end [is] grant + length".
 pub record Entry : Type 0 where
   pub ticket : ℕ
-  pub groups : ℕ
-  pub length : ℕ
+  pub asked : Request
   pub first : ℕ
   pub held : Bool
   pub grant : ℕ
 
 abbrev pub promised : Entry → ℕ
-promised e = e .grant + e .length
+promised e = e .grant + e .asked .length
 
 -- The table's clock, the count of claims accepted so far, and the pending claims.
 pub record Ledger : Type 0 where
@@ -59,7 +60,7 @@ opening = record { clock = 0; issued = 0; claims = [] }
 
 -- "A claim is pending from the accepted call that issued its ticket": what an accepted call issued.
 unfoldable pub issues : Call → Answer → List Entry
-issues (claim t g n) a = record { ticket = a .ticket; groups = g; length = n; first = a .start; held = false; grant = 0 } ∷ []
+issues (claim t ask) a = record { ticket = a .ticket; asked = ask; first = a .start; held = false; grant = 0 } ∷ []
 issues (release t k) a = []
 issues (withdraw t k) a = []
 issues (clock t) a = []
@@ -70,7 +71,7 @@ abbrev pub without : ℕ → List Entry → List Entry
 without k l = keep (λ e. not (eqb (e .ticket) k)) l
 
 unfoldable pub stay : Call → List Entry → List Entry
-stay (claim t g n) l = l
+stay (claim t ask) l = l
 stay (release t k) l = without k l
 stay (withdraw t k) l = without k l
 stay (clock t) l = l
@@ -78,7 +79,7 @@ stay (lookup k) l = l
 
 -- "from the call whose answer names its ticket as granted, that call included .. Its grant is that call's clock"
 abbrev pub hold : Entry → ℕ → Entry
-hold e t = record { ticket = e .ticket; groups = e .groups; length = e .length; first = e .first; held = true; grant = t }
+hold e t = record { ticket = e .ticket; asked = e .asked; first = e .first; held = true; grant = t }
 
 unfoldable pub marked : ℕ → List ℕ → Entry → Entry
 marked t ks e = elim (any (λ k. eqb k (e .ticket)) ks) [ true ↦ hold e t | false ↦ e ]
@@ -112,13 +113,17 @@ NoOverruns l (t ∷ ts) = NoOverrun l t × NoOverruns (noted l t) ts
 abbrev pub Punctual : List Turn → Type 0
 Punctual ts = NoOverruns opening ts
 
+-- The rules at clock t, by what the calls so far set.
+abbrev pub ruledBy : Ledger → ℕ → Setting
+ruledBy l t = record { clock = t }
+
 -- The bound on a first planned start: "what is pending, on or waiting is taken just before the accepting call; remaining time is as in
 -- the ceiling, the clock being that call's".
 abbrev pub remainingOf : Setting → Entry → ℕ
-remainingOf v e = cond (e .held) (heldUntil v (promised e) - v .clock) (e .length)
+remainingOf v e = cond (e .held) (heldUntil v (promised e) - v .clock) (e .asked .length)
 
-abbrev pub rivalsOf : List Entry → ℕ → List Entry
-rivalsOf l g = keep (λ e. shares (e .groups) g) l
+abbrev pub rivalsOf : List Entry → Request → List Entry
+rivalsOf l ask = keep (λ e. shares (e .asked .groups) (ask .groups)) l
 
-unfoldable pub boundOn : Setting → List Entry → ℕ → ℕ → ℕ
-boundOn v l g n = v .clock + sum (remainingOf v) (rivalsOf l g) + length (rivalsOf l g) * (n - 1)
+unfoldable pub boundOn : Setting → List Entry → Request → ℕ
+boundOn v l ask = v .clock + sum (remainingOf v) (rivalsOf l ask) + length (rivalsOf l ask) * (ask .length - 1)

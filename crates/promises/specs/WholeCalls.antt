@@ -7,10 +7,12 @@ use mathlib.Core.List.{[], _∷_, _++_}
 use Prim.Native.Nat.{ℕ, _≤_, _<_}
 use Rattle.rules.specs.declared.Claim.{Claim}
 use Rattle.rules.specs.declared.Phase.the-variants.{On}
+use Rattle.rules.specs.declared.Request.{Request}
 use Rattle.rules.specs.Lists.{_∈_, greatest, keep}
-use Rattle.rules.specs.Claims.{Setting, on, at, withPhase, conflicts, endOf}
+use Rattle.rules.specs.declared.Setting.{Setting}
+use Rattle.rules.specs.Claims.{on, at, withPhase, conflicts, endOf}
 use Rattle.rules.specs.Order.{precedes}
-use Rattle.rules.specs.Calls.{Model, settingOf, Call, claim, clock, timed, clockOf, Step, advance, step}
+use Rattle.rules.specs.Calls.{Model, settingOf, ruled, Call, claim, clock, timed, clockOf, Step, advance, step}
 
 -- The claim c of the table m is the claim d of the table n: tickets tell.
 pub record Becomes (m n : Model) (c d : Claim) : Type 0 where
@@ -37,18 +39,18 @@ abbrev pub Stays : ℕ → Claim → Claim → Type 0
 Stays t x d = (d ≡ x) ⊎ ((on x ≡ false) × (at x ≡ t) × (d ≡ withPhase x (On t)))
 
 -- An accepted claim.
-pub record ClaimCall (m : Model) (t g n : ℕ) (s : Step) : Type 0 where
+pub record ClaimCall (m : Model) (t : ℕ) (ask : Request) (s : Step) : Type 0 where
   -- The new claim, as it stands after the call.
   pub new : Claim
-  pub groups : new .groups ≡ g
-  pub length : new .length ≡ n
+  pub groups : new .groups ≡ ask .groups
+  pub length : new .length ≡ ask .length
   -- "The answer is ticket, start, ..": it waits at that start, or was granted at it.
   pub ticket : new .ticket ≡ s .answer .ticket
   pub start : at new ≡ s .answer .start
   -- "for each conflicting on claim s ≥ its end, and for each conflicting waiting claim either s ≥ its end or s + length ≤ its planned
   -- start": it overlaps no claim.
   pub overlaps-none : (d : Claim) → d ∈ s .model .pending → d .ticket ≢ new .ticket → conflicts d new ≡ true
-      → (let v : Setting = record { clock = t } in (endOf v d ≤ at new) ⊎ ((on d ≡ false) × (endOf v new ≤ at d)))
+      → (let v : Setting = ruled m t in (endOf v d ≤ at new) ⊎ ((on d ≡ false) × (endOf v new ≤ at d)))
   -- It pushes none back: every other claim is where setting the clock and packing put it, or was granted there,
   pub pushes-none : (d : Claim) → d ∈ s .model .pending → d .ticket ≢ new .ticket → (x : Claim) × x ∈ advance m t .pending × Stays t x d
   -- and all of them stand as after a call that only sets the clock.
@@ -56,4 +58,4 @@ pub record ClaimCall (m : Model) (t g n : ℕ) (s : Step) : Type 0 where
 
 pub record WholeCalls (m : Model) : Type 0 where
   pub of-timed : (c : Call) → timed c ≡ true → step m c .answer .number ≡ 0 → TimedCall m c (step m c)
-  pub of-claim : (t g n : ℕ) → step m (claim t g n) .answer .number ≡ 0 → ClaimCall m t g n (step m (claim t g n))
+  pub of-claim : (t : ℕ) (ask : Request) → step m (claim t ask) .answer .number ≡ 0 → ClaimCall m t ask (step m (claim t ask))

@@ -6,9 +6,13 @@ use Prim.Native.Nat.{ℕ}
 use lib.Dec.{eqb}
 use Rattle.rules.specs.declared.Phase.the-variants.{Waiting}
 use Rattle.rules.specs.Claims.{at, withPhase}
-use Rattle.rules.specs.Calls.{Model, Call, claim, clock, Answer, Step, step}
+use Rattle.rules.specs.Calls.{Model, withPending, Call, clock, Answer, Step, step}
 use Rattle.promises.specs.Ledger.{Steps}
 use Rattle.promises.specs.Demand3.{Demand3Of}
+
+-- A claim at a clock, of groups (hex) and a length.
+abbrev pub claim : ℕ → ℕ → ℕ → Call
+claim t g n = Call.claim t (record { groups = g; length = n })
 
 -- Demand 3 does not hold of these steps, this rig and these calls.
 abbrev pub Refused : Steps → ℕ → List Call → Type 0
@@ -21,7 +25,7 @@ neverGrants m c =
     let n : Model = s .model in
     let a : Answer = s .answer in
     record {
-      model = record { rig = n .rig; clock = n .clock; issued = n .issued; pending = map (λ d. withPhase d (Waiting (at d))) (n .pending) };
+      model = withPending n (map (λ d. withPhase d (Waiting (at d))) (n .pending));
       answer = record { number = a .number; ticket = a .ticket; start = a .start; contention = a .contention; bound = a .bound; grants = [] };
     }
 

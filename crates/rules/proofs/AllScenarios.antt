@@ -8,7 +8,8 @@ use Rattle.rules.specs.Order.{precedes, before}
 use Rattle.rules.specs.Packing.{startFor, moved, ahead, startWithin, packedStart, pack}
 use Rattle.rules.specs.Placing.{clear, fits, seek, place, contention, startBound}
 use Rattle.rules.specs.Granting.{goes, granted, grant, grants}
-use Rattle.rules.specs.Calls.{firstOf, tests, advance, finish, join, remove, admit, act, step, new, standingOf, after, answers}
+use Rattle.rules.specs.Tests.{firstOf}
+use Rattle.rules.specs.Calls.{tests, advance, finish, join, remove, admit, act, step, new, standingOf, after, answers}
 use Rattle.rules.specs.Scenarios.{scenarios, expected, outcome}
 
 pub all-scenarios : map outcome scenarios ≡ map expected scenarios

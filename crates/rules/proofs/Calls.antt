@@ -8,15 +8,20 @@ use native.Mathlib.Omega.{arith}
 use lib.Dec.{ltb, leb, eqb}
 use lib.ListN.{length}
 use borrow.Author.Tests.{ltb-false, le-ltb, leb-false, eqb-false, not-false}
+use Rattle.numbers.specs.Numbers.{mostClock, mostLength, mostPending, mostTickets}
 use Rattle.groups.specs.Groups.{empty, within}
 use Rattle.rules.specs.declared.Claim.{Claim}
+use Rattle.rules.specs.declared.Request.{Request}
 use Rattle.rules.specs.declared.Phase.the-variants.{Waiting}
 use Rattle.rules.specs.Lists.{_∈_}
-use Rattle.rules.specs.Claims.{Setting, on, at, withPhase}
+use Rattle.rules.specs.declared.Setting.{Setting}
+use Rattle.rules.specs.Claims.{on, at, withPhase}
 use Rattle.rules.specs.Packing.{packedStart, moved, pack, Packs}
 use Rattle.rules.specs.Placing.{place}
 use Rattle.rules.specs.Granting.{granted, grant}
-use Rattle.rules.specs.Calls.{Model, settingOf, Call, claim, release, withdraw, clock, lookup, timed, clockOf, Step, Test, test, firstOf, late, backward, tests, named, unchanged, advance, finish, join, remove, fresh, admit, act, unless, step, blank, new, after}
+use Rattle.rules.specs.Tests.{Test, firstOf, late, backward, dark, offRig, badLength, full, ticketless, named}
+use Rattle.rules.specs.declared.Reply.{Reply}
+use Rattle.rules.specs.Calls.{Model, settingOf, ruled, Call, claim, release, withdraw, clock, lookup, timed, clockOf, Step, tests, unchanged, advance, plain, finish, join, remove, fresh, admit, act, unless, step, blank, new, after}
 use Rattle.rules.specs.Plans.{Fits, Sane}
 use Rattle.rules.specs.Invariants.{IsSpaced, IsPacked, Invariant}
 use Rattle.rules.proofs.Bools.{or-fl, or-fr}
@@ -29,49 +34,52 @@ use Rattle.rules.proofs.Invariants.{packs, grant-settles, spaced-packab
 
 -- ── the tests ──
 -- Where no test fails, the first does not, and none of the rest.
-pub passes : (b : Bool) (n : ℕ) (ts : List Test) → firstOf (test b (suc n) ∷ ts) ≡ 0 → (b ≡ false) × (firstOf ts ≡ 0)
+pub passes : (x : Test) (ts : List Test) → 1 ≤ x .number → firstOf (x ∷ ts) ≡ 0 → (x .fails ≡ false) × (firstOf ts ≡ 0)
 unfolding firstOf
-passes true n ts e = absurd (omega arith)
-passes false n ts e = (refl, e)
+passes x ts h e = go (x .fails) refl e
+  where
+    go : (b : Bool) → x .fails ≡ b → cond b (x .number) (firstOf ts) ≡ 0 → (x .fails ≡ false) × (firstOf ts ≡ 0)
+    go true q e = absurd (omega arith)
+    go false q e = (q, e)
 
 -- The clock of an accepted timed call.
 pub record OnTime (m : Model) (t : ℕ) : Type 0 where
   pub later : m .clock ≤ t
-  pub early : t ≤ 1000000000000
+  pub early : t ≤ mostClock
 
-pub on-time : (m : Model) (t : ℕ) (ts : List Test) → firstOf (late t ∷ backward m t ∷ ts) ≡ 0 → OnTime m t × (firstOf ts ≡ 0)
+pub on-time : (m : Model) (t : ℕ) (ts : List Test) → firstOf (late t ∷ backward (m .clock) t ∷ ts) ≡ 0 → OnTime m t × (firstOf ts ≡ 0)
 on-time m t ts e =
-    let a = passes (ltb 1000000000000 t) 4 _ e in
-    let b = passes (ltb t (m .clock)) 3 ts (a .1) in
+    let a = passes (late t) _ (omega arith) e in
+    let b = passes (backward (m .clock) t) ts (omega arith) (a .1) in
     (record { later = ltb-false _ _ (b .0); early = ltb-false _ _ (a .0) }, b .1)
 
 -- What the tests of an accepted claim say.
-pub record Admissible (m : Model) (t g n : ℕ) : Type 0 where
+pub record Admissible (m : Model) (t : ℕ) (ask : Request) : Type 0 where
   pub clocked : OnTime m t
-  pub lit : empty g ≡ false
-  pub inside : within g (m .rig) ≡ true
-  pub long : 1 ≤ n
-  pub short : n ≤ 3600000
-  pub room : length (m .pending) < 64
-  pub spare : m .issued < 65535
+  pub lit : empty (ask .groups) ≡ false
+  pub inside : within (ask .groups) (m .rig) ≡ true
+  pub long : 1 ≤ ask .length
+  pub short : ask .length ≤ mostLength
+  pub room : length (m .pending) < mostPending
+  pub spare : m .issued < mostTickets
 
-pub admissible : (m : Model) (t g n : ℕ) → firstOf (tests m (claim t g n)) ≡ 0 → Admissible m t g n
+pub admissible : (m : Model) (t : ℕ) (ask : Request) → firstOf (tests m (claim t ask)) ≡ 0 → Admissible m t ask
 unfolding tests
-admissible m t g n e =
+admissible m t ask e =
     let a = on-time m t _ e in
-    let b = passes (empty g) 0 _ (a .1) in
-    let c = passes (not (within g (m .rig))) 1 _ (b .1) in
-    let d = passes (eqb n 0 || ltb 3600000 n) 2 _ (c .1) in
-    let f = passes (leb 64 (length (m .pending))) 5 _ (d .1) in
-    let h = passes (leb 65535 (m .issued)) 6 [] (f .1) in
+    let b = passes (dark (ask .groups)) _ (omega arith) (a .1) in
+    let c = passes (offRig (m .rig) (ask .groups)) _ (omega arith) (b .1) in
+    let d = passes (badLength (ask .length)) _ (omega arith) (c .1) in
+    let f = passes (full (length (m .pending))) _ (omega arith) (d .1) in
+    let h = passes (ticketless (m .issued)) [] (omega arith) (f .1) in
     record {
       clocked = a .0;
       lit = b .0;
-      inside = not-false (within g (m .rig)) (c .0);
-      long = positive n (or-fl (eqb n 0) _ (d .0));
-      short = ltb-false 3600000 n (or-fr (eqb n 0) _ (d .0));
-      room = leb-false 64 _ (f .0);
-      spare = leb-false 65535 _ (h .0);
+      inside = not-false (within (ask .groups) (m .rig)) (c .0);
+      long = positive (ask .length) (or-fl (eqb (ask .length) 0) _ (d .0));
+      short = ltb-false mostLength (ask .length) (or-fr (eqb (ask .length) 0) _ (d .0));
+      room = leb-false mostPending _ (f .0);
+      spare = leb-false mostTickets _ (h .0);
     }
   where
     positive : (n : ℕ) → eqb n 0 ≡ false → 1 ≤ n
@@ -82,30 +90,30 @@ admissible m t g n e =
 pub advance-packed : (m : Model) (t : ℕ) → Invariant m → m .clock ≤ t → IsPacked (advance m t)
 unfolding advance
 advance-packed m t i l =
-    packs (m .issued) (record { clock = t }) (m .pending) (spaced-packable (m .issued) (settingOf m) (record { clock = t }) (m .pending) (record { later = l }) (i .spaced))
+    packs (m .issued) (ruled m t) (m .pending) (spaced-packable (m .issued) (settingOf m) (ruled m t) (m .pending) (record { later = l }) (i .spaced))
 
 pub remove-spaced : (m : Model) (k : ℕ) → IsSpaced m → IsSpaced (remove m k)
 unfolding remove
 remove-spaced m k s = spaced-keep (m .issued) (settingOf m) (m .pending) (λ c. not (named k c)) s
 
-pub finish-invariant : (m : Model) (k s n b : ℕ) → IsSpaced m → Invariant (finish m k s n b .model)
+pub finish-invariant : (m : Model) (r : Reply) → IsSpaced m → Invariant (finish m r .model)
 unfolding finish
-finish-invariant m k s n b i = grant-settles (m .issued) (settingOf m) (pack (settingOf m) (m .pending)) (spaced-packs (m .issued) (settingOf m) (m .pending) i)
+finish-invariant m r i = grant-settles (m .issued) (settingOf m) (pack (settingOf m) (m .pending)) (spaced-packs (m .issued) (settingOf m) (m .pending) i)
 
 -- A new claim with its place.
-abbrev pub placed : Model → ℕ → ℕ → Claim
-placed m g n = withPhase (fresh m g n) (Waiting (place (settingOf m) (m .pending) (fresh m g n)))
+abbrev pub placed : Model → Request → Claim
+placed m ask = withPhase (fresh m ask) (Waiting (place (settingOf m) (m .pending) (fresh m ask)))
 
-module _ (m : Model) (g n : ℕ) (long : 1 ≤ n) (spare : m .issued < 65535) where
-  pub placed-sane : Sane (placed m g n)
+module _ (m : Model) (ask : Request) (long : 1 ≤ ask .length) (spare : m .issued < mostTickets) where
+  pub placed-sane : Sane (placed m ask)
   placed-sane = record { long = long; small = omega arith }
 
-  pub placed-fits : Fits (settingOf m) (m .pending) (placed m g n) (at (placed m g n))
-  placed-fits = record { room = place-fits (settingOf m) (m .pending) (fresh m g n) .room }
+  pub placed-fits : Fits (settingOf m) (m .pending) (placed m ask) (at (placed m ask))
+  placed-fits = record { room = place-fits (settingOf m) (m .pending) (fresh m ask) .room }
 
-  pub join-spaced : IsSpaced m → IsSpaced (join m (placed m g n))
+  pub join-spaced : IsSpaced m → IsSpaced (join m (placed m ask))
   unfolding join
-  join-spaced p = spaced-snoc (m .issued) (settingOf m) (m .pending) (placed m g n) placed-sane refl placed-fits p refl (place-low (settingOf m) (m .pending) (fresh m g n))
+  join-spaced p = spaced-snoc (m .issued) (settingOf m) (m .pending) (placed m ask) placed-sane refl placed-fits p refl (place-low (settingOf m) (m .pending) (fresh m ask))
 
 -- What an accepted call that is no claim leaves pending, before it packs again and grants.
 pub data Leaves (m : Model) : Call → ℕ → ℕ → Model → Type 0 where
@@ -121,28 +129,28 @@ leaves-spaced (by-clock t) p = p .spaced
 -- ── where the claims after a call come from ──
 -- Through packing at a new clock.
 pub advance-e : (m : Model) (t : ℕ) {d : Claim} → d ∈ advance m t .pending
-    → (x : Claim) × x ∈ m .pending × (d .ticket ≡ x .ticket) × (d ≡ moved (packedStart (record { clock = t }) (m .pending)) x)
+    → (x : Claim) × x ∈ m .pending × (d .ticket ≡ x .ticket) × (d ≡ moved (packedStart (ruled m t) (m .pending)) x)
 unfolding advance pack
 advance-e m t i =
-    let f = packedStart (record { clock = t }) (m .pending) in
+    let f = packedStart (ruled m t) (m .pending) in
     let r = map-e (moved f) (m .pending) i in
     (r .0, r .1, ap (λ (x : Claim). x .ticket) (r .2) ∙ moved-ticket f (r .0), r .2)
 
 -- What a claim c becomes by it.
 pub advance-same : (m : Model) (t : ℕ) → Invariant m → (c d : Claim) → c ∈ m .pending → d ∈ advance m t .pending → d .ticket ≡ c .ticket
-    → d ≡ moved (packedStart (record { clock = t }) (m .pending)) c
+    → d ≡ moved (packedStart (ruled m t) (m .pending)) c
 advance-same m t i c d ci di e =
     let r = advance-e m t di in
-    r .3 ∙ ap (moved (packedStart (record { clock = t }) (m .pending))) (ascending-same (m .pending) (i .spaced .ascending) (r .0) c (r .1) ci (sym (r .2) ∙ e))
+    r .3 ∙ ap (moved (packedStart (ruled m t) (m .pending))) (ascending-same (m .pending) (i .spaced .ascending) (r .0) c (r .1) ci (sym (r .2) ∙ e))
 
 -- Through packing and granting.
-pub finish-e : (m : Model) (k s n b : ℕ) {d : Claim} → d ∈ finish m k s n b .model .pending
+pub finish-e : (m : Model) (r : Reply) {d : Claim} → d ∈ finish m r .model .pending
     → (x : Claim) × x ∈ m .pending × (d .ticket ≡ x .ticket)
     × (let v : Setting = settingOf m in
     let y : Claim = moved (packedStart v (m .pending)) x in
     y ∈ pack v (m .pending) × (d ≡ granted v (pack v (m .pending)) y))
 unfolding finish pack grant
-finish-e m k s n b i =
+finish-e m r i =
     let v : Setting = settingOf m in
     let f = packedStart v (m .pending) in
     let ps : List Claim = pack v (m .pending) in
@@ -176,9 +184,9 @@ leaves-clock (by-release t k) = (refl, refl)
 leaves-clock (by-withdraw t k) = (refl, refl)
 leaves-clock (by-clock t) = (refl, refl)
 
-pub finish-clock : (m : Model) (k s n b : ℕ) → finish m k s n b .model .clock ≡ m .clock
+pub finish-clock : (m : Model) (r : Reply) → finish m r .model .clock ≡ m .clock
 unfolding finish
-finish-clock m k s n b = refl
+finish-clock m r = refl
 
 -- ── the cases of a call ──
 -- A call that changes nothing: refused, or a lookup.
@@ -192,38 +200,38 @@ by-tests P m (suc n) s h k = h n
 -- To show something of a call's step, show it of these three.
 pub step-cases : (P : Call → Step → Type 0) (m : Model)
     → ((c : Call) (n : ℕ) → Idle c n → P c (unchanged m n))
-    → ((t g n : ℕ) → Admissible m t g n → P (claim t g n) (admit (advance m t) g n))
-    → ((c : Call) (t k : ℕ) (q : Model) → OnTime m t → Leaves m c t k q → P c (finish q k t 0 0))
+    → ((t : ℕ) (ask : Request) → Admissible m t ask → P (claim t ask) (admit (advance m t) ask))
+    → ((c : Call) (t k : ℕ) (q : Model) → OnTime m t → Leaves m c t k q → P c (finish q (plain k t)))
     → (c : Call) → P c (step m c)
 unfolding step act tests
 step-cases P m no! yes-claim yes-left c = by-tests (P c) m (firstOf (tests m c)) (act m c) (λ j. no! c (suc j) (inr (λ e. omega arith))) (accepted c)
   where
     accepted : (c : Call) → firstOf (tests m c) ≡ 0 → P c (act m c)
-    accepted (claim t g n) e = yes-claim t g n (admissible m t g n e)
+    accepted (claim t ask) e = yes-claim t ask (admissible m t ask e)
     accepted (release t k) e = yes-left (release t k) t k (remove (advance m t) k) (on-time m t _ e .0) (by-release t k)
     accepted (withdraw t k) e = yes-left (withdraw t k) t k (remove (advance m t) k) (on-time m t _ e .0) (by-withdraw t k)
     accepted (clock t) e = yes-left (clock t) t 0 (advance m t) (on-time m t _ e .0) (by-clock t)
     accepted (lookup k) e = no! (lookup k) 0 (inl refl)
 
 -- A clock call whose clock is neither late nor backward is accepted.
-pub clock-accepted : (m : Model) (t : ℕ) → OnTime m t → step m (clock t) ≡ finish (advance m t) 0 t 0 0
+pub clock-accepted : (m : Model) (t : ℕ) → OnTime m t → step m (clock t) ≡ finish (advance m t) (plain 0 t)
 unfolding step act tests firstOf
-clock-accepted m t o = rw (le-ltb 1000000000000 t (o .early), le-ltb t (m .clock) (o .later))
+clock-accepted m t o = rw (le-ltb mostClock t (o .early), le-ltb t (m .clock) (o .later))
 
 -- ── every call keeps the invariant ──
-pub admit-invariant : (m : Model) (g n : ℕ) → 1 ≤ n → m .issued < 65535 → IsPacked m → Invariant (admit m g n .model)
+pub admit-invariant : (m : Model) (ask : Request) → 1 ≤ ask .length → m .issued < mostTickets → IsPacked m → Invariant (admit m ask .model)
 unfolding admit
-admit-invariant m g n l s p = finish-invariant (join m (placed m g n)) _ _ _ _ (join-spaced m g n l s (p .spaced))
+admit-invariant m ask l s p = finish-invariant (join m (placed m ask)) _ (join-spaced m ask l s (p .spaced))
 
-pub advance-spare : (m : Model) (t g n : ℕ) → Admissible m t g n → advance m t .issued < 65535
+pub advance-spare : (m : Model) (t : ℕ) (ask : Request) → Admissible m t ask → advance m t .issued < mostTickets
 unfolding advance
-advance-spare m t g n a = a .spare
+advance-spare m t ask a = a .spare
 
 pub step-invariant : (m : Model) (c : Call) → Invariant m → Invariant (step m c .model)
 step-invariant m c i =
     step-cases (λ d s. Invariant (s .model)) m (λ d n z. i)
-    (λ t g n a. admit-invariant (advance m t) g n (a .long) (advance-spare m t g n a) (advance-packed m t i (a .clocked .later)))
-    (λ d t k q o v. finish-invariant q k t 0 0 (leaves-spaced v (advance-packed m t i (o .later)))) c
+    (λ t ask a. admit-invariant (advance m t) ask (a .long) (advance-spare m t ask a) (advance-packed m t i (a .clocked .later)))
+    (λ d t k q o v. finish-invariant q (plain k t) (leaves-spaced v (advance-packed m t i (o .later)))) c
 
 pub blank-invariant : (g : ℕ) → Invariant (blank g)
 blank-invariant g = record {

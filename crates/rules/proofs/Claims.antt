@@ -8,7 +8,8 @@ use Rattle.groups.proofs.Groups.{shares-sym}
 use Rattle.rules.specs.declared.Claim.{Claim}
 use Rattle.rules.specs.declared.Phase.{Phase}
 use Rattle.rules.specs.declared.Phase.the-variants.{Waiting, On}
-use Rattle.rules.specs.Claims.{Setting, isOn, mark, on, at, withPhase, conflicts, heldUntil, endOf, remaining}
+use Rattle.rules.specs.declared.Setting.{Setting}
+use Rattle.rules.specs.Claims.{isOn, mark, on, at, withPhase, conflicts, heldUntil, endOf, remaining}
 use Rattle.rules.proofs.Bools.{split, clash}
 
 pub conflicts-sym : (c d : Claim) → conflicts c d ≡ true → conflicts d c ≡ true

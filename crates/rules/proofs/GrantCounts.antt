@@ -7,11 +7,15 @@ use Prim.Native.Nat.{ℕ, suc, _+_, _-_, _≤_}
 use native.Mathlib.Omega.{arith}
 use lib.ListN.{length, length-map}
 use Rattle.rules.specs.declared.Claim.{Claim}
+use Rattle.rules.specs.declared.Request.{Request}
 use Rattle.rules.specs.Lists.{sum, keep}
-use Rattle.rules.specs.Claims.{Setting, on}
+use Rattle.rules.specs.declared.Setting.{Setting}
+use Rattle.rules.specs.Claims.{on}
 use Rattle.rules.specs.Packing.{packedStart, moved, pack}
 use Rattle.rules.specs.Granting.{goes, granted, grant, grants}
-use Rattle.rules.specs.Calls.{Model, settingOf, Call, Step, unchanged, named, advance, finish, join, remove, admit, step, blank, new}
+use Rattle.rules.specs.Tests.{named}
+use Rattle.rules.specs.declared.Reply.{Reply}
+use Rattle.rules.specs.Calls.{Model, settingOf, ruled, Call, Step, unchanged, advance, plain, finish, join, remove, admit, step, blank, new}
 use Rattle.rules.proofs.Bools.{clash}
 use Rattle.rules.proofs.Lists.{keep-length}
 use Rattle.rules.proofs.Packing.{moved-phase}
@@ -81,9 +85,9 @@ pub record Counted (m : Model) (s : Step) : Type 0 where
   pub issues-few : s .model .issued - m .issued ≤ 1
 
 module _ (m : Model) where
-  finish-counted : (q : Model) (k s n b : ℕ) → waiting q ≤ waiting m + (q .issued - m .issued) → q .issued - m .issued ≤ 1 → Counted m (finish q k s n b)
+  finish-counted : (q : Model) (r : Reply) → waiting q ≤ waiting m + (q .issued - m .issued) → q .issued - m .issued ≤ 1 → Counted m (finish q r)
   unfolding waiting finish grant grants
-  finish-counted q k s n b h i =
+  finish-counted q r h i =
       let v = settingOf q in
       let ps = pack v (q .pending) in
       let l = length-map (keep (goes ps) ps) (λ (c : Claim). c .ticket) in
@@ -95,7 +99,7 @@ module _ (m : Model) where
 
   waiting-advance : (t : ℕ) → waiting (advance m t) ≡ waiting m
   unfolding waiting advance
-  waiting-advance t = waiting-pack (record { clock = t }) (m .pending)
+  waiting-advance t = waiting-pack (ruled m t) (m .pending)
 
   waiting-left : {c : Call} {t k : ℕ} {q : Model} → Leaves m c t k q → (waiting q ≤ waiting m) × (q .issued ≡ m .issued)
   unfolding waiting advance remove
@@ -103,18 +107,18 @@ module _ (m : Model) where
   waiting-left (by-withdraw t k) = (omega (arith, waiting-keep (λ c. not (named k c)) (advance m t .pending), waiting-advance t), refl)
   waiting-left (by-clock t) = (omega (arith, waiting-advance t), refl)
 
-  admit-counted : (t g n : ℕ) → Counted m (admit (advance m t) g n)
+  admit-counted : (t : ℕ) (ask : Request) → Counted m (admit (advance m t) ask)
   unfolding waiting admit join advance
-  admit-counted t g n =
+  admit-counted t ask =
       let q = advance m t in
-      finish-counted (join q (placed q g n)) _ _ _ _ (omega (arith, waiting-snoc (q .pending) (placed q g n), waiting-advance t)) (omega arith)
+      finish-counted (join q (placed q ask)) _ (omega (arith, waiting-snoc (q .pending) (placed q ask), waiting-advance t)) (omega arith)
 
   pub step-counted : (c : Call) → Counted m (step m c)
   step-counted c =
       step-cases (λ d s. Counted m s) m
       (λ d n z. record { few = omega arith; once = omega arith; issues-few = omega arith })
-      (λ t g n a. admit-counted t g n)
-      (λ d t k q o v. let l = waiting-left v in finish-counted q k t 0 0 (omega (arith, l .0)) (omega (arith, l .1))) c
+      (λ t ask a. admit-counted t ask)
+      (λ d t k q o v. let l = waiting-left v in finish-counted q (plain k t) (omega (arith, l .0)) (omega (arith, l .1))) c
 
   -- A new table has nothing pending.
   pub new-counted : (g : ℕ) → Counted m (new g)

@@ -10,7 +10,8 @@ use borrow.Author.Tests.{eqb-true, eq-eqb, not-true, not-false}
 use Rattle.rules.specs.declared.Claim.{Claim}
 use Rattle.rules.specs.declared.Phase.the-variants.{On}
 use Rattle.rules.specs.Lists.{_∈_, any}
-use Rattle.rules.specs.Claims.{Setting, on, at, withPhase, conflicts, endOf}
+use Rattle.rules.specs.declared.Setting.{Setting}
+use Rattle.rules.specs.Claims.{on, at, withPhase, conflicts, endOf}
 use Rattle.rules.specs.Order.{before, precedes}
 use Rattle.rules.specs.Granting.{goes, granted, grant}
 use Rattle.rules.specs.Plans.{Ascending, Sane, Apart, Separated, StartsFrom, HeldUp, Tight, Blocked}

@@ -11,7 +11,8 @@ use Rattle.rules.specs.declared.Claim.{Claim}
 use Rattle.rules.specs.Lists.{_∈_}
 use Rattle.rules.specs.Claims.{on, at}
 use Rattle.rules.specs.declared.Standing.the-variants.{NotPending, Waits, Holds}
-use Rattle.rules.specs.Calls.{named, standing, standingOf}
+use Rattle.rules.specs.Tests.{named}
+use Rattle.rules.specs.Calls.{standing, standingOf}
 use Rattle.rules.specs.Plans.{Ascending}
 use Rattle.rules.proofs.Lists.{Each, here, there, none}
 use Rattle.rules.proofs.Order.{ascending-same}

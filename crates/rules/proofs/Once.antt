@@ -5,13 +5,17 @@ use mathlib.Core.Bool.{Bool, false, not}
 use mathlib.Core.List.{List, [], _∷_, _++_, Memᴰ·append-right}
 use Prim.Native.Nat.{ℕ, _≤_, _<_}
 use lib.Dec.{eqb}
+use Rattle.numbers.specs.Numbers.{mostTickets}
 use Rattle.rules.specs.declared.Claim.{Claim}
+use Rattle.rules.specs.declared.Request.{Request}
 use Rattle.rules.specs.declared.Phase.the-variants.{On}
 use Rattle.rules.specs.Lists.{keep}
-use Rattle.rules.specs.Claims.{Setting, on, at, withPhase}
+use Rattle.rules.specs.declared.Setting.{Setting}
+use Rattle.rules.specs.Claims.{on, at, withPhase}
 use Rattle.rules.specs.Granting.{granted, grant, grants}
 use Rattle.rules.specs.Placing.{place}
-use Rattle.rules.specs.Calls.{Model, settingOf, Step, advance, finish, join, remove, fresh, admit}
+use Rattle.rules.specs.declared.Reply.{Reply}
+use Rattle.rules.specs.Calls.{Model, settingOf, ruled, Step, advance, granting, withClock, finish, join, remove, fresh, admit}
 use Rattle.rules.specs.Plans.{Ascending, Sane, Separated, StartsFrom, Tight, Earliest, Fits}
 use Rattle.rules.specs.Invariants.{IsSpaced, IsPacked, Still}
 use Rattle.rules.proofs.Lists.{Each, here, snoc-each, keep-e}
@@ -25,7 +29,7 @@ use Rattle.rules.proofs.Calls.{placed, placed-sane, placed-fits, join-s
 
 pub advance-still : (m : Model) (t : ℕ) → Each Sane (m .pending) → Ascending (m .pending) → Still (advance m t)
 unfolding advance
-advance-still m t sane ascending = pack-twice (record { clock = t }) (m .pending) sane ascending
+advance-still m t sane ascending = pack-twice (ruled m t) (m .pending) sane ascending
 
 -- What is still is as packing leaves it.
 module _ (m : Model) (still : Still m) where
@@ -36,12 +40,12 @@ module _ (m : Model) (still : Still m) where
   still-tight = subst (Tight (settingOf m)) still (pack-tight (settingOf m) (m .pending))
 
 -- A claim placed among claims that are still leaves them so.
-pub join-still : (m : Model) (g n : ℕ) → 1 ≤ n → m .issued < 65535 → Each Sane (m .pending) → Ascending (m .pending) → Still m → Still (join m (placed m g n))
+pub join-still : (m : Model) (ask : Request) → 1 ≤ ask .length → m .issued < mostTickets → Each Sane (m .pending) → Ascending (m .pending) → Still m → Still (join m (placed m ask))
 unfolding join
-join-still m g n long spare sane ascending still =
+join-still m ask long spare sane ascending still =
     pack-idle v (ps ++ (w ∷ [])) (separated-snoc (m .issued) v ps w good refl fits sane separated)
-    (snoc-each (λ (x : Claim). on x ≡ false → v .clock ≤ at x) ps w (still-starts m still) (λ o. place-low v ps (fresh m g n)))
-    (earliest-snoc (m .issued) v ps w good refl fits sane earliest (λ s l f. place-least v ps (fresh m g n) s l (record { room = f .room })))
+    (snoc-each (λ (x : Claim). on x ≡ false → v .clock ≤ at x) ps w (still-starts m still) (λ o. place-low v ps (fresh m ask)))
+    (earliest-snoc (m .issued) v ps w good refl fits sane earliest (λ s l f. place-least v ps (fresh m ask) s l (record { room = f .room })))
   where
     v : Setting
     v = settingOf m
@@ -50,13 +54,13 @@ join-still m g n long spare sane ascending still =
     ps = m .pending
 
     w : Claim
-    w = placed m g n
+    w = placed m ask
 
-    good : Sane (placed m g n)
-    good = placed-sane m g n long spare
+    good : Sane (placed m ask)
+    good = placed-sane m ask long spare
 
-    fits : Fits (settingOf m) (m .pending) (placed m g n) (at (placed m g n))
-    fits = placed-fits m g n long spare
+    fits : Fits (settingOf m) (m .pending) (placed m ask) (at (placed m ask))
+    fits = placed-fits m ask long spare
 
     separated : Separated (settingOf m) (m .pending)
     separated = subst (Separated (settingOf m)) still (pack-separates (settingOf m) (m .pending) sane ascending)
@@ -65,62 +69,49 @@ join-still m g n long spare sane ascending still =
     earliest = subst (Earliest (settingOf m)) still (pack-earliest (settingOf m) (m .pending) sane)
 
 -- What finishing gives where nothing moves.
-abbrev pub grantAll : Model → ℕ → ℕ → ℕ → ℕ → Step
-grantAll m k s n b =
-    record {
-      model = record { rig = m .rig; clock = m .clock; issued = m .issued; pending = grant (settingOf m) (m .pending) };
-      answer = record { number = 0; ticket = k; start = s; contention = n; bound = b; grants = grants (m .pending) };
-    }
-
-pub finish-still : (m : Model) (k s n b : ℕ) → Still m → finish m k s n b ≡ grantAll m k s n b
+pub finish-still : (m : Model) (r : Reply) → Still m → finish m r ≡ granting m r (m .pending)
 unfolding finish
-finish-still m k s n b still =
-    ap (λ (l : List Claim). record {
-      model = record { rig = m .rig; clock = m .clock; issued = m .issued; pending = grant (settingOf m) l };
-      answer = record { number = 0; ticket = k; start = s; contention = n; bound = b; grants = grants l };
-    }) still
+finish-still m r still = ap (granting m r) still
 
 -- ── an accepted claim, beside a clock call of the same clock ──
 -- The new claim as it stands after the call: it waits at its place, or went on there.
-abbrev pub joined : Model → ℕ → ℕ → Claim
-joined m g n = granted (settingOf m) (m .pending ++ (placed m g n ∷ [])) (placed m g n)
+abbrev pub joined : Model → Request → Claim
+joined m ask = granted (settingOf m) (m .pending ++ (placed m ask ∷ [])) (placed m ask)
 
-pub joined-cases : (m : Model) (g n : ℕ) (P : Claim → Type 0) → P (withPhase (placed m g n) (On (m .clock))) → P (placed m g n) → P (joined m g n)
-joined-cases m g n P h k = granted-cases P (settingOf m) (m .pending ++ (placed m g n ∷ [])) (placed m g n) (λ e. h) (λ e. k)
+pub joined-cases : (m : Model) (ask : Request) (P : Claim → Type 0) → P (withPhase (placed m ask) (On (m .clock))) → P (placed m ask) → P (joined m ask)
+joined-cases m ask P h k = granted-cases P (settingOf m) (m .pending ++ (placed m ask ∷ [])) (placed m ask) (λ e. h) (λ e. k)
 
-module _ (m : Model) (p : IsPacked m) (still : Still m) (g n : ℕ) (long : 1 ≤ n) (spare : m .issued < 65535) where
-  all-still : Still (join m (placed m g n))
-  all-still = join-still m g n long spare (λ c k. p .spaced .proper c k .sane) (p .spaced .ascending) still
+module _ (m : Model) (p : IsPacked m) (still : Still m) (ask : Request) (long : 1 ≤ ask .length) (spare : m .issued < mostTickets) where
+  all-still : Still (join m (placed m ask))
+  all-still = join-still m ask long spare (λ c k. p .spaced .proper c k .sane) (p .spaced .ascending) still
 
   -- The others stand as where only the clock is set.
-  pub claim-pending : (k s x b : ℕ) → admit m g n .model .pending ≡ finish m k s x b .model .pending ++ (joined m g n ∷ [])
+  pub claim-pending : (r : Reply) → admit m ask .model .pending ≡ finish m r .model .pending ++ (joined m ask ∷ [])
   unfolding admit join
-  claim-pending k s x b =
-      ap (λ (s : Step). s .model .pending) (finish-still (join m (placed m g n)) _ _ _ _ all-still)
+  claim-pending r =
+      ap (λ (s : Step). s .model .pending) (finish-still (join m (placed m ask)) _ all-still)
       ∙ grant-snoc (settingOf m) (m .pending) (p .spaced .low) (p .tight) (λ c k. p .spaced .proper c k .sane)
-      (placed m g n) refl (place-low (settingOf m) (m .pending) (fresh m g n))
-      ∙ ap (λ (s : Step). s .model .pending ++ (joined m g n ∷ [])) (sym (finish-still m k s x b still))
+      (placed m ask) refl (place-low (settingOf m) (m .pending) (fresh m ask))
+      ∙ ap (λ (s : Step). s .model .pending ++ (joined m ask ∷ [])) (sym (finish-still m r still))
 
-  pub joined-at : at (joined m g n) ≡ place (settingOf m) (m .pending) (fresh m g n)
+  pub joined-at : at (joined m ask) ≡ place (settingOf m) (m .pending) (fresh m ask)
   unfolding join
   joined-at =
-      granted-at (settingOf m) (m .pending ++ (placed m g n ∷ [])) (f .holders) (f .fit) (f .low) (still-tight (join m (placed m g n)) all-still)
-      (λ c k. f .proper c k .sane) (f .ascending) (placed m g n) (Memᴰ·append-right (m .pending) here)
+      granted-at (settingOf m) (m .pending ++ (placed m ask ∷ [])) (f .holders) (f .fit) (f .low) (still-tight (join m (placed m ask)) all-still)
+      (λ c k. f .proper c k .sane) (f .ascending) (placed m ask) (Memᴰ·append-right (m .pending) here)
     where
-      f : IsSpaced (join m (placed m g n))
-      f = join-spaced m g n long spare (p .spaced)
+      f : IsSpaced (join m (placed m ask))
+      f = join-spaced m ask long spare (p .spaced)
 
 -- A claim that leaves may leave before the first packing.
-pub leave-once : (m : Model) (t i k s n b : ℕ) → Each Sane (m .pending) → Ascending (m .pending) → finish (remove (advance m t) i) k s n b ≡ finish (advance (remove m i) t) k s n b
+pub leave-once : (m : Model) (t i : ℕ) (r : Reply) → Each Sane (m .pending) → Ascending (m .pending) → finish (remove (advance m t) i) r ≡ finish (advance (remove m i) t) r
 unfolding finish remove advance
-leave-once m t i k s n b sane ascending =
-    ap (λ (l : List Claim). record {
-      model = record { rig = m .rig; clock = t; issued = m .issued; pending = grant v l };
-      answer = record { number = 0; ticket = k; start = s; contention = n; bound = b; grants = grants l };
-    }) (pack-keep v (m .pending) sane ascending (λ x. not (eqb x i)) ∙ sym (pack-twice v rest (λ c j. sane c (keep-e q (m .pending) j .0)) (ascending-keep q (m .pending) ascending)))
+leave-once m t i r sane ascending =
+    ap (granting (withClock m t) r)
+    (pack-keep v (m .pending) sane ascending (λ x. not (eqb x i)) ∙ sym (pack-twice v rest (λ c j. sane c (keep-e q (m .pending) j .0)) (ascending-keep q (m .pending) ascending)))
   where
     v : Setting
-    v = record { clock = t }
+    v = ruled m t
 
     q : Claim → Bool
     q c = not (eqb (c .ticket) i)

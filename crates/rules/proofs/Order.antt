@@ -9,7 +9,8 @@ use lib.Dec.{ltb}
 use borrow.Author.Tests.{ltb-true, ltb-false, lt-ltb}
 use Rattle.rules.specs.declared.Claim.{Claim}
 use Rattle.rules.specs.Lists.{_∈_, keep}
-use Rattle.rules.specs.Claims.{Setting, on, at, conflicts, endOf}
+use Rattle.rules.specs.declared.Setting.{Setting}
+use Rattle.rules.specs.Claims.{on, at, conflicts, endOf}
 use Rattle.rules.specs.Order.{key, before, precedes}
 use Rattle.rules.specs.Plans.{Ascending, Sane, Separated}
 use Rattle.rules.proofs.Bools.{and-l, and-r, and-i, or-e, or-l, or-r, or-fl, or-fr, clash, split}

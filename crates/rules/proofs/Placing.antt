@@ -9,7 +9,8 @@ use lib.Dec.{leb}
 use borrow.Author.Tests.{leb-true, leb-false, le-leb, not-true, not-false}
 use Rattle.rules.specs.declared.Claim.{Claim}
 use Rattle.rules.specs.Lists.{_∈_, greatest}
-use Rattle.rules.specs.Claims.{Setting, on, at, conflicts, endOf}
+use Rattle.rules.specs.declared.Setting.{Setting}
+use Rattle.rules.specs.Claims.{on, at, conflicts, endOf}
 use Rattle.rules.specs.Placing.{clear, fits, candidates, seek, place}
 use Rattle.rules.specs.Plans.{Room, Fits}
 use Rattle.rules.proofs.Bools.{split, clash, and-l, and-r, or-e, or-r, or-fl, or-fr}

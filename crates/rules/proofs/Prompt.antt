@@ -7,7 +7,8 @@ use Prim.Native.Nat.{ℕ, zero, suc, _+_, _≤_, _<_}
 use native.Mathlib.Omega.{arith}
 use Rattle.rules.specs.declared.Claim.{Claim}
 use Rattle.rules.specs.Lists.{_∈_}
-use Rattle.rules.specs.Claims.{Setting, on, at, endOf}
+use Rattle.rules.specs.declared.Setting.{Setting}
+use Rattle.rules.specs.Claims.{on, at, endOf}
 use Rattle.rules.specs.Order.{before}
 use Rattle.rules.specs.Packing.{packedStart, pack}
 use Rattle.rules.specs.Plans.{Separated, StartsFrom, Earliest}

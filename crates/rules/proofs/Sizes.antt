@@ -11,7 +11,8 @@ use borrow.Author.Tests.{ltb-true, lt-ltb, le-ltb}
 use Rattle.rules.specs.declared.Claim.{Claim}
 use Rattle.rules.specs.declared.Phase.the-variants.{Waiting}
 use Rattle.rules.specs.Lists.{_∈_, sum}
-use Rattle.rules.specs.Claims.{Setting, on, withPhase, conflicts, endOf}
+use Rattle.rules.specs.declared.Setting.{Setting}
+use Rattle.rules.specs.Claims.{on, withPhase, conflicts, endOf}
 use Rattle.rules.specs.Order.{key, before}
 use Rattle.rules.specs.Packing.{startFor, ahead, packedStart}
 use Rattle.rules.proofs.Bools.{split}

@@ -1,19 +1,23 @@
--- The calls: what each is tested for, in which order, and what it does. Everything here computes on numerals.
-use mathlib.Core.Bool.{Bool, true, false, not, _&&_, _||_, cond}
+-- The calls: in which order each is tested, and what it does. Everything here computes on numerals.
+use mathlib.Core.Bool.{Bool, true, false, not, cond}
 use mathlib.Core.List.{List, [], _∷_, _++_}
 use Prim.Native.Nat.{ℕ, zero, suc, _+_}
-use lib.Dec.{ltb, leb, eqb}
 use lib.ListN.{length}
-use Rattle.groups.specs.Groups.{empty, within}
+use Rattle.numbers.specs.Numbers.{darkNumber, unknownNumber}
+use Rattle.groups.specs.Groups.{empty}
 use Rattle.rules.specs.declared.Claim.{Claim}
+use Rattle.rules.specs.declared.Request.{Request}
+use Rattle.rules.specs.declared.Reply.{Reply}
+use Rattle.rules.specs.declared.Setting.{Setting}
 use Rattle.rules.specs.declared.Phase.the-variants.{Waiting}
 use Rattle.rules.specs.declared.Standing.{Standing}
 use Rattle.rules.specs.declared.Standing.the-variants.{NotPending, Waits, Holds}
-use Rattle.rules.specs.Lists.{any, keep}
-use Rattle.rules.specs.Claims.{Setting, on, at, withPhase}
+use Rattle.rules.specs.Lists.{keep}
+use Rattle.rules.specs.Claims.{on, at, withPhase}
 use Rattle.rules.specs.Packing.{pack}
 use Rattle.rules.specs.Placing.{place, contention, startBound}
 use Rattle.rules.specs.Granting.{grant, grants}
+use Rattle.rules.specs.Tests.{Test, firstOf, late, backward, dark, offRig, badLength, full, ticketless, named, unknown, notYetOn, alreadyOn}
 
 -- What a table means. The pending claims stand in ascending order of ticket.
 pub record Model : Type 0 where
@@ -22,12 +26,25 @@ pub record Model : Type 0 where
   pub issued : ℕ
   pub pending : List Claim
 
-abbrev pub settingOf : Model → Setting
-settingOf m = record { clock = m .clock }
+abbrev pub withClock : Model → ℕ → Model
+withClock m t = record { rig = m .rig; clock = t; issued = m .issued; pending = m .pending }
 
--- The calls of a run, each with the values it is given: clock, groups, length or ticket. (Document 01: look is our lookup.)
+abbrev pub withIssued : Model → ℕ → Model
+withIssued m n = record { rig = m .rig; clock = m .clock; issued = n; pending = m .pending }
+
+abbrev pub withPending : Model → List Claim → Model
+withPending m ps = record { rig = m .rig; clock = m .clock; issued = m .issued; pending = ps }
+
+-- The rules at clock t in this table; and at its own.
+abbrev pub ruled : Model → ℕ → Setting
+ruled m t = record { clock = t }
+
+abbrev pub settingOf : Model → Setting
+settingOf m = ruled m (m .clock)
+
+-- The calls of a run: clock and what is asked for, clock and ticket, clock, ticket. (Document 01: look is our lookup.)
 pub data Call : Type 0 where
-  claim : ℕ → ℕ → ℕ → Call
+  claim : ℕ → Request → Call
   release : ℕ → ℕ → Call
   withdraw : ℕ → ℕ → Call
   clock : ℕ → Call
@@ -35,7 +52,7 @@ pub data Call : Type 0 where
 
 -- "Every accepted timed call (claim, release, withdraw, clock)"
 abbrev pub timed : Call → Bool
-timed (claim t g n) = true
+timed (claim t ask) = true
 timed (release t k) = true
 timed (withdraw t k) = true
 timed (clock t) = true
@@ -43,7 +60,7 @@ timed (lookup k) = false
 
 -- The clock that a timed call bears.
 abbrev pub clockOf : Call → ℕ
-clockOf (claim t g n) = t
+clockOf (claim t ask) = t
 clockOf (release t k) = t
 clockOf (withdraw t k) = t
 clockOf (clock t) = t
@@ -64,62 +81,15 @@ pub record Step : Type 0 where
   pub answer : Answer
 
 -- ── tests ──
--- A test, with the number that is given when it is true.
-pub record Test : Type 0 where
-  pub fails : Bool
-  pub number : ℕ
-
-abbrev pub test : Bool → ℕ → Test
-test b n = record { fails = b; number = n }
-
--- The number of the first test that fails, or 0.
-unfoldable pub firstOf : List Test → ℕ
-firstOf [] = 0
-firstOf (x ∷ xs) = cond (x .fails) (x .number) (firstOf xs)
-
-abbrev pub named : ℕ → Claim → Bool
-named k c = eqb (c .ticket) k
-
--- The table of numbers. "dark: no group in the claim, or in a new rig", "off-rig: a group outside the rig", "length: 0 or over 3,600,000",
--- "backward: clock below the table's clock", "late: clock over 1,000,000,000,000", "full: 64 claims are pending", "ticketless: 65,535
--- tickets issued", "unknown: ticket not pending", "not yet on: release of a waiting claim", "already on: withdrawal of an on claim".
-abbrev pub dark : ℕ → Test
-dark g = test (empty g) 1
-
-abbrev pub offRig : Model → ℕ → Test
-offRig m g = test (not (within g (m .rig))) 2
-
-abbrev pub badLength : ℕ → Test
-badLength n = test (eqb n 0 || ltb 3600000 n) 3
-
-abbrev pub backward : Model → ℕ → Test
-backward m t = test (ltb t (m .clock)) 4
-
-abbrev pub late : ℕ → Test
-late t = test (ltb 1000000000000 t) 5
-
-abbrev pub full : Model → Test
-full m = test (leb 64 (length (m .pending))) 6
-
-abbrev pub ticketless : Model → Test
-ticketless m = test (leb 65535 (m .issued)) 7
-
-abbrev pub unknown : Model → ℕ → Test
-unknown m k = test (not (any (named k) (m .pending))) 8
-
-abbrev pub notYetOn : Model → ℕ → Test
-notYetOn m k = test (any (λ c. named k c && not (on c)) (m .pending)) 9
-
-abbrev pub alreadyOn : Model → ℕ → Test
-alreadyOn m k = test (any (λ c. named k c && on c) (m .pending)) 10
-
 -- "A claim is tested in the order 5, 4, 1, 2, 3, 6, 7; a release 5, 4, 8, 9; a withdrawal 5, 4, 8, 10; a clock call 5, 4"
 unfoldable pub tests : Model → Call → List Test
-tests m (claim t g n) = late t ∷ backward m t ∷ dark g ∷ offRig m g ∷ badLength n ∷ full m ∷ ticketless m ∷ []
-tests m (release t k) = late t ∷ backward m t ∷ unknown m k ∷ notYetOn m k ∷ []
-tests m (withdraw t k) = late t ∷ backward m t ∷ unknown m k ∷ alreadyOn m k ∷ []
-tests m (clock t) = late t ∷ backward m t ∷ []
-tests m (lookup k) = unknown m k ∷ []
+tests m (claim t ask) =
+    late t ∷ backward (m .clock) t ∷ dark (ask .groups) ∷ offRig (m .rig) (ask .groups) ∷ badLength (ask .length) ∷ full (length (m .pending))
+    ∷ ticketless (m .issued) ∷ []
+tests m (release t k) = late t ∷ backward (m .clock) t ∷ unknown (m .pending) k ∷ notYetOn (m .pending) k ∷ []
+tests m (withdraw t k) = late t ∷ backward (m .clock) t ∷ unknown (m .pending) k ∷ alreadyOn (m .pending) k ∷ []
+tests m (clock t) = late t ∷ backward (m .clock) t ∷ []
+tests m (lookup k) = unknown (m .pending) k ∷ []
 
 -- "A call turned down answers its number, with ticket, start, crowd and ceiling 0 and no grants; the table is the one handed in"
 abbrev pub unchanged : Model → ℕ → Step
@@ -128,45 +98,53 @@ unchanged m n = record { model = m; answer = record { number = n; ticket = 0; st
 -- ── what accepted calls do ──
 -- "first sets the clock and packs the waiting claims"
 unfoldable pub advance : Model → ℕ → Model
-advance m t = record { rig = m .rig; clock = t; issued = m .issued; pending = pack (record { clock = t }) (m .pending) }
+advance m t = withPending (withClock m t) (pack (ruled m t) (m .pending))
 
--- "packs again and grants"; with the answer's ticket, start, contention and start bound.
-unfoldable pub finish : Model → ℕ → ℕ → ℕ → ℕ → Step
-finish m k s n b =
-    let v : Setting = settingOf m in
-    let ps : List Claim = pack v (m .pending) in
+-- "These three answer their ticket (a clock call 0) and the clock as start; crowd and ceiling are 0."
+abbrev pub plain : ℕ → ℕ → Reply
+plain k t = record { ticket = k; start = t; contention = 0; bound = 0 }
+
+-- "packs again and grants": with the claims ps once they are packed.
+abbrev pub granting : Model → Reply → List Claim → Step
+granting m r ps =
     record {
-      model = record { rig = m .rig; clock = m .clock; issued = m .issued; pending = grant v ps };
-      answer = record { number = 0; ticket = k; start = s; contention = n; bound = b; grants = grants ps };
+      model = withPending m (grant (settingOf m) ps);
+      answer = record { number = 0; ticket = r .ticket; start = r .start; contention = r .contention; bound = r .bound; grants = grants ps };
     }
+
+unfoldable pub finish : Model → Reply → Step
+finish m r = granting m r (pack (settingOf m) (m .pending))
 
 -- One claim more, with the next ticket.
 unfoldable pub join : Model → Claim → Model
-join m w = record { rig = m .rig; clock = m .clock; issued = suc (m .issued); pending = m .pending ++ (w ∷ []) }
+join m w = withPending (withIssued m (suc (m .issued))) (m .pending ++ (w ∷ []))
 
 -- The claims but that of ticket k.
 unfoldable pub remove : Model → ℕ → Model
-remove m k = record { rig = m .rig; clock = m .clock; issued = m .issued; pending = keep (λ c. not (named k c)) (m .pending) }
+remove m k = withPending m (keep (λ c. not (named k c)) (m .pending))
 
 -- A new claim, before it has its place: waiting from the clock on.
-abbrev pub fresh : Model → ℕ → ℕ → Claim
-fresh m g n = record { groups = g; phase = Waiting (m .clock); length = n; ticket = suc (m .issued) }
+abbrev pub fresh : Model → Request → Claim
+fresh m ask = record { groups = ask .groups; phase = Waiting (m .clock); length = ask .length; ticket = suc (m .issued) }
 
 -- "Claim": placed among the pending claims; "the answer is ticket, start, crowd and ceiling".
-unfoldable pub admit : Model → ℕ → ℕ → Step
-admit m g n =
+abbrev pub placing : Model → Claim → Reply
+placing m w =
     let v : Setting = settingOf m in
-    let w : Claim = fresh m g n in
-    let s : ℕ = place v (m .pending) w in
-    finish (join m (withPhase w (Waiting s))) (w .ticket) s (contention (m .pending) w) (startBound v (m .pending) w)
+    record { ticket = w .ticket; start = place v (m .pending) w; contention = contention (m .pending) w; bound = startBound v (m .pending) w }
 
--- "Release takes away an on claim; withdraw takes away a waiting one. Clock only moves the clock. These three answer their ticket (a
--- clock call 0) and the clock as start; crowd and ceiling are 0." Look "changes nothing".
+unfoldable pub admit : Model → Request → Step
+admit m ask =
+    let w : Claim = fresh m ask in
+    let r : Reply = placing m w in
+    finish (join m (withPhase w (Waiting (r .start)))) r
+
+-- "Release takes away an on claim; withdraw takes away a waiting one. Clock only moves the clock." Look "changes nothing".
 unfoldable pub act : Model → Call → Step
-act m (claim t g n) = admit (advance m t) g n
-act m (release t k) = finish (remove (advance m t) k) k t 0 0
-act m (withdraw t k) = finish (remove (advance m t) k) k t 0 0
-act m (clock t) = finish (advance m t) 0 t 0 0
+act m (claim t ask) = admit (advance m t) ask
+act m (release t k) = finish (remove (advance m t) k) (plain k t)
+act m (withdraw t k) = finish (remove (advance m t) k) (plain k t)
+act m (clock t) = finish (advance m t) (plain 0 t)
 act m (lookup k) = unchanged m 0
 
 -- The call's own step, or the refusal.
@@ -183,7 +161,7 @@ blank g = record { rig = g; clock = 0; issued = 0; pending = [] }
 
 -- "A new table has clock 0." "A call that would make a table gives, when turned down, one without groups, claims or issued tickets, at clock 0."
 unfoldable pub new : ℕ → Step
-new g = cond (empty g) (unchanged (blank 0) 1) (unchanged (blank g) 0)
+new g = cond (empty g) (unchanged (blank 0) darkNumber) (unchanged (blank g) 0)
 
 -- "Look gives, for a ticket, waiting with start or on with promised end .. A ticket that isn't pending gives 8."
 -- In numbers: the refusal's, 0 for none; the start of a waiting claim; the promised end of one that is on.
@@ -193,7 +171,7 @@ pub record StandingValues : Type 0 where
   pub end : ℕ
 
 abbrev pub standingValues : Standing → StandingValues
-standingValues NotPending = record { number = 8; start = 0; end = 0 }
+standingValues NotPending = record { number = unknownNumber; start = 0; end = 0 }
 standingValues (Waits s) = record { number = 0; start = s; end = 0 }
 standingValues (Holds e) = record { number = 0; start = 0; end = e }
 

@@ -4,11 +4,8 @@ use Prim.Native.Nat.{ℕ, _+_, _-_, max}
 use Rattle.groups.specs.Groups.{shares}
 use Rattle.rules.specs.declared.Claim.{Claim}
 use Rattle.rules.specs.declared.Phase.{Phase}
+use Rattle.rules.specs.declared.Setting.{Setting}
 use Rattle.rules.specs.declared.Phase.the-variants.{Waiting, On}
-
--- What the rules of one call go by: its clock.
-pub record Setting : Type 0 where
-  pub clock : ℕ
 
 abbrev pub isOn : Phase → Bool
 isOn (Waiting s) = false

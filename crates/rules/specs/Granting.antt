@@ -6,7 +6,8 @@ use Prim.Native.Nat.{ℕ}
 use Rattle.rules.specs.declared.Claim.{Claim}
 use Rattle.rules.specs.declared.Phase.the-variants.{On}
 use Rattle.rules.specs.Lists.{any, keep}
-use Rattle.rules.specs.Claims.{Setting, on, withPhase}
+use Rattle.rules.specs.declared.Setting.{Setting}
+use Rattle.rules.specs.Claims.{on, withPhase}
 use Rattle.rules.specs.Order.{precedes}
 
 -- c goes on.

@@ -5,7 +5,8 @@ use mathlib.Core.List.{List}
 use Prim.Native.Nat.{ℕ, _≤_}
 use Rattle.rules.specs.declared.Claim.{Claim}
 use Rattle.rules.specs.Lists.{_∈_}
-use Rattle.rules.specs.Claims.{Setting, on, at}
+use Rattle.rules.specs.declared.Setting.{Setting}
+use Rattle.rules.specs.Claims.{on, at}
 use Rattle.rules.specs.Packing.{pack}
 use Rattle.rules.specs.Calls.{Model, settingOf}
 use Rattle.rules.specs.Plans.{Ascending, Sane, Apart, Separated, StartsFrom, Tight, Blocked, Earliest}

@@ -4,6 +4,7 @@ pub mod Order
 pub mod Packing
 pub mod Placing
 pub mod Granting
+pub mod Tests
 pub mod Calls
 pub mod Plans
 pub mod Invariants

@@ -8,7 +8,8 @@ use Prim.Native.Nat.{ℕ, zero, suc}
 use Rattle.rules.specs.declared.Claim.{Claim}
 use Rattle.rules.specs.declared.Phase.the-variants.{Waiting}
 use Rattle.rules.specs.Lists.{_∈_, greatest, keep}
-use Rattle.rules.specs.Claims.{Setting, on, withPhase, endOf}
+use Rattle.rules.specs.declared.Setting.{Setting}
+use Rattle.rules.specs.Claims.{on, withPhase, endOf}
 use Rattle.rules.specs.Order.{key, before, precedes, rivals}
 
 -- The start of w behind the claims qs: the greatest of the clock and the ends of those that conflict with it.

@@ -7,7 +7,8 @@ use lib.Dec.{leb}
 use lib.ListN.{length}
 use Rattle.rules.specs.declared.Claim.{Claim}
 use Rattle.rules.specs.Lists.{greatest, least, sum, all}
-use Rattle.rules.specs.Claims.{Setting, on, at, conflicts, endOf, remaining}
+use Rattle.rules.specs.declared.Setting.{Setting}
+use Rattle.rules.specs.Claims.{on, at, conflicts, endOf, remaining}
 use Rattle.rules.specs.Order.{rivals}
 
 -- The claim c leaves room for w at s.

@@ -1,4 +1,4 @@
-// The claims table as data: a pending claim, the table that the calls take and give back, and what a lookup tells.
+// The claims table as data: a pending claim, what a claim asks for, the table that the calls take and give back, and what a lookup tells.
 
 // "A pending claim is either waiting, with a planned start, or on, with the clock of its grant."
 pub enum Phase {
@@ -13,6 +13,25 @@ pub struct Claim {
     pub phase: Phase,
     pub length: u32,
     pub ticket: u16,
+}
+
+// What a claim asks for: a set of groups, and a length in ticks.
+pub struct Request {
+    pub groups: u64,
+    pub length: u32,
+}
+
+// What an accepted call answers, beside its grants. `contention` and `bound` are document 01's crowd and ceiling.
+pub struct Reply {
+    pub ticket: u16,
+    pub start: u64,
+    pub contention: u64,
+    pub bound: u64,
+}
+
+// What the rules of one call go by: its clock.
+pub struct Setting {
+    pub clock: u64,
 }
 
 // The table. The first `count` places hold the pending claims in ascending order of ticket; the others are vacant.

@@ -1,6 +1,7 @@
 // Runs the plots of document 01, "Plots to try", on the table, and prints a line for each: for every call its answer (number, ticket,
 // start, crowd, ceiling, then "on" with the tickets granted), for every look what it tells.
 ghost use Rattle.table.specs.Valid.{Valid};
+use rules::Request;
 use rules::Standing;
 use rules::Table;
 use table::Outcome;
@@ -47,7 +48,14 @@ fn claim(t: Table, clock: u64, groups: u64, length: u32) -> Table
     requires { ⌜ Valid t ⌝ }
     ensures { λ r. ⌜ Valid r ⌝ }
 {
-    let r = table::claim(t, clock, groups, length);
+    let r = table::claim(
+        t,
+        clock,
+        Request {
+            groups: groups,
+            length: length,
+        },
+    );
     answer(r);
     r.table
 }
@@ -118,7 +126,14 @@ fn quiet(t: Table, groups: u64, length: u32) -> Table
     requires { ⌜ Valid t ⌝ }
     ensures { λ r. ⌜ Valid r ⌝ }
 {
-    let r = table::claim(t, 0, groups, length);
+    let r = table::claim(
+        t,
+        0,
+        Request {
+            groups: groups,
+            length: length,
+        },
+    );
     r.table
 }
 

@@ -8,7 +8,8 @@ use native.Mathlib.Omega.{arith}
 use lib.ListN.{length, take, drop, getD}
 use Rattle.rules.specs.declared.Claim.{Claim}
 use Rattle.rules.specs.Lists.{sum, keep}
-use Rattle.rules.specs.Claims.{Setting, conflicts, remaining}
+use Rattle.rules.specs.declared.Setting.{Setting}
+use Rattle.rules.specs.Claims.{conflicts, remaining}
 use Rattle.rules.specs.Order.{rivals}
 use Rattle.rules.specs.Placing.{contention, startBound}
 use Rattle.rules.specs.Tables.{vacant}

@@ -12,14 +12,15 @@ use Rattle.rules.specs.declared.Claim.{Claim}
 use Rattle.rules.specs.declared.Table.{Table}
 use Rattle.rules.specs.declared.Phase.the-variants.{On}
 use Rattle.rules.specs.Lists.{keep}
-use Rattle.rules.specs.Claims.{Setting, withPhase}
+use Rattle.rules.specs.declared.Setting.{Setting}
+use Rattle.rules.specs.Claims.{withPhase}
 use Rattle.rules.specs.Granting.{goes, granted, grant, grants}
 use Rattle.rules.specs.Tables.{vacant, pad}
 use Rattle.rules.proofs.Bools.{clash}
 use Rattle.rules.proofs.Granting.{granted-cases}
 use Rattle.table.proofs.Rows.{prefix-step, prefix-end, over, over-step, over-rest, Filled, fill-start, fill-more, fill-end}
 use Rattle.table.specs.Rows.{rewritten}
-use Rattle.table.specs.Parts.{withClaims, grantedIn}
+use Rattle.table.specs.Parts.{ruledIn, withClaims, grantedIn}
 use Rattle.table.specs.declared.granting.Granted.{Granted}
 
 -- Where both lists have the same element at place i, nothing has to be written there.
@@ -113,6 +114,6 @@ module _ (v : Setting) (l : List Claim) (n : ℕ) (few : n ≤ 64) (places : len
         (w .over-row ∙ rw (e, take-all n (grant v ps) (omega (arith, grant-length))), f .0, f .1)
 
 pub granted-is : (t₀ t : Table) (m : ℕ) (out : List ℕ)
-    → t ≡ withClaims t₀ (rewritten (grant (record { clock = t₀ .clock })) (t₀ .claims) (t₀ .count)) → m ≡ length (grants (take (t₀ .count) (t₀ .claims))) → out ≡ pad 0 (grants (take (t₀ .count) (t₀ .claims)))
+    → t ≡ withClaims t₀ (rewritten (grant (ruledIn t₀ (t₀ .clock))) (t₀ .claims) (t₀ .count)) → m ≡ length (grants (take (t₀ .count) (t₀ .claims))) → out ≡ pad 0 (grants (take (t₀ .count) (t₀ .claims)))
     → _≡_ {A = Granted} (record { table = t; count = m; tickets = out }) (grantedIn t₀)
 granted-is t₀ t m out a b c = cc (a, b, c)

@@ -11,6 +11,7 @@ use Rattle.groups.specs.Groups.{shares, union}
 use Rattle.groups.proofs.Groups.{union-shares}
 use Rattle.groups.proofs.Words.{zero-shares}
 use Rattle.rules.specs.declared.Claim.{Claim}
+use Rattle.rules.specs.declared.Setting.{Setting}
 use Rattle.rules.specs.Lists.{any}
 use Rattle.rules.specs.Claims.{on, at}
 use Rattle.rules.specs.Granting.{goes}
@@ -55,9 +56,9 @@ module _ (ps : List Claim) where
   holding-end h p = record { by-holders = λ x. sym (or-false (shares h x)) ∙ p .all x }
 
 -- ── in a packed row the groups that are held tell who goes on ──
-pub held-goes : (t : ℕ) (l : List Claim) (n h i : ℕ) → Row t l n → Planned (record { clock = t }) (take n l) → Held (take n l) h → length l ≡ 64 → i < n
-    → goes (take n l) (getD l i vacant) ≡ goesAt t h (getD l i vacant)
-held-goes t l n h i r p k e m =
+pub held-goes : (v : Setting) (l : List Claim) (n h i : ℕ) → Row (v .clock) l n → Planned v (take n l) → Held (take n l) h → length l ≡ 64 → i < n
+    → goes (take n l) (getD l i vacant) ≡ goesAt (v .clock) h (getD l i vacant)
+held-goes v l n h i r p k e m =
     let c = getD l i vacant in
     rw (k .by-holders (c .groups))
-    (goes-quick (record { clock = t }) (take n l) (p .low) (p .tight) (λ d j. r .sized d j .sane) c (in-prefix vacant l n i m (omega (arith, r .few))))
+    (goes-quick v (take n l) (p .low) (p .tight) (λ d j. r .sized d j .sane) c (in-prefix vacant l n i m (omega (arith, r .few))))

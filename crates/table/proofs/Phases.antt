@@ -4,7 +4,8 @@ use Prim.Native.Nat.{ℕ, _+_, _-_, max}
 use native.Mathlib.Omega.{arith}
 use Rattle.rules.specs.declared.Claim.{Claim}
 use Rattle.rules.specs.declared.Phase.the-variants.{Waiting, On}
-use Rattle.rules.specs.Claims.{Setting, isOn, mark, heldUntil, endOf, remaining}
+use Rattle.rules.specs.declared.Setting.{Setting}
+use Rattle.rules.specs.Claims.{isOn, mark, heldUntil, endOf, remaining}
 use Rattle.rules.proofs.Claims.{end-wait, end-on}
 
 pub end-waiting : (v : Setting) (s n : ℕ) (c : Claim) → c .phase ≡ Waiting s → n ≡ c .length → s + n ≡ endOf v c

@@ -5,14 +5,18 @@ use mathlib.Core.List.{List, [], _∷_}
 use Prim.Native.Nat.{ℕ, suc, _≤_, _<_}
 use native.Mathlib.Omega.{arith}
 use lib.ListN.{length, length-map, length-append}
+use Rattle.numbers.specs.Numbers.{mostClock, mostTickets, mostPending}
 use Rattle.rules.specs.declared.Claim.{Claim}
 use Rattle.rules.specs.declared.Phase.the-variants.{Waiting, On}
 use Rattle.rules.specs.declared.Table.{Table}
 use Rattle.rules.specs.Lists.{_∈_}
-use Rattle.rules.specs.Claims.{Setting, on, withPhase}
+use Rattle.rules.specs.declared.Setting.{Setting}
+use Rattle.rules.specs.Claims.{on, withPhase}
 use Rattle.rules.specs.Packing.{packedStart, moved, pack}
 use Rattle.rules.specs.Granting.{granted, grant}
-use Rattle.rules.specs.Calls.{Model, settingOf, named, advance, join, remove, blank}
+use Rattle.rules.specs.Tests.{named}
+use Rattle.rules.specs.declared.Reply.{Reply}
+use Rattle.rules.specs.Calls.{ruled, granting, Model, settingOf, advance, join, remove, blank}
 use Rattle.rules.specs.Plans.{Sane}
 use Rattle.rules.specs.Tables.{encode, model, pad, vacant}
 use Rattle.rules.proofs.Bools.{clash}
@@ -20,7 +24,6 @@ use Rattle.rules.proofs.Lists.{Each, none, keep-e, keep-length, map-each, snoc-
 use Rattle.rules.proofs.Order.{ascending-map, ascending-keep, ascending-snoc}
 use Rattle.rules.proofs.Packing.{moved-cases, moved-ticket}
 use Rattle.rules.proofs.Granting.{granted-cases, granted-ticket}
-use Rattle.rules.proofs.Once.{grantAll}
 use Rattle.table.specs.Rows.{Sized, Row}
 use Rattle.table.proofs.Sizes.{sized-later, start-small}
 use Rattle.table.proofs.Rows.{pad-length, pad-take}
@@ -54,7 +57,7 @@ module _ (t : Table) (v : Formed t) where
   formed-sane c m = v .ranged .sized c m .sane
 
 -- The row of a table, at its clock or a later one.
-pub formed-row : (t : Table) (u : ℕ) → Formed t → t .clock ≤ u → u ≤ 1000000000000 → Row u (t .claims) (t .count)
+pub formed-row : (t : Table) (u : ℕ) → Formed t → t .clock ≤ u → u ≤ mostClock → Row u (t .claims) (t .count)
 formed-row t u v l k = record {
   places = formed-length t v;
   few = formed-few t v;
@@ -68,7 +71,7 @@ pub blank-ranged : (g : ℕ) → Ranged (blank g)
 blank-ranged g = record { few = omega arith; timely = omega arith; numbered = omega arith; ascending = tt; sized = λ c m. none m; issued = λ c m. none m }
 
 -- ── packing ──
-pub advance-ranged : (m : Model) (t : ℕ) → Ranged m → m .clock ≤ t → t ≤ 1000000000000 → Ranged (advance m t)
+pub advance-ranged : (m : Model) (t : ℕ) → Ranged m → m .clock ≤ t → t ≤ mostClock → Ranged (advance m t)
 unfolding advance pack
 advance-ranged m t r l k = record {
   few = omega (arith, length-map (m .pending) (moved f), r .few);
@@ -80,17 +83,17 @@ advance-ranged m t r l k = record {
 }
   where
     v : Setting
-    v = record { clock = t }
+    v = ruled m t
 
     f : Claim → ℕ
-    f = packedStart (record { clock = t }) (m .pending)
+    f = packedStart (ruled m t) (m .pending)
 
-    at-start : (c : Claim) → c ∈ m .pending → on c ≡ false → Sized t (withPhase c (Waiting (packedStart (record { clock = t }) (m .pending) c)))
+    at-start : (c : Claim) → c ∈ m .pending → on c ≡ false → Sized t (withPhase c (Waiting (packedStart (ruled m t) (m .pending) c)))
     at-start c i o = record {
       sane = record { long = r .sized c i .sane .long; small = r .sized c i .sane .small };
       short = r .sized c i .short;
       aged = λ q. clash q refl;
-      planned = λ q. omega (arith, start-small t (m .pending) k (r .few) (λ d j. sized-later (m .clock) t d l (r .sized d j)) c i o);
+      planned = λ q. omega (arith, start-small v (m .pending) k (r .few) (λ d j. sized-later (m .clock) t d l (r .sized d j)) c i o);
     }
 
 -- ── fewer claims, one more, and granting ──
@@ -108,7 +111,7 @@ remove-ranged m k r = record {
     p : Claim → Bool
     p c = not (named k c)
 
-pub join-ranged : (m : Model) (w : Claim) → Ranged m → length (m .pending) < 64 → m .issued < 65535 → Sized (m .clock) w → w .ticket ≡ suc (m .issued) → Ranged (join m w)
+pub join-ranged : (m : Model) (w : Claim) → Ranged m → length (m .pending) < mostPending → m .issued < mostTickets → Sized (m .clock) w → w .ticket ≡ suc (m .issued) → Ranged (join m w)
 unfolding join
 join-ranged m w r few spare s e = record {
   few = omega (arith, length-append (m .pending) (w ∷ []));
@@ -119,9 +122,9 @@ join-ranged m w r few spare s e = record {
   issued = snoc-each (λ (c : Claim). c .ticket ≤ suc (m .issued)) (m .pending) w (λ c i. omega (arith, r .issued c i)) (omega arith);
 }
 
-pub grant-ranged : (m : Model) (k s n b : ℕ) → Ranged m → Ranged (grantAll m k s n b .model)
+pub grant-ranged : (m : Model) (r : Reply) → Ranged m → Ranged (granting m r (m .pending) .model)
 unfolding grant
-grant-ranged m k s n b r = record {
+grant-ranged m rep r = record {
   few = omega (arith, length-map (m .pending) (granted v (m .pending)), r .few);
   timely = r .timely;
   numbered = r .numbered;

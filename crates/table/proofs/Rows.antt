@@ -8,6 +8,7 @@ use native.Mathlib.Omega.{arith}
 use native.Mathlib.Numerals.{add-one}
 use lib.ListN.{length, take, drop, getD, set, replicate, length-append, length-replicate, length-take, drop-of-length-le}
 use lib.Seq.{take-append-seam, drop-append-seam, drop-cons, getD-take, set-append-seam, append-snoc, take-suc, set-at, length-take-le, getD-append-add, getD-drop}
+use Rattle.numbers.specs.Numbers.{mostClock}
 use Rattle.rules.specs.declared.Claim.{Claim}
 use Rattle.rules.specs.declared.Table.{Table}
 use Rattle.rules.specs.Lists.{_∈_}
@@ -107,7 +108,7 @@ module _ {A : Type 0} (d : A) (total : List A) where
       (f .counts ∙ ap length e, f .is ∙ ap (pad d) e)
 
 -- ── a row's claims are in range ──
-pub sized-small : (t : ℕ) (c : Claim) → t ≤ 1000000000000 → Sized t c → at c ≤ 1000000000000000000
+pub sized-small : (t : ℕ) (c : Claim) → t ≤ mostClock → Sized t c → at c ≤ 1000000000000000000
 sized-small t c h s = go (split (on c))
   where
     go : (on c ≡ true) ⊎ (on c ≡ false) → at c ≤ 1000000000000000000

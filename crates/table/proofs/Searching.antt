@@ -9,7 +9,8 @@ use native.Mathlib.Omega.{arith}
 use lib.ListN.{length, take, drop, getD}
 use Rattle.rules.specs.declared.Claim.{Claim}
 use Rattle.rules.specs.Lists.{_∈_, all}
-use Rattle.rules.specs.Claims.{Setting, on, at, endOf}
+use Rattle.rules.specs.declared.Setting.{Setting}
+use Rattle.rules.specs.Claims.{on, at, endOf}
 use Rattle.rules.specs.Placing.{clear, fits, place}
 use Rattle.rules.specs.Plans.{Room}
 use Rattle.rules.specs.Tables.{vacant}

@@ -9,30 +9,35 @@ use native.Mathlib.Numerals.{add-one}
 use lib.ListN.{length, take, drop, set, replicate, length-map, length-append}
 use lib.Dec.{ltb}
 use borrow.Author.Tests.{ltb-false, eqb-true}
+use Rattle.numbers.specs.Numbers.{mostClock, mostLength, mostPending, mostTickets}
 use Rattle.groups.specs.Groups.{empty}
 use Rattle.groups.proofs.Words.{empty-word}
 use Rattle.rules.specs.declared.Claim.{Claim}
 use Rattle.rules.specs.declared.Table.{Table}
 use Rattle.rules.specs.declared.Phase.the-variants.{Waiting}
 use Rattle.rules.specs.Lists.{any}
-use Rattle.rules.specs.Claims.{Setting, on, at, withPhase}
+use Rattle.rules.specs.declared.Setting.{Setting}
+use Rattle.rules.specs.Claims.{on, at, withPhase}
 use Rattle.rules.specs.Packing.{moved, packedStart, pack}
 use Rattle.rules.specs.Placing.{place}
 use Rattle.rules.specs.Granting.{granted, grant, grants}
-use Rattle.rules.specs.Calls.{Model, settingOf, Call, claim, clock, Step, unchanged, advance, finish, join, remove, fresh, admit, act, step, firstOf, tests, blank, new}
+use Rattle.rules.specs.Tests.{firstOf}
+use Rattle.rules.specs.declared.Reply.{Reply}
+use Rattle.rules.specs.declared.Request.{Request}
+use Rattle.rules.specs.Calls.{plain, granting, Model, settingOf, Call, claim, clock, Step, unchanged, advance, finish, join, remove, fresh, admit, act, step, tests, blank, new}
 use Rattle.rules.specs.Tables.{encode, model, pad, vacant}
 use Rattle.rules.specs.Invariants.{Still, Invariant}
 use Rattle.rules.proofs.Bools.{clash}
 use Rattle.rules.proofs.Lists.{any-none}
 use Rattle.rules.proofs.Calls.{placed, new-cases, blank-invariant, step-invariant}
 use Rattle.rules.proofs.Prompt.{Prompt, prompt-still}
-use Rattle.rules.proofs.Once.{advance-still, join-still, leave-once, grantAll, finish-still}
+use Rattle.rules.proofs.Once.{advance-still, join-still, leave-once, finish-still}
 use Rattle.table.specs.Rows.{Sized, Row, rewritten}
 use Rattle.table.proofs.Rows.{pad-over, pad-more}
 use Rattle.table.proofs.Sizes.{place-small}
 use Rattle.table.specs.declared.granting.Granted.{Granted}
 use Rattle.table.specs.declared.placing.Placed.{Placed}
-use Rattle.table.specs.Parts.{withClaims, atClock, packedTable, grantedIn, placedIn}
+use Rattle.table.specs.Parts.{withClaims, ruledIn, atClock, packedTable, grantedIn, placedIn}
 use Rattle.table.specs.declared.Outcome.{Outcome}
 use Rattle.table.specs.Valid.{Formed, Valid}
 use Rattle.table.specs.Outcomes.{outcome, refusalOf, timeNumber, pastEnd, leaving, without}
@@ -92,7 +97,7 @@ rewritten-is t v f e =
     ∙ ap (λ (n : ℕ). f (model t .pending) ++ drop n (pad vacant (model t .pending))) (sym (formed-count t v))
     ∙ pad-over vacant (model t .pending) (f (model t .pending)) e
 
-pub advanced-is : (t : Table) (u : ℕ) → Formed t → t .clock ≤ u → u ≤ 1000000000000 → (r : Table) → r ≡ packedTable u t
+pub advanced-is : (t : Table) (u : ℕ) → Formed t → t .clock ≤ u → u ≤ mostClock → (r : Table) → r ≡ packedTable (ruledIn t u) t
     → (r ≡ encode (advance (model t) u)) × Formed r × Still (model r)
 unfolding advance
 advanced-is t u v a b r q = (
@@ -102,20 +107,20 @@ advanced-is t u v a b r q = (
 )
   where
     ps : List Claim
-    ps = pack (record { clock = u }) (model t .pending)
+    ps = pack (ruledIn t u) (model t .pending)
 
     is : r ≡ encode (advance (model t) u)
     is =
-        q ∙ ap (withClaims (atClock u t)) (rewritten-is t v (pack (record { clock = u })) (pack-length (record { clock = u }) (model t .pending)))
-        ∙ ap (λ (n : ℕ). record { rig = t .rig; clock = u; issued = t .issued; count = n; claims = pad vacant (pack (record { clock = u }) (model t .pending)) })
-        (sym (formed-count t v) ∙ sym (pack-length (record { clock = u }) (model t .pending)))
+        q ∙ ap (withClaims (atClock u t)) (rewritten-is t v (pack (ruledIn t u)) (pack-length (ruledIn t u) (model t .pending)))
+        ∙ ap (λ (n : ℕ). record { rig = t .rig; clock = u; issued = t .issued; count = n; claims = pad vacant (pack (ruledIn t u) (model t .pending)) })
+        (sym (formed-count t v) ∙ sym (pack-length (ruledIn t u) (model t .pending)))
 
 -- While nobody overruns, setting the clock is all there is to do.
-pub prompt-is : (t : Table) (u : ℕ) → Valid t → t .clock ≤ u → u ≤ 1000000000000 → any (pastEnd u) (take (t .count) (t .claims)) ≡ false
+pub prompt-is : (t : Table) (u : ℕ) → Valid t → t .clock ≤ u → u ≤ mostClock → any (pastEnd u) (take (t .count) (t .claims)) ≡ false
     → (r : Table) → r ≡ atClock u t → (r ≡ encode (advance (model t) u)) × Formed r × Still (model r)
 prompt-is t u v a b none r q =
     advanced-is t u (v .formed) a b r
-    (q ∙ ap (withClaims (atClock u t)) (sym (rewritten-is t (v .formed) (pack (record { clock = u })) (pack-length (record { clock = u }) (model t .pending)) ∙ ap (pad vacant) still ∙ formed-claims t (v .formed))))
+    (q ∙ ap (withClaims (atClock u t)) (sym (rewritten-is t (v .formed) (pack (ruledIn t u)) (pack-length (ruledIn t u) (model t .pending)) ∙ ap (pad vacant) still ∙ formed-claims t (v .formed))))
   where
     prompt : Prompt u (model t .pending)
     prompt c m o = ltb-false (at c + c .length) u (after-on c o (any-none (pastEnd u) none m))
@@ -123,14 +128,14 @@ prompt-is t u v a b none r q =
         after-on : (c : Claim) → on c ≡ true → (on c && ltb (at c + c .length) u) ≡ false → ltb (at c + c .length) u ≡ false
         after-on c o e = rw o at e
 
-    still : pack (record { clock = u }) (model t .pending) ≡ model t .pending
-    still = prompt-still (t .issued) (settingOf (model t)) (record { clock = u }) (model t .pending) (v .settled) (record { later = a }) prompt
+    still : pack (ruledIn t u) (model t .pending) ≡ model t .pending
+    still = prompt-still (t .issued) (settingOf (model t)) (ruledIn t u) (model t .pending) (v .settled) (record { later = a }) prompt
 
 -- As many claims, and as many tickets.
 pub advanced-counts : (t : Table) (u : ℕ) (r : Table) → Formed t → r ≡ encode (advance (model t) u) → (r .count ≡ t .count) × (r .issued ≡ t .issued)
 unfolding advance
 advanced-counts t u r v e =
-    (ap (λ (x : Table). x .count) e ∙ pack-length (record { clock = u }) (model t .pending) ∙ formed-count t v, ap (λ (x : Table). x .issued) e)
+    (ap (λ (x : Table). x .count) e ∙ pack-length (ruledIn t u) (model t .pending) ∙ formed-count t v, ap (λ (x : Table). x .issued) e)
 
 -- ── granting ──
 grant-length : (v : Setting) (ps : List Claim) → length (grant v ps) ≡ length ps
@@ -138,22 +143,22 @@ unfolding grant
 grant-length v ps = length-map ps (granted v ps)
 
 -- What a finished call hands back, made of what granting gave.
-abbrev pub finishedWith : Granted → ℕ → ℕ → ℕ → ℕ → Outcome
-finishedWith g k s n b =
+abbrev pub finishedWith : Granted → Reply → Outcome
+finishedWith g rep =
     record {
       table = g .table;
       number = 0;
-      ticket = k;
-      start = s;
-      contention = n;
-      bound = b;
+      ticket = rep .ticket;
+      start = rep .start;
+      contention = rep .contention;
+      bound = rep .bound;
       granted = g .count;
       grants = g .tickets;
     }
 
-pub finished-is : (t : Table) (g : Granted) (k s n b : ℕ) (r : Outcome) → Formed t → Still (model t) → g ≡ grantedIn t → r ≡ finishedWith g k s n b
-    → (r ≡ outcome (finish (model t) k s n b)) × Formed (r .table)
-finished-is t g k s n b r v st e q = (is, formed-is (r .table) (grantAll (model t) k s n b .model) (ap (λ (x : Outcome). x .table) is′) (grant-ranged (model t) k s n b (v .ranged)))
+pub finished-is : (t : Table) (g : Granted) (rep : Reply) (r : Outcome) → Formed t → Still (model t) → g ≡ grantedIn t → r ≡ finishedWith g rep
+    → (r ≡ outcome (finish (model t) rep)) × Formed (r .table)
+finished-is t g rep r v st e q = (is, formed-is (r .table) (granting (model t) rep (model t .pending) .model) (ap (λ (x : Outcome). x .table) is′) (grant-ranged (model t) rep (v .ranged)))
   where
     ps : List Claim
     ps = grant (settingOf (model t)) (model t .pending)
@@ -163,22 +168,22 @@ finished-is t g k s n b r v st e q = (is, formed-is (r .table) (grantAll (model 
         record {
           table = record { rig = t .rig; clock = t .clock; issued = t .issued; count = c; claims = l };
           number = 0;
-          ticket = k;
-          start = s;
-          contention = n;
-          bound = b;
+          ticket = rep .ticket;
+          start = rep .start;
+          contention = rep .contention;
+          bound = rep .bound;
           granted = length (grants (model t .pending));
           grants = pad 0 (grants (model t .pending));
         }
 
-    is′ : r ≡ outcome (grantAll (model t) k s n b)
+    is′ : r ≡ outcome (granting (model t) rep (model t .pending))
     is′ =
-        q ∙ ap (λ (x : Granted). finishedWith x k s n b) e
+        q ∙ ap (λ (x : Granted). finishedWith x rep) e
         ∙ ap (λ (l : List Claim). put l (t .count)) (rewritten-is t v (grant (settingOf (model t))) (grant-length (settingOf (model t)) (model t .pending)))
         ∙ ap (λ (c : ℕ). put (pad vacant (grant (settingOf (model t)) (model t .pending))) c) (sym (formed-count t v) ∙ sym (grant-length (settingOf (model t)) (model t .pending)))
 
-    is : r ≡ outcome (finish (model t) k s n b)
-    is = is′ ∙ ap outcome (sym (finish-still (model t) k s n b st))
+    is : r ≡ outcome (finish (model t) rep)
+    is = is′ ∙ ap outcome (sym (finish-still (model t) rep st))
 
 -- ── fewer claims, and one more ──
 -- A table with other claims, and as many of them.
@@ -200,7 +205,7 @@ pub removed-clock : (t : Table) (k u : ℕ) (r : Table) → r ≡ encode (remove
 unfolding remove
 removed-clock t k u r e h = omega (arith, ap (λ (x : Table). x .clock) e)
 
-joined-is : (t : Table) (w : Claim) (r : Table) → Formed t → t .count < 64 → t .issued < 65535 → Sized (t .clock) w → w .ticket ≡ t .issued + 1
+joined-is : (t : Table) (w : Claim) (r : Table) → Formed t → t .count < mostPending → t .issued < mostTickets → Sized (t .clock) w → w .ticket ≡ t .issued + 1
     → r ≡ record { rig = t .rig; clock = t .clock; issued = t .issued + 1; count = t .count + 1; claims = set (t .claims) (t .count) w }
     → (r ≡ encode (join (model t) w)) × Formed r
 unfolding join
@@ -221,74 +226,74 @@ joined-is t w r v c i s e q = (is, formed-is r (join (model t) w) is (join-range
         ∙ ap (λ (n : ℕ). put (suc (t .issued)) n (pad vacant (model t .pending ++ (w ∷ [])))) (omega (arith, formed-count t v, length-append (model t .pending) (w ∷ [])))
 
 -- ── the calls, accepted ──
-claim-act : (m : Model) (t g n : ℕ) → admit (advance m t) g n ≡ act m (claim t g n)
+claim-act : (m : Model) (t : ℕ) (ask : Request) → admit (advance m t) ask ≡ act m (claim t ask)
 unfolding act
-claim-act m t g n = refl
+claim-act m t ask = refl
 
-leave-act : (m : Model) (b : Bool) (t k : ℕ) → finish (remove (advance m t) k) k t 0 0 ≡ act m (leaving b t k)
+leave-act : (m : Model) (b : Bool) (t k : ℕ) → finish (remove (advance m t) k) (plain k t) ≡ act m (leaving b t k)
 unfolding act
 leave-act m true t k = refl
 leave-act m false t k = refl
 
 -- The last part of a call, on a table that encodes q.
-finish-of : (u : Table) (q : Model) (k s n b : ℕ) (r : Outcome) → u ≡ encode q → r ≡ outcome (finish (model u) k s n b) → r ≡ outcome (finish q k s n b)
-finish-of u q k s n b r e f = f ∙ ap (λ (m : Model). outcome (finish m k s n b)) (model-is u q e)
+finish-of : (u : Table) (q : Model) (rep : Reply) (r : Outcome) → u ≡ encode q → r ≡ outcome (finish (model u) rep) → r ≡ outcome (finish q rep)
+finish-of u q rep r e f = f ∙ ap (λ (m : Model). outcome (finish m rep)) (model-is u q e)
 
-pub clock-is : (t : Table) (x n : ℕ) (u : Table) (r : Outcome) → n ≡ timeNumber (t .clock) x → n ≡ 0 → u ≡ encode (advance (model t) x) → r ≡ outcome (finish (model u) 0 x 0 0)
+pub clock-is : (t : Table) (x n : ℕ) (u : Table) (r : Outcome) → n ≡ timeNumber (t .clock) x → n ≡ 0 → u ≡ encode (advance (model t) x) → r ≡ outcome (finish (model u) (plain 0 x))
     → r ≡ outcome (step (model t) (clock x))
 unfolding tests act firstOf
 clock-is t x n u r e z q f =
-    finish-of u (advance (model t) x) 0 x 0 0 r q f ∙ ap outcome (sym (step-accepted (model t) (clock x) (timed-passes (model t) x n [] e z)))
+    finish-of u (advance (model t) x) (plain 0 x) r q f ∙ ap outcome (sym (step-accepted (model t) (clock x) (timed-passes (model t) x n [] e z)))
 
 pub leave-is : (t : Table) (b : Bool) (x k : ℕ) (rest u : Table) (r : Outcome) → Formed t → firstOf (tests (model t) (leaving b x k)) ≡ 0 → rest ≡ encode (remove (model t) k) → u ≡ encode (advance (model rest) x)
-    → r ≡ outcome (finish (model u) k x 0 0) → r ≡ outcome (step (model t) (leaving b x k))
+    → r ≡ outcome (finish (model u) (plain k x)) → r ≡ outcome (step (model t) (leaving b x k))
 leave-is t b x k rest u r v z p q f =
-    finish-of u (advance (remove (model t) k) x) k x 0 0 r (q ∙ ap (λ (m : Model). encode (advance m x)) (model-is rest (remove (model t) k) p)) f
-    ∙ ap outcome (sym (leave-once (model t) x k k x 0 0 (formed-sane t v) (v .ranged .ascending)) ∙ leave-act (model t) b x k ∙ sym (step-accepted (model t) (leaving b x k) z))
+    finish-of u (advance (remove (model t) k) x) (plain k x) r (q ∙ ap (λ (m : Model). encode (advance m x)) (model-is rest (remove (model t) k) p)) f
+    ∙ ap outcome (sym (leave-once (model t) x k (plain k x) (formed-sane t v) (v .ranged .ascending)) ∙ leave-act (model t) b x k ∙ sym (step-accepted (model t) (leaving b x k) z))
 
 -- A new claim with its ticket as the code counts it.
-abbrev pub asked : Table → ℕ → ℕ → Claim
-asked t g n = record { groups = g; phase = Waiting (t .clock); length = n; ticket = t .issued + 1 }
+abbrev pub asked : Table → Request → Claim
+asked t ask = record { groups = ask .groups; phase = Waiting (t .clock); length = ask .length; ticket = t .issued + 1 }
 
-pub asked-is : (t : Table) (g n : ℕ) → asked t g n ≡ fresh (model t) g n
-asked-is t g n = ap (λ (k : ℕ). record { groups = g; phase = Waiting (t .clock); length = n; ticket = k }) (add-one (t .issued))
+pub asked-is : (t : Table) (ask : Request) → asked t ask ≡ fresh (model t) ask
+asked-is t ask = ap (λ (k : ℕ). record { groups = ask .groups; phase = Waiting (t .clock); length = ask .length; ticket = k }) (add-one (t .issued))
 
-pub asked-sized : (t : Table) (g n : ℕ) → t .issued < 65535 → 1 ≤ n → n ≤ 3600000 → t .clock ≤ 1000000000000 → Sized (t .clock) (asked t g n)
-asked-sized t g n i l h k = record { sane = record { long = l; small = omega arith }; short = h; aged = λ o. clash o refl; planned = λ o. omega arith }
+pub asked-sized : (t : Table) (ask : Request) → t .issued < mostTickets → 1 ≤ ask .length → ask .length ≤ mostLength → t .clock ≤ mostClock → Sized (t .clock) (asked t ask)
+asked-sized t ask i l h k = record { sane = record { long = l; small = omega arith }; short = h; aged = λ o. clash o refl; planned = λ o. omega arith }
 
 -- A claim placed in a table.
-module _ (t : Table) (g n : ℕ) (v : Formed t) (few : t .count < 64) (i : t .issued < 65535) (l : 1 ≤ n) (h : n ≤ 3600000) where
-  pub asked-row : Row (t .clock) (t .claims) (t .count) × Sized (t .clock) (asked t g n) × (t .count < 64) × (t .issued < 65535)
-  asked-row = (formed-row t (t .clock) v (omega arith) (v .ranged .timely), asked-sized t g n i l h (v .ranged .timely), few, i)
+module _ (t : Table) (ask : Request) (v : Formed t) (few : t .count < mostPending) (i : t .issued < mostTickets) (l : 1 ≤ ask .length) (h : ask .length ≤ mostLength) where
+  pub asked-row : Row (t .clock) (t .claims) (t .count) × Sized (t .clock) (asked t ask) × (t .count < mostPending) × (t .issued < mostTickets)
+  asked-row = (formed-row t (t .clock) v (omega arith) (v .ranged .timely), asked-sized t ask i l h (v .ranged .timely), few, i)
 
   -- At its planned start it is in range still.
-  placed-sized : (s : ℕ) → s ≡ place (settingOf (model t)) (model t .pending) (asked t g n) → Sized (t .clock) (withPhase (asked t g n) (Waiting s))
+  placed-sized : (s : ℕ) → s ≡ place (settingOf (model t)) (model t .pending) (asked t ask) → Sized (t .clock) (withPhase (asked t ask) (Waiting s))
   placed-sized s e = record {
     sane = record { long = l; small = omega arith };
     short = h;
     aged = λ o. clash o refl;
-    planned = λ o. omega (arith, place-small (t .clock) (t .claims) (t .count) (asked t g n) (asked-row .0) (asked-row .1));
+    planned = λ o. omega (arith, place-small (ruledIn t (t .clock)) (t .claims) (t .count) (asked t ask) (asked-row .0) (asked-row .1));
   }
 
-  placed-is : withPhase (asked t g n) (Waiting (place (settingOf (model t)) (model t .pending) (asked t g n))) ≡ placed (model t) g n
-  placed-is = cc (asked-is t g n)
+  placed-is : withPhase (asked t ask) (Waiting (place (settingOf (model t)) (model t .pending) (asked t ask))) ≡ placed (model t) ask
+  placed-is = cc (asked-is t ask)
 
-  module _ (p : Placed) (q : p ≡ placedIn t (asked t g n)) where
-    pub placed-table : (p .table ≡ encode (join (model t) (placed (model t) g n))) × Formed (p .table)
+  module _ (p : Placed) (q : p ≡ placedIn t (asked t ask)) where
+    pub placed-table : (p .table ≡ encode (join (model t) (placed (model t) ask))) × Formed (p .table)
     placed-table =
         let j = joined-is t _ (p .table) v few i (placed-sized _ refl) refl (ap (λ (x : Placed). x .table) q) in
         (j .0 ∙ ap (λ (w : Claim). encode (join (model t) w)) placed-is, j .1)
 
     pub placed-still : Still (model t) → Still (model (p .table))
-    placed-still st = subst Still (sym (model-is (p .table) _ (placed-table .0))) (join-still (model t) g n l i (formed-sane t v) (v .ranged .ascending) st)
+    placed-still st = subst Still (sym (model-is (p .table) _ (placed-table .0))) (join-still (model t) ask l i (formed-sane t v) (v .ranged .ascending) st)
 
-    pub admitted-is : (r : Outcome) → r ≡ outcome (finish (model (p .table)) (t .issued + 1) (p .start) (p .contention) (p .bound)) → r ≡ outcome (admit (model t) g n)
+    pub admitted-is : (r : Outcome) → r ≡ outcome (finish (model (p .table)) (p .reply)) → r ≡ outcome (admit (model t) ask)
     unfolding admit
     admitted-is r f =
-        finish-of (p .table) (join (model t) (placed (model t) g n)) (t .issued + 1) (p .start) (p .contention) (p .bound) r (placed-table .0) f
-        ∙ cc (q, asked-is t g n)
+        finish-of (p .table) (join (model t) (placed (model t) ask)) (p .reply) r (placed-table .0) f
+        ∙ cc (q, asked-is t ask)
 
-pub claim-is : (t : Table) (x g l n : ℕ) (u : Table) (r : Outcome) → n ≡ firstOf (tests (model t) (claim x g l)) → n ≡ 0 → u ≡ encode (advance (model t) x)
-    → r ≡ outcome (admit (model u) g l) → r ≡ outcome (step (model t) (claim x g l))
-claim-is t x g l n u r e z q f =
-    f ∙ ap (λ (m : Model). outcome (admit m g l)) (model-is u (advance (model t) x) q) ∙ ap outcome (claim-act (model t) x g l ∙ sym (step-accepted (model t) (claim x g l) (sym e ∙ z)))
+pub claim-is : (t : Table) (x : ℕ) (ask : Request) (n : ℕ) (u : Table) (r : Outcome) → n ≡ firstOf (tests (model t) (claim x ask)) → n ≡ 0 → u ≡ encode (advance (model t) x)
+    → r ≡ outcome (admit (model u) ask) → r ≡ outcome (step (model t) (claim x ask))
+claim-is t x ask n u r e z q f =
+    f ∙ ap (λ (m : Model). outcome (admit m ask)) (model-is u (advance (model t) x) q) ∙ ap outcome (claim-act (model t) x ask ∙ sym (step-accepted (model t) (claim x ask) (sym e ∙ z)))

@@ -8,57 +8,58 @@ use native.Mathlib.Omega.{arith}
 use lib.Dec.{ltb, eqb}
 use lib.ListN.{length}
 use borrow.Author.Tests.{lt-ltb, le-ltb, le-leb, lt-leb, ne-eqb, ltb-false, eqb-true}
-use Rattle.groups.specs.Groups.{empty, within}
+use Rattle.numbers.specs.Numbers.{lateNumber, backwardNumber, mostClock}
 use Rattle.rules.specs.declared.Claim.{Claim}
 use Rattle.rules.specs.declared.Phase.the-variants.{Waiting, On}
 use Rattle.rules.specs.Lists.{any}
 use Rattle.rules.specs.Claims.{on, at}
 use Rattle.rules.specs.declared.Standing.{Standing}
 use Rattle.rules.specs.declared.Standing.the-variants.{Waits, Holds}
-use Rattle.rules.specs.Calls.{Model, Call, claim, clock, lookup, Test, test, firstOf, named, late, backward, offRig, badLength, full, ticketless, tests, unchanged, act, step, unless, standing, standingOf, standingValues}
+use Rattle.rules.specs.Tests.{Test, test, firstOf, named, late, backward, offRig, badLength, full, ticketless}
+use Rattle.rules.specs.Calls.{Model, Call, claim, clock, lookup, tests, unchanged, act, step, unless, standing, standingOf, standingValues}
 use Rattle.rules.specs.Plans.{Ascending}
 use Rattle.rules.proofs.Bools.{split, or-r}
 use Rattle.rules.proofs.Lists.{Each, any-false}
+use Rattle.rules.proofs.Calls.{passes}
 use Rattle.table.specs.Outcomes.{timeNumber, phaseNumber, orElse, leaving}
 
 -- ── the first test that fails ──
-pub first-fails : (b : Bool) (n : ℕ) (ts : List Test) → b ≡ true → firstOf (test b n ∷ ts) ≡ n
+-- A test in front of others decides where it fails, and else they do.
+pub fails-here : {n : ℕ} (x : Test) (ts : List Test) → n ≡ x .number → x .fails ≡ true → n ≡ firstOf (x ∷ ts)
 unfolding firstOf
-first-fails b n ts e = rw e
+fails-here x ts e q = e ∙ sym (rw q)
 
-pub first-passes : (b : Bool) (n : ℕ) (ts : List Test) → b ≡ false → firstOf (test b n ∷ ts) ≡ firstOf ts
+pub past : {n : ℕ} (x : Test) (ts : List Test) → x .fails ≡ false → n ≡ firstOf ts → n ≡ firstOf (x ∷ ts)
 unfolding firstOf
-first-passes b n ts e = rw e
+past x ts q e = e ∙ sym (rw q)
 
 -- What the tests 5 and 4 say, and what comes behind them.
-pub first-timed : (m : Model) (t : ℕ) (ts : List Test) → firstOf (late t ∷ backward m t ∷ ts) ≡ orElse (timeNumber (m .clock) t) (firstOf ts)
+pub first-timed : (m : Model) (t : ℕ) (ts : List Test) → firstOf (late t ∷ backward (m .clock) t ∷ ts) ≡ orElse (timeNumber (m .clock) t) (firstOf ts)
 unfolding firstOf timeNumber
-first-timed m t ts = go (ltb 1000000000000 t) (ltb t (m .clock))
+first-timed m t ts = go (ltb mostClock t) (ltb t (m .clock))
   where
-    go : (a b : Bool) → cond a 5 (cond b 4 (firstOf ts)) ≡ orElse (cond a 5 (cond b 4 0)) (firstOf ts)
+    go : (a b : Bool) → cond a lateNumber (cond b backwardNumber (firstOf ts)) ≡ orElse (cond a lateNumber (cond b backwardNumber 0)) (firstOf ts)
     go true b = refl
     go false true = refl
     go false false = refl
 
-pub timed-fails : (m : Model) (t n : ℕ) (ts : List Test) → n ≡ timeNumber (m .clock) t → n ≢ 0 → firstOf (late t ∷ backward m t ∷ ts) ≡ n
+pub timed-fails : (m : Model) (t n : ℕ) (ts : List Test) → n ≡ timeNumber (m .clock) t → n ≢ 0 → firstOf (late t ∷ backward (m .clock) t ∷ ts) ≡ n
 timed-fails m t n ts e z = first-timed m t ts ∙ go (timeNumber (m .clock) t) e
   where
     go : (k : ℕ) → n ≡ k → orElse k (firstOf ts) ≡ n
     go zero q = absurd (z q)
     go (suc k) q = sym q
 
-pub timed-passes : (m : Model) (t n : ℕ) (ts : List Test) → n ≡ timeNumber (m .clock) t → n ≡ 0 → firstOf (late t ∷ backward m t ∷ ts) ≡ firstOf ts
+pub timed-passes : (m : Model) (t n : ℕ) (ts : List Test) → n ≡ timeNumber (m .clock) t → n ≡ 0 → firstOf (late t ∷ backward (m .clock) t ∷ ts) ≡ firstOf ts
 timed-passes m t n ts e z = first-timed m t ts ∙ ap (λ (k : ℕ). orElse k (firstOf ts)) (sym e ∙ z)
 
 -- A clock that fails neither test.
-pub time-ok : (now t : ℕ) → timeNumber now t ≡ 0 → (now ≤ t) × (t ≤ 1000000000000)
+pub time-ok : (now t : ℕ) → timeNumber now t ≡ 0 → (now ≤ t) × (t ≤ mostClock)
 unfolding timeNumber
-time-ok now t e = go (ltb 1000000000000 t) (ltb t now) refl refl e
-  where
-    go : (a b : Bool) → ltb 1000000000000 t ≡ a → ltb t now ≡ b → _≡_ {A = ℕ} (cond a 5 (cond b 4 0)) 0 → (now ≤ t) × (t ≤ 1000000000000)
-    go true b p q z = absurd (omega arith)
-    go false true p q z = absurd (omega arith)
-    go false false p q z = (ltb-false t now q, ltb-false 1000000000000 t p)
+time-ok now t e =
+    let a = passes (late t) _ (omega arith) e in
+    let b = passes (backward now t) [] (omega arith) (a .1) in
+    (ltb-false t now (b .0), ltb-false mostClock t (a .0))
 
 pub clock-timed : (m : Model) (t n : ℕ) → n ≡ timeNumber (m .clock) t → n ≢ 0 → firstOf (tests m (clock t)) ≡ n
 unfolding tests
@@ -169,51 +170,3 @@ lookup-idle m k = go (firstOf (tests m (lookup k)))
     go : (n : ℕ) → unless m n (unchanged m 0) .model ≡ m
     go zero = refl
     go (suc n) = refl
-
--- ── the tests of a claim, each behind those before it ──
-module _ (m : Model) (t g n k : ℕ) (e : k ≡ timeNumber (m .clock) t) where
-  pub claim-timed : k ≢ 0 → k ≡ firstOf (tests m (claim t g n))
-  unfolding tests
-  claim-timed z = sym (timed-fails m t k _ e z)
-
-  module _ (z : k ≡ 0) where
-    pub claim-dark : empty g ≡ true → 1 ≡ firstOf (tests m (claim t g n))
-    unfolding tests
-    claim-dark h = sym (timed-passes m t k _ e z ∙ first-fails _ 1 _ h)
-
-    module _ (lit : empty g ≡ false) where
-      on-rig : firstOf (tests m (claim t g n)) ≡ firstOf (offRig m g ∷ badLength n ∷ full m ∷ ticketless m ∷ [])
-      unfolding tests
-      on-rig = timed-passes m t k _ e z ∙ first-passes _ 1 _ lit
-
-      pub claim-off-rig : within g (m .rig) ≡ false → 2 ≡ firstOf (tests m (claim t g n))
-      claim-off-rig h = sym (on-rig ∙ first-fails _ 2 _ (ap not h))
-
-      module _ (inside : within g (m .rig) ≡ true) where
-        in-rig : firstOf (tests m (claim t g n)) ≡ firstOf (badLength n ∷ full m ∷ ticketless m ∷ [])
-        in-rig = on-rig ∙ first-passes _ 2 _ (ap not inside)
-
-        pub claim-no-length : n ≡ 0 → 3 ≡ firstOf (tests m (claim t g n))
-        claim-no-length h = sym (in-rig ∙ first-fails _ 3 _ (ap (λ (x : ℕ). eqb x 0 || ltb 3600000 x) h))
-
-        module _ (some : n ≢ 0) where
-          pub claim-too-long : 3600000 < n → 3 ≡ firstOf (tests m (claim t g n))
-          claim-too-long h = sym (in-rig ∙ first-fails _ 3 _ (or-r (eqb n 0) _ (lt-ltb 3600000 n h)))
-
-          module _ (short : n ≤ 3600000) where
-            fitting : firstOf (tests m (claim t g n)) ≡ firstOf (full m ∷ ticketless m ∷ [])
-            fitting = in-rig ∙ first-passes _ 3 _ (rw (ne-eqb n 0 some, le-ltb 3600000 n short))
-
-            pub claim-full : 64 ≤ length (m .pending) → 6 ≡ firstOf (tests m (claim t g n))
-            claim-full h = sym (fitting ∙ first-fails _ 6 _ (le-leb 64 (length (m .pending)) h))
-
-            module _ (room : length (m .pending) < 64) where
-              roomy : firstOf (tests m (claim t g n)) ≡ firstOf (ticketless m ∷ [])
-              roomy = fitting ∙ first-passes _ 6 _ (lt-leb 64 (length (m .pending)) room)
-
-              pub claim-ticketless : 65535 ≤ m .issued → 7 ≡ firstOf (tests m (claim t g n))
-              claim-ticketless h = sym (roomy ∙ first-fails _ 7 [] (le-leb 65535 (m .issued) h))
-
-              pub claim-passes : m .issued < 65535 → 0 ≡ firstOf (tests m (claim t g n))
-              unfolding firstOf
-              claim-passes h = sym (roomy ∙ first-passes _ 7 [] (lt-leb 65535 (m .issued) h))

@@ -1,6 +1,6 @@
 -- What the calls hand back, by the rules.
 use mathlib.Core.Bool.{Bool, true, false, not, _&&_, cond}
-use mathlib.Core.List.{List}
+use mathlib.Core.List.{List, [], _∷_}
 use Prim.Native.Nat.{ℕ, zero, suc, _+_}
 use lib.Dec.{ltb}
 use lib.ListN.{length, replicate}
@@ -8,7 +8,9 @@ use Rattle.rules.specs.declared.Claim.{Claim}
 use Rattle.rules.specs.declared.Table.{Table}
 use Rattle.rules.specs.declared.Standing.{Standing}
 use Rattle.rules.specs.declared.Standing.the-variants.{NotPending, Waits, Holds}
-use Rattle.rules.specs.Calls.{Call, release, withdraw, Step, named}
+use Rattle.numbers.specs.Numbers.{unknownNumber, notYetOnNumber, alreadyOnNumber}
+use Rattle.rules.specs.Tests.{firstOf, late, backward, named}
+use Rattle.rules.specs.Calls.{Call, release, withdraw, Step}
 use Rattle.rules.specs.Lists.{keep}
 use Rattle.rules.specs.Claims.{on, at}
 use Rattle.rules.specs.Tables.{encode, pad}
@@ -35,18 +37,18 @@ refusalOf t n = record { table = t; number = n; ticket = 0; start = 0; contentio
 
 -- ── the tests 5 and 4, and those of a release and a withdrawal ──
 unfoldable pub timeNumber : ℕ → ℕ → ℕ
-timeNumber now t = cond (ltb 1000000000000 t) 5 (cond (ltb t now) 4 0)
+timeNumber now t = firstOf (late t ∷ backward now t ∷ [])
 
 -- c is on, and its promised end is below the clock t.
 abbrev pub pastEnd : ℕ → Claim → Bool
 pastEnd t c = on c && ltb (at c + c .length) t
 
 abbrev pub phaseNumber : Bool → Standing → ℕ
-phaseNumber b NotPending = 8
-phaseNumber true (Waits s) = 9
+phaseNumber b NotPending = unknownNumber
+phaseNumber true (Waits s) = notYetOnNumber
 phaseNumber false (Waits s) = 0
 phaseNumber true (Holds e) = 0
-phaseNumber false (Holds e) = 10
+phaseNumber false (Holds e) = alreadyOnNumber
 
 -- A number that is not 0, or the next.
 abbrev pub orElse : ℕ → ℕ → ℕ

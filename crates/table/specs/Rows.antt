@@ -4,6 +4,7 @@ use mathlib.Core.Bool.{true, false}
 use mathlib.Core.List.{List, _++_}
 use Prim.Native.Nat.{ℕ, _≤_}
 use lib.ListN.{length, take, drop}
+use Rattle.numbers.specs.Numbers.{mostClock, mostLength}
 use Rattle.rules.specs.declared.Claim.{Claim}
 use Rattle.rules.specs.Lists.{_∈_}
 use Rattle.rules.specs.Claims.{on, at}
@@ -12,7 +13,7 @@ use Rattle.rules.specs.Plans.{Ascending, Sane}
 -- A claim whose numbers are in range at clock t. No sum of a start or grant and a length then wraps.
 pub record Sized (t : ℕ) (c : Claim) : Type 0 where
   pub sane : Sane c
-  pub short : c .length ≤ 3600000
+  pub short : c .length ≤ mostLength
   pub aged : on c ≡ true → at c ≤ t
   pub planned : on c ≡ false → at c ≤ 2000000000000
 
@@ -20,7 +21,7 @@ pub record Sized (t : ℕ) (c : Claim) : Type 0 where
 pub record Row (t : ℕ) (claims : List Claim) (n : ℕ) : Type 0 where
   pub places : length claims ≡ 64
   pub few : n ≤ 64
-  pub timely : t ≤ 1000000000000
+  pub timely : t ≤ mostClock
   pub ascending : Ascending (take n claims)
   pub sized : (c : Claim) → c ∈ take n claims → Sized t c
 

@@ -2,6 +2,7 @@
 use mathlib.Core.Path.{_≡_}
 use Prim.Native.Nat.{_≤_}
 use lib.ListN.{length}
+use Rattle.numbers.specs.Numbers.{mostClock, mostTickets, mostPending}
 use Rattle.rules.specs.declared.Claim.{Claim}
 use Rattle.rules.specs.declared.Table.{Table}
 use Rattle.rules.specs.Lists.{_∈_}
@@ -13,9 +14,9 @@ use Rattle.table.specs.Rows.{Sized}
 
 -- The limits of document 01, "A claim".
 pub record Ranged (m : Model) : Type 0 where
-  pub few : length (m .pending) ≤ 64
-  pub timely : m .clock ≤ 1000000000000
-  pub numbered : m .issued ≤ 65535
+  pub few : length (m .pending) ≤ mostPending
+  pub timely : m .clock ≤ mostClock
+  pub numbered : m .issued ≤ mostTickets
   pub ascending : Ascending (m .pending)
   pub sized : (c : Claim) → c ∈ m .pending → Sized (m .clock) c
   pub issued : (c : Claim) → c ∈ m .pending → c .ticket ≤ m .issued

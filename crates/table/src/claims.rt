@@ -5,6 +5,7 @@ ghost use Rattle.rules.specs.Claims.{on, at, withPhase, endOf, remaining};
 ghost use Rattle.rules.specs.declared.Phase.the-variants.{Waiting, On};
 use rules::Claim;
 use rules::Phase;
+use rules::Setting;
 
 pub(crate) fn wide(x: u32) -> u64
     ensures { λ r. ⌜ (r ≡ x) × (r < 4294967296) ⌝ }
@@ -56,9 +57,9 @@ pub(crate) fn on_since(c: Claim, grant: u64) -> Claim
 }
 
 // The end of a claim.
-pub(crate) fn end_of(clock: u64, c: Claim) -> u64
+pub(crate) fn end_of(v: Setting, c: Claim) -> u64
     requires { ⌜ at c ≤ 1000000000000000000 ⌝ }
-    ensures { λ r. ⌜ r ≡ endOf (record { clock = clock }) c ⌝ }
+    ensures { λ r. ⌜ r ≡ endOf v c ⌝ }
 {
     let p = c.phase;
     let n = wide(c.length);
@@ -66,22 +67,22 @@ pub(crate) fn end_of(clock: u64, c: Claim) -> u64
         Phase::Waiting(s) => s + n,
         Phase::On(g) => {
             let e = g + n;
-            if e < clock { clock } else { e }
+            if e < v.clock { v.clock } else { e }
         }
     }
 }
 
 // The time that a claim has left.
-pub(crate) fn time_left(clock: u64, c: Claim) -> u64
+pub(crate) fn time_left(v: Setting, c: Claim) -> u64
     requires { ⌜ at c ≤ 1000000000000000000 ⌝ }
-    ensures { λ r. ⌜ r ≡ remaining (record { clock = clock }) c ⌝ }
+    ensures { λ r. ⌜ r ≡ remaining v c ⌝ }
 {
     let p = c.phase;
     match p {
         Phase::Waiting(_s) => wide(c.length),
         Phase::On(_g) => {
-            let e = end_of(clock, c);
-            e - clock
+            let e = end_of(v, c);
+            e - v.clock
         }
     }
 }

@@ -4,7 +4,7 @@ ghost use mathlib.Core.Path.{_≡_};
 ghost use lib.ListN.{take};
 ghost use Rattle.table.specs.Rows.{Row};
 ghost use Rattle.table.specs.Holders.{HeldWith, goesAt};
-ghost use Rattle.table.specs.Parts.{Planned, grantedIn};
+ghost use Rattle.table.specs.Parts.{ruledIn, Planned, grantedIn};
 use crate::claims::is_on;
 use crate::claims::on_since;
 use crate::claims::start_or_grant;
@@ -45,7 +45,7 @@ pub struct Granted {
 // Grants what no pending claim precedes, and lists the tickets. Both loops stand here, since a table handed on is a table copied.
 // Cost: two passes over the claims.
 pub(crate) fn grant(mut t: Table) -> Granted
-    requires { ⌜ Row (t .clock) (t .claims) (t .count) × Planned (record { clock = t .clock }) (take (t .count) (t .claims)) ⌝ }
+    requires { ⌜ Row (t .clock) (t .claims) (t .count) × Planned (ruledIn t (t .clock)) (take (t .count) (t .claims)) ⌝ }
     ensures { λ r. ⌜ r ≡ grantedIn t ⌝ }
 {
     let count = t.count;

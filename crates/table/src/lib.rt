@@ -3,8 +3,10 @@
 // words and two steps for each group of each claim, the search for a claim's start n² tests of two sets, everything else a few passes.
 ghost use mathlib.Core.Path.{_≡_};
 ghost use Prim.Native.Nat.{_+_, _≤_, _<_};
+ghost use Rattle.numbers.specs.Numbers.{mostClock, mostLength, mostPending, mostTickets};
 ghost use Rattle.rules.specs.Claims.{at};
-ghost use Rattle.rules.specs.Calls.{Call, step, firstOf, tests, advance, finish, remove, admit, new, standing, standingOf, standingValues};
+ghost use Rattle.rules.specs.Tests.{firstOf};
+ghost use Rattle.rules.specs.Calls.{Call, step, tests, advance, finish, remove, admit, new, standing, standingOf, standingValues};
 ghost use Rattle.rules.specs.Tables.{encode, model};
 ghost use Rattle.rules.specs.Invariants.{Still};
 ghost use Rattle.table.specs.Valid.{Formed, Valid};
@@ -17,6 +19,9 @@ mod placing;
 
 use rules::Claim;
 use rules::Phase;
+use rules::Reply;
+use rules::Request;
+use rules::Setting;
 use rules::Standing;
 use rules::Table;
 
@@ -67,7 +72,7 @@ pub fn new(rig: u64) -> Outcome
         claims: [vacant; 64],
     };
     if groups::empty(rig) {
-        return refusal(t, 1);
+        return refusal(t, numbers::DARK);
     }
     refusal(t, 0)
 }
@@ -109,21 +114,21 @@ pub fn lookup(t: Table, ticket: u16) -> Standing
 fn time_number(now: u64, clock: u64) -> u8
     ensures { λ r. ⌜ r ≡ timeNumber now clock ⌝ }
 {
-    if 1_000_000_000_000 < clock {
-        return 5;
+    if refusals::late(clock) {
+        return numbers::LATE;
     }
-    if clock < now {
-        return 4;
+    if refusals::backward(now, clock) {
+        return numbers::BACKWARD;
     }
     0
 }
 
 // Sets the clock and packs.
 fn advanced(t: Table, clock: u64) -> Table
-    requires { ⌜ Formed t × (t .clock ≤ clock) × (clock ≤ 1000000000000) ⌝ }
+    requires { ⌜ Formed t × (t .clock ≤ clock) × (clock ≤ mostClock) ⌝ }
     ensures { λ r. ⌜ (r ≡ encode (advance (model t) clock)) × Formed r × Still (model r) ⌝ }
 {
-    packing::pack(t, clock)
+    packing::pack(t, Setting { clock: clock })
 }
 
 // Whether a claim is on with its promised end below the clock.
@@ -140,7 +145,7 @@ fn overruns(clock: u64, c: Claim) -> bool
 
 // Sets the clock of a table between calls. While nobody overruns, packing would change nothing. Cost: one pass where nobody does.
 fn at_clock(mut t: Table, clock: u64) -> Table
-    requires { ⌜ Valid t × (t .clock ≤ clock) × (clock ≤ 1000000000000) ⌝ }
+    requires { ⌜ Valid t × (t .clock ≤ clock) × (clock ≤ mostClock) ⌝ }
     ensures { λ r. ⌜ (r ≡ encode (advance (model t) clock)) × Formed r × Still (model r) ⌝ }
 {
     let count = t.count;
@@ -157,9 +162,9 @@ fn at_clock(mut t: Table, clock: u64) -> Table
 }
 
 // Grants in a table where packing again would change nothing, and answers.
-fn finished(t: Table, ticket: u16, start: u64, contention: u64, bound: u64) -> Outcome
+fn finished(t: Table, r: Reply) -> Outcome
     requires { ⌜ Formed t × Still (model t) ⌝ }
-    ensures { λ r. ⌜ (r ≡ outcome (finish (model t) ticket start contention bound)) × Formed (r .table) ⌝ }
+    ensures { λ o. ⌜ (o ≡ outcome (finish (model t) r)) × Formed (o .table) ⌝ }
 {
     let g = granting::grant(t);
     let after = g.table;
@@ -167,10 +172,10 @@ fn finished(t: Table, ticket: u16, start: u64, contention: u64, bound: u64) -> O
     Outcome {
         table: after,
         number: 0,
-        ticket: ticket,
-        start: start,
-        contention: contention,
-        bound: bound,
+        ticket: r.ticket,
+        start: r.start,
+        contention: r.contention,
+        bound: r.bound,
         granted: g.count,
         grants: tickets,
     }
@@ -188,7 +193,13 @@ pub fn clock(t: Table, clock: u64) -> Outcome
         return refusal(t, n);
     }
     let u = at_clock(t, clock);
-    finished(u, 0, clock, 0, 0)
+    let r = Reply {
+        ticket: 0,
+        start: clock,
+        contention: 0,
+        bound: 0,
+    };
+    finished(u, r)
 }
 
 // ── release and withdraw ──
@@ -198,9 +209,9 @@ fn phase_number(releasing: bool, s: Standing) -> u8
     ensures { λ r. ⌜ r ≡ phaseNumber releasing s ⌝ }
 {
     match s {
-        Standing::NotPending => 8,
-        Standing::Waits(_s) => { if releasing { 9 } else { 0 } }
-        Standing::Holds(_e) => { if releasing { 0 } else { 10 } }
+        Standing::NotPending => numbers::UNKNOWN,
+        Standing::Waits(_s) => { if releasing { numbers::NOT_YET_ON } else { 0 } }
+        Standing::Holds(_e) => { if releasing { 0 } else { numbers::ALREADY_ON } }
     }
 }
 
@@ -261,7 +272,13 @@ pub fn leave(t: Table, releasing: bool, clock: u64, ticket: u16) -> Outcome
     }
     let rest = k.table;
     let u = advanced(rest, clock);
-    finished(u, ticket, clock, 0, 0)
+    let r = Reply {
+        ticket: ticket,
+        start: clock,
+        contention: 0,
+        bound: 0,
+    };
+    finished(u, r)
 }
 
 // Takes away a claim that is on. Refused: 5, 4, 8, 9.
@@ -283,61 +300,60 @@ pub fn withdraw(t: Table, clock: u64, ticket: u16) -> Outcome
 // ── claim ──
 
 // The first of its tests that a claim fails, or 0.
-fn claim_number(t: Table, clock: u64, groups: u64, length: u32) -> u8
+fn claim_number(t: Table, clock: u64, ask: Request) -> u8
     requires { ⌜ Formed t ⌝ }
-    ensures { λ r. ⌜ r ≡ firstOf (tests (model t) (Call.claim clock groups length)) ⌝ }
+    ensures { λ r. ⌜ r ≡ firstOf (tests (model t) (Call.claim clock ask)) ⌝ }
 {
-    let timing = time_number(t.clock, clock);
-    if timing != 0 {
-        return timing;
+    if refusals::late(clock) {
+        return numbers::LATE;
     }
-    if groups::empty(groups) {
-        return 1;
+    if refusals::backward(t.clock, clock) {
+        return numbers::BACKWARD;
     }
-    if !groups::within(groups, t.rig) {
-        return 2;
+    if refusals::dark(ask.groups) {
+        return numbers::DARK;
     }
-    if length == 0 {
-        return 3;
+    if refusals::off_rig(t.rig, ask.groups) {
+        return numbers::OFF_RIG;
     }
-    if 3_600_000 < length {
-        return 3;
+    if refusals::bad_length(ask.length) {
+        return numbers::BAD_LENGTH;
     }
-    if 64 <= t.count {
-        return 6;
+    if refusals::full(t.count) {
+        return numbers::FULL;
     }
-    if 65_535 <= t.issued {
-        return 7;
+    if refusals::ticketless(t.issued) {
+        return numbers::TICKETLESS;
     }
     0
 }
 
 // A claim that no test refuses, in a table that is packed.
-fn admitted(t: Table, groups: u64, length: u32) -> Outcome
-    requires { ⌜ Formed t × Still (model t) × (t .count < 64) × (t .issued < 65535) × (1 ≤ length) × (length ≤ 3600000) ⌝ }
-    ensures { λ r. ⌜ (r ≡ outcome (admit (model t) groups length)) × Formed (r .table) ⌝ }
+fn admitted(t: Table, ask: Request) -> Outcome
+    requires { ⌜ Formed t × Still (model t) × (t .count < mostPending) × (t .issued < mostTickets) × (1 ≤ ask .length) × (ask .length ≤ mostLength) ⌝ }
+    ensures { λ r. ⌜ (r ≡ outcome (admit (model t) ask)) × Formed (r .table) ⌝ }
 {
     let clock = t.clock;
     let ticket = t.issued + 1;
     let w = Claim {
-        groups: groups,
+        groups: ask.groups,
         phase: Phase::Waiting(clock),
-        length: length,
+        length: ask.length,
         ticket: ticket,
     };
     let p = placing::place(t, w);
-    finished(p.table, ticket, p.start, p.contention, p.bound)
+    finished(p.table, p.reply)
 }
 
-// Claims groups for a length of time. Refused: 5, 4, 1, 2, 3, 6, 7.
-pub fn claim(t: Table, clock: u64, groups: u64, length: u32) -> Outcome
+// Claims what is asked for. Refused: 5, 4, 1, 2, 3, 6, 7.
+pub fn claim(t: Table, clock: u64, ask: Request) -> Outcome
     requires { ⌜ Valid t ⌝ }
-    ensures { λ r. ⌜ (r ≡ outcome (step (model t) (Call.claim clock groups length))) × Valid (r .table) ⌝ }
+    ensures { λ r. ⌜ (r ≡ outcome (step (model t) (Call.claim clock ask))) × Valid (r .table) ⌝ }
 {
-    let number = claim_number(t, clock, groups, length);
+    let number = claim_number(t, clock, ask);
     if number != 0 {
         return refusal(t, number);
     }
     let u = at_clock(t, clock);
-    admitted(u, groups, length)
+    admitted(u, ask)
 }

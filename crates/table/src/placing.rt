@@ -2,6 +2,7 @@
 // What is asked is defined in the rules' specs/Placing.antt.
 ghost use mathlib.Core.Path.{_≡_};
 ghost use Prim.Native.Nat.{_≤_, _<_};
+ghost use Rattle.numbers.specs.Numbers.{mostTickets, mostPending};
 ghost use Rattle.rules.specs.Claims.{at};
 ghost use Rattle.rules.specs.Placing.{clear};
 ghost use Rattle.table.specs.Rows.{Sized, Row};
@@ -13,26 +14,25 @@ use crate::claims::time_left;
 use crate::claims::waiting_from;
 use crate::claims::wide;
 use rules::Claim;
+use rules::Reply;
+use rules::Setting;
 use rules::Table;
 
-// What placing gives: the table with one claim more, that claim's start, how many pending claims conflict with it (document 01: crowd),
-// and the bound on its start (ceiling).
+// What placing gives: the table with one claim more, and what the claim is answered.
 pub struct Placed {
     pub table: Table,
-    pub start: u64,
-    pub contention: u64,
-    pub bound: u64,
+    pub reply: Reply,
 }
 
 // Whether the claim `c` leaves room for `w` at `s`. Cost: at most four tests.
-fn clears(clock: u64, c: Claim, w: Claim, s: u64) -> bool
+fn clears(v: Setting, c: Claim, w: Claim, s: u64) -> bool
     requires { ⌜ (at c ≤ 1000000000000000000) × (s ≤ 1000000000000000000) ⌝ }
-    ensures { λ r. ⌜ r ≡ clear (record { clock = clock }) w s c ⌝ }
+    ensures { λ r. ⌜ r ≡ clear v w s c ⌝ }
 {
     if !groups::shares(c.groups, w.groups) {
         return true;
     }
-    if end_of(clock, c) <= s {
+    if end_of(v, c) <= s {
         return true;
     }
     if is_on(c) {
@@ -47,18 +47,19 @@ fn clears(clock: u64, c: Claim, w: Claim, s: u64) -> bool
 // there to its end, which is the next candidate. All loops stand here, since a table handed on is a table copied.
 // Cost: one pass over the claims for each jump, one for the start and one to count; a claim bars at most one candidate.
 pub(crate) fn place(mut t: Table, w: Claim) -> Placed
-    requires { ⌜ Row (t .clock) (t .claims) (t .count) × Sized (t .clock) w × (t .count < 64) × (t .issued < 65535) ⌝ }
+    requires { ⌜ Row (t .clock) (t .claims) (t .count) × Sized (t .clock) w × (t .count < mostPending) × (t .issued < mostTickets) ⌝ }
     ensures { λ r. ⌜ r ≡ placedIn t w ⌝ }
 {
     let clock = t.clock;
+    let v = Setting { clock: clock };
     let count = t.count;
     let mut s = clock;
     let start = 'candidates: loop {
         let mut j = 0;
         while j < count {
             let c = t.claims[j];
-            if !clears(clock, c, w, s) {
-                s = end_of(clock, c);
+            if !clears(v, c, w, s) {
+                s = end_of(v, c);
                 continue 'candidates;
             }
             j += 1;
@@ -72,7 +73,7 @@ pub(crate) fn place(mut t: Table, w: Claim) -> Placed
         let c = t.claims[i];
         if groups::shares(c.groups, w.groups) {
             rivals += 1;
-            time += time_left(clock, c);
+            time += time_left(v, c);
         }
         i += 1;
     }
@@ -83,8 +84,11 @@ pub(crate) fn place(mut t: Table, w: Claim) -> Placed
     t.count = count + 1;
     Placed {
         table: t,
-        start: start,
-        contention: rivals,
-        bound: bound,
+        reply: Reply {
+            ticket: w.ticket,
+            start: start,
+            contention: rivals,
+            bound: bound,
+        },
     }
 }

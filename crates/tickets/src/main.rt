@@ -1,5 +1,6 @@
 // Issues every ticket that a table has, claim and release in turn, and shows what comes then: no load is long enough for it.
 ghost use Rattle.table.specs.Valid.{Valid};
+use rules::Request;
 use rules::Table;
 
 fn line(text: &[u8], n: u64) {
@@ -16,7 +17,14 @@ fn exhausted() -> Table
     let mut t = o.table;
     let mut i: u32 = 0;
     while i < 65_535 {
-        let c = table::claim(t, 0, 0x1, 1);
+        let c = table::claim(
+            t,
+            0,
+            Request {
+                groups: 0x1,
+                length: 1,
+            },
+        );
         let u = c.table;
         let r = table::release(u, 0, c.ticket);
         t = r.table;
@@ -29,7 +37,14 @@ fn main() {
     let t = exhausted();
     line(b"tickets issued: ", t.issued as u64);
     line(b"claims pending: ", t.count as u64);
-    let c = table::claim(t, 0, 0x1, 1);
+    let c = table::claim(
+        t,
+        0,
+        Request {
+            groups: 0x1,
+            length: 1,
+        },
+    );
     line(b"a claim more: ", c.number as u64);
     let u = c.table;
     let r = table::release(u, 0, 65_535);

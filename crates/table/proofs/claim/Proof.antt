@@ -14,14 +14,14 @@ returns c =
     let n = c .before .before in
     let b = n .before in
     let a = b .args in
-    refused (a .t) (Call.claim (a .clock) (a .groups) (a .length)) _ _ (b .pre) (c .refusal .ensures) (sym (n .claim-number .ensures)) (c .before .if1 .taken)
+    refused (a .t) (Call.claim (a .clock) (a .ask)) _ _ (b .pre) (c .refusal .ensures) (sym (n .claim-number .ensures)) (c .before .if1 .taken)
 
 at-clock-requires : tie.Need-at-clock-requires
 at-clock-requires c κs =
     let n = c .before in
     let b = n .before in
     let a = b .args in
-    let h = admissible (model (a .t)) (a .clock) (a .groups) (a .length) (sym (n .claim-number .ensures) ∙ c .if1 .left) in
+    let h = admissible (model (a .t)) (a .clock) (a .ask) (sym (n .claim-number .ensures) ∙ c .if1 .left) in
     (b .pre, h .clocked .later, h .clocked .early)
 
 admitted-requires : tie.Need-admitted-requires
@@ -29,7 +29,7 @@ admitted-requires c κs =
     let n = c .before .before in
     let b = n .before in
     let a = b .args in
-    let h = admissible (model (a .t)) (a .clock) (a .groups) (a .length) (sym (n .claim-number .ensures) ∙ c .before .if1 .left) in
+    let h = admissible (model (a .t)) (a .clock) (a .ask) (sym (n .claim-number .ensures) ∙ c .before .if1 .left) in
     let k = advanced-counts (a .t) (a .clock) _ (b .pre .formed) (c .at-clock .ensures .0) in
     (c .at-clock .ensures .1, c .at-clock .ensures .2, omega (arith, k .0, h .room, formed-count (a .t) (b .pre .formed)), omega (arith, k .1, h .spare), h .long, h .short)
 
@@ -39,8 +39,8 @@ returns-2 c =
     let n = u .before .before in
     let b = n .before in
     let a = b .args in
-    let e = claim-is (a .t) (a .clock) (a .groups) (a .length) _ _ _ (n .claim-number .ensures) (u .before .if1 .left) (u .at-clock .ensures .0) (c .admitted .ensures .0) in
-    (e, kept-valid (a .t) (Call.claim (a .clock) (a .groups) (a .length)) _ (b .pre) e (c .admitted .ensures .1))
+    let e = claim-is (a .t) (a .clock) (a .ask) _ _ _ (n .claim-number .ensures) (u .before .if1 .left) (u .at-clock .ensures .0) (c .admitted .ensures .0) in
+    (e, kept-valid (a .t) (Call.claim (a .clock) (a .ask)) _ (b .pre) e (c .admitted .ensures .1))
 
 pub claim-spec : {M : Type 1} → statement M
 claim-spec =

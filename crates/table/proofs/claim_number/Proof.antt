@@ -1,84 +1,111 @@
-use mathlib.Core.Path.{sym, _∙_}
-use native.Mathlib.Omega.{arith}
-use borrow.Author.Tests.{not-true, not-false}
+-- `claim_number` meets its contract: each test in its order, and where it passes those behind it decide.
+use mathlib.Core.Path.{_≡_, refl, sym, _∙_, ap}
+use mathlib.Core.List.{List, []}
+use Prim.Native.Nat.{ℕ}
+use borrow.Author.Needs.{needs}
+use lib.ListN.{length, drop}
+use Rattle.rules.specs.Calls.{Call, tests}
+use Rattle.rules.specs.Tests.{Test, firstOf, late, backward, dark, offRig, badLength, full, ticketless}
 use Rattle.rules.specs.Tables.{model}
 use Rattle.table.proofs.Ranges.{formed-count}
-use Rattle.table.proofs.Tests.{claim-timed, claim-dark, claim-off-rig, claim-no-length, claim-too-long, claim-full, claim-ticketless, claim-passes}
-use borrow.Author.Needs.{needs}
+use Rattle.table.proofs.Tests.{fails-here, past}
 use Rattle.table.proofs.claim_number.Statement.{statement}
 use Rattle.table.proofs.claim_number.Tie as tie
 
+-- The tests; and what is said behind the k-th, of what is said of all.
+abbrev all : tie.Start → List Test
+all c = tests (model (c .args .t)) (Call.claim (c .args .clock) (c .args .ask))
+
+abbrev Behind : ℕ → tie.Start → Type 0
+Behind k c = (n : ℕ) → n ≡ firstOf (drop k (all c)) → n ≡ firstOf (all c)
+
+behind1 : (c : tie.Else1) → Behind 1 (c .before .before)
+unfolding tests
+behind1 c n h =
+    let a = c .before .before .args in
+    past (late (a .clock)) _ (sym (c .before .late .ensures) ∙ c .if1 .left) h
+
+behind2 : (c : tie.Else2) → Behind 2 (c .before .before .before .before)
+unfolding tests
+behind2 c n h =
+    let a = c .before .before .before .before .args in
+    behind1 (c .before .before) n (past (backward (a .t .clock) (a .clock)) _ (sym (c .before .backward .ensures) ∙ c .if2 .left) h)
+
+behind3 : (c : tie.Else3) → Behind 3 (c .before .before .before .before .before .before)
+unfolding tests
+behind3 c n h =
+    let a = c .before .before .before .before .before .before .args in
+    behind2 (c .before .before) n (past (dark (a .ask .groups)) _ (sym (c .before .dark .ensures) ∙ c .if3 .left) h)
+
+behind4 : (c : tie.Else4) → Behind 4 (c .before .before .before .before .before .before .before .before)
+unfolding tests
+behind4 c n h =
+    let a = c .before .before .before .before .before .before .before .before .args in
+    behind3 (c .before .before) n (past (offRig (a .t .rig) (a .ask .groups)) _ (sym (c .before .off-rig .ensures) ∙ c .if4 .left) h)
+
+behind5 : (c : tie.Else5) → Behind 5 (c .before .before .before .before .before .before .before .before .before .before)
+unfolding tests
+behind5 c n h =
+    let a = c .before .before .before .before .before .before .before .before .before .before .args in
+    behind4 (c .before .before) n (past (badLength (a .ask .length)) _ (sym (c .before .bad-length .ensures) ∙ c .if5 .left) h)
+
+-- The count of pending claims is the table's.
+counted : (c : tie.Start) → full (length (model (c .args .t) .pending)) .fails ≡ full (c .args .t .count) .fails
+counted c = ap (λ (n : ℕ). full n .fails) (formed-count (c .args .t) (c .pre))
+
+behind6 : (c : tie.Else6) → Behind 6 (c .before .before .before .before .before .before .before .before .before .before .before .before)
+unfolding tests
+behind6 c n h =
+    let a = c .before .before .before .before .before .before .before .before .before .before .before .before .args in
+    behind5 (c .before .before) n (past (full (length (model (a .t) .pending))) _ (counted (c .before .before .before .before .before .before .before .before .before .before .before .before) ∙ sym (c .before .full .ensures) ∙ c .if6 .left) h)
+
 returns : tie.Need-returns
+unfolding tests
 returns c =
-    let n = c .before in
-    let a = n .before .args in
-    claim-timed (model (a .t)) (a .clock) (a .groups) (a .length) _ (n .time-number .ensures) (c .if1 .taken)
+    let a = c .before .before .args in
+    fails-here (late (a .clock)) _ refl (sym (c .before .late .ensures) ∙ c .if1 .taken)
 
 returns-2 : tie.Need-returns-2
+unfolding tests
 returns-2 c =
-    let m = c .before in
-    let n = m .before .before in
-    let a = n .before .args in
-    claim-dark (model (a .t)) (a .clock) (a .groups) (a .length) _ (n .time-number .ensures) (m .before .if1 .left) (sym (m .empty .ensures) ∙ c .if2 .taken)
+    let a = c .before .before .before .before .args in
+    behind1 (c .before .before) _ (fails-here (backward (a .t .clock) (a .clock)) _ refl (sym (c .before .backward .ensures) ∙ c .if2 .taken))
 
 returns-3 : tie.Need-returns-3
+unfolding tests
 returns-3 c =
-    let i = c .before in
-    let m = i .before .before in
-    let n = m .before .before in
-    let a = n .before .args in
-    claim-off-rig (model (a .t)) (a .clock) (a .groups) (a .length) _ (n .time-number .ensures) (m .before .if1 .left) (sym (m .empty .ensures) ∙ i .before .if2 .left)
-    (sym (i .within .ensures) ∙ not-true _ (c .if3 .taken))
+    let a = c .before .before .before .before .before .before .args in
+    behind2 (c .before .before) _ (fails-here (dark (a .ask .groups)) _ refl (sym (c .before .dark .ensures) ∙ c .if3 .taken))
 
 returns-4 : tie.Need-returns-4
+unfolding tests
 returns-4 c =
-    let b = c .before in
-    let i = b .before in
-    let m = i .before .before in
-    let n = m .before .before in
-    let a = n .before .args in
-    claim-no-length (model (a .t)) (a .clock) (a .groups) (a .length) _ (n .time-number .ensures) (m .before .if1 .left) (sym (m .empty .ensures) ∙ i .before .if2 .left)
-    (sym (i .within .ensures) ∙ not-false _ (b .if3 .left)) (c .if4 .taken)
+    let a = c .before .before .before .before .before .before .before .before .args in
+    behind3 (c .before .before) _ (fails-here (offRig (a .t .rig) (a .ask .groups)) _ refl (sym (c .before .off-rig .ensures) ∙ c .if4 .taken))
 
 returns-5 : tie.Need-returns-5
+unfolding tests
 returns-5 c =
-    let b = c .before .before in
-    let i = b .before in
-    let m = i .before .before in
-    let n = m .before .before in
-    let a = n .before .args in
-    claim-too-long (model (a .t)) (a .clock) (a .groups) (a .length) _ (n .time-number .ensures) (m .before .if1 .left) (sym (m .empty .ensures) ∙ i .before .if2 .left)
-    (sym (i .within .ensures) ∙ not-false _ (b .if3 .left)) (c .before .if4 .left) (c .if5 .taken)
+    let a = c .before .before .before .before .before .before .before .before .before .before .args in
+    behind4 (c .before .before) _ (fails-here (badLength (a .ask .length)) _ refl (sym (c .before .bad-length .ensures) ∙ c .if5 .taken))
 
 returns-6 : tie.Need-returns-6
+unfolding tests
 returns-6 c =
-    let b = c .before .before .before .before in
-    let i = b .before in
-    let m = i .before .before in
-    let n = m .before .before in
-    let a = n .before .args in
-    claim-full (model (a .t)) (a .clock) (a .groups) (a .length) _ (n .time-number .ensures) (m .before .if1 .left) (sym (m .empty .ensures) ∙ i .before .if2 .left)
-    (sym (i .within .ensures) ∙ not-false _ (b .if3 .left)) (c .before .before .before .if4 .left) (c .before .before .if5 .left) (omega (arith, formed-count (a .t) (n .before .pre)))
+    let a = c .before .before .before .before .before .before .before .before .before .before .before .before .args in
+    behind5 (c .before .before) _ (fails-here (full (length (model (a .t) .pending))) _ refl (counted (c .before .before .before .before .before .before .before .before .before .before .before .before) ∙ sym (c .before .full .ensures) ∙ c .if6 .taken))
 
 returns-7 : tie.Need-returns-7
+unfolding tests
 returns-7 c =
-    let b = c .before .before .before .before .before .before in
-    let i = b .before in
-    let m = i .before .before in
-    let n = m .before .before in
-    let a = n .before .args in
-    claim-ticketless (model (a .t)) (a .clock) (a .groups) (a .length) _ (n .time-number .ensures) (m .before .if1 .left) (sym (m .empty .ensures) ∙ i .before .if2 .left)
-    (sym (i .within .ensures) ∙ not-false _ (b .if3 .left)) (c .before .before .before .before .before .if4 .left) (c .before .before .before .before .if5 .left) (omega (arith, formed-count (a .t) (n .before .pre))) (c .if7 .taken)
+    let a = c .before .before .before .before .before .before .before .before .before .before .before .before .before .before .args in
+    behind6 (c .before .before) _ (fails-here (ticketless (a .t .issued)) _ refl (sym (c .before .ticketless .ensures) ∙ c .if7 .taken))
 
 returns-8 : tie.Need-returns-8
+unfolding tests firstOf
 returns-8 c =
-    let b = c .before .before .before .before .before .before in
-    let i = b .before in
-    let m = i .before .before in
-    let n = m .before .before in
-    let a = n .before .args in
-    claim-passes (model (a .t)) (a .clock) (a .groups) (a .length) _ (n .time-number .ensures) (m .before .if1 .left) (sym (m .empty .ensures) ∙ i .before .if2 .left)
-    (sym (i .within .ensures) ∙ not-false _ (b .if3 .left)) (c .before .before .before .before .before .if4 .left) (c .before .before .before .before .if5 .left) (omega (arith, formed-count (a .t) (n .before .pre))) (omega arith)
+    let a = c .before .before .before .before .before .before .before .before .before .before .before .before .before .before .args in
+    behind6 (c .before .before) _ (past (ticketless (a .t .issued)) [] (sym (c .before .ticketless .ensures) ∙ c .if7 .left) refl)
 
 pub claim-number-spec : {M : Type 1} → statement M
 claim-number-spec =
@@ -90,8 +117,12 @@ claim-number-spec =
     returns-2
     (λ c κs. search needs)
     returns-3
+    (λ c κs. search needs)
     returns-4
+    (λ c κs. search needs)
     returns-5
+    (λ c κs. search needs)
     returns-6
+    (λ c κs. search needs)
     returns-7
     returns-8)

@@ -18,7 +18,7 @@ returns c =
     let g = c .before .before in
     let b = g .before in
     let a = b .args in
-    finished-is (a .t) (g .grant .result) (a .ticket) (a .start) (a .contention) (a .bound) _ (b .pre .0) (b .pre .1) (g .grant .ensures) refl
+    finished-is (a .t) (g .grant .result) (a .r) _ (b .pre .0) (b .pre .1) (g .grant .ensures) refl
 
 pub finished-spec : {M : Type 1} → statement M
 finished-spec = tie.close (tie.spec grant-requires returns)

@@ -1,24 +1,29 @@
-use borrow.Author.Tests.{lt-ltb, le-ltb}
-use native.Mathlib.Omega.{arith}
+use mathlib.Core.Path.{refl, sym, _∙_}
+use mathlib.Core.List.{[], _∷_}
+use borrow.Author.Needs.{needs}
+use Rattle.rules.specs.Tests.{late, backward, firstOf}
 use Rattle.table.specs.Outcomes.{timeNumber}
+use Rattle.table.proofs.Tests.{fails-here, past}
 use Rattle.table.proofs.time_number.Statement.{statement}
 use Rattle.table.proofs.time_number.Tie as tie
 
 returns : tie.Need-returns
 unfolding timeNumber
-returns c = rw (lt-ltb 1000000000000 (c .before .args .clock) (omega arith))
+returns c = fails-here (late (c .before .before .args .clock)) _ refl (sym (c .before .late .ensures) ∙ c .if1 .taken)
 
 returns-2 : tie.Need-returns-2
 unfolding timeNumber
 returns-2 c =
-    let a = c .before .before .args in
-    rw (le-ltb 1000000000000 (a .clock) (omega arith), lt-ltb (a .clock) (a .now) (omega arith))
+    let l = c .before .before in
+    let a = l .before .before .args in
+    past (late (a .clock)) _ (sym (l .before .late .ensures) ∙ l .if1 .left) (fails-here (backward (a .now) (a .clock)) _ refl (sym (c .before .backward .ensures) ∙ c .if2 .taken))
 
 returns-3 : tie.Need-returns-3
-unfolding timeNumber
+unfolding timeNumber firstOf
 returns-3 c =
-    let a = c .before .before .args in
-    rw (le-ltb 1000000000000 (a .clock) (omega arith), le-ltb (a .clock) (a .now) (omega arith))
+    let l = c .before .before in
+    let a = l .before .before .args in
+    past (late (a .clock)) (backward (a .now) (a .clock) ∷ []) (sym (l .before .late .ensures) ∙ l .if1 .left) (past (backward (a .now) (a .clock)) [] (sym (c .before .backward .ensures) ∙ c .if2 .left) refl)
 
 pub time-number-spec : {M : Type 1} → statement M
-time-number-spec = tie.close (tie.spec returns returns-2 returns-3)
+time-number-spec = tie.close (tie.spec (λ c κs. search needs) returns (λ c κs. search needs) returns-2 returns-3)

@@ -17,14 +17,14 @@ returns c = end-waiting _ _ _ _ (c .before .p .given .1) (c .before .before .bef
 
 returns-2 : tie.Need-returns-2
 returns-2 c =
-    let a = c .before .before .before .before .before .args in
-    let q = end-held (record { clock = a .clock }) _ _ (a .c) (c .before .before .p2 .given .1) (c .before .before .before .before .wide .ensures .0) in
+    let a = c .before .before .before .before .before .before .args in
+    let q = end-held (a .v) _ _ (a .c) (c .before .before .before .p2 .given .1) (c .before .before .before .before .before .wide .ensures .0) in
     omega arith
 
 returns-3 : tie.Need-returns-3
 returns-3 c =
-    let a = c .before .before .before .before .before .args in
-    let q = end-held (record { clock = a .clock }) _ _ (a .c) (c .before .before .p2 .given .1) (c .before .before .before .before .wide .ensures .0) in
+    let a = c .before .before .before .before .before .before .args in
+    let q = end-held (a .v) _ _ (a .c) (c .before .before .before .p2 .given .1) (c .before .before .before .before .before .wide .ensures .0) in
     omega arith
 
 pub end-of-spec : {M : Type 1} → statement M

@@ -9,16 +9,16 @@ use Rattle.table.proofs.claims.time_left.Tie as tie
 
 sub-result : tie.Need-sub-result
 sub-result c =
-    let a = c .before .before .before .before .args in
-    omega (arith, c .end-of .ensures, end-clock (record { clock = a .clock }) (a .c) (ap isOn (c .before .before .p2 .given .1)))
+    let a = c .before .before .before .before .before .args in
+    omega (arith, c .before .end-of .ensures, end-clock (a .v) (a .c) (ap isOn (c .before .before .before .p2 .given .1)))
 
 returns : tie.Need-returns
 returns c = left-waiting _ _ _ _ (c .before .before .p .given .1) (c .wide .ensures .0)
 
 returns-2 : tie.Need-returns-2
 returns-2 c =
-    let a = c .before .before .before .before .args in
-    left-held (record { clock = a .clock }) _ _ (a .c) (c .before .before .p2 .given .1) (c .end-of .ensures)
+    let a = c .before .before .before .before .before .args in
+    left-held (a .v) _ _ (a .c) (c .before .before .before .p2 .given .1) (c .before .end-of .ensures)
 
 pub time-left-spec : {M : Type 1} → statement M
 time-left-spec =

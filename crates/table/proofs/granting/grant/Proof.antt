@@ -6,10 +6,10 @@ use Prim.Native.Nat.{_-_, _≤_, _<_}
 use native.Mathlib.Omega.{arith}
 use borrow.Author.Needs.{needs}
 use lib.ListN.{take, drop}
-use Rattle.rules.specs.Claims.{Setting}
+use Rattle.rules.specs.declared.Setting.{Setting}
 use Rattle.rules.specs.Tables.{vacant}
 use Rattle.table.specs.Holders.{goesAt}
-use Rattle.table.specs.Parts.{withClaims}
+use Rattle.table.specs.Parts.{ruledIn, withClaims}
 use Rattle.table.proofs.Rows.{prefix-step, prefix-end, other-claims, these-claims}
 use Rattle.table.proofs.Holders.{Holding, holding-start, holding-more, holding-end, held-goes}
 use Rattle.table.proofs.Grants.{Written, written-start, written-rest, written-gone, written-stay, written-end, granted-is}
@@ -24,7 +24,7 @@ abbrev μ-loop : tie.MeasureT-loop
 
 abbrev Inv-loop2 : tie.InvT-loop2
 Inv-loop2 t₀ count clock held i tickets₀ n₀ j₀ t tickets n j =
-    (t ≡ withClaims t₀ (t .claims)) × Written (record { clock = clock }) (t₀ .claims) count j (t .claims) n tickets
+    (t ≡ withClaims t₀ (t .claims)) × Written (ruledIn t₀ clock) (t₀ .claims) count j (t .claims) n tickets
 
 abbrev μ-loop2 : tie.MeasureT-loop2
 μ-loop2 t₀ count clock held i tickets₀ n₀ j₀ t tickets n j = count - j
@@ -85,13 +85,13 @@ loop2-again c =
     let o = z .before .before in
     let b = o .before in
     let t = b .args .t1 in
-    let v : Setting = record { clock = t .clock } in
+    let v : Setting = ruledIn t (t .clock) in
     let r = b .pre .0 in
     let w = z .loop2 .inv .1 in
     let j = z .loop2 .j in
     let h : j < t .count = omega arith in
     let held = holding-end _ _ (rw (prefix-end (t .claims) (t .count) (o .loop .i) (z .before .loop-test .left)) at (o .loop .inv .1)) in
-    let g = held-goes (t .clock) (t .claims) (t .count) _ j r (b .pre .1) held (r .places) h
+    let g = held-goes v (t .claims) (t .count) _ j r (b .pre .1) held (r .places) h
     ∙ ap (goesAt (t .clock) (o .loop .held)) (sym (written-rest v _ _ (r .few) (r .places) _ _ _ _ w h)) ∙ sym (y .goes .ensures) in
     ⊎-elim
     (λ k. rw (k .2, k .3, k .4) (other-claims (z .loop2 .t) t _ (z .loop2 .inv .0), written-gone v _ _ (r .few) (r .places) _ _ _ _ w _ h (g ∙ k .0 .taken) (k .1 .ensures)))
@@ -103,7 +103,7 @@ returns c =
     let z = c .before in
     let b = z .before .before .before in
     let t = b .args .t1 in
-    let e = written-end (record { clock = t .clock }) _ _ (b .pre .0 .few) (b .pre .0 .places) _ _ _ _ (z .loop2 .inv .1) (c .loop2-test .left) in
+    let e = written-end (ruledIn t (t .clock)) _ _ (b .pre .0 .few) (b .pre .0 .places) _ _ _ _ (z .loop2 .inv .1) (c .loop2-test .left) in
     granted-is t (z .loop2 .t) _ _ (these-claims (z .loop2 .t) t _ (z .loop2 .inv .0) (e .0)) (e .1) (e .2)
 
 pub grant-spec : {M : Type 1} → statement M

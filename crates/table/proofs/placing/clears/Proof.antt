@@ -13,7 +13,7 @@ use Rattle.table.proofs.placing.clears.Tie as tie
 -- Behind the first two tests, the claim conflicts and ends after s.
 barring : (c : tie.Else2) →
     let a = c .before .before .before .before .args in
-    (conflicts (a .c) (a .w) ≡ true) × (a .s < endOf (record { clock = a .clock }) (a .c))
+    (conflicts (a .c) (a .w) ≡ true) × (a .s < endOf (a .v) (a .c))
 barring c =
     let z = c .before .before in
     (sym (z .before .shares .ensures) ∙ not-false _ (z .if1 .left), omega (arith, c .before .end-of .ensures))

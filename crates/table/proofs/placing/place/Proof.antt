@@ -12,6 +12,7 @@ use Rattle.rules.specs.Claims.{at, remaining}
 use Rattle.rules.specs.Placing.{fits, place, contention, startBound}
 use Rattle.rules.specs.Tables.{vacant}
 use Rattle.rules.proofs.Placing.{place-low}
+use Rattle.table.specs.Parts.{ruledIn}
 use Rattle.table.proofs.Rows.{in-prefix, row-small}
 use Rattle.table.proofs.Searching.{pass, passed, jump, found}
 use Rattle.table.proofs.Sizes.{place-small, rivals-few, time-short, bound-small}
@@ -20,25 +21,25 @@ use Rattle.table.proofs.placing.place.Statement.{statement}
 use Rattle.table.proofs.placing.place.Tie as tie
 
 abbrev Inv-loop : tie.InvT-loop
-Inv-loop w t clock count s₀ j₀ s j =
+Inv-loop w t clock v count s₀ j₀ s j =
     (s ≡ s₀)
     × (j ≤ count)
-    × (fits (record { clock = clock }) (drop j (take count (t .claims))) w s ≡ fits (record { clock = clock }) (take count (t .claims)) w s)
+    × (fits v (drop j (take count (t .claims))) w s ≡ fits v (take count (t .claims)) w s)
 
 abbrev μ-loop : tie.MeasureT-loop
-μ-loop w t clock count s₀ j₀ s j = count - j
+μ-loop w t clock v count s₀ j₀ s j = count - j
 
 abbrev Inv-candidates : tie.InvT-candidates
-Inv-candidates w t clock count s₀ s = (clock ≤ s) × (s ≤ place (record { clock = clock }) (take count (t .claims)) w)
+Inv-candidates w t clock v count s₀ s = (clock ≤ s) × (s ≤ place v (take count (t .claims)) w)
 
 abbrev μ-candidates : tie.MeasureT-candidates
-μ-candidates w t clock count s₀ s = place (record { clock = clock }) (take count (t .claims)) w - s
+μ-candidates w t clock v count s₀ s = place v (take count (t .claims)) w - s
 
 abbrev Inv-loop2 : tie.InvT-loop2
-Inv-loop2 w t clock count s start rivals₀ time₀ i₀ rivals time i = (i ≤ count) × Counted (record { clock = clock }) (t .claims) count w i rivals time
+Inv-loop2 w t clock v count s start rivals₀ time₀ i₀ rivals time i = (i ≤ count) × Counted v (t .claims) count w i rivals time
 
 abbrev μ-loop2 : tie.MeasureT-loop2
-μ-loop2 w t clock count s start rivals₀ time₀ i₀ rivals time i = count - i
+μ-loop2 w t clock v count s start rivals₀ time₀ i₀ rivals time i = count - i
 
 -- ── the search ──
 -- The start or grant of the claim at hand is small.
@@ -52,7 +53,7 @@ small c =
 nearer : (c : tie.After-end-of Inv-loop μ-loop Inv-candidates μ-candidates Inv-loop2 μ-loop2) →
     let y = c .before .before .before .before .before .before in
     let t = y .before .args .t1 in
-    (y .candidates .s < c .end-of .result) × (c .end-of .result ≤ place (record { clock = t .clock }) (take (t .count) (t .claims)) (y .before .args .w))
+    (y .candidates .s < c .end-of .result) × (c .end-of .result ≤ place (ruledIn t (t .clock)) (take (t .count) (t .claims)) (y .before .args .w))
 nearer c =
     let z = c .before .before in
     let y = z .before .before .before in
@@ -60,7 +61,7 @@ nearer c =
     let t = b .args .t1 in
     let m = in-prefix vacant (t .claims) (t .count) (y .loop .j) (omega arith) (omega (arith, b .pre .0 .places, b .pre .0 .few)) in
     let e = sym (z .clears .ensures) ∙ not-true _ (c .before .if1 .taken) in
-    let k = jump (record { clock = t .clock }) (b .args .w) (y .loop .s) _ (omega arith) _ m e in
+    let k = jump (ruledIn t (t .clock)) (b .args .w) (y .loop .s) _ (omega arith) _ m e in
     (omega (arith, c .end-of .ensures), omega (arith, c .end-of .ensures))
 
 candidates-again : tie.Need-candidates-again Inv-loop μ-loop Inv-candidates μ-candidates Inv-loop2 μ-loop2
@@ -78,7 +79,7 @@ loop-again c =
 start-is : (c : tie.After-loop Inv-loop μ-loop Inv-candidates μ-candidates Inv-loop2 μ-loop2) →
     let b = c .before .before .before in
     let t = b .args .t1 in
-    c .before .loop .s ≡ place (record { clock = t .clock }) (take (t .count) (t .claims)) (b .args .w)
+    c .before .loop .s ≡ place (ruledIn t (t .clock)) (take (t .count) (t .claims)) (b .args .w)
 start-is c = found _ _ _ _ (omega arith) (omega arith) (sym (c .before .loop .inv .2) ∙ passed _ _ _ _ _ _ (c .loop-test .left))
 
 -- ── the count ──
@@ -87,8 +88,8 @@ rival : (c : tie.Then2 Inv-loop μ-loop Inv-candidates μ-candidates Inv-loop2 �
     let y = c .before .before .before .before in
     let a = y .before .before .before .before .args in
     let t = a .t1 in
-    Counted (record { clock = t .clock }) (t .claims) (t .count) (a .w) (y .loop2 .i + 1) (y .loop2 .rivals + 1)
-    (y .loop2 .time + remaining (record { clock = t .clock }) (getD (t .claims) (y .loop2 .i) vacant))
+    Counted (ruledIn t (t .clock)) (t .claims) (t .count) (a .w) (y .loop2 .i + 1) (y .loop2 .rivals + 1)
+    (y .loop2 .time + remaining (ruledIn t (t .clock)) (getD (t .claims) (y .loop2 .i) vacant))
 rival c =
     let y = c .before .before .before .before in
     let p = y .before .before .before .before .pre .0 in
@@ -101,7 +102,7 @@ whole : (c : tie.After-wide Inv-loop μ-loop Inv-candidates μ-candidates Inv-lo
     let t = a .t1 in
     let ps = take (t .count) (t .claims) in
     (y .loop2 .rivals ≡ contention ps (a .w))
-    × (t .clock + y .loop2 .time + y .loop2 .rivals * (c .wide .result - 1) ≡ startBound (record { clock = t .clock }) ps (a .w))
+    × (t .clock + y .loop2 .time + y .loop2 .rivals * (c .wide .result - 1) ≡ startBound (ruledIn t (t .clock)) ps (a .w))
 whole c = rw (c .wide .ensures .0) (count-all _ _ _ _ _ _ _ (c .before .before .loop2 .inv .1) (c .before .loop2-test .left))
 
 -- The bound is small.

@@ -1,0 +1,41 @@
+// The numbers for a call that is turned down, and the limits, as in specs/Numbers.antt: their one home in code.
+pub const DARK: u8 = 1;
+
+pub const OFF_RIG: u8 = 2;
+
+pub const BAD_LENGTH: u8 = 3;
+
+pub const BACKWARD: u8 = 4;
+
+pub const LATE: u8 = 5;
+
+pub const FULL: u8 = 6;
+
+pub const TICKETLESS: u8 = 7;
+
+pub const UNKNOWN: u8 = 8;
+
+pub const NOT_YET_ON: u8 = 9;
+
+pub const ALREADY_ON: u8 = 10;
+
+pub const EDITION: u8 = 11;
+
+pub const SHORT: u8 = 12;
+
+pub const MISFIT: u8 = 13;
+
+pub const OVERLONG: u8 = 14;
+
+pub const NO_SPACE: u8 = 15;
+
+// The last clock, the longest length in ticks, how many tickets a table issues, how many claims are pending, the bytes of a load.
+pub const MOST_CLOCK: u64 = 1_000_000_000_000;
+
+pub const MOST_LENGTH: u32 = 3_600_000;
+
+pub const MOST_TICKETS: u16 = 65_535;
+
+pub const MOST_PENDING: usize = 64;
+
+pub const MOST_BYTES: usize = 65_536;

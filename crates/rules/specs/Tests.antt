@@ -1,0 +1,61 @@
+-- What calls are tested for. A test takes what it looks at, so that another kind of table can use it. Quotations are from document 01.
+use mathlib.Core.Bool.{Bool, not, _&&_, _||_, cond}
+use mathlib.Core.List.{List, [], _∷_}
+use Prim.Native.Nat.{ℕ}
+use lib.Dec.{ltb, leb, eqb}
+use Rattle.numbers.specs.Numbers.{darkNumber, offRigNumber, lengthNumber, backwardNumber, lateNumber, fullNumber, ticketlessNumber, unknownNumber, notYetOnNumber, alreadyOnNumber, mostClock, mostLength, mostTickets, mostPending}
+use Rattle.groups.specs.Groups.{empty, within}
+use Rattle.rules.specs.declared.Claim.{Claim}
+use Rattle.rules.specs.Lists.{any}
+use Rattle.rules.specs.Claims.{on}
+
+-- A test, with the number that is given when it is true.
+pub record Test : Type 0 where
+  pub fails : Bool
+  pub number : ℕ
+
+abbrev pub test : Bool → ℕ → Test
+test b n = record { fails = b; number = n }
+
+-- The number of the first test that fails, or 0.
+unfoldable pub firstOf : List Test → ℕ
+firstOf [] = 0
+firstOf (x ∷ xs) = cond (x .fails) (x .number) (firstOf xs)
+
+-- "late: clock over 1,000,000,000,000", "backward: clock below the table's clock"
+abbrev pub late : ℕ → Test
+late t = test (ltb mostClock t) lateNumber
+
+abbrev pub backward : ℕ → ℕ → Test
+backward now t = test (ltb t now) backwardNumber
+
+-- "dark: no group in the claim, or in a new rig", "off-rig: a group outside the rig"
+abbrev pub dark : ℕ → Test
+dark g = test (empty g) darkNumber
+
+abbrev pub offRig : ℕ → ℕ → Test
+offRig rig g = test (not (within g rig)) offRigNumber
+
+-- "length: 0 or over 3,600,000"
+abbrev pub badLength : ℕ → Test
+badLength n = test (eqb n 0 || ltb mostLength n) lengthNumber
+
+-- "full: 64 claims are pending", "ticketless: 65,535 tickets issued"
+abbrev pub full : ℕ → Test
+full pending = test (leb mostPending pending) fullNumber
+
+abbrev pub ticketless : ℕ → Test
+ticketless issued = test (leb mostTickets issued) ticketlessNumber
+
+-- "unknown: ticket not pending", "not yet on: release of a waiting claim", "already on: withdrawal of an on claim"
+abbrev pub named : ℕ → Claim → Bool
+named k c = eqb (c .ticket) k
+
+abbrev pub unknown : List Claim → ℕ → Test
+unknown ps k = test (not (any (named k) ps)) unknownNumber
+
+abbrev pub notYetOn : List Claim → ℕ → Test
+notYetOn ps k = test (any (λ c. named k c && not (on c)) ps) notYetOnNumber
+
+abbrev pub alreadyOn : List Claim → ℕ → Test
+alreadyOn ps k = test (any (λ c. named k c && on c) ps) alreadyOnNumber
