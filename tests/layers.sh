@@ -1,8 +1,11 @@
 #!/usr/bin/env bash
 # What a crate cites of the crates below it. tests/layers.txt lists, for each pair, the files of specs/ and proofs/ that it may cite; any
 # other is an error. Types and the statements of functions may be cited by all. The last line is 'N passed, M failed'.
-set -u
+set -u -o pipefail
 cd "$(dirname "$0")/.." || exit 2
+. tests/lib.sh || exit 2
+work=$(mktemp -d) || exit 2
+trap 'rm -rf "$work"' EXIT
 
 # cites: a line `FILE LOWER PART/MODULE` for each file of a lower crate that a file cites.
 cites() {
@@ -15,7 +18,10 @@ cites() {
     done
 }
 
-cites | awk '
+# judge: a line `ok` for each of the lines of cites that tests/layers.txt allows, and what is wrong for each other, or where nothing cites
+# what a line of layers.txt allows.
+judge() {
+    awk '
     # A line of layers.txt: `CRATE LOWER: PART/MODULE ..`, or a file of a crate in place of the crate.
     FILENAME != "-" {
         sub(/#.*/, "")
@@ -32,13 +38,18 @@ cites | awk '
         sub(/\/.*/, "", crate)
         # types, and the modules that the checker makes of each function
         if ($3 == "specs/declared" || $3 ~ /^proofs\/[a-z+]/ || $3 == "proofs/Item") next
-        if ((crate " " $2 " " $3) in may) { used[crate " " $2 " " $3] = 1; passed++; next }
-        if ((file " " $2 " " $3) in may) { used[file " " $2 " " $3] = 1; passed++; next }
+        if ((crate " " $2 " " $3) in may) { used[crate " " $2 " " $3] = 1; print "ok"; next }
+        if ((file " " $2 " " $3) in may) { used[file " " $2 " " $3] = 1; print "ok"; next }
         print $1 ": cites " $3 " of " $2 ", which tests/layers.txt does not list"
-        failed++
     }
     END {
-        for (k in may) if (!(k in used)) { print "tests/layers.txt: nothing cites " k; failed++ }
-        print passed + 0 " passed, " failed + 0 " failed"
-        exit failed != 0
+        for (k in may) if (!(k in used)) print "tests/layers.txt: nothing cites " k
     }' tests/layers.txt -
+}
+
+cites >"$work/cites" || fail "the sources are searched"
+judge <"$work/cites" >"$work/verdicts" || fail "what they cite is judged"
+while read -r verdict; do
+    if [ "$verdict" = ok ]; then count 1 0; else fail "$verdict"; fi
+done <"$work/verdicts"
+total

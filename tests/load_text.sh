@@ -1,51 +1,56 @@
 #!/usr/bin/env bash
-# Runs load_write and load_show (built by `rt check load_write load_show`) on small cases: a line for each, and the count at the end.
+# Runs load_write and load_show (built by `rt check load_write load_show`) on small cases: a line for each. The last line is 'N passed,
+# M failed'.
+set -u -o pipefail
 cd "$(dirname "$0")/.." || exit 2
+. tests/lib.sh || exit 2
 bin=target/bin
 tmp=$(mktemp -d) || exit 2
 trap 'rm -rf "$tmp"' EXIT
-passed=0
-failed=0
+: >"$tmp/err"
 
 # unhex: the bytes that a text of hex digits stands for.
 unhex() {
     perl -ne 'print pack "H*", $_'
 }
 
-# verdict NAME: compares what a program wrote (out, err) with what was expected (want, wanterr).
+# run PROGRAM: what a program makes of standard input, in the file `out`. What it says on standard error is put behind `err`, and so is an
+# exit status other than 0, with which no verdict is good.
+run() {
+    "$bin/$1" >"$tmp/out" 2>>"$tmp/err" || echo "$1: exit status $?" >>"$tmp/err"
+}
+
+# verdict NAME [MESSAGE]: `out` is to be as `want`, and since the last verdict standard error had the message, or nothing.
 verdict() {
+    if [ "$#" -gt 1 ]; then printf '%s\n' "$2" >"$tmp/wanterr"; else : >"$tmp/wanterr"; fi
     if cmp -s "$tmp/out" "$tmp/want" && cmp -s "$tmp/err" "$tmp/wanterr"; then
-        passed=$((passed + 1))
-        echo "ok: $1"
+        ok "$1"
     else
-        failed=$((failed + 1))
-        echo "FAIL: $1"
+        fail "$1"
         diff <(od -A d -t x1 "$tmp/want") <(od -A d -t x1 "$tmp/out") | head -n 6
         diff "$tmp/wanterr" "$tmp/err" | head -n 6
     fi
+    : >"$tmp/err"
 }
 
 # good NAME TEXT HEX: the text (with printf's escapes) is written as the load of these bytes.
 good() {
-    printf "$2" | "$bin/load_write" >"$tmp/out" 2>"$tmp/err"
-    printf '%s' "$3" | unhex >"$tmp/want"
-    : >"$tmp/wanterr"
+    printf '%b' "$2" | run load_write
+    printf '%s' "$3" | unhex >"$tmp/want" || fail "$1: the bytes that are wanted"
     verdict "$1"
 }
 
 # bad NAME TEXT MESSAGE: the text is reported with this message, and nothing is written.
 bad() {
-    printf "$2" | "$bin/load_write" >"$tmp/out" 2>"$tmp/err"
+    printf '%b' "$2" | run load_write
     : >"$tmp/want"
-    printf '%s\n' "$3" >"$tmp/wanterr"
-    verdict "$1"
+    verdict "$1" "$3"
 }
 
 # shown NAME HEX TEXT: the load of these bytes is shown as this text.
 shown() {
-    printf '%s' "$2" | unhex | "$bin/load_show" >"$tmp/out" 2>"$tmp/err"
-    printf "$3" >"$tmp/want"
-    : >"$tmp/wanterr"
+    printf '%s' "$2" | unhex | run load_show || fail "$1: the bytes that are given"
+    printf '%b' "$3" >"$tmp/want"
     verdict "$1"
 }
 
@@ -53,17 +58,18 @@ rig=000901000000000000000f
 header='# edition 1\n'
 
 # the sample, there and back
-"$bin/load_write" <crates/load_write/stdin >"$tmp/out" 2>"$tmp/err"
+run load_write <crates/load_write/stdin
 cp crates/load_write/stdout "$tmp/want"
-: >"$tmp/wanterr"
 verdict "sample: text to load"
-"$bin/load_show" <crates/load_write/stdout >"$tmp/out" 2>"$tmp/err"
+run load_show <crates/load_write/stdout
 cp crates/load_show/stdout "$tmp/want"
 verdict "sample: load to text"
-"$bin/load_write" <crates/load_show/stdout >"$tmp/out" 2>"$tmp/err"
+run load_write <crates/load_show/stdout
 cp crates/load_show/stdin "$tmp/want"
 verdict "sample: shown text to the same load"
-"$bin/load_write" <crates/load_write/stdin | "$bin/load_show" >"$tmp/out" 2>"$tmp/err"
+run load_write <crates/load_write/stdin
+mv "$tmp/out" "$tmp/load"
+run load_show <"$tmp/load"
 cp crates/load_show/stdout "$tmp/want"
 verdict "sample: text to load to text"
 
@@ -77,7 +83,7 @@ shown "record of no bytes" 010000 "$header# stop 13 1\n"
 # other refusals of load_show
 shown "second rig" "01$rig$rig" "${header}rig F\n# stop 13 2\n"
 shown "cut in the third record" "01${rig}0009050000000000000007000b03" "${header}rig F\nclock 7\n# stop 12 3\n"
-head -c 65537 /dev/zero | "$bin/load_show" >"$tmp/out" 2>"$tmp/err"
+head -c 65537 /dev/zero | run load_show
 printf '# stop 14 0\n' >"$tmp/want"
 verdict "load of 65,537 bytes"
 
@@ -120,24 +126,20 @@ bad "a bad line at the end writes nothing" 'rig F\nclaim 0 1 1\nclaim 0 1 1\nnon
 
 # sizes: the edition byte, the rig and 5,956 clocks are 65,528 bytes
 { echo "rig F"; yes "clock 1" | head -n 5956; } >"$tmp/full"
-"$bin/load_write" <"$tmp/full" >"$tmp/load" 2>"$tmp/err"
-"$bin/load_show" <"$tmp/load" >"$tmp/out" 2>>"$tmp/err"
-{ printf "$header"; cat "$tmp/full"; } >"$tmp/want"
-: >"$tmp/wanterr"
+run load_write <"$tmp/full"
+mv "$tmp/out" "$tmp/load"
+run load_show <"$tmp/load"
+{ printf '%b' "$header"; cat "$tmp/full"; } >"$tmp/want"
 verdict "a full load there and back"
 { cat "$tmp/full"; echo "clock 1"; } >"$tmp/over"
-"$bin/load_write" <"$tmp/over" >"$tmp/out" 2>"$tmp/err"
+run load_write <"$tmp/over"
 : >"$tmp/want"
-echo "line 5958: load over 65,536 bytes" >"$tmp/wanterr"
-verdict "one record over a full load"
-{ echo "rig F"; head -c 1048570 /dev/zero | tr '\0' '\n'; } | "$bin/load_write" >"$tmp/out" 2>"$tmp/err"
+verdict "one record over a full load" "line 5958: load over 65,536 bytes"
+{ echo "rig F"; head -c 1048570 /dev/zero | tr '\0' '\n'; } | run load_write
 printf '01%s' "$rig" | unhex >"$tmp/want"
-: >"$tmp/wanterr"
 verdict "text of 1,048,576 bytes"
-{ echo "rig F"; head -c 1048571 /dev/zero | tr '\0' '\n'; } | "$bin/load_write" >"$tmp/out" 2>"$tmp/err"
+{ echo "rig F"; head -c 1048571 /dev/zero | tr '\0' '\n'; } | run load_write
 : >"$tmp/want"
-echo "text over 1,048,576 bytes" >"$tmp/wanterr"
-verdict "text of 1,048,577 bytes"
+verdict "text of 1,048,577 bytes" "text over 1,048,576 bytes"
 
-echo "$passed passed, $failed failed"
-[ "$failed" -eq 0 ]
+total
