@@ -1,4 +1,4 @@
 pub mod Matching
-pub mod Run
+pub mod Demand3
 pub mod WholeCalls
 pub mod Worthless

@@ -25,7 +25,7 @@ use Rattle.rules.proofs.Packing.{moved-phase, pack-precedes}
 use Rattle.rules.proofs.Granting.{goes-wait, goes-at, granted-cases, grant-precedes}
 use Rattle.rules.proofs.Invariants.{spaced-clear, settled-starts}
 use Rattle.rules.proofs.Calls.{Admissible, advance-packed, finish-invariant, placed, join-spaced, Leaves, by-release, by-withdraw, by-clock, leaves-spaced, Idle, step-cases, clock-accepted, new-invariant, after-invariant, advance-same, finish-e, finish-clock, leaves-old, leaves-clock, join-old, advance-spare, admit-invariant}
-use Rattle.rules.proofs.Once.{advance-still, finish-still, joined, joined-cases, claim-pending, joined-at}
+use Rattle.rules.proofs.OnePacking.{advance-still, finish-still, joined, joined-cases, claim-pending, joined-at}
 use Rattle.promises.specs.WholeCalls.{Becomes, TimedCall, Stays, ClaimCall, WholeCalls}
 
 -- ── order ──

@@ -1,5 +1,5 @@
 -- Demand 3: one statement about a list of calls, "any number, even zero, in any order, with any values, those turned down too". Its words
--- go by the calls, their answers and lookup. proofs/Run has the theorem: it holds for every rig and every list.
+-- go by the calls, their answers and lookup. proofs/Demand3 has the theorem: it holds for every rig and every list.
 use mathlib.Core.Path.{_≡_}
 use mathlib.Core.Logic.{_≢_}
 use mathlib.Core.Bool.{true, false}
@@ -11,7 +11,7 @@ use Rattle.rules.specs.Lists.{_∈_}
 use Rattle.rules.specs.declared.Standing.{Standing}
 use Rattle.rules.specs.declared.Standing.the-variants.{NotPending, Waits, Holds}
 use Rattle.rules.specs.Calls.{Model, Call, claim, standingOf, step, new}
-use Rattle.promises.specs.Ledger.{Turn, Steps, turns, tableAfter, Entry, promised, Ledger, noted, ledgerOf, NoOverrun, Punctual, ruledBy, boundOn}
+use Rattle.promises.specs.Ledger.{Turn, Steps, turns, tableAfter, Entry, promised, Ledger, noted, ledgerOf, NoOverrun, NoOverrunIn, ruledBy, boundOn}
 
 -- "Look, asked after any call of the list, says the same: waiting, on with that promised end, or 8."
 pub record Agrees (l : List Entry) (k : ℕ) (told : Standing) : Type 0 where
@@ -55,13 +55,13 @@ pub record Demand3Of (step : Steps) (rig : ℕ) (calls : List Call) : Type 0 whe
   pub at-any-time : (before rest : List Call) → before ++ rest ≡ calls
       → (let m = new rig .model in
       let ts = turns step m before in
-      Now (Punctual ts) (ledgerOf ts) (tells (tableAfter step m before)))
+      Now (NoOverrunIn ts) (ledgerOf ts) (tells (tableAfter step m before)))
   pub at-any-call : (before : List Call) (c : Call) (rest : List Call) → before ++ (c ∷ rest) ≡ calls
       → (let m = new rig .model in
       let ts = turns step m before in
       let n = tableAfter step m before in
       let s = step n c in
-      Next (Punctual ts) (ledgerOf ts) (record { call = c; answer = s .answer }) (tells n) (tells (s .model)))
+      Next (NoOverrunIn ts) (ledgerOf ts) (record { call = c; answer = s .answer }) (tells n) (tells (s .model)))
 
 -- Demand 3 of the rules.
 abbrev pub Demand3 : ℕ → List Call → Type 0

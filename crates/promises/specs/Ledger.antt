@@ -110,8 +110,8 @@ NoOverruns l [] = Unit {0}
 NoOverruns l (t ∷ ts) = NoOverrun l t × NoOverruns (noted l t) ts
 
 -- No accepted call of these did.
-abbrev pub Punctual : List Turn → Type 0
-Punctual ts = NoOverruns opening ts
+abbrev pub NoOverrunIn : List Turn → Type 0
+NoOverrunIn ts = NoOverruns opening ts
 
 -- The rules at clock t, by what the calls so far set.
 abbrev pub ruledBy : Ledger → ℕ → Setting

@@ -43,19 +43,19 @@ passes x ts h e = go (x .fails) refl e
     go false q e = (q, e)
 
 -- The clock of an accepted timed call.
-pub record OnTime (m : Model) (t : ℕ) : Type 0 where
+pub record Clocked (m : Model) (t : ℕ) : Type 0 where
   pub later : m .clock ≤ t
   pub early : t ≤ mostClock
 
-pub on-time : (m : Model) (t : ℕ) (ts : List Test) → firstOf (late t ∷ backward (m .clock) t ∷ ts) ≡ 0 → OnTime m t × (firstOf ts ≡ 0)
-on-time m t ts e =
+pub clock-passes : (m : Model) (t : ℕ) (ts : List Test) → firstOf (late t ∷ backward (m .clock) t ∷ ts) ≡ 0 → Clocked m t × (firstOf ts ≡ 0)
+clock-passes m t ts e =
     let a = passes (late t) _ (omega arith) e in
     let b = passes (backward (m .clock) t) ts (omega arith) (a .1) in
     (record { later = ltb-false _ _ (b .0); early = ltb-false _ _ (a .0) }, b .1)
 
 -- What the tests of an accepted claim say.
 pub record Admissible (m : Model) (t : ℕ) (ask : Request) : Type 0 where
-  pub clocked : OnTime m t
+  pub clocked : Clocked m t
   pub lit : empty (ask .groups) ≡ false
   pub inside : within (ask .groups) (m .rig) ≡ true
   pub long : 1 ≤ ask .length
@@ -66,7 +66,7 @@ pub record Admissible (m : Model) (t : ℕ) (ask : Request) : Type 0 where
 pub admissible : (m : Model) (t : ℕ) (ask : Request) → firstOf (tests m (claim t ask)) ≡ 0 → Admissible m t ask
 unfolding tests
 admissible m t ask e =
-    let a = on-time m t _ e in
+    let a = clock-passes m t _ e in
     let b = passes (dark (ask .groups)) _ (omega arith) (a .1) in
     let c = passes (offRig (m .rig) (ask .groups)) _ (omega arith) (b .1) in
     let d = passes (badLength (ask .length)) _ (omega arith) (c .1) in
@@ -201,20 +201,20 @@ by-tests P m (suc n) s h k = h n
 pub step-cases : (P : Call → Step → Type 0) (m : Model)
     → ((c : Call) (n : ℕ) → Idle c n → P c (unchanged m n))
     → ((t : ℕ) (ask : Request) → Admissible m t ask → P (claim t ask) (admit (advance m t) ask))
-    → ((c : Call) (t k : ℕ) (q : Model) → OnTime m t → Leaves m c t k q → P c (finish q (plain k t)))
+    → ((c : Call) (t k : ℕ) (q : Model) → Clocked m t → Leaves m c t k q → P c (finish q (plain k t)))
     → (c : Call) → P c (step m c)
 unfolding step act tests
 step-cases P m no! yes-claim yes-left c = by-tests (P c) m (firstOf (tests m c)) (act m c) (λ j. no! c (suc j) (inr (λ e. omega arith))) (accepted c)
   where
     accepted : (c : Call) → firstOf (tests m c) ≡ 0 → P c (act m c)
     accepted (claim t ask) e = yes-claim t ask (admissible m t ask e)
-    accepted (release t k) e = yes-left (release t k) t k (remove (advance m t) k) (on-time m t _ e .0) (by-release t k)
-    accepted (withdraw t k) e = yes-left (withdraw t k) t k (remove (advance m t) k) (on-time m t _ e .0) (by-withdraw t k)
-    accepted (clock t) e = yes-left (clock t) t 0 (advance m t) (on-time m t _ e .0) (by-clock t)
+    accepted (release t k) e = yes-left (release t k) t k (remove (advance m t) k) (clock-passes m t _ e .0) (by-release t k)
+    accepted (withdraw t k) e = yes-left (withdraw t k) t k (remove (advance m t) k) (clock-passes m t _ e .0) (by-withdraw t k)
+    accepted (clock t) e = yes-left (clock t) t 0 (advance m t) (clock-passes m t _ e .0) (by-clock t)
     accepted (lookup k) e = no! (lookup k) 0 (inl refl)
 
 -- A clock call whose clock is neither late nor backward is accepted.
-pub clock-accepted : (m : Model) (t : ℕ) → OnTime m t → step m (clock t) ≡ finish (advance m t) (plain 0 t)
+pub clock-accepted : (m : Model) (t : ℕ) → Clocked m t → step m (clock t) ≡ finish (advance m t) (plain 0 t)
 unfolding step act tests firstOf
 clock-accepted m t o = rw (le-ltb mostClock t (o .early), le-ltb t (m .clock) (o .later))
 

@@ -54,8 +54,8 @@ end-clock v c o = omega (arith, end-on v c o, held-clock v (at c + c .length))
 pub end-ge : (v : Setting) (c : Claim) → on c ≡ true → at c + c .length ≤ endOf v c
 end-ge v c o = omega (arith, end-on v c o, held-ge v (at c + c .length))
 
-pub end-prompt : (v : Setting) (c : Claim) → on c ≡ true → v .clock ≤ at c + c .length → endOf v c ≡ at c + c .length
-end-prompt v c o h = end-on v c o ∙ held-prompt v (at c + c .length) h
+pub end-no-overrun : (v : Setting) (c : Claim) → on c ≡ true → v .clock ≤ at c + c .length → endOf v c ≡ at c + c .length
+end-no-overrun v c o h = end-on v c o ∙ held-prompt v (at c + c .length) h
 
 -- An end is bounded by what bounds the clock and start or grant + length.
 pub end-le : (v : Setting) (c : Claim) (b : ℕ) → at c + c .length ≤ b → v .clock ≤ b → endOf v c ≤ b

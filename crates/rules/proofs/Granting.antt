@@ -17,7 +17,7 @@ use Rattle.rules.specs.Granting.{goes, granted, grant}
 use Rattle.rules.specs.Plans.{Ascending, Sane, Apart, Separated, StartsFrom, HeldUp, Tight, Blocked}
 use Rattle.rules.proofs.Bools.{split, clash, and-l, and-r, and-i, both-ways, same?}
 use Rattle.rules.proofs.Lists.{Each, any-none, any-false, any-some, snoc-each, map-i, map-each, map-each2, map-cong}
-use Rattle.rules.proofs.Claims.{conflicts-sym, end-wait, end-clock, end-prompt}
+use Rattle.rules.proofs.Claims.{conflicts-sym, end-wait, end-clock, end-no-overrun}
 use Rattle.rules.proofs.Order.{either-before, before-precedes, precedes-conflicts, precedes-e, precedes-on, precedes-before, ends-precedes, ascending-same}
 
 -- ── who goes on ──
@@ -160,7 +160,7 @@ module _ (v : Setting) (ps : List Claim) (holders : Apart ps) (fit : Separated v
 
   -- Its end is not changed by going on.
   end-granted : (c : Claim) → c ∈ ps → goes ps c ≡ true → endOf v (withPhase c (On (v .clock))) ≡ endOf v c
-  end-granted c m e = omega (arith, end-prompt v (withPhase c (On (v .clock))) refl (omega arith), end-wait v c (goes-wait ps c e), goes-at v ps low tight sane c m e)
+  end-granted c m e = omega (arith, end-no-overrun v (withPhase c (On (v .clock))) refl (omega arith), end-wait v c (goes-wait ps c e), goes-at v ps low tight sane c m e)
 
   -- Of two conflicting waiting claims the one that goes on is before.
   goes-first : (c d : Claim) → c ∈ ps → d ∈ ps → goes ps c ≡ true → on d ≡ false → c .ticket ≢ d .ticket → conflicts c d ≡ true → before c d ≡ true

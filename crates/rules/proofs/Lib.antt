@@ -7,11 +7,11 @@ pub mod Packing
 pub mod Repacking
 pub mod Sizes
 pub mod Placing
-pub mod Bounding
+pub mod StartBound
 pub mod Granting
 pub mod Invariants
 pub mod Calls
 pub mod GrantCounts
-pub mod Once
-pub mod Prompt
+pub mod OnePacking
+pub mod NoOverrun
 pub mod Lookup

@@ -6,9 +6,9 @@ use Rattle.rules.specs.declared.Table.{Table}
 use Rattle.rules.specs.declared.Standing.{Standing}
 use Rattle.rules.specs.Calls.{Model, Call, lookup, Answer, Step, step, unchanged, standingOf, standingValues, new}
 use Rattle.rules.specs.Tables.{model}
-use Rattle.promises.specs.Ledger.{Turn, turns, tableAfter, ledgerOf, Punctual}
+use Rattle.promises.specs.Ledger.{Turn, turns, tableAfter, ledgerOf, NoOverrunIn}
 use Rattle.promises.specs.Demand3.{Now, Next, tells}
-use Rattle.promises.proofs.Run.{table-after, demand-3}
+use Rattle.promises.proofs.Demand3.{table-after, demand-3}
 use Rattle.promises.specs.WholeCalls.{WholeCalls}
 use Rattle.promises.proofs.WholeCalls.{whole-calls-after}
 use Rattle.table.specs.declared.Outcome.{Outcome}
@@ -52,15 +52,15 @@ shows-is t m shows e h = λ i k. each k i
     each k = h k ∙ ap (λ (x : Model). standingOf k (x .pending)) e
 
 -- What holds of the rules' turns and standings holds of the code's.
-now-is : {ts us : List Turn} {f g : ℕ → Standing} → ts ≡ us → f ≡ g → Now (Punctual us) (ledgerOf us) g → Now (Punctual ts) (ledgerOf ts) f
-now-is {us = us} {f = f} p q n = subst (λ (x : List Turn). Now (Punctual x) (ledgerOf x) f) (sym p) (subst (Now (Punctual us) (ledgerOf us)) (sym q) n)
+now-is : {ts us : List Turn} {f g : ℕ → Standing} → ts ≡ us → f ≡ g → Now (NoOverrunIn us) (ledgerOf us) g → Now (NoOverrunIn ts) (ledgerOf ts) f
+now-is {us = us} {f = f} p q n = subst (λ (x : List Turn). Now (NoOverrunIn x) (ledgerOf x) f) (sym p) (subst (Now (NoOverrunIn us) (ledgerOf us)) (sym q) n)
 
 next-is : {ts us : List Turn} {c d : Turn} {f g f′ g′ : ℕ → Standing} → ts ≡ us → c ≡ d → f ≡ f′ → g ≡ g′
-    → Next (Punctual us) (ledgerOf us) d f′ g′ → Next (Punctual ts) (ledgerOf ts) c f g
+    → Next (NoOverrunIn us) (ledgerOf us) d f′ g′ → Next (NoOverrunIn ts) (ledgerOf ts) c f g
 next-is {us = us} {c = c} {d = d} {f = f} {g = g} {f′ = f′} {g′ = g′} p q r s n =
-    subst (λ (x : List Turn). Next (Punctual x) (ledgerOf x) c f g) (sym p)
-    (subst (λ (x : Turn). Next (Punctual us) (ledgerOf us) x f g) (sym q)
-    (subst (λ (x : ℕ → Standing). Next (Punctual us) (ledgerOf us) d x g) (sym r) (subst (Next (Punctual us) (ledgerOf us) d f′) (sym s) n)))
+    subst (λ (x : List Turn). Next (NoOverrunIn x) (ledgerOf x) c f g) (sym p)
+    (subst (λ (x : Turn). Next (NoOverrunIn us) (ledgerOf us) x f g) (sym q)
+    (subst (λ (x : ℕ → Standing). Next (NoOverrunIn us) (ledgerOf us) d x g) (sym r) (subst (Next (NoOverrunIn us) (ledgerOf us) d f′) (sym s) n)))
 
 -- The turns and the table of a run from a new table.
 module _ (rig : ℕ) (before : List Call) (first : Outcome) (q : first ≡ outcome (new rig)) (ts : List Turn) (t : Table) (p : Run (first .table) before ts t) where

@@ -30,8 +30,8 @@ use Rattle.rules.specs.Invariants.{Still, Invariant}
 use Rattle.rules.proofs.Bools.{clash}
 use Rattle.rules.proofs.Lists.{any-none}
 use Rattle.rules.proofs.Calls.{placed, new-cases, blank-invariant, step-invariant}
-use Rattle.rules.proofs.Prompt.{Prompt, prompt-still}
-use Rattle.rules.proofs.Once.{advance-still, join-still, leave-once, finish-still}
+use Rattle.rules.proofs.NoOverrun.{NoOverrunAt, no-overrun-still}
+use Rattle.rules.proofs.OnePacking.{advance-still, join-still, leave-once, finish-still}
 use Rattle.table.specs.Rows.{Sized, Row, rewritten}
 use Rattle.table.proofs.Rows.{pad-over, pad-more}
 use Rattle.table.proofs.Sizes.{place-small}
@@ -40,19 +40,19 @@ use Rattle.table.specs.declared.placing.Placed.{Placed}
 use Rattle.table.specs.Parts.{withClaims, ruledIn, atClock, packedTable, grantedIn, placedIn}
 use Rattle.table.specs.declared.Outcome.{Outcome}
 use Rattle.table.specs.Valid.{Formed, Valid}
-use Rattle.table.specs.Outcomes.{outcome, refusalOf, timeNumber, pastEnd, leaving, without}
+use Rattle.table.specs.Outcomes.{outcome, unchangedIn, timeNumber, pastEnd, leaving, without}
 use Rattle.table.proofs.Ranges.{model-is, formed-row, formed-is, formed-count, formed-claims, formed-sane, blank-ranged, advance-ranged, remove-ranged, join-ranged, grant-ranged}
 use Rattle.table.proofs.Tests.{timed-passes, step-refused, step-accepted}
 
 -- ── refusals ──
-pub refusal-is : (t : Table) (n : ℕ) → Formed t → refusalOf t n ≡ outcome (unchanged (model t) n)
+pub unchanged-is : (t : Table) (n : ℕ) → Formed t → unchangedIn t n ≡ outcome (unchanged (model t) n)
 unfolding pad
-refusal-is t n v = ap (λ (x : Table). refusalOf x n) (sym (v .whole))
+unchanged-is t n v = ap (λ (x : Table). unchangedIn x n) (sym (v .whole))
 
 -- A call that the rules refuse with n.
-pub refused : (t : Table) (c : Call) (n : ℕ) (r : Outcome) → Valid t → r ≡ refusalOf t n → firstOf (tests (model t) c) ≡ n → n ≢ 0 → (r ≡ outcome (step (model t) c)) × Valid (r .table)
+pub refused : (t : Table) (c : Call) (n : ℕ) (r : Outcome) → Valid t → r ≡ unchangedIn t n → firstOf (tests (model t) c) ≡ n → n ≢ 0 → (r ≡ outcome (step (model t) c)) × Valid (r .table)
 refused t c n r v e f z =
-    (e ∙ refusal-is t n (v .formed) ∙ ap outcome (sym (step-refused (model t) c n f z)), subst Valid (sym (ap (λ (x : Outcome). x .table) e)) v)
+    (e ∙ unchanged-is t n (v .formed) ∙ ap outcome (sym (step-refused (model t) c n f z)), subst Valid (sym (ap (λ (x : Outcome). x .table) e)) v)
 
 -- A call keeps tables valid.
 pub kept-valid : (t : Table) (c : Call) (r : Outcome) → Valid t → r ≡ outcome (step (model t) c) → Formed (r .table) → Valid (r .table)
@@ -66,23 +66,23 @@ kept-valid t c r v e f = record {
 abbrev pub emptyTable : ℕ → Table
 emptyTable g = record { rig = g; clock = 0; issued = 0; count = 0; claims = replicate 64 vacant }
 
-opened : (g n : ℕ) (r : Outcome) → r ≡ refusalOf (emptyTable g) n → (r ≡ outcome (unchanged (blank g) n)) × Valid (r .table)
+opened : (g n : ℕ) (r : Outcome) → r ≡ unchangedIn (emptyTable g) n → (r ≡ outcome (unchanged (blank g) n)) × Valid (r .table)
 unfolding pad
 opened g n r e =
     let f = formed-is (emptyTable g) (blank g) refl (blank-ranged g) in
     let m = model-is (emptyTable g) (blank g) refl in (
-      e ∙ refusal-is (emptyTable g) n f ∙ ap (λ (m : Model). outcome (unchanged m n)) m,
+      e ∙ unchanged-is (emptyTable g) n f ∙ ap (λ (m : Model). outcome (unchanged m n)) m,
       subst Valid (sym (ap (λ (x : Outcome). x .table) e)) (record { formed = f; settled = subst Invariant (sym m) (blank-invariant g) }),
     )
 
 -- A rig of 64 bits without groups is 0.
-pub new-dark : (g : ℕ) (r : Outcome) → g < 2 ^ 64 → true ≡ empty g → r ≡ refusalOf (emptyTable g) 1 → (r ≡ outcome (new g)) × Valid (r .table)
+pub new-dark : (g : ℕ) (r : Outcome) → g < 2 ^ 64 → true ≡ empty g → r ≡ unchangedIn (emptyTable g) 1 → (r ≡ outcome (new g)) × Valid (r .table)
 new-dark g r h d e =
     let z : g ≡ 0 = eqb-true g 0 (sym (empty-word g h) ∙ sym d) in
-    let o = opened 0 1 r (e ∙ ap (λ (x : ℕ). refusalOf (emptyTable x) 1) z) in
+    let o = opened 0 1 r (e ∙ ap (λ (x : ℕ). unchangedIn (emptyTable x) 1) z) in
     new-cases (λ (s : Step). (r ≡ outcome s) × Valid (r .table)) g (λ q. o) (λ q. clash (sym d) q)
 
-pub new-lit : (g : ℕ) (r : Outcome) → false ≡ empty g → r ≡ refusalOf (emptyTable g) 0 → (r ≡ outcome (new g)) × Valid (r .table)
+pub new-lit : (g : ℕ) (r : Outcome) → false ≡ empty g → r ≡ unchangedIn (emptyTable g) 0 → (r ≡ outcome (new g)) × Valid (r .table)
 new-lit g r d e = new-cases (λ (s : Step). (r ≡ outcome s) × Valid (r .table)) g (λ q. clash q (sym d)) (λ q. opened g 0 r e)
 
 -- ── the clock set, and packed ──
@@ -116,20 +116,20 @@ advanced-is t u v a b r q = (
         (sym (formed-count t v) ∙ sym (pack-length (ruledIn t u) (model t .pending)))
 
 -- While nobody overruns, setting the clock is all there is to do.
-pub prompt-is : (t : Table) (u : ℕ) → Valid t → t .clock ≤ u → u ≤ mostClock → any (pastEnd u) (take (t .count) (t .claims)) ≡ false
+pub no-overrun-is : (t : Table) (u : ℕ) → Valid t → t .clock ≤ u → u ≤ mostClock → any (pastEnd u) (take (t .count) (t .claims)) ≡ false
     → (r : Table) → r ≡ atClock u t → (r ≡ encode (advance (model t) u)) × Formed r × Still (model r)
-prompt-is t u v a b none r q =
+no-overrun-is t u v a b none r q =
     advanced-is t u (v .formed) a b r
     (q ∙ ap (withClaims (atClock u t)) (sym (rewritten-is t (v .formed) (pack (ruledIn t u)) (pack-length (ruledIn t u) (model t .pending)) ∙ ap (pad vacant) still ∙ formed-claims t (v .formed))))
   where
-    prompt : Prompt u (model t .pending)
+    prompt : NoOverrunAt u (model t .pending)
     prompt c m o = ltb-false (at c + c .length) u (after-on c o (any-none (pastEnd u) none m))
       where
         after-on : (c : Claim) → on c ≡ true → (on c && ltb (at c + c .length) u) ≡ false → ltb (at c + c .length) u ≡ false
         after-on c o e = rw o at e
 
     still : pack (ruledIn t u) (model t .pending) ≡ model t .pending
-    still = prompt-still (t .issued) (settingOf (model t)) (ruledIn t u) (model t .pending) (v .settled) (record { later = a }) prompt
+    still = no-overrun-still (t .issued) (settingOf (model t)) (ruledIn t u) (model t .pending) (v .settled) (record { later = a }) prompt
 
 -- As many claims, and as many tickets.
 pub advanced-counts : (t : Table) (u : ℕ) (r : Table) → Formed t → r ≡ encode (advance (model t) u) → (r .count ≡ t .count) × (r .issued ≡ t .issued)

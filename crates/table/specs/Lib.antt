@@ -1,6 +1,6 @@
 pub mod Rows
-pub mod Words
-pub mod Starts
+pub mod SortKeys
+pub mod LastEnds
 pub mod Holders
 pub mod Parts
 pub mod Valid

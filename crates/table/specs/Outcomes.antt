@@ -32,8 +32,8 @@ outcome s =
     }
 
 -- The table handed in, and a number.
-abbrev pub refusalOf : Table → ℕ → Outcome
-refusalOf t n = record { table = t; number = n; ticket = 0; start = 0; contention = 0; bound = 0; granted = 0; grants = replicate 64 0 }
+abbrev pub unchangedIn : Table → ℕ → Outcome
+unchangedIn t n = record { table = t; number = n; ticket = 0; start = 0; contention = 0; bound = 0; granted = 0; grants = replicate 64 0 }
 
 -- ── the tests 5 and 4, and those of a release and a withdrawal ──
 unfoldable pub timeNumber : ℕ → ℕ → ℕ

@@ -8,7 +8,7 @@ use Rattle.rules.specs.declared.Table.{Table}
 use Rattle.rules.specs.declared.Standing.{Standing}
 use Rattle.rules.specs.Calls.{Call, lookup, timed, Answer, step, standingOf, standingValues, new}
 use Rattle.rules.specs.Tables.{model}
-use Rattle.promises.specs.Ledger.{Turn, ledgerOf, Punctual}
+use Rattle.promises.specs.Ledger.{Turn, ledgerOf, NoOverrunIn}
 use Rattle.promises.specs.Demand3.{Now, Next}
 use Rattle.promises.specs.WholeCalls.{WholeCalls}
 use Rattle.table.specs.declared.Outcome.{Outcome}
@@ -50,12 +50,12 @@ pub record CodeDemand3 (rig : ℕ) (calls : List Call) : Type 0 where
   pub at-any-time : (before rest : List Call) → before ++ rest ≡ calls
       → (first : Outcome) → first ≡ outcome (new rig) → (ts : List Turn) (t : Table) → Run (first .table) before ts t
       → (shows : ℕ → Standing) → Looks t shows
-      → Now (Punctual ts) (ledgerOf ts) shows
+      → Now (NoOverrunIn ts) (ledgerOf ts) shows
   pub at-any-call : (before : List Call) (c : Call) (rest : List Call) → before ++ (c ∷ rest) ≡ calls
       → (first : Outcome) → first ≡ outcome (new rig) → (ts : List Turn) (t : Table) → Run (first .table) before ts t
       → (a : Answer) (u : Table) → Made t c a u
       → (old new : ℕ → Standing) → Looks t old → Looks u new
-      → Next (Punctual ts) (ledgerOf ts) (record { call = c; answer = a }) old new
+      → Next (NoOverrunIn ts) (ledgerOf ts) (record { call = c; answer = a }) old new
 
 -- What `promises` says of whole calls, of every table that such a list of calls left.
 abbrev pub CodeWholeCalls : ℕ → List Call → Type 0

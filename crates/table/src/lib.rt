@@ -10,7 +10,7 @@ ghost use Rattle.rules.specs.Calls.{Call, step, tests, advance, finish, remove,
 ghost use Rattle.rules.specs.Tables.{encode, model};
 ghost use Rattle.rules.specs.Invariants.{Still};
 ghost use Rattle.table.specs.Valid.{Formed, Valid};
-ghost use Rattle.table.specs.Outcomes.{outcome, refusalOf, timeNumber, pastEnd, phaseNumber, leaving};
+ghost use Rattle.table.specs.Outcomes.{outcome, unchangedIn, timeNumber, pastEnd, phaseNumber, leaving};
 
 mod claims;
 mod granting;
@@ -39,8 +39,8 @@ pub struct Outcome {
 }
 
 // The table handed in, and a number.
-fn refusal(t: Table, number: u8) -> Outcome
-    ensures { λ r. ⌜ r ≡ refusalOf t number ⌝ }
+fn unchanged(t: Table, number: u8) -> Outcome
+    ensures { λ r. ⌜ r ≡ unchangedIn t number ⌝ }
 {
     Outcome {
         table: t,
@@ -72,9 +72,9 @@ pub fn new(rig: u64) -> Outcome
         claims: [vacant; 64],
     };
     if groups::empty(rig) {
-        return refusal(t, numbers::DARK);
+        return unchanged(t, numbers::DARK);
     }
-    refusal(t, 0)
+    unchanged(t, 0)
 }
 
 // ── lookup ──
@@ -190,7 +190,7 @@ pub fn clock(t: Table, clock: u64) -> Outcome
 {
     let n = time_number(t.clock, clock);
     if n != 0 {
-        return refusal(t, n);
+        return unchanged(t, n);
     }
     let u = at_clock(t, clock);
     let r = Reply {
@@ -262,13 +262,13 @@ pub fn leave(t: Table, releasing: bool, clock: u64, ticket: u16) -> Outcome
 {
     let late = time_number(t.clock, clock);
     if late != 0 {
-        return refusal(t, late);
+        return unchanged(t, late);
     }
     let k = removed(t, ticket);
     let s = k.standing;
     let wrong = phase_number(releasing, s);
     if wrong != 0 {
-        return refusal(t, wrong);
+        return unchanged(t, wrong);
     }
     let rest = k.table;
     let u = advanced(rest, clock);
@@ -352,7 +352,7 @@ pub fn claim(t: Table, clock: u64, ask: Request) -> Outcome
 {
     let number = claim_number(t, clock, ask);
     if number != 0 {
-        return refusal(t, number);
+        return unchanged(t, number);
     }
     let u = at_clock(t, clock);
     admitted(u, ask)

@@ -8,8 +8,8 @@ use Rattle.rules.specs.Tables.{vacant}
 use Rattle.table.specs.Outcomes.{pastEnd}
 use Rattle.table.proofs.Rows.{prefix-step, prefix-end, row-small}
 use Rattle.table.proofs.Ranges.{formed-few, formed-length, formed-row}
-use Rattle.table.proofs.Scanning.{overrun-not}
-use Rattle.table.proofs.Steps.{prompt-is}
+use Rattle.table.proofs.RemovalLoop.{overrun-not}
+use Rattle.table.proofs.Steps.{no-overrun-is}
 use Rattle.table.proofs.at_clock.Statement.{statement}
 use Rattle.table.proofs.at_clock.Tie as tie
 
@@ -63,7 +63,7 @@ returns-2 c =
     let b = z .before in
     let t = b .args .t1 in
     let none = rw (prefix-end (t .claims) (t .count) (z .loop .i) (c .loop-test .left)) at (z .loop .inv .1) in
-    prompt-is t (b .args .clock) (b .pre .0) (b .pre .1) (b .pre .2) (sym none) _ refl
+    no-overrun-is t (b .args .clock) (b .pre .0) (b .pre .1) (b .pre .2) (sym none) _ refl
 
 pub at-clock-spec : {M : Type 1} → statement M
 at-clock-spec =

@@ -14,7 +14,7 @@ returns c =
     let n = c .before .before in
     let b = n .before in
     let a = b .args in
-    refused (a .t) (Call.claim (a .clock) (a .ask)) _ _ (b .pre) (c .refusal .ensures) (sym (n .claim-number .ensures)) (c .before .if1 .taken)
+    refused (a .t) (Call.claim (a .clock) (a .ask)) _ _ (b .pre) (c .unchanged .ensures) (sym (n .claim-number .ensures)) (c .before .if1 .taken)
 
 at-clock-requires : tie.Need-at-clock-requires
 at-clock-requires c κs =

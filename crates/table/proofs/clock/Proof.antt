@@ -12,7 +12,7 @@ returns c =
     let n = c .before .before in
     let b = n .before in
     let t = b .args .t in
-    refused t (Call.clock (b .args .clock)) _ _ (b .pre) (c .refusal .ensures) (clock-timed (model t) (b .args .clock) _ (n .time-number .ensures) (c .before .if1 .taken)) (c .before .if1 .taken)
+    refused t (Call.clock (b .args .clock)) _ _ (b .pre) (c .unchanged .ensures) (clock-timed (model t) (b .args .clock) _ (n .time-number .ensures) (c .before .if1 .taken)) (c .before .if1 .taken)
 
 at-clock-requires : tie.Need-at-clock-requires
 at-clock-requires c κs =

@@ -1,7 +1,7 @@
 use mathlib.Core.Path.{refl}
 use native.Mathlib.Omega.{arith}
 use Rattle.rules.specs.Tables.{model}
-use Rattle.rules.proofs.Once.{still-starts, still-tight}
+use Rattle.rules.proofs.OnePacking.{still-starts, still-tight}
 use Rattle.table.proofs.Ranges.{formed-row}
 use Rattle.table.proofs.Steps.{finished-is}
 use Rattle.table.proofs.finished.Statement.{statement}

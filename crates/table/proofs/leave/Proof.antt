@@ -12,7 +12,7 @@ returns c =
     let n = c .before .before in
     let b = n .before in
     let a = b .args in
-    refused (a .t) (leaving (a .releasing) (a .clock) (a .ticket)) _ _ (b .pre) (c .refusal .ensures)
+    refused (a .t) (leaving (a .releasing) (a .clock) (a .ticket)) _ _ (b .pre) (c .unchanged .ensures)
     (leave-timed (model (a .t)) (a .releasing) (a .clock) (a .ticket) _ (n .time-number .ensures) (c .before .if1 .taken)) (c .before .if1 .taken)
 
 removed-requires : tie.Need-removed-requires
@@ -25,7 +25,7 @@ returns-2 c =
     let n = l .before .before in
     let b = n .before in
     let a = b .args in
-    refused (a .t) (leaving (a .releasing) (a .clock) (a .ticket)) _ _ (b .pre) (c .refusal2 .ensures)
+    refused (a .t) (leaving (a .releasing) (a .clock) (a .ticket)) _ _ (b .pre) (c .unchanged2 .ensures)
     (leave-tests (model (a .t)) (a .releasing) (a .clock) (a .ticket) _ (b .pre .formed .ranged .ascending) (n .time-number .ensures) (l .before .if1 .left)
     ∙ sym (p .phase-number .ensures ∙ ap (phaseNumber (a .releasing)) (l .removed .ensures .0))) (c .before .if2 .taken)
 

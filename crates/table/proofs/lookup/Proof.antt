@@ -7,7 +7,7 @@ use Rattle.rules.specs.Calls.{standingOf, standingValues}
 use Rattle.rules.specs.Tables.{model, vacant}
 use Rattle.table.proofs.Rows.{prefix-step, prefix-end, row-small}
 use Rattle.table.proofs.Ranges.{formed-few, formed-length, formed-row}
-use Rattle.table.proofs.Scanning.{found, passed-by}
+use Rattle.table.proofs.RemovalLoop.{found, passed-by}
 use Rattle.table.proofs.Tests.{lookup-number}
 use Rattle.table.proofs.lookup.Statement.{statement}
 use Rattle.table.proofs.lookup.Tie as tie

@@ -1,5 +1,5 @@
 use mathlib.Core.Path.{sym, _∙_}
-use Rattle.table.proofs.Scanning.{past-end-on}
+use Rattle.table.proofs.RemovalLoop.{past-end-on}
 use borrow.Author.Needs.{needs}
 use Rattle.table.proofs.overruns.Statement.{statement}
 use Rattle.table.proofs.overruns.Tie as tie

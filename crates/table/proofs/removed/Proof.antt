@@ -6,7 +6,7 @@ use native.Mathlib.Omega.{arith}
 use Rattle.table.specs.Parts.{withClaims}
 use Rattle.table.proofs.Rows.{row-small, other-claims}
 use Rattle.table.proofs.Ranges.{formed-few, formed-length, formed-row, formed-claims}
-use Rattle.table.proofs.Scanning.{Taking, taking-start, taking-few, taking-rest, taking-kept, taking-gone, taking-count, taking-told, taking-none, taking-one}
+use Rattle.table.proofs.RemovalLoop.{Taking, taking-start, taking-few, taking-rest, taking-kept, taking-gone, taking-count, taking-told, taking-none, taking-one}
 use Rattle.table.proofs.Steps.{removed-is}
 use Rattle.table.proofs.removed.Statement.{statement}
 use Rattle.table.proofs.removed.Tie as tie

@@ -12,7 +12,7 @@ use Rattle.table.specs.Holders.{goesAt}
 use Rattle.table.specs.Parts.{ruledIn, withClaims}
 use Rattle.table.proofs.Rows.{prefix-step, prefix-end, other-claims, these-claims}
 use Rattle.table.proofs.Holders.{Holding, holding-start, holding-more, holding-end, held-goes}
-use Rattle.table.proofs.Grants.{Written, written-start, written-rest, written-gone, written-stay, written-end, granted-is}
+use Rattle.table.proofs.GrantingLoop.{Written, written-start, written-rest, written-gone, written-stay, written-end, granted-is}
 use Rattle.table.proofs.granting.grant.Statement.{statement}
 use Rattle.table.proofs.granting.grant.Tie as tie
 

@@ -1,5 +1,5 @@
 -- `placing::place` meets its contract. No candidate is below the clock or after the planned start, and each is nearer to it; in a pass
--- the claims left decide whether the candidate fits. Then what is counted is `Counted`, of proofs/Counting; that nothing wraps follows
+-- the claims left decide whether the candidate fits. Then what is counted is `Counted`, of proofs/ContentionLoop; that nothing wraps follows
 -- from the size of the whole, of proofs/Sizes.
 use mathlib.Core.Path.{_≡_, refl, sym, _∙_}
 use mathlib.Core.Logic.{⊎-elim}
@@ -14,9 +14,9 @@ use Rattle.rules.specs.Tables.{vacant}
 use Rattle.rules.proofs.Placing.{place-low}
 use Rattle.table.specs.Parts.{ruledIn}
 use Rattle.table.proofs.Rows.{in-prefix, row-small}
-use Rattle.table.proofs.Searching.{pass, passed, jump, found}
+use Rattle.table.proofs.PlacingLoop.{pass, passed, jump, found}
 use Rattle.table.proofs.Sizes.{place-small, rivals-few, time-short, bound-small}
-use Rattle.table.proofs.Counting.{Counted, count-none, count-rival, count-other, count-all}
+use Rattle.table.proofs.ContentionLoop.{Counted, count-none, count-rival, count-other, count-all}
 use Rattle.table.proofs.placing.place.Statement.{statement}
 use Rattle.table.proofs.placing.place.Tie as tie
 

@@ -29,13 +29,13 @@ use Rattle.rules.proofs.Bools.{split, clash, and-i}
 use Rattle.rules.proofs.Claims.{end-on}
 use Rattle.rules.proofs.Order.{ascending-same}
 use Rattle.rules.proofs.Packing.{moved-cases, moved-at, moved-phase, pack-no-later}
-use Rattle.rules.proofs.Bounding.{place-bound}
+use Rattle.rules.proofs.StartBound.{place-bound}
 use Rattle.rules.proofs.Granting.{granted-cases, granted-at}
 use Rattle.rules.proofs.Invariants.{spaced-packs}
-use Rattle.rules.proofs.Calls.{OnTime, Admissible, advance-packed, finish-invariant, advance-same, finish-e, finish-clock, placed, join-spaced, Leaves, by-release, by-withdraw, by-clock, leaves-spaced, leaves-old, leaves-clock, join-old, Idle, step-cases, blank-invariant, new-cases}
-use Rattle.rules.proofs.Prompt.{Prompt, prompt-no-later}
+use Rattle.rules.proofs.Calls.{Clocked, Admissible, advance-packed, finish-invariant, advance-same, finish-e, finish-clock, placed, join-spaced, Leaves, by-release, by-withdraw, by-clock, leaves-spaced, leaves-old, leaves-clock, join-old, Idle, step-cases, blank-invariant, new-cases}
+use Rattle.rules.proofs.NoOverrun.{NoOverrunAt, no-overrun-no-later}
 use Rattle.rules.proofs.Lookup.{lookup-absent, lookup-found, lookup-waits}
-use Rattle.promises.specs.Ledger.{Turn, turns, tableAfter, Entry, promised, Ledger, opening, issues, without, stay, hold, marked, noted, notedAll, ledgerOf, NoOverrun, NoOverruns, Punctual, ruledBy, remainingOf, rivalsOf, boundOn}
+use Rattle.promises.specs.Ledger.{Turn, turns, tableAfter, Entry, promised, Ledger, opening, issues, without, stay, hold, marked, noted, notedAll, ledgerOf, NoOverrun, NoOverruns, NoOverrunIn, ruledBy, remainingOf, rivalsOf, boundOn}
 use Rattle.promises.specs.Demand3.{TicketsAscend, Now, Next, tells, Demand3}
 use Rattle.promises.proofs.Matching.{Match, m-nil, m-cons, match-map, match-left, match-weaken, match-snoc, match-none, match-keep, match-length, match-sum, partner, partner-of, named-keep}
 
@@ -134,13 +134,13 @@ grant-tracks P v ps ks c e r h =
     same = ap (λ (x : ℕ). any (λ k. eqb k x) ks) (sym (r .ticket)) ∙ h
 
 -- Setting the clock and packing: where no holder overruns, no start rises.
-advance-match : (P T : Type 0) (l : List Entry) (m : Model) (t : ℕ) → Invariant m → m .clock ≤ t → (T → Prompt t (m .pending)) → Match (Tracks P) (m .pending) l
+advance-match : (P T : Type 0) (l : List Entry) (m : Model) (t : ℕ) → Invariant m → m .clock ≤ t → (T → NoOverrunAt t (m .pending)) → Match (Tracks P) (m .pending) l
     → Match (Tracks (P × T)) (advance m t .pending) l
 unfolding advance pack
 advance-match P T l m t i h pr ma =
     match-left (moved (packedStart (ruled m t) (m .pending)))
     (λ c e ci r. pack-tracks (P × T) (ruled m t) (m .pending) c e (tracks-weaken P (P × T) (λ x. x .0) c e r)
-    (λ p o. prompt-no-later (m .issued) (settingOf m) (ruled m t) (m .pending) i (record { later = h }) (pr (p .1)) c ci o))
+    (λ p o. no-overrun-no-later (m .issued) (settingOf m) (ruled m t) (m .pending) i (record { later = h }) (pr (p .1)) c ci o))
     ma
 
 -- Packing again and granting: no start rises.
@@ -180,8 +180,8 @@ unfolding finish
 finish-issued m r = refl
 
 -- The holders are prompt where the call's clock is past no promised end.
-prompt-of : (P : Type 0) (t : ℕ) (ps : List Claim) (l : List Entry) → Match (Tracks P) ps l → ((e : Entry) → e ∈ l → e .held ≡ true → t ≤ promised e) → Prompt t ps
-prompt-of P t ps l ma h c i o =
+no-overrun-of : (P : Type 0) (t : ℕ) (ps : List Claim) (l : List Entry) → Match (Tracks P) ps l → ((e : Entry) → e ∈ l → e .held ≡ true → t ≤ promised e) → NoOverrunAt t ps
+no-overrun-of P t ps l ma h c i o =
     let r = partner-of ma i in
     omega (arith, h (r .0) (r .1) (sym (r .2 .held) ∙ o), r .2 .grant o, r .2 .length)
 
@@ -212,17 +212,17 @@ finish-from m r i d di =
     )
 
 -- And through the first packing.
-advance-from : (m : Model) (t : ℕ) → Invariant m → m .clock ≤ t → Prompt t (m .pending) → (c d : Claim) → c ∈ m .pending → d ∈ advance m t .pending → d .ticket ≡ c .ticket
+advance-from : (m : Model) (t : ℕ) → Invariant m → m .clock ≤ t → NoOverrunAt t (m .pending) → (c d : Claim) → c ∈ m .pending → d ∈ advance m t .pending → d .ticket ≡ c .ticket
     → on c ≡ false → (on d ≡ false) × (at d ≤ at c)
 advance-from m t i h pr c d ci di e o =
     let f = packedStart (ruled m t) (m .pending) in
     let q = advance-same m t i c d ci di e in (
       ap on q ∙ moved-phase f c ∙ o,
-      omega (arith, ap at q, moved-at f c o, prompt-no-later (m .issued) (settingOf m) (ruled m t) (m .pending) i (record { later = h }) pr c ci o),
+      omega (arith, ap at q, moved-at f c o, no-overrun-no-later (m .issued) (settingOf m) (ruled m t) (m .pending) i (record { later = h }) pr c ci o),
     )
 
 -- A call from m to `finish q`, where each claim of q that is not new is one of those that the first packing gave.
-finish-not-raised : (m q : Model) (t : ℕ) (rep : Reply) → Invariant m → m .clock ≤ t → Prompt t (m .pending) → IsSpaced q
+finish-not-raised : (m q : Model) (t : ℕ) (rep : Reply) → Invariant m → m .clock ≤ t → NoOverrunAt t (m .pending) → IsSpaced q
     → ((x : Claim) → x ∈ q .pending → (x ∈ advance m t .pending) ⊎ (m .issued < x .ticket)) → NotRaised (m .pending) (finish q rep .model .pending)
 finish-not-raised m q t rep i h pr sp old c d ci di e o =
     let f = finish-from q rep sp d di in
@@ -300,8 +300,8 @@ module _ (P : Type 0) (l : Ledger) (m : Model) (s : Story P l m) where
       same : NotRaised (m .pending) (m .pending)
       same c d ci di e o = omega (arith, ap at (ascending-same (m .pending) (s .inv .spaced .ascending) d c di ci e))
 
-  prompt : (t : ℕ) → ((e : Entry) → e ∈ l .claims → e .held ≡ true → t ≤ promised e) → Prompt t (m .pending)
-  prompt t h = prompt-of P t (m .pending) (l .claims) (s .match) h
+  prompt : (t : ℕ) → ((e : Entry) → e ∈ l .claims → e .held ≡ true → t ≤ promised e) → NoOverrunAt t (m .pending)
+  prompt t h = no-overrun-of P t (m .pending) (l .claims) (s .match) h
 
   -- What the accepted timed calls have in common: q is what they leave before they pack again and grant, es the same of the ledger.
   told-finish : (t j : ℕ) (rep : Reply) (q : Model) (es : List Entry) (T : Type 0) → m .clock ≤ t → (T → (e : Entry) → e ∈ l .claims → e .held ≡ true → t ≤ promised e)
@@ -363,7 +363,7 @@ module _ (P : Type 0) (l : Ledger) (m : Model) (s : Story P l m) where
       new = record { ticket = refl; groups = refl; length = refl; held = refl; grant = λ e. clash e refl; early = λ p o. omega arith }
 
   -- Release, withdraw and clock.
-  left : {c : Call} {t k : ℕ} {q : Model} (a : Answer) (T : Type 0) → Leaves m c t k q → OnTime m t → (T → (e : Entry) → e ∈ l .claims → e .held ≡ true → t ≤ promised e)
+  left : {c : Call} {t k : ℕ} {q : Model} (a : Answer) (T : Type 0) → Leaves m c t k q → Clocked m t → (T → (e : Entry) → e ∈ l .claims → e .held ≡ true → t ≤ promised e)
       → (let es = map (marked t (finish q (plain k t) .answer .grants)) (stay c (l .claims) ++ issues c a) in
       (T → Unraised (m .pending) (finish q (plain k t) .model .pending) es)
       × Story (P × T) (record { clock = t; issued = l .issued + length (issues c a); claims = es }) (finish q (plain k t) .model))
@@ -383,7 +383,7 @@ module _ (P : Type 0) (l : Ledger) (m : Model) (s : Story P l m) where
       (NoOverrun l turn → Unraised (m .pending) (n .pending) (noted l turn .claims)) → Next P l turn (tells m) (tells n))
   next a v h = record { ticket-next = λ u ask e _. no-claim v e; start-bounded = λ u ask e _. no-claim v e; never-raised = λ _. h }
 
-  told-left : (c : Call) (t k : ℕ) (q : Model) → OnTime m t → Leaves m c t k q → Told P l m c (finish q (plain k t))
+  told-left : (c : Call) (t k : ℕ) (q : Model) → Clocked m t → Leaves m c t k q → Told P l m c (finish q (plain k t))
   unfolding finish
   told-left c₀ t₀ k₀ q₀ o (by-release t k) =
       let a : Answer = finish (remove (advance m t) k) (plain k t) .answer in
@@ -421,7 +421,7 @@ start g = new-cases (λ (s : Step). Story (Unit {0}) opening (s .model)) g (λ e
     blank-story : (r : ℕ) → Story (Unit {0}) opening (blank r)
     blank-story r = record { inv = blank-invariant r; clock = refl; issued = refl; match = m-nil }
 
-after-calls : (g : ℕ) (cs : List Call) → (let ts = turns step (new g .model) cs in Story (Punctual ts) (ledgerOf ts) (tableAfter step (new g .model) cs))
+after-calls : (g : ℕ) (cs : List Call) → (let ts = turns step (new g .model) cs in Story (NoOverrunIn ts) (ledgerOf ts) (tableAfter step (new g .model) cs))
 after-calls g cs = story-weaken _ _ _ _ (λ q. (tt, q)) (story-after cs (Unit {0}) opening (new g .model) (start g))
 
 -- The rules' own name for the table after a list of calls.

@@ -15,21 +15,21 @@ use Rattle.rules.specs.Plans.{Separated, StartsFrom, Earliest}
 use Rattle.rules.specs.Invariants.{Settled}
 use Rattle.rules.proofs.Bools.{split}
 use Rattle.rules.proofs.Lists.{keep-i}
-use Rattle.rules.proofs.Claims.{end-wait, end-ge, end-prompt}
+use Rattle.rules.proofs.Claims.{end-wait, end-ge, end-no-overrun}
 use Rattle.rules.proofs.Order.{before-on, before-key}
 use Rattle.rules.proofs.Packing.{pack-no-later, pack-idle}
 use Rattle.rules.proofs.Invariants.{Later}
 
 -- No holder's promised end is below t.
-abbrev pub Prompt : ℕ → List Claim → Type 0
-Prompt t ps = (c : Claim) → c ∈ ps → on c ≡ true → t ≤ at c + c .length
+abbrev pub NoOverrunAt : ℕ → List Claim → Type 0
+NoOverrunAt t ps = (c : Claim) → c ∈ ps → on c ≡ true → t ≤ at c + c .length
 
-module _ (k : ℕ) (v u : Setting) (ps : List Claim) (settled : Settled k v ps) (later : Later v u) (prompt : Prompt (u .clock) ps) where
+module _ (k : ℕ) (v u : Setting) (ps : List Claim) (settled : Settled k v ps) (later : Later v u) (prompt : NoOverrunAt (u .clock) ps) where
   end-same : (c : Claim) → c ∈ ps → endOf u c ≡ endOf v c
   end-same c m = go (split (on c))
     where
       go : (on c ≡ true) ⊎ (on c ≡ false) → endOf u c ≡ endOf v c
-      go (inl o) = end-prompt u c o (prompt c m o) ∙ sym (end-prompt v c o (omega (arith, prompt c m o, later .later)))
+      go (inl o) = end-no-overrun u c o (prompt c m o) ∙ sym (end-no-overrun v c o (omega (arith, prompt c m o, later .later)))
       go (inr o) = omega (arith, end-wait u c o, end-wait v c o)
 
   prompt-separated : Separated u ps
@@ -66,8 +66,8 @@ module _ (k : ℕ) (v u : Setting) (ps : List Claim) (settled : Settled k v ps) 
       first c i e (inr q) = before-key c w (omega (arith, end-wait v c q, settled .spaced .proper c i .sane .long, settled .spaced .proper c i .sane .small))
 
   -- Then packing at the later clock changes nothing.
-  pub prompt-still : pack u ps ≡ ps
-  prompt-still = pack-idle u ps prompt-separated prompt-starts prompt-earliest
+  pub no-overrun-still : pack u ps ≡ ps
+  no-overrun-still = pack-idle u ps prompt-separated prompt-starts prompt-earliest
 
-  pub prompt-no-later : (w : Claim) → w ∈ ps → on w ≡ false → packedStart u ps w ≤ at w
-  prompt-no-later = pack-no-later u ps prompt-separated prompt-starts
+  pub no-overrun-no-later : (w : Claim) → w ∈ ps → on w ≡ false → packedStart u ps w ≤ at w
+  no-overrun-no-later = pack-no-later u ps prompt-separated prompt-starts
