@@ -1,5 +1,5 @@
--- Laws of specs/Groups.antt for callers: `shares`, `empty` and `within`, each as a statement of the groups 0 to 63, what a union shares,
--- and the lowest group of a set with its others. They rest on inductions over the groups: `from-elim`, `from-intro`, `from-same`,
+-- Laws of specs/Groups.antt for callers: `shares` as a statement of the groups 0 to 63, what a union shares, and the lowest group of a set
+-- with its others. They rest on inductions over the groups: `from-elim`, `from-intro`, `from-same`,
 -- `from-or`; `set-same` and `from-has` for sets; `lowest-from` and `none-from` for the lowest. Assumes nothing.
 use mathlib.Core.Path.{_≡_, refl, sym, ap, _∙_}
 use mathlib.Core.Bool.{Bool, true, false, not, _&&_, _||_, cond, and-comm, and-eq-true-iff, and-or-distrib-right, or-true, false≢true}
@@ -8,9 +8,9 @@ use native.Mathlib.Nat.{add-zero, zero-add, div-one}
 use native.Mathlib.Omega.{arith}
 use lib.Dec.{eqb, ltb}
 use lib.Pow.{shr-shr}
-use borrow.Author.Tests.{not-true, not-false, eqb-true, eqb-false, ltb-true, ltb-false}
+use borrow.Author.Tests.{eqb-true, eqb-false, ltb-true, ltb-false}
 use Rattle.groups.specs.declared.MaybeGroup.the-variants.{Group, NoGroup}
-use Rattle.groups.specs.Groups.{has, someFrom, someGroup, shares, empty, within, setFrom, setWhere, union, without, lowestFrom, lowest, others}
+use Rattle.groups.specs.Groups.{has, someFrom, someGroup, shares, setFrom, setWhere, union, without, lowestFrom, lowest, others}
 
 -- Group j + 1 from g on is group j from the next one on.
 next : (g j : ℕ) → g + suc j ≡ suc g + j
@@ -152,30 +152,6 @@ union-shares a b x = from-same _ 0 _ _ at-group ∙ from-or _ 0 _ _
 pub without-has : (a b g : ℕ) → g < 64 → has (without a b) g ≡ (has a g && not (has b g))
 unfolding without
 without-has a b g h = has-set _ g h
-
--- Each group is missing from an empty set.
-pub empty-elim : (a : ℕ) → empty a ≡ true → (g : ℕ) → g < 64 → has a g ≡ false
-unfolding empty
-empty-elim a e = none-elim _ (not-true _ e)
-
--- A set that each group is missing from is empty.
-pub empty-intro : (a : ℕ) → ((g : ℕ) → g < 64 → has a g ≡ false) → empty a ≡ true
-unfolding empty
-empty-intro a f = rw (none-intro _ f)
-
--- Each group of a set is in every set that it is within.
-pub within-elim : (a b : ℕ) → within a b ≡ true → (g : ℕ) → g < 64 → has a g ≡ true → has b g ≡ true
-unfolding within
-within-elim a b e g h p = not-false _ (rw p at (none-elim _ (not-true _ e) g h))
-
--- A set whose groups are each in another is within it.
-pub within-intro : (a b : ℕ) → ((g : ℕ) → g < 64 → has a g ≡ true → has b g ≡ true) → within a b ≡ true
-unfolding within
-within-intro a b f = rw (none-intro _ (λ g h. go g h (has a g) refl))
-  where
-    go : (g : ℕ) → g < 64 → (t : Bool) → has a g ≡ t → (t && not (has b g)) ≡ false
-    go g h true p = rw (f g h p)
-    go g h false p = refl
 
 -- The lowest of the k groups from g on that passes p is one of them, passes, and no group below it does.
 lowest-from : (k g : ℕ) (p : ℕ → Bool) (h : ℕ) → lowestFrom k g p ≡ Group h → (j : ℕ) × (j < k) × (g + j ≡ h) × (p h ≡ true) × (someFrom j g p ≡ false)

@@ -12,7 +12,7 @@ use Rattle.rules.specs.declared.Phase.the-variants.{On}
 use Rattle.rules.specs.Lists.{keep}
 use Rattle.rules.specs.declared.Setting.{Setting}
 use Rattle.rules.specs.Claims.{on, at, withPhase}
-use Rattle.rules.specs.Granting.{granted, grant, grants}
+use Rattle.rules.specs.Granting.{granted}
 use Rattle.rules.specs.Placing.{place}
 use Rattle.rules.specs.declared.Reply.{Reply}
 use Rattle.rules.specs.Calls.{Model, settingOf, ruled, Step, advance, granting, withClock, finish, join, remove, fresh, admit}

@@ -1,7 +1,6 @@
 -- What follows from the promises of the table's calls: the one file of proofs here that crates above cite. It is stated over what a call
 -- hands back, an `Outcome`, and over the step of the rules that its promise names.
-use mathlib.Core.Path.{_≡_, refl, sym, ap, _∙_}
-use mathlib.Core.List.{List}
+use mathlib.Core.Path.{_≡_, refl, ap, _∙_}
 use Prim.Native.Nat.{ℕ, _+_, _-_, _≤_}
 use native.Mathlib.Omega.{arith}
 use lib.ListN.{length, take}

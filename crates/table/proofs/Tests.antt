@@ -3,22 +3,21 @@ use mathlib.Core.Path.{_≡_, refl, sym, _∙_, ap}
 use mathlib.Core.Logic.{_⊎_, inl, inr, _≢_}
 use mathlib.Core.Bool.{Bool, true, false, not, _&&_, _||_, cond}
 use mathlib.Core.List.{List, [], _∷_}
-use Prim.Native.Nat.{ℕ, zero, suc, _+_, _≤_, _<_}
+use Prim.Native.Nat.{ℕ, zero, suc, _+_, _≤_}
 use native.Mathlib.Omega.{arith}
-use lib.Dec.{ltb, eqb}
+use lib.Dec.{ltb}
 use lib.ListN.{length}
-use borrow.Author.Tests.{lt-ltb, le-ltb, le-leb, lt-leb, ne-eqb, ltb-false, eqb-true}
+use borrow.Author.Tests.{ltb-false, eqb-true}
 use Rattle.numbers.specs.Numbers.{lateNumber, backwardNumber, mostClock}
 use Rattle.rules.specs.declared.Claim.{Claim}
 use Rattle.rules.specs.declared.Phase.the-variants.{Waiting, On}
 use Rattle.rules.specs.Lists.{any}
 use Rattle.rules.specs.Claims.{on, at}
-use Rattle.rules.specs.declared.Standing.{Standing}
 use Rattle.rules.specs.declared.Standing.the-variants.{Waits, Holds}
-use Rattle.rules.specs.Tests.{Test, test, firstOf, named, late, backward, offRig, badLength, full, ticketless}
-use Rattle.rules.specs.Calls.{Model, Call, claim, clock, lookup, tests, unchanged, act, step, unless, standing, standingOf, standingValues}
+use Rattle.rules.specs.Tests.{Test, test, firstOf, named, late, backward}
+use Rattle.rules.specs.Calls.{Model, Call, clock, lookup, tests, unchanged, act, step, unless, standing, standingOf, standingValues}
 use Rattle.rules.specs.Plans.{Ascending}
-use Rattle.rules.proofs.Bools.{split, or-r}
+use Rattle.rules.proofs.Bools.{split}
 use Rattle.rules.proofs.Lists.{Each, any-false}
 use Rattle.rules.proofs.Calls.{passes}
 use Rattle.table.specs.Outcomes.{timeNumber, phaseNumber, orElse, leaving}
