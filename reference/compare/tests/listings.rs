@@ -116,10 +116,10 @@ fn the_program_prints_the_same() {
     }
 }
 
-/// Contention, start bound and lookups are in no listing: the program `answers` prints them.
+/// Contention, start bound and lookups are in no listing: the program `try_answers` prints them.
 #[test]
 fn whole_answers() {
-    let differs = |load: &[u8]| output_of("answers", load) != reference::answers::answers(load);
+    let differs = |load: &[u8]| output_of("try_answers", load) != reference::answers::answers(load);
     let count = cases("COMPARE_ANSWERS", 2_000);
     let first = cases("COMPARE_SEED", 1);
     println!("answers to loads of seeds {first} to {}", first + count - 1);

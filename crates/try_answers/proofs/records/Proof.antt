@@ -3,8 +3,8 @@ use Prim.Native.Nat.{_-_, _≤_}
 use native.Mathlib.Omega.{arith}
 use borrow.Author.Needs.{needs}
 use Rattle.table.specs.Valid.{Valid}
-use Rattle.answers.proofs.records.Statement.{statement}
-use Rattle.answers.proofs.records.Tie as tie
+use Rattle.try_answers.proofs.records.Statement.{statement}
+use Rattle.try_answers.proofs.records.Tie as tie
 
 abbrev Inv-loop : tie.InvT-loop
 Inv-loop load t₀ at₀ k₀ t at k = (k ≤ 6000) × Valid t

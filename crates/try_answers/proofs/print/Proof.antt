@@ -2,8 +2,8 @@
 use lib.ListN.{length-take}
 use native.Mathlib.Omega.{arith}
 use borrow.Author.Needs.{needs}
-use Rattle.answers.proofs.print.Statement.{statement}
-use Rattle.answers.proofs.print.Tie as tie
+use Rattle.try_answers.proofs.print.Statement.{statement}
+use Rattle.try_answers.proofs.print.Tie as tie
 
 slice-aggregate-write-all : tie.Need-slice-aggregate-write-all
 slice-aggregate-write-all c = simp length-take (omega (arith, c .before .before .before .put-standings .kept .0, c .before .before .before .before .before .before .before .put-answer .kept .0))

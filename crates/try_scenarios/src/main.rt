@@ -1,5 +1,6 @@
 // Runs the plots of document 01, "Plots to try", on the table, and prints a line for each: for every call its answer (number, ticket,
-// start, crowd, ceiling, then "on" with the tickets granted), for every look what it tells.
+// start, crowd, ceiling, then "on" with the tickets granted), for every look what it tells. Then it issues every ticket that a table has,
+// claim and release in turn, and shows what comes then.
 ghost use Rattle.table.specs.Valid.{Valid};
 use rules::Request;
 use rules::Standing;
@@ -238,10 +239,64 @@ fn plots_13_and_14() {
     end();
 }
 
+// ── every ticket issued ──
+
+fn line(text: &[u8], n: u64) {
+    io::write_all(1, text);
+    io::print_decimal(1, n);
+    io::write_all(1, b"\n");
+}
+
+// The table after 65,535 claims, each released at once.
+fn exhausted() -> Table
+    ensures { λ r. ⌜ Valid r ⌝ }
+{
+    let o = table::new(0x1);
+    let mut t = o.table;
+    let mut i: u32 = 0;
+    while i < 65_535 {
+        let c = table::claim(
+            t,
+            0,
+            Request {
+                groups: 0x1,
+                length: 1,
+            },
+        );
+        let u = c.table;
+        let r = table::release(u, 0, c.ticket);
+        t = r.table;
+        i += 1;
+    }
+    t
+}
+
+// No load is long enough to issue every ticket.
+fn tickets() {
+    let t = exhausted();
+    line(b"tickets issued: ", t.issued as u64);
+    line(b"claims pending: ", t.count as u64);
+    let c = table::claim(
+        t,
+        0,
+        Request {
+            groups: 0x1,
+            length: 1,
+        },
+    );
+    line(b"a claim more: ", c.number as u64);
+    let u = c.table;
+    let r = table::release(u, 0, 65_535);
+    line(b"release of the last ticket: ", r.number as u64);
+    let d = table::clock(u, 7);
+    line(b"a clock call: ", d.number as u64);
+}
+
 fn main() {
     plots_1_to_4();
     plots_5_to_8();
     plots_9_and_10();
     plots_11_and_12();
     plots_13_and_14();
+    tickets();
 }

@@ -1,7 +1,7 @@
 use Prim.Native.Nat.{_-_, _≤_}
 use borrow.Author.Needs.{needs}
-use Rattle.scenarios.proofs.grants.Statement.{statement}
-use Rattle.scenarios.proofs.grants.Tie as tie
+use Rattle.try_scenarios.proofs.grants.Statement.{statement}
+use Rattle.try_scenarios.proofs.grants.Tie as tie
 
 abbrev Inv-loop : tie.InvT-loop
 Inv-loop r granted i₀ i = i ≤ 64

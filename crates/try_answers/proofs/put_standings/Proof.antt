@@ -3,8 +3,8 @@ use mathlib.Core.Path.{_≡_, refl}
 use Prim.Native.Nat.{_-_}
 use lib.ListN.{length}
 use borrow.Author.Needs.{needs}
-use Rattle.answers.proofs.put_standings.Statement.{statement}
-use Rattle.answers.proofs.put_standings.Tie as tie
+use Rattle.try_answers.proofs.put_standings.Statement.{statement}
+use Rattle.try_answers.proofs.put_standings.Tie as tie
 
 abbrev Inv-loop : tie.InvT-loop
 Inv-loop out₀ from t issued n₀ k₀ out n k = length out ≡ length out₀
