@@ -2,7 +2,6 @@
 // byte on standard input stands for 100 claims, made at clock 0, or, where the first byte is 'o', at a clock past the holders' promised
 // ends. Prints the sum of the starts.
 ghost use Rattle.table.specs.Valid.{Valid};
-use rules::Request;
 use rules::Table;
 
 // The set of the groups a and b, of 16.
@@ -18,14 +17,7 @@ fn pending() -> Table
     let mut i: u32 = 0;
     while i < 63 {
         let k = i as u64;
-        let r = table::claim(
-            t,
-            0,
-            Request {
-                groups: pair(k, k * 7 + 3),
-                length: 100 + i * 13 % 50,
-            },
-        );
+        let r = table::claim(t, 0, rules::asking(pair(k, k * 7 + 3), 100 + i * 13 % 50));
         t = r.table;
         i += 1;
     }
@@ -38,14 +30,7 @@ fn hundred(t: Table, clock: u64, from: u64) -> u64
     let mut sum = from;
     let mut i: u64 = 0;
     while i < 100 {
-        let r = table::claim(
-            t,
-            clock,
-            Request {
-                groups: pair(i, i * 5 + 1),
-                length: 40,
-            },
-        );
+        let r = table::claim(t, clock, rules::asking(pair(i, i * 5 + 1), 40));
         sum = std::num::wrapping_add_u64(sum, r.start);
         i += 1;
     }

@@ -6,13 +6,13 @@ use Prim.Native.Nat.{ℕ}
 use lib.Dec.{eqb}
 use Rattle.rules.specs.declared.Phase.the-variants.{Waiting}
 use Rattle.rules.specs.Claims.{at, withPhase}
-use Rattle.rules.specs.Calls.{Model, withPending, Call, clock, Answer, Step, step}
+use Rattle.rules.specs.Calls.{asking, Model, withPending, Call, clock, Answer, Step, step}
 use Rattle.promises.specs.Ledger.{Steps}
 use Rattle.promises.specs.Demand3.{Demand3Of}
 
 -- A claim at a clock, of groups (hex) and a length.
 abbrev pub claim : ℕ → ℕ → ℕ → Call
-claim t g n = Call.claim t (record { groups = g; length = n })
+claim t g n = Call.claim t (asking g n)
 
 -- Demand 3 does not hold of these steps, this rig and these calls.
 abbrev pub Refused : Steps → ℕ → List Call → Type 0

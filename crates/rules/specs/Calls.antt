@@ -42,6 +42,10 @@ ruled m t = record { clock = t }
 abbrev pub settingOf : Model → Setting
 settingOf m = ruled m (m .clock)
 
+-- A request of groups for a length of time, and nothing else.
+abbrev pub asking : ℕ → ℕ → Request
+asking g n = record { groups = g; length = n }
+
 -- The calls of a run: clock and what is asked for, clock and ticket, clock, ticket. (Document 01: look is our lookup.)
 pub data Call : Type 0 where
   claim : ℕ → Request → Call

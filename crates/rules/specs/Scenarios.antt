@@ -5,7 +5,7 @@ use mathlib.Core.List.{List, [], _∷_, map}
 use Prim.Native.Nat.{ℕ}
 use Rattle.rules.specs.declared.Standing.{Standing}
 use Rattle.rules.specs.declared.Standing.the-variants.{NotPending, Waits, Holds}
-use Rattle.rules.specs.Calls.{Call, release, withdraw, clock, Answer, Model, standingOf, new, after, answers}
+use Rattle.rules.specs.Calls.{asking, Call, release, withdraw, clock, Answer, Model, standingOf, new, after, answers}
 
 -- Calls made before, calls made now, their answers, and what lookup then tells of tickets 1 to 4.
 pub record Scenario : Type 0 where
@@ -26,7 +26,7 @@ refused n = record { number = n; ticket = 0; start = 0; contention = 0; bound = 
 
 -- A claim at a clock, of groups (hex) and a length.
 abbrev pub claim : ℕ → ℕ → ℕ → Call
-claim t g n = Call.claim t (record { groups = g; length = n })
+claim t g n = Call.claim t (asking g n)
 
 -- "S is three claims at clock 0"
 abbrev pub S : List Call

@@ -1,4 +1,6 @@
 // The claims table as data: a pending claim, what a claim asks for, the table that the calls take and give back, and what a lookup tells.
+ghost use mathlib.Core.Path.{_≡_};
+ghost use Rattle.rules.specs.Calls.{asking};
 
 // "A pending claim is either waiting, with a planned start, or on, with the clock of its grant."
 pub enum Phase {
@@ -48,4 +50,14 @@ pub enum Standing {
     NotPending,
     Waits(u64),
     Holds(u64),
+}
+
+// A request of groups for a length of time, and nothing else.
+pub fn asking(groups: u64, length: u32) -> Request
+    ensures { λ r. ⌜ r ≡ asking groups length ⌝ }
+{
+    Request {
+        groups: groups,
+        length: length,
+    }
 }

@@ -2,7 +2,6 @@
 // start, crowd, ceiling, then "on" with the tickets granted), for every look what it tells. Then it issues every ticket that a table has,
 // claim and release in turn, and shows what comes then.
 ghost use Rattle.table.specs.Valid.{Valid};
-use rules::Request;
 use rules::Standing;
 use rules::Table;
 use table::Outcome;
@@ -49,14 +48,7 @@ fn claim(t: Table, clock: u64, groups: u64, length: u32) -> Table
     requires { ⌜ Valid t ⌝ }
     ensures { λ r. ⌜ Valid r ⌝ }
 {
-    let r = table::claim(
-        t,
-        clock,
-        Request {
-            groups: groups,
-            length: length,
-        },
-    );
+    let r = table::claim(t, clock, rules::asking(groups, length));
     answer(r);
     r.table
 }
@@ -127,14 +119,7 @@ fn quiet(t: Table, groups: u64, length: u32) -> Table
     requires { ⌜ Valid t ⌝ }
     ensures { λ r. ⌜ Valid r ⌝ }
 {
-    let r = table::claim(
-        t,
-        0,
-        Request {
-            groups: groups,
-            length: length,
-        },
-    );
+    let r = table::claim(t, 0, rules::asking(groups, length));
     r.table
 }
 
@@ -255,14 +240,7 @@ fn exhausted() -> Table
     let mut t = o.table;
     let mut i: u32 = 0;
     while i < 65_535 {
-        let c = table::claim(
-            t,
-            0,
-            Request {
-                groups: 0x1,
-                length: 1,
-            },
-        );
+        let c = table::claim(t, 0, rules::asking(0x1, 1));
         let u = c.table;
         let r = table::release(u, 0, c.ticket);
         t = r.table;
@@ -276,14 +254,7 @@ fn tickets() {
     let t = exhausted();
     line(b"tickets issued: ", t.issued as u64);
     line(b"claims pending: ", t.count as u64);
-    let c = table::claim(
-        t,
-        0,
-        Request {
-            groups: 0x1,
-            length: 1,
-        },
-    );
+    let c = table::claim(t, 0, rules::asking(0x1, 1));
     line(b"a claim more: ", c.number as u64);
     let u = c.table;
     let r = table::release(u, 0, 65_535);
