@@ -192,14 +192,14 @@ pub fn clock(t: Table, clock: u64) -> Outcome
     if n != 0 {
         return unchanged(t, n);
     }
-    let u = at_clock(t, clock);
+    let moved = at_clock(t, clock);
     let r = Reply {
         ticket: 0,
         start: clock,
         contention: 0,
         bound: 0,
     };
-    finished(u, r)
+    finished(moved, r)
 }
 
 // ── release and withdraw ──
@@ -304,11 +304,9 @@ fn claim_number(t: Table, clock: u64, ask: Request) -> u8
     requires { ⌜ Formed t ⌝ }
     ensures { λ r. ⌜ r ≡ firstOf (tests (model t) (Call.claim clock ask)) ⌝ }
 {
-    if refusals::late(clock) {
-        return numbers::LATE;
-    }
-    if refusals::backward(t.clock, clock) {
-        return numbers::BACKWARD;
+    let timing = time_number(t.clock, clock);
+    if timing != 0 {
+        return timing;
     }
     if refusals::dark(ask.groups) {
         return numbers::DARK;
