@@ -24,7 +24,7 @@ extern "C" {
 /*
  * Writes the listing of a load to the start of `out`.
  *
- * Answers the count of bytes written, a stop line included; the bytes of `out` behind them keep their contents. If the listing is
+ * Answers the count of bytes written, a stop line included; the bytes of `out` after them keep their contents. If the listing is
  * longer than `out_length`, answers BELGWYTH_NO_SPACE and no byte of `out` differs. Every input is taken: what is wrong with a load is
  * told in its listing. Reads `load[0 .. load_length]` and writes `out[0 .. out_length]`, nothing else; keeps no state between calls.
  * Neither pointer may be null, not even where its length is 0, and the two ranges must not overlap.

@@ -11,7 +11,7 @@ pub record Sample : Type 0 where
   pub load : List ℕ
   pub lines : List ℕ
 
--- A load, and what stands behind the header in its listing.
+-- A load, and what stands after the header in its listing.
 abbrev pub sample : List ℕ → List ℕ → Sample
 sample load lines = record { load = load; lines = lines }
 
@@ -54,7 +54,7 @@ samples =
     ∷ sample (0x01 ∷ 0x00 ∷ []) (115 ∷ 116 ∷ 111 ∷ 112 ∷ 32 ∷ 49 ∷ 50 ∷ 32 ∷ 49 ∷ 10 ∷ [])
     -- "01 00 00 gives 13": stop 13 1
     ∷ sample (0x01 ∷ 0x00 ∷ 0x00 ∷ []) (115 ∷ 116 ∷ 111 ∷ 112 ∷ 32 ∷ 49 ∷ 51 ∷ 32 ∷ 49 ∷ 10 ∷ [])
-    -- a dark rig, and nothing behind it: stop 1 1
+    -- a dark rig, and nothing after it: stop 1 1
     ∷ sample (loadBytes 1 (Rig 0 ∷ Clock 1 ∷ [])) (115 ∷ 116 ∷ 111 ∷ 112 ∷ 32 ∷ 49 ∷ 32 ∷ 49 ∷ 10 ∷ [])
     ∷ []
 

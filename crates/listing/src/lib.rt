@@ -19,7 +19,7 @@ use rules::Request;
 use rules::Table;
 use table::Outcome;
 
-// ── lines: each is laid over a buffer from a place on, as far as that goes, and answers the place behind it ──
+// ── lines: each is laid over a buffer from a place on, as far as that goes, and answers the place after it ──
 
 fn put_line(out: &mut [u8], at: usize, k: u64, number: u8, ticket: u16, start: u64) -> usize
     ensures { λ r. ⌜ Put (now (out .entry)) at (lineOf k number ticket start) r (now (out .exit)) ⌝ }

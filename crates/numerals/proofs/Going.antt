@@ -1,4 +1,4 @@
--- A run of pieces laid one behind the other: what is left to lay from here gives what the whole laid at the beginning gives.
+-- A run of pieces laid one after the other: what is left to lay from here gives what the whole laid at the beginning gives.
 use Prim.Native.Nat.{ℕ, _^_, _<_}
 use mathlib.Core.List.{List, [], _++_}
 use mathlib.Core.Path.{_≡_, refl, sym, ap, _∙_}

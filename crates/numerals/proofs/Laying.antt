@@ -1,4 +1,4 @@
--- Bytes laid one behind the other over a buffer that may be too short: pieces join (`put-then`), and where there is room the buffer
+-- Bytes laid one after the other over a buffer that may be too short: pieces join (`put-then`), and where there is room the buffer
 -- begins with them (`laid-fits`).
 use Prim.Native.Nat.{ℕ, zero, suc, _+_, _-_, _/_, _%_, _^_, _≤_, _<_, min}
 use mathlib.Core.List.{List, [], _∷_, _++_}
@@ -85,7 +85,7 @@ pub behind-under : (at n : ℕ) → behind at n < 2 ^ 64
 unfolding behind
 behind-under at n = omega arith
 
--- A place behind a place; the same in words of lists.
+-- A place after a place; the same in words of lists.
 behind-add : (at m n : ℕ) → behind (behind at m) n ≡ behind at (m + n)
 unfolding behind
 behind-add at m n = omega arith
@@ -102,7 +102,7 @@ pub laid-out : (o : List ℕ) (at : ℕ) (xs : List ℕ) → length o ≤ at →
 unfolding laid
 laid-out o at xs h = sets-out xs o at h
 
--- A place that stops is behind every buffer's end: there it makes no difference.
+-- A place that stops is after every buffer's end: there it makes no difference.
 pub laid-behind : (o : List ℕ) (at n : ℕ) (xs : List ℕ) → length o < 2 ^ 64 → laid o (behind at n) xs ≡ laid o (at + n) xs
 unfolding behind
 laid-behind o at n xs h = go (leb (at + n) 18446744073709551615) refl
@@ -124,7 +124,7 @@ put w = record { next = w .0; is = w .1 }
 pub put-digits : (b z n v : ℕ) {o : List ℕ} {at r : ℕ} {p : List ℕ} → (r ≡ behind at n) × (p ≡ laid o at (digits b z n v)) → Put o at (digits b z n v) r p
 put-digits b z n v {at = at} w = record { next = w .0 ∙ ap (behind at) (sym (digits-length b z n v)); is = w .1 }
 
--- One piece behind the other is one piece.
+-- One piece after the other is one piece.
 pub put-then : (o : List ℕ) (at : ℕ) (xs ys : List ℕ) (m r : ℕ) (p q : List ℕ) → length o < 2 ^ 64 → Put o at xs m p → Put p m ys r q → Put o at (xs ++ ys) r q
 put-then o at xs ys m r p q h a b =
     let l = laid-length o at xs in
@@ -136,7 +136,7 @@ put-then o at xs ys m r p q h a b =
 pub put-as : {o : List ℕ} {at : ℕ} (xs ys : List ℕ) {r : ℕ} {p : List ℕ} → xs ≡ ys → Put o at xs r p → Put o at ys r p
 put-as xs ys e w = rw e at w
 
--- A piece laid at the start that is not too long for a usize: the place behind it is its length.
+-- A piece laid at the start that is not too long for a usize: the place after it is its length.
 pub put-short : {o xs : List ℕ} {r : ℕ} {p : List ℕ} → length xs < 2 ^ 64 → Put o 0 xs r p → (r ≡ length xs) × (p ≡ laid o 0 xs)
 put-short {xs = xs} h w = (w .next ∙ behind-small 0 (length xs) (omega arith) ∙ zero-add (length xs), w .is)
 

@@ -23,7 +23,7 @@ fits8 i h = pow-le-pow-right {n = 256} (omega arith) {i = i} {j = 8} h
 pub below-more : (v m n : ℕ) → m ≤ n → v < 256 ^ m → v < 256 ^ n
 below-more v m n h k = omega (arith, pow-le-pow-right {n = 256} (omega arith) {i = m} {j = n} h)
 
--- What is left of the first n elements at place i: the element there, and what is left behind it.
+-- What is left of the first n elements at place i: the element there, and what is left after it.
 pub prefix-step : {X : Type 0} (d : X) (l : List X) (n i : ℕ) → i < n → n ≤ length l → drop i (take n l) ≡ getD l i d ∷ drop (i + 1) (take n l)
 prefix-step d l n i h k =
     let q : i < length (take n l) = simp (length-take) (omega arith) in

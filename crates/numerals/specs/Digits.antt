@@ -5,7 +5,7 @@ use mathlib.Core.List.{List, [], _∷_, _++_}
 use lib.Dec.{ltb}
 use lib.ListN.{take, drop}
 
--- The number that bytes say, the highest first, behind those that say v.
+-- The number that bytes say, the highest first, after those that say v.
 unfoldable pub numeral : ℕ → List ℕ → ℕ
 numeral v [] = v
 numeral v (b ∷ bs) = numeral (v * 256 + b) bs
@@ -32,10 +32,10 @@ widthOf v = widthUpTo 19 v
 unfoldable pub decimalOf : ℕ → List ℕ
 decimalOf v = digits 10 48 (widthOf v) v
 
--- A number in decimal, and the byte behind it.
+-- A number in decimal, and the byte after it.
 unfoldable pub column : ℕ → ℕ → List ℕ
 column v b = decimalOf v ++ (b ∷ [])
 
--- Two numbers, a space (byte 32) between them, and the byte behind them.
+-- Two numbers, a space (byte 32) between them, and the byte after them.
 unfoldable pub pair : ℕ → ℕ → ℕ → List ℕ
 pair v w b = column v 32 ++ column w b

@@ -8,7 +8,7 @@ use lib.Dec.{leb}
 use lib.ListN.{length, drop}
 use lib.Seq.{sets}
 
--- The place behind n bytes from a place on; the greatest usize where there is none.
+-- The place after n bytes from a place on; the greatest usize where there is none.
 unfoldable pub behind : ℕ → ℕ → ℕ
 behind at n = min (at + n) 18446744073709551615
 
@@ -16,7 +16,7 @@ behind at n = min (at + n) 18446744073709551615
 unfoldable pub laid : List ℕ → ℕ → List ℕ → List ℕ
 laid o at xs = sets o at xs
 
--- o has become p: xs was laid at a place, and r is the place behind it.
+-- o has become p: xs was laid at a place, and r is the place after it.
 pub record Put (o : List ℕ) (at : ℕ) (xs : List ℕ) (r : ℕ) (p : List ℕ) : Type 0 where
   pub next : r ≡ behind at (length xs)
   pub is : p ≡ laid o at xs

@@ -1,5 +1,5 @@
 // Numbers in bytes: read big-endian, and laid big-endian or in decimal into a lent buffer.
-// All take any place. The writers leave out what would go past the buffer's end, and answer the place behind what was laid, at most the
+// All take any place. The writers leave out what would go past the buffer's end, and answer the place after what was laid, at most the
 // greatest usize: a buffer ends before it, so that nothing is laid there.
 ghost use mathlib.Core.Path.{_≡_};
 ghost use mathlib.Core.List.{[], _∷_};
@@ -30,7 +30,7 @@ fn readable(size: usize, at: usize, n: usize) -> usize
     }
 }
 
-// The number that n bytes from a place on say, the highest first; behind the end of s, those that are left. At most eight bytes are read.
+// The number that n bytes from a place on say, the highest first; after the end of s, those that are left. At most eight bytes are read.
 pub fn number(s: &[u8], at: usize, n: usize) -> u64
     ensures { λ r. ⌜ (r ≡ numeral 0 (bytesAt (now (s .entry)) at n)) × (r < 256 ^ n) ⌝ }
 {
@@ -71,7 +71,7 @@ pub fn width(value: u64) -> usize
 }
 
 // ---- writing
-// The place behind n bytes.
+// The place after n bytes.
 fn behind(at: usize, n: usize) -> usize
     ensures { λ r. ⌜ r ≡ behind at n ⌝ }
 {
@@ -92,7 +92,7 @@ fn room(size: usize, at: usize, n: usize) -> usize
     if n < left { n } else { left }
 }
 
-// One byte i places behind a place, if there is such a place.
+// One byte i places after a place, if there is such a place.
 fn store(out: &mut [u8], at: usize, i: usize, b: u8)
     ensures { λ _. ⌜ now (out .exit) ≡ set (now (out .entry)) (at + i) b ⌝ }
 {
@@ -146,7 +146,7 @@ pub fn put_decimal(out: &mut [u8], at: usize, value: u64) -> usize
     put_digits(out, at, n, value, 10, 48)
 }
 
-// A number laid in decimal, and a byte behind it.
+// A number laid in decimal, and a byte after it.
 pub fn put_column(out: &mut [u8], at: usize, value: u64, b: u8) -> usize
     ensures { λ r. ⌜ (r ≡ behind at (length (column value b))) × (now (out .exit) ≡ laid (now (out .entry)) at (column value b)) ⌝ }
 {
@@ -154,7 +154,7 @@ pub fn put_column(out: &mut [u8], at: usize, value: u64, b: u8) -> usize
     put_byte(out, m, b)
 }
 
-// Two numbers with a space between them, and a byte behind them.
+// Two numbers with a space between them, and a byte after them.
 pub fn put_pair(out: &mut [u8], at: usize, a: u64, b: u64, last: u8) -> usize
     ensures { λ r. ⌜ (r ≡ behind at (length (pair a b last))) × (now (out .exit) ≡ laid (now (out .entry)) at (pair a b last)) ⌝ }
 {

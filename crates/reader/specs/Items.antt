@@ -1,4 +1,4 @@
--- What a reader answers at its position, and where it stands behind that. It tests the load that it was opened on: "A load [is tested in the
+-- What a reader answers at its position, and where it stands after that. It tests the load that it was opened on: "A load [is tested in the
 -- order] 14, 12, 11, then each record 12, 13."
 use Prim.Native.Nat.{ℕ}
 use mathlib.Core.List.{List}
@@ -15,6 +15,6 @@ itemOf s at = unlessRefused (openNumber s) Refused (itemAt s at)
 unfoldable pub itemNumber : List ℕ → ℕ → ℕ
 itemNumber s at = orElse (openNumber s) (recordNumber s at)
 
--- The next position: behind a record; "at 12 or 13 it keeps its position", and so at the end and at a load that does not open.
+-- The next position: after a record; "at 12 or 13 it keeps its position", and so at the end and at a load that does not open.
 unfoldable pub positionAfter : List ℕ → ℕ → ℕ
 positionAfter s at = itemValues at (itemOf s at) .next

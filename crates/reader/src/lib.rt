@@ -38,7 +38,7 @@ pub fn part_at(load: &[u8], at: usize) -> &[u8]
     }
 }
 
-// The position behind the record at a position; the same position where there is none.
+// The position after the record at a position; the same position where there is none.
 pub fn position_after(load: &[u8], at: usize) -> usize
     ensures { λ n. ⌜ n ≡ positionAfter (now (load .entry)) at ⌝ }
 {
@@ -49,7 +49,7 @@ pub fn position_after(load: &[u8], at: usize) -> usize
     }
 }
 
-// A reader of a load, behind its edition byte.
+// A reader of a load, after its edition byte.
 pub fn opened<'a>(load: &'a [u8]) -> Reader<'a>
     ensures { λ r. ⌜ (r .load ≡ load .entry) × (r .at ≡ 1) ⌝ }
 {
@@ -72,7 +72,7 @@ pub fn shown<'a>(r: Reader<'a>) -> &'a [u8]
     part_at(r.load, r.at)
 }
 
-// The reader behind the record; at the end and at a refusal it keeps its position.
+// The reader after the record; at the end and at a refusal it keeps its position.
 pub fn advanced<'a>(r: Reader<'a>) -> Reader<'a>
     ensures { λ q. ⌜ (q .load ≡ r .entry .load) × (q .at ≡ positionAfter (now (r .entry .load)) (r .entry .at)) ⌝ }
 {

@@ -143,7 +143,7 @@ module _ (k : ℕ) (l : List Claim) (n : ℕ) (few : n ≤ 64) (places : length 
       whole = w .over-row ∙ ap (λ (r : List Claim). r ++ drop m l) (take-all m staying (omega (arith, taking-count)))
 
       module _ (full : l ≡ pad vacant pending) where
-        -- None went, or one did, and the place behind those that stay becomes vacant.
+        -- None went, or one did, and the place after those that stay becomes vacant.
         pub taking-none : n ≤ m → row ≡ pad vacant staying
         taking-none a =
             let e : m ≡ length pending = omega (arith, taking-few, w .within, length-take-le n l (omega arith)) in

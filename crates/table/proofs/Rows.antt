@@ -21,7 +21,7 @@ use Rattle.table.specs.Parts.{withClaims}
 
 -- ── reading front to back ──
 module _ {A : Type 0} where
-  -- What is left of the first n elements at place i: the element there, and what is left behind it; in the end nothing.
+  -- What is left of the first n elements at place i: the element there, and what is left after it; in the end nothing.
   pub prefix-step : (d : A) (l : List A) (n i : ℕ) → i < n → n ≤ length l → drop i (take n l) ≡ getD l i d ∷ drop (i + 1) (take n l)
   prefix-step d l n i h k =
       let q : i < length (take n l) = simp (length-take) (omega arith) in

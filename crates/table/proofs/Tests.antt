@@ -32,7 +32,7 @@ pub past : {n : ℕ} (x : Test) (ts : List Test) → x .fails ≡ false → n �
 unfolding firstOf
 past x ts q e = e ∙ sym (rw q)
 
--- What the tests 5 and 4 say, and what comes behind them.
+-- What the tests 5 and 4 say, and what comes after them.
 pub first-timed : (m : Model) (t : ℕ) (ts : List Test) → firstOf (late t ∷ backward (m .clock) t ∷ ts) ≡ orElse (timeNumber (m .clock) t) (firstOf ts)
 unfolding firstOf timeNumber
 first-timed m t ts = go (ltb mostClock t) (ltb t (m .clock))

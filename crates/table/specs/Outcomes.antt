@@ -16,7 +16,7 @@ use Rattle.rules.specs.Claims.{on, at}
 use Rattle.rules.specs.Tables.{encode, pad}
 use Rattle.table.specs.declared.Outcome.{Outcome}
 
--- A step's table and answer; the grants in the first places, 0 behind them.
+-- A step's table and answer; the grants in the first places, 0 after them.
 abbrev pub outcome : Step → Outcome
 outcome s =
     let a = s .answer in

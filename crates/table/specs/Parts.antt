@@ -47,7 +47,7 @@ grantedIn t =
       tickets = pad 0 gs;
     }
 
--- The table with w behind the others at its planned start, and what the claim is answered.
+-- The table with w after the others at its planned start, and what the claim is answered.
 abbrev pub placedIn : Table → Claim → Placed
 placedIn t w =
     let r : Reply = placing (model t) w in

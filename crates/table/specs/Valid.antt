@@ -21,7 +21,7 @@ pub record Ranged (m : Model) : Type 0 where
   pub sized : (c : Claim) → c ∈ m .pending → Sized (m .clock) c
   pub issued : (c : Claim) → c ∈ m .pending → c .ticket ≤ m .issued
 
--- A table as it stands inside a call: in range, and every place behind the claims vacant.
+-- A table as it stands inside a call: in range, and every place after the claims vacant.
 pub record Formed (t : Table) : Type 0 where
   pub ranged : Ranged (model t)
   pub whole : encode (model t) ≡ t

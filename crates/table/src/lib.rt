@@ -221,7 +221,7 @@ pub struct Taken {
     pub table: Table,
 }
 
-// Takes the claim of a ticket out of a table; those behind it move up, and the last place becomes vacant. Cost: one pass.
+// Takes the claim of a ticket out of a table; those after it move up, and the last place becomes vacant. Cost: one pass.
 fn removed(mut t: Table, ticket: u16) -> Taken
     requires { ⌜ Formed t ⌝ }
     ensures { λ r. ⌜ (r .standing ≡ standingOf ticket (model t .pending)) × (r .table ≡ encode (remove (model t) ticket)) × Formed (r .table) ⌝ }

@@ -43,7 +43,7 @@ fn clears(v: Setting, c: Claim, w: Claim, s: u64) -> bool
     s + len <= from
 }
 
-// A new claim put behind the others at its planned start, the least that fits. Where a claim bars a candidate, it bars every start from
+// A new claim put after the others at its planned start, the least that fits. Where a claim bars a candidate, it bars every start from
 // there to its end, which is the next candidate. All loops stand here, since a table handed on is a table copied.
 // Cost: one pass over the claims for each jump, one for the start and one to count; a claim bars at most one candidate.
 pub(crate) fn place(mut t: Table, w: Claim) -> Placed

@@ -107,7 +107,7 @@ fn equal(a: &[u8], b: &[u8]) -> bool {
     true
 }
 
-// One call more behind the n bytes of one buffer, into the other.
+// One call more after the n bytes of one buffer, into the other.
 fn grow(from: &[u8], n: usize, call: Call, to: &mut [u8]) -> usize {
     let load = first(from, n);
     let w = load::append(load, call, to);
@@ -131,7 +131,7 @@ fn compare(read: &[u8], k: u64, n: usize, a: &[u8], b: &[u8]) {
     }
 }
 
-// The calls of a load, written again behind its edition byte.
+// The calls of a load, written again after its edition byte.
 fn rewrite(load: &[u8], a: &mut [u8], b: &mut [u8]) {
     let mut n = numerals::put_bytes(a, 0, first(load, 1));
     let mut at: usize = 1;

@@ -1,4 +1,4 @@
--- `numerals::put_byte` meets its contract: one byte, or none behind the end.
+-- `numerals::put_byte` meets its contract: one byte, or none after the end.
 use native.Mathlib.Omega.{arith}
 use mathlib.Core.Path.{sym}
 use Rattle.numerals.proofs.Laying.{behind-small, laid-one, laid-out}

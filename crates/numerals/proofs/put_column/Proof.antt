@@ -1,4 +1,4 @@
--- `numerals::put_column` meets its contract: the number, and the byte behind it.
+-- `numerals::put_column` meets its contract: the number, and the byte after it.
 use native.Mathlib.Omega.{arith}
 use Rattle.numerals.proofs.Laying.{put, put-then}
 use Rattle.numerals.specs.Digits.{column}

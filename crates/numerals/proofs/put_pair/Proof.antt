@@ -1,4 +1,4 @@
--- `numerals::put_pair` meets its contract: one number behind the other.
+-- `numerals::put_pair` meets its contract: one number after the other.
 use native.Mathlib.Omega.{arith}
 use Rattle.numerals.specs.Digits.{pair}
 use Rattle.numerals.proofs.Laying.{put, put-then}

@@ -1,4 +1,4 @@
--- `numerals::store` meets its contract: behind the end nothing is set.
+-- `numerals::store` meets its contract: after the end nothing is set.
 use native.Mathlib.Omega.{arith}
 use mathlib.Core.Path.{sym}
 use lib.Seq.{set-out}

@@ -1,4 +1,4 @@
--- `claim_number` meets its contract: each test in its order, and where it passes those behind it decide.
+-- `claim_number` meets its contract: each test in its order, and where it passes those after it decide.
 use mathlib.Core.Path.{_≡_, refl, sym, _∙_, ap}
 use mathlib.Core.List.{List, []}
 use Prim.Native.Nat.{ℕ}
@@ -12,7 +12,7 @@ use Rattle.table.proofs.Tests.{fails-here, past, timed-fails, timed-pas
 use Rattle.table.proofs.claim_number.Statement.{statement}
 use Rattle.table.proofs.claim_number.Tie as tie
 
--- The tests; and what is said behind the k-th, of what is said of all.
+-- The tests; and what is said after the k-th, of what is said of all.
 abbrev all : tie.Start → List Test
 all c = tests (model (c .args .t)) (Call.claim (c .args .clock) (c .args .ask))
 
