@@ -4,8 +4,8 @@ use mathlib.Core.List.{List, [], _∷_, _++_}
 use mathlib.Core.Path.{_≡_, refl, sym, ap, _∙_}
 use native.Mathlib.Omega.{arith}
 use native.Mathlib.Nat.{pow-suc}
-use lib.ListN.{length, take, getD, length-append}
-use lib.Seq.{take-suc}
+use lib.ListN.{length, take, drop, getD, length-append, length-drop}
+use lib.Seq.{take-suc, take-add, drop-drop, drop-cons}
 use Rattle.numerals.specs.Digits.{numeral, digits}
 
 pub digits-length : (b z n v : ℕ) → length (digits b z n v) ≡ n
@@ -51,3 +51,32 @@ numeral-below (suc n) bs h s =
     let k = s n in
     let e : numeral 0 (take (suc n) bs) ≡ numeral 0 (take n bs) * 256 + getD bs n 0 = ap (numeral 0) (take-suc bs n 0 h) ∙ numeral-snoc 0 (getD bs n 0) (take n bs) in
     omega (arith, e, pow-suc 256 n)
+
+-- ── a number in two parts ──
+numeral-from : (v n : ℕ) (bs : List ℕ) → n ≤ length bs → numeral v (take n bs) ≡ v * 256 ^ n + numeral 0 (take n bs)
+unfolding numeral
+numeral-from v zero bs h = omega arith
+numeral-from v (suc n) bs h =
+    let t = take-suc bs n 0 h in
+    let b = getD bs n 0 in
+    let i = numeral-from v n bs (omega arith) in
+    let e : (u : ℕ) → numeral u (take (suc n) bs) ≡ numeral u (take n bs) * 256 + b = λ u. ap (numeral u) t ∙ numeral-snoc u b (take n bs) in
+    let p : v * 256 ^ suc n ≡ v * 256 ^ n * 256 = ap (λ q. v * q) (pow-suc 256 n) ∙ omega arith in
+    omega (arith, e v, e 0, i, p)
+
+numeral-parts : (v : ℕ) (xs ys : List ℕ) → numeral v (xs ++ ys) ≡ numeral (numeral v xs) ys
+unfolding numeral
+numeral-parts v [] ys = refl
+numeral-parts v (x ∷ xs) ys = numeral-parts (v * 256 + x) xs ys
+
+-- n bytes from a place on, and m after them.
+pub numeral-joined : (s : List ℕ) (at n m : ℕ) → at + n + m ≤ length s → numeral 0 (take (n + m) (drop at s)) ≡ numeral 0 (take n (drop at s)) * 256 ^ m + numeral 0 (take m (drop (at + n) s))
+numeral-joined s at n m h =
+    let t = take-add n m (drop at s) in
+    let d = drop-drop n at s in
+    ap (numeral 0) t ∙ numeral-parts 0 (take n (drop at s)) (take m (drop n (drop at s))) ∙ rw d (numeral-from (numeral 0 (take n (drop at s))) m (drop (at + n) s) (omega (arith, length-drop (at + n) s)))
+
+-- One byte that is there.
+pub numeral-byte : (s : List ℕ) (at : ℕ) → at < length s → numeral 0 (take 1 (drop at s)) ≡ getD s at 0
+unfolding numeral
+numeral-byte s at h = rw (drop-cons s at 0 h) (omega arith)

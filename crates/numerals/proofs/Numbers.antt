@@ -10,7 +10,7 @@ use lib.Dec.{leb}
 use borrow.Author.Tests.{leb-true, leb-false, lt-ltb, le-ltb}
 use lib.ListN.{length, take, drop, getD, set, length-take, length-drop, drop-of-length-le}
 use lib.Seq.{drop-cons, getD-take, take-all, take-length}
-use Rattle.numerals.specs.Digits.{bytesAt, widthUpTo, widthOf}
+use Rattle.numerals.specs.Digits.{bytesAt, numeral, widthUpTo, widthOf}
 
 -- ── a number read ──
 -- One byte more.
@@ -20,7 +20,7 @@ grown v i b h k = omega (arith, pow-suc 256 i)
 pub fits8 : (i : ℕ) → i ≤ 8 → 256 ^ i ≤ 2 ^ 64
 fits8 i h = pow-le-pow-right {n = 256} (omega arith) {i = i} {j = 8} h
 
-pub below-more : (v m n : ℕ) → m ≤ n → v < 256 ^ m → v < 256 ^ n
+below-more : (v m n : ℕ) → m ≤ n → v < 256 ^ m → v < 256 ^ n
 below-more v m n h k = omega (arith, pow-le-pow-right {n = 256} (omega arith) {i = m} {j = n} h)
 
 -- What is left of the first n elements at place i: the element there, and what is left after it.
@@ -41,8 +41,12 @@ take-min k l = go (leb k (length l)) refl
     go false p = let h = leb-false k (length l) p in let e : min k (length l) ≡ length l = omega arith in rw (e, take-length l) (sym (take-all k l (omega arith)))
 
 -- The bytes that are read are those of the definition.
-pub take-readable : (s : List ℕ) (at n m : ℕ) → m ≡ min (min n 8) (length s - at) → take m (drop at s) ≡ bytesAt s at n
+take-readable : (s : List ℕ) (at n m : ℕ) → m ≡ min (min n 8) (length s - at) → take m (drop at s) ≡ bytesAt s at n
 take-readable s at n m e = rw (e, ← (length-drop at s)) (take-min (min n 8) (drop at s))
+
+-- A number that the bytes there say is the number of the definition.
+pub read-as : (s : List ℕ) (at n m r : ℕ) → m ≡ min (min n 8) (length s - at) → (r ≡ numeral 0 (take m (drop at s))) × (r < 256 ^ m) → (r ≡ numeral 0 (bytesAt s at n)) × (r < 256 ^ n)
+read-as s at n m r e h = (h .0 ∙ ap (numeral 0) (take-readable s at n m e), below-more r m n (omega arith) (h .1))
 
 -- ── digits stored, the last first ──
 unfoldable pub stored : ℕ → ℕ → ℕ → ℕ → ℕ → List ℕ → List ℕ

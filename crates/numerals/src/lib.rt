@@ -30,11 +30,11 @@ fn readable(size: usize, at: usize, n: usize) -> usize
     }
 }
 
-// The number that n bytes from a place on say, the highest first; after the end of s, those that are left. At most eight bytes are read.
-pub fn number(s: &[u8], at: usize, n: usize) -> u64
-    ensures { λ r. ⌜ (r ≡ numeral 0 (bytesAt (now (s .entry)) at n)) × (r < 256 ^ n) ⌝ }
+// Up to eight bytes that are there, read one after the other.
+fn each(s: &[u8], at: usize, m: usize) -> u64
+    requires { ⌜ (m ≤ 8) × (m ≤ length (now s) - at) ⌝ }
+    ensures { λ r. ⌜ (r ≡ numeral 0 (take m (drop at (now (s .entry))))) × (r < 256 ^ m) ⌝ }
 {
-    let m = readable(s.len(), at, n);
     let mut v: u64 = 0;
     let mut i: usize = 0;
     while i < m {
@@ -42,6 +42,42 @@ pub fn number(s: &[u8], at: usize, n: usize) -> u64
         i += 1;
     }
     v
+}
+
+// Two, four and eight bytes that are there, read at once.
+fn two(s: &[u8], at: usize) -> u64
+    requires { ⌜ at + 2 ≤ length (now s) ⌝ }
+    ensures { λ r. ⌜ (r ≡ numeral 0 (take 2 (drop at (now (s .entry))))) × (r < 256 ^ 2) ⌝ }
+{
+    wide(s[at]) * 256 + wide(s[at + 1])
+}
+
+fn four(s: &[u8], at: usize) -> u64
+    requires { ⌜ at + 4 ≤ length (now s) ⌝ }
+    ensures { λ r. ⌜ (r ≡ numeral 0 (take 4 (drop at (now (s .entry))))) × (r < 256 ^ 4) ⌝ }
+{
+    two(s, at) * 65536 + two(s, at + 2)
+}
+
+fn eight(s: &[u8], at: usize) -> u64
+    requires { ⌜ at + 8 ≤ length (now s) ⌝ }
+    ensures { λ r. ⌜ (r ≡ numeral 0 (take 8 (drop at (now (s .entry))))) × (r < 256 ^ 8) ⌝ }
+{
+    four(s, at) * 4294967296 + four(s, at + 4)
+}
+
+// The number that n bytes from a place on say, the highest first; after the end of s, those that are left. At most eight bytes are read.
+pub fn number(s: &[u8], at: usize, n: usize) -> u64
+    ensures { λ r. ⌜ (r ≡ numeral 0 (bytesAt (now (s .entry)) at n)) × (r < 256 ^ n) ⌝ }
+{
+    let m = readable(s.len(), at, n);
+    if m == 8 {
+        return eight(s, at);
+    }
+    if m == 4 {
+        return four(s, at);
+    }
+    each(s, at, m)
 }
 
 // The same for four bytes, and for two.

@@ -1,0 +1,25 @@
+-- `numerals::eight` meets its contract: four bytes, and four more.
+use Prim.Native.Nat.{_+_}
+use mathlib.Core.Path.{sym, _∙_}
+use native.Mathlib.Omega.{arith}
+use Rattle.numerals.proofs.BigEndian.{numeral-joined}
+use Rattle.numerals.proofs.eight.Statement.{statement}
+use Rattle.numerals.proofs.eight.Tie as tie
+
+returns : tie.Need-returns
+returns c =
+    let w = c .before in
+    let o = w .before .before in
+    let j = numeral-joined (o .args .s .now) (o .args .at) 4 4 (omega (arith, o .pre)) in
+    (sym (j ∙ omega (arith, w .four .ensures .0, c .four2 .ensures .0)), omega (arith, w .four .ensures .1, c .four2 .ensures .1))
+
+pub eight-spec : {M : Type 1} → statement M
+eight-spec =
+    tie.close
+    (tie.spec
+    (λ c κs. omega (arith, c .before .pre))
+    (λ c. omega (arith, c .four .ensures .1))
+    (λ c. omega (arith, c .before .before .pre))
+    (λ c κs. omega (arith, c .before .before .pre))
+    (λ c. omega (arith, c .four2 .ensures .1, c .before .four .ensures .1))
+    returns)

@@ -1,0 +1,25 @@
+-- `numerals::four` meets its contract: two bytes, and two more.
+use Prim.Native.Nat.{_+_}
+use mathlib.Core.Path.{sym, _∙_}
+use native.Mathlib.Omega.{arith}
+use Rattle.numerals.proofs.BigEndian.{numeral-joined}
+use Rattle.numerals.proofs.four.Statement.{statement}
+use Rattle.numerals.proofs.four.Tie as tie
+
+returns : tie.Need-returns
+returns c =
+    let w = c .before in
+    let o = w .before .before in
+    let j = numeral-joined (o .args .s .now) (o .args .at) 2 2 (omega (arith, o .pre)) in
+    (sym (j ∙ omega (arith, w .two .ensures .0, c .two2 .ensures .0)), omega (arith, w .two .ensures .1, c .two2 .ensures .1))
+
+pub four-spec : {M : Type 1} → statement M
+four-spec =
+    tie.close
+    (tie.spec
+    (λ c κs. omega (arith, c .before .pre))
+    (λ c. omega (arith, c .two .ensures .1))
+    (λ c. omega (arith, c .before .before .pre))
+    (λ c κs. omega (arith, c .before .before .pre))
+    (λ c. omega (arith, c .two2 .ensures .1, c .before .two .ensures .1))
+    returns)
