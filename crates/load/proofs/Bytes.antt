@@ -1,18 +1,24 @@
 -- Fields written at their widths and read at them, and the lengths of records and loads.
-use Prim.Native.Nat.{ℕ, _+_, _^_, _≤_, _<_}
-use mathlib.Core.List.{List, [], _∷_, _++_, append-assoc, append-nil}
+use Prim.Native.Nat.{ℕ, zero, suc, _+_, _^_, _≤_, _<_}
+use mathlib.Core.Bool.{Bool, true, false, _||_}
+use mathlib.Core.List.{List, [], _∷_, _++_, map, append-assoc, append-nil}
 use mathlib.Core.Path.{_≡_, refl, sym, ap, _∙_}
 use native.Mathlib.Omega.{arith}
+use native.Mathlib.Nat.{one-le-pow}
+use lib.Dec.{eqb}
+use borrow.Author.Tests.{eqb-true}
 use lib.ListN.{length, take, drop, getD, length-append, length-drop}
 use lib.Seq.{take-at, drop-at, take-add, getD-drop}
 use Rattle.numerals.specs.Digits.{digits}
 use Rattle.numerals.proofs.BigEndian.{digits-length, numeral-digits, digits-numeral, numeral-below}
 use Rattle.load.specs.declared.Call.{Call}
-use Rattle.load.specs.Calls.{widths, total, lengthOf, kindOf, valuesOf}
+use Rattle.load.specs.Format.{fieldWidths, widthOf, fieldsOf, widths, total, lengthOf}
+use Rattle.load.specs.Calls.{numbers, valueOf, valuesIn, valuesOf, carries}
 use Rattle.load.specs.Bytes.{big, fieldBytes, fieldValues, recordBytes, recordsBytes, loadBytes}
 use Rattle.load.specs.Reading.{editionOf}
-use Rattle.load.specs.RoundTrip.{Bytes}
-use Rattle.load.proofs.Calls.{length-total}
+use Rattle.load.specs.RoundTrip.{Bytes, Typed}
+use Rattle.load.proofs.Format.{has, length-total}
+use Rattle.load.proofs.Calls.{carries-none}
 
 -- ── fields ──
 -- Each value goes into its width.
@@ -52,16 +58,49 @@ values-fit (w ∷ ws) bs h s =
     let l = length-drop w bs in
     Fit.one (numeral-below w bs (omega arith) s) (values-fit ws (drop w bs) (omega arith) (bytes-drop bs w s))
 
+pub values-length : (ws bs : List ℕ) → length (fieldValues ws bs) ≡ length ws
+unfolding fieldValues
+values-length [] bs = refl
+values-length (w ∷ ws) bs = ap suc (values-length ws (drop w bs))
+
+-- ── the values of a call ──
+values-typed : (fs : List ℕ) (c : Call) → Typed c → Fit (map widthOf fs) (valuesIn fs c)
+values-typed [] c t = Fit.none
+values-typed (f ∷ fs) c t = Fit.one (t f) (values-typed fs c t)
+
+pub typed-fits : (e : ℕ) (c : Call) → Typed c → Fit (widths e (c .kind)) (valuesOf e c)
+unfolding widths valuesOf
+typed-fits e c t = values-typed (fieldsOf e (c .kind)) c t
+
+fits-at : (fs : List ℕ) (c : Call) (f : ℕ) → Fit (map widthOf fs) (valuesIn fs c) → has f fs ≡ true → valueOf f c < 256 ^ widthOf f
+unfolding has
+fits-at [] c f Fit.none h = let z : _≡_ {A = ℕ} 0 1 = cc in absurd (omega arith)
+fits-at (g ∷ fs) c f (Fit.one v r) h = go (eqb f g) refl h (fits-at fs c f r)
+  where
+    go : (b : Bool) → eqb f g ≡ b → (b || has f fs) ≡ true → (has f fs ≡ true → valueOf f c < 256 ^ widthOf f) → valueOf f c < 256 ^ widthOf f
+    go true p h ih = rw (eqb-true f g p) v
+    go false p h ih = ih h
+
+-- A call that an edition carries is typed if its kind and values are.
+pub fits-typed : (e : ℕ) (c : Call) → c .kind < 256 → carries e c ≡ true → Fit (widths e (c .kind)) (valuesOf e c) → Typed c
+unfolding widths valuesOf valueOf numbers widthOf fieldWidths
+fits-typed e c k h t zero = k
+fits-typed e c k h t (suc f) = go (has (suc f) (fieldsOf e (c .kind))) refl
+  where
+    go : (b : Bool) → has (suc f) (fieldsOf e (c .kind)) ≡ b → valueOf (suc f) c < 256 ^ widthOf (suc f)
+    go true p = fits-at (fieldsOf e (c .kind)) c (suc f) t p
+    go false p = rw (carries-none e c f h p) (one-le-pow (widthOf (suc f)) 256 (omega arith))
+
 -- ── records ──
-pub record-length : (e : ℕ) (c : Call) → 0 < lengthOf e (kindOf c) → length (recordBytes e c) ≡ 2 + lengthOf e (kindOf c)
+pub record-length : (e : ℕ) (c : Call) → 0 < lengthOf e (c .kind) → length (recordBytes e c) ≡ 2 + lengthOf e (c .kind)
 unfolding recordBytes
-record-length e c h = let t = length-total e (kindOf c) h in simp (length-append, digits-length, field-bytes-length) (omega arith)
+record-length e c h = let t = length-total e (c .kind) h in simp (length-append, digits-length, field-bytes-length) (omega arith)
 
 -- Length, kind and fields of a record, whatever stands behind it.
 pub record-front : (e : ℕ) (c : Call) (rest : List ℕ)
-    → (take 2 (recordBytes e c ++ rest) ≡ big 2 (lengthOf e (kindOf c)))
-    × (getD (recordBytes e c ++ rest) 2 0 ≡ kindOf c)
-    × (drop 3 (recordBytes e c ++ rest) ≡ fieldBytes (widths e (kindOf c)) (valuesOf e c) ++ rest)
+    → (take 2 (recordBytes e c ++ rest) ≡ big 2 (lengthOf e (c .kind)))
+    × (getD (recordBytes e c ++ rest) 2 0 ≡ c .kind)
+    × (drop 3 (recordBytes e c ++ rest) ≡ fieldBytes (widths e (c .kind)) (valuesOf e c) ++ rest)
 unfolding recordBytes digits
 record-front e c rest = (refl, refl, refl)
 

@@ -1,139 +1,192 @@
--- The tables of kinds, there and back: a call's kind and values give the call, and the other way round. `kinds` is the only law that goes
--- through them case by case.
-use Prim.Native.Nat.{ℕ, zero, suc, _^_, _≤_, _<_}
-use mathlib.Core.Bool.{Bool, true, false, cond, and-eq-true-iff}
-use mathlib.Core.List.{List, [], _∷_}
-use mathlib.Core.Path.{_≡_, refl, sym}
+-- Calls and their values, there and back: by one induction over the fields of a row, given that they differ (`proper`).
+use Prim.Native.Nat.{ℕ, zero, suc, _%_, _^_, _≤_, _<_}
+use mathlib.Core.Bool.{Bool, true, false, not, _&&_, _||_, and-eq-true-iff}
+use mathlib.Core.List.{List, [], _∷_, map}
+use mathlib.Core.Path.{_≡_, refl, sym, ap, _∙_}
 use native.Mathlib.Omega.{arith}
+use native.Mathlib.Nat.{one-le-pow, mod-eq-of-lt}
 use lib.Dec.{ltb, eqb}
-use borrow.Author.Tests.{ltb-true, ltb-false, eqb-true, ne-eqb}
-use lib.ListN.{length, take, drop, getD}
+use borrow.Author.Tests.{ltb-true, lt-ltb, le-ltb, eqb-true, eqb-false, eq-eqb, ne-eqb, not-true}
+use lib.ListN.{length, drop, getD, set, length-set, length-map, List·getD-eq-default}
+use lib.Seq.{getD-set-same, getD-set-other, set-out}
 use Rattle.load.specs.declared.Call.{Call}
-use Rattle.load.specs.declared.Call.the-variants.{Rig, Claim, Release, Withdraw, Clock}
-use Rattle.load.specs.Calls.{widths1, widths, total, lengthIn, lengthOf, kindOf, fieldsOf, valuesOf, callOf, zeros, carries}
-use Rattle.load.specs.Bytes.{fieldValues}
+use Rattle.load.specs.Format.{fieldWidths, widthOf, fieldsOf, lengthOf}
+use Rattle.load.specs.Calls.{numbers, made, valueOf, withValue, bare, filled, callOf, valuesIn, valuesOf, sameBelow, same, kept, carries}
+use Rattle.load.specs.RoundTrip.{Typed}
+use Rattle.load.proofs.Format.{both, has, proper, proper-first, proper-once, proper-rest, fields-proper}
 
--- One case for each edition and kind that there is.
-pub kinds : (P : ℕ → ℕ → Type 0) (e k : ℕ) → 0 < lengthOf e k → P 1 1 → P 1 2 → P 1 3 → P 1 4 → P 1 5 → P e k
-unfolding lengthOf widths widths1 lengthIn
-kinds P e k h p1 p2 p3 p4 p5 = go (eqb e 1) (eqb k 1) (eqb k 2) (eqb k 3) (eqb k 4) (eqb k 5) refl refl refl refl refl refl h
+-- ── one field ──
+-- The call of five numbers has them at their places. (One line for each field.)
+made-has : (ns : List ℕ) → length ns ≡ 5 → (f : ℕ) → valueOf f (made ns) ≡ getD ns f 0
+unfolding valueOf numbers made
+made-has ns h zero = refl
+made-has ns h (suc zero) = refl
+made-has ns h (suc (suc zero)) = refl
+made-has ns h (suc (suc (suc zero))) = refl
+made-has ns h (suc (suc (suc (suc zero)))) = refl
+made-has ns h (suc (suc (suc (suc (suc f))))) = sym (List·getD-eq-default ns 0 (omega arith))
+
+set-length : (f v : ℕ) (c : Call) → length (set (numbers c) f v) ≡ 5
+unfolding numbers
+set-length f v c = length-set (numbers c) f v
+
+pub value-same : (f v : ℕ) (c : Call) → f < 5 → valueOf f (withValue f v c) ≡ v
+unfolding withValue numbers
+value-same f v c h = made-has (set (numbers c) f v) (set-length f v c) f ∙ getD-set-same (numbers c) f v 0 h
+
+pub value-other : (f g v : ℕ) (c : Call) → eqb f g ≡ false → valueOf f (withValue g v c) ≡ valueOf f c
+unfolding withValue valueOf
+value-other f g v c h = made-has (set (numbers c) g v) (set-length g v c) f ∙ getD-set-other (numbers c) g f v 0 (eqb-false f g h)
+
+pub no-value : (f : ℕ) (c : Call) → 5 ≤ f → (0 ≡ valueOf f c) × (0 < 256 ^ widthOf f)
+unfolding valueOf numbers
+no-value f c h = (sym (List·getD-eq-default (numbers c) 0 h), one-le-pow (widthOf f) 256 (omega arith))
+
+-- A value put into a field, as the code does: what goes into the width of field k, the whole where it is within it, and no field.
+module _ (f v : ℕ) (c : Call) where
+  pub with-part : (k : ℕ) (d : Call) → f ≡ k → d ≡ withValue k (v % 256 ^ widthOf k) c → d ≡ withValue f (v % 256 ^ widthOf f) c
+  with-part k d e h = rw e h
+
+  pub with-whole : (k : ℕ) (d : Call) → f ≡ k → v < 256 ^ widthOf k → d ≡ withValue k v c → d ≡ withValue f (v % 256 ^ widthOf f) c
+  with-whole k d e l h = rw (e, mod-eq-of-lt l) h
+
+pub with-none : (f w : ℕ) (c : Call) → 5 ≤ f → c ≡ withValue f w c
+unfolding withValue made numbers
+with-none f w c h = ap made (sym (set-out (numbers c) f w h))
+
+-- Two calls with the same values are one.
+pub by-values : (c d : Call) → ((f : ℕ) → f < 5 → valueOf f c ≡ valueOf f d) → c ≡ d
+unfolding valueOf numbers
+by-values c d h =
+    let k : c .kind ≡ d .kind = h 0 (omega arith) in
+    let t : c .clock ≡ d .clock = h 1 (omega arith) in
+    let g : c .groups ≡ d .groups = h 2 (omega arith) in
+    let l : c .length ≡ d .length = h 3 (omega arith) in
+    let n : c .ticket ≡ d .ticket = h 4 (omega arith) in
+    let p : _≡_ {A = Call} (record { kind = c .kind; clock = c .clock; groups = c .groups; length = c .length; ticket = c .ticket })
+    (record { kind = d .kind; clock = d .clock; groups = d .groups; length = d .length; ticket = d .ticket }) = rw (k, t, g, l, n) in
+    p
+
+same-below : (n : ℕ) (c d : Call) → sameBelow n c d ≡ true → (f : ℕ) → f < n → valueOf f c ≡ valueOf f d
+unfolding sameBelow
+same-below zero c d h f l = absurd (omega arith)
+same-below (suc n) c d h f l = go (eqb f n) refl (both _ _ h) (same-below n c d)
   where
-    go : (b b1 b2 b3 b4 b5 : Bool) → eqb e 1 ≡ b → eqb k 1 ≡ b1 → eqb k 2 ≡ b2 → eqb k 3 ≡ b3 → eqb k 4 ≡ b4 → eqb k 5 ≡ b5
-        → 0 < lengthIn (cond b (cond b1 (8 ∷ []) (cond b2 (8 ∷ 8 ∷ 4 ∷ []) (cond b3 (8 ∷ 2 ∷ []) (cond b4 (8 ∷ 2 ∷ []) (cond b5 (8 ∷ []) []))))) []) → P e k
-    go false b1 b2 b3 b4 b5 q q1 q2 q3 q4 q5 z = absurd (omega arith)
-    go true true b2 b3 b4 b5 q q1 q2 q3 q4 q5 z = rw (eqb-true e 1 q, eqb-true k 1 q1) p1
-    go true false true b3 b4 b5 q q1 q2 q3 q4 q5 z = rw (eqb-true e 1 q, eqb-true k 2 q2) p2
-    go true false false true b4 b5 q q1 q2 q3 q4 q5 z = rw (eqb-true e 1 q, eqb-true k 3 q3) p3
-    go true false false false true b5 q q1 q2 q3 q4 q5 z = rw (eqb-true e 1 q, eqb-true k 4 q4) p4
-    go true false false false false true q q1 q2 q3 q4 q5 z = rw (eqb-true e 1 q, eqb-true k 5 q5) p5
-    go true false false false false false q q1 q2 q3 q4 q5 z = absurd (omega arith)
+    go : (b : Bool) → eqb f n ≡ b → (eqb (valueOf n c) (valueOf n d) ≡ true) × (sameBelow n c d ≡ true) → (sameBelow n c d ≡ true → (f : ℕ) → f < n → valueOf f c ≡ valueOf f d) → valueOf f c ≡ valueOf f d
+    go true p q ih = rw (eqb-true f n p) (eqb-true (valueOf n c) (valueOf n d) (q .0))
+    go false p q ih = let z = eqb-false f n p in ih (q .1) f (omega (arith, z))
 
--- And what there is not.
-pub no-widths : (k : ℕ) → (k ≡ 1 → ⊥) → (k ≡ 2 → ⊥) → (k ≡ 3 → ⊥) → (k ≡ 4 → ⊥) → (k ≡ 5 → ⊥) → widths1 k ≡ []
-unfolding widths1
-no-widths k a b c d e = rw (ne-eqb k 1 a, ne-eqb k 2 b, ne-eqb k 3 c, ne-eqb k 4 d, ne-eqb k 5 e)
+-- One number after the other, the last first.
+module _ (n m : ℕ) (c d : Call) (e : n ≡ suc m) (x y : ℕ) (p : x ≡ valueOf m c) (q : y ≡ valueOf m d) where
+  pub same-not : (x ≡ y → ⊥) → false ≡ sameBelow n c d
+  unfolding sameBelow
+  same-not h = rw (e, ← p, ← q, ne-eqb x y h)
 
-pub no-length : (e k : ℕ) → e ≡ 1 → widths1 k ≡ [] → lengthOf e k ≡ 0
-unfolding lengthOf widths lengthIn
-no-length e k p q = rw (p, q)
+  pub same-more : x ≡ y → sameBelow m c d ≡ sameBelow n c d
+  unfolding sameBelow
+  same-more h = rw (e, ← p, ← q, eq-eqb x y h)
 
-pub no-edition : (e k : ℕ) → (e ≡ 1 → ⊥) → lengthOf e k ≡ 0
-unfolding lengthOf widths lengthIn
-no-edition e k p = rw (ne-eqb e 1 p)
+pub same-none : (n : ℕ) (c d : Call) → n ≤ 0 → true ≡ sameBelow n c d
+unfolding sameBelow
+same-none zero c d h = refl
+same-none (suc n) c d h = absurd (omega arith)
 
-pub edition-one : (e k : ℕ) → 0 < lengthOf e k → e ≡ 1
-edition-one e k h = kinds (λ e k. e ≡ 1) e k h refl refl refl refl refl
+pub same-call : (c d : Call) → same c d ≡ true → c ≡ d
+unfolding fieldWidths
+same-call c d h = by-values c d (same-below 5 c d h)
 
--- ── lengths ──
--- No record is long, so its length goes into two bytes.
-length-few : (e k : ℕ) → lengthOf e k ≤ 255
-unfolding lengthOf widths widths1 lengthIn total
-length-few e k = go (ltb 0 (lengthOf e k)) refl
+same-self : (n : ℕ) (c d : Call) → c ≡ d → sameBelow n c d ≡ true
+unfolding sameBelow
+same-self zero c d e = refl
+same-self (suc n) c d e = rw (eq-eqb (valueOf n c) (valueOf n d) (ap (valueOf n) e), same-self n c d e)
+
+-- ── the fields of a row ──
+no-kind-byte : (fs : List ℕ) → proper fs ≡ true → has 0 fs ≡ false
+unfolding has
+no-kind-byte [] p = refl
+no-kind-byte (f ∷ fs) p = let q = proper-first f fs p in rw (ne-eqb 0 f (λ z. omega (arith, q .0)), no-kind-byte fs (proper-rest f fs p))
+
+-- A field that is not among them keeps its value.
+pub filled-other : (fs vs : List ℕ) (c : Call) (f : ℕ) → has f fs ≡ false → valueOf f (filled fs vs c) ≡ valueOf f c
+unfolding filled has
+filled-other [] vs c f h = refl
+filled-other (g ∷ fs) vs c f h = go (eqb f g) (has f fs) refl refl h (filled-other fs (drop 1 vs) (withValue g (getD vs 0 0) c) f)
   where
-    go : (b : Bool) → ltb 0 (lengthOf e k) ≡ b → lengthOf e k ≤ 255
-    go true p = kinds (λ e k. lengthOf e k ≤ 255) e k (ltb-true 0 (lengthOf e k) p) (omega arith) (omega arith) (omega arith) (omega arith) (omega arith)
-    go false p = omega (arith, ltb-false 0 (lengthOf e k) p)
+    go : (a b : Bool) → eqb f g ≡ a → has f fs ≡ b → (a || b) ≡ false → (has f fs ≡ false → valueOf f (filled fs (drop 1 vs) (withValue g (getD vs 0 0) c)) ≡ valueOf f (withValue g (getD vs 0 0) c))
+        → valueOf f (filled fs (drop 1 vs) (withValue g (getD vs 0 0) c)) ≡ valueOf f c
+    go true b p q h ih = let z : _≡_ {A = ℕ} 0 1 = cc in absurd (omega arith)
+    go false true p q h ih = let z : _≡_ {A = ℕ} 0 1 = cc in absurd (omega arith)
+    go false false p q h ih = ih q ∙ value-other f g (getD vs 0 0) c p
 
-pub length-small : (e k : ℕ) → lengthOf e k < 256 ^ 2
-length-small e k = omega (arith, length-few e k)
-
-pub length-under : (e k n : ℕ) → n ≡ lengthOf e k → n ≤ 255
-length-under e k n p = omega (arith, p, length-few e k)
-
--- A kind byte and eight bytes at least.
-pub length-least : (e k : ℕ) → 0 < lengthOf e k → 9 ≤ lengthOf e k
-unfolding lengthOf lengthIn widths widths1 total
-length-least e k h = kinds (λ e k. 9 ≤ lengthOf e k) e k h (omega arith) (omega arith) (omega arith) (omega arith) (omega arith)
-
-pub length-total : (e k : ℕ) → 0 < lengthOf e k → lengthOf e k ≡ suc (total (widths e k))
-unfolding lengthOf lengthIn
-length-total e k h = go (widths e k) h
-  where
-    go : (ws : List ℕ) → 0 < lengthIn ws → lengthIn ws ≡ suc (total ws)
-    go [] h = absurd (omega arith)
-    go (w ∷ ws) h = omega arith
+-- Those among them have the values that were put in.
+filled-values : (fs vs : List ℕ) (c : Call) → proper fs ≡ true → length vs ≡ length fs → valuesIn fs (filled fs vs c) ≡ vs
+unfolding filled
+filled-values [] [] c p l = refl
+filled-values [] (v ∷ vs) c p l = absurd (omega arith)
+filled-values (f ∷ fs) [] c p l = absurd (omega arith)
+filled-values (f ∷ fs) (v ∷ vs) c p l =
+    let d = withValue f v c in
+    rw (filled-other fs vs d f (proper-once f fs p), value-same f v c (proper-first f fs p .1), filled-values fs vs d (proper-rest f fs p) (omega arith))
 
 -- ── a call from its kind and values ──
-zero-get : (vs : List ℕ) (i : ℕ) → zeros vs ≡ true → getD vs i 0 ≡ 0
-unfolding zeros
-zero-get [] i h = refl
-zero-get (v ∷ vs) zero h = eqb-true v 0 (and-eq-true-iff (eqb v 0) (zeros vs) .0 h .0)
-zero-get (v ∷ vs) (suc i) h = zero-get vs i (and-eq-true-iff (eqb v 0) (zeros vs) .0 h .1)
+module _ (e k : ℕ) (vs : List ℕ) where
+  pub kind-of-call : callOf e k vs .kind ≡ k
+  unfolding callOf valueOf numbers bare made
+  kind-of-call = filled-other (fieldsOf e k) vs (bare k) 0 (no-kind-byte (fieldsOf e k) (fields-proper e k))
 
--- What was left out, being 0, reads as it was.
-zero-tail : (n : ℕ) (vs : List ℕ) (i : ℕ) → zeros (drop n vs) ≡ true → getD (take n vs) i 0 ≡ getD vs i 0
-zero-tail zero vs i h = sym (zero-get vs i h)
-zero-tail (suc n) [] i h = refl
-zero-tail (suc n) (v ∷ vs) zero h = refl
-zero-tail (suc n) (v ∷ vs) (suc i) h = zero-tail n vs i h
+  module _ (l : length vs ≡ length (fieldsOf e k)) where
+    pub values-of-call : valuesOf e (callOf e k vs) ≡ vs
+    unfolding valuesOf callOf
+    values-of-call = ap (λ (j : ℕ). valuesIn (fieldsOf e j) (callOf e k vs)) kind-of-call ∙ filled-values (fieldsOf e k) vs (bare k) (fields-proper e k) l
 
-call-of-fields : (e : ℕ) (c : Call) → callOf e (kindOf c) (fieldsOf c) ≡ c
-unfolding callOf kindOf fieldsOf
-call-of-fields e (Rig g) = refl
-call-of-fields e (Claim c g l) = refl
-call-of-fields e (Release c t) = refl
-call-of-fields e (Withdraw c t) = refl
-call-of-fields e (Clock c) = refl
+    kept-call : kept e (callOf e k vs) ≡ callOf e k vs
+    unfolding kept
+    kept-call = ap (λ (j : ℕ). callOf e j (valuesOf e (callOf e k vs))) kind-of-call ∙ ap (callOf e k) values-of-call
 
--- What an edition can carry.
-carries-parts : (e : ℕ) (c : Call) → carries e c ≡ true → (0 < lengthOf e (kindOf c)) × (zeros (drop (length (widths e (kindOf c))) (fieldsOf c)) ≡ true)
+    pub call-carried : 0 < lengthOf e k → carries e (callOf e k vs) ≡ true
+    unfolding carries
+    call-carried h =
+        let l : ltb 0 (lengthOf e (callOf e k vs .kind)) ≡ true = ap (λ (j : ℕ). ltb 0 (lengthOf e j)) kind-of-call ∙ lt-ltb 0 (lengthOf e k) h in
+        rw (l, same-self (length fieldWidths) (kept e (callOf e k vs)) (callOf e k vs) kept-call)
+
+-- What an edition can carry: the code's tests.
+module _ (e : ℕ) (c : Call) (n : ℕ) (l : n ≡ lengthOf e (c .kind)) where
+  pub carries-not : n ≡ 0 → false ≡ carries e c
+  unfolding carries
+  carries-not z = rw (le-ltb 0 (lengthOf e (c .kind)) (omega arith))
+
+  pub carries-is : (n ≡ 0 → ⊥) → (d : Call) (r : Bool) → d ≡ kept e c → r ≡ same d c → r ≡ carries e c
+  unfolding carries
+  carries-is z d r p q = q ∙ rw (lt-ltb 0 (lengthOf e (c .kind)) (omega (arith, z))) (ap (λ (x : Call). same x c) p)
+
+pub carries-length : (e : ℕ) (c : Call) → carries e c ≡ true → 0 < lengthOf e (c .kind)
 unfolding carries
-carries-parts e c h =
-    let q = and-eq-true-iff (ltb 0 (lengthOf e (kindOf c))) (zeros (drop (length (widths e (kindOf c))) (fieldsOf c))) .0 h in
-    (ltb-true 0 (lengthOf e (kindOf c)) (q .0), q .1)
+carries-length e c h = ltb-true 0 (lengthOf e (c .kind)) (both _ _ h .0)
 
-pub carries-length : (e : ℕ) (c : Call) → carries e c ≡ true → 0 < lengthOf e (kindOf c)
-carries-length e c h = carries-parts e c h .0
+pub call-of-values : (e : ℕ) (c : Call) → carries e c ≡ true → callOf e (c .kind) (valuesOf e c) ≡ c
+unfolding carries kept
+call-of-values e c h = same-call (kept e c) c (both (ltb 0 (lengthOf e (c .kind))) (same (kept e c) c) h .1)
 
-pub call-of-values : (e : ℕ) (c : Call) → carries e c ≡ true → callOf e (kindOf c) (valuesOf e c) ≡ c
-unfolding callOf valuesOf
-call-of-values e c h =
-    let n = length (widths e (kindOf c)) in
-    let z : (i : ℕ) → getD (take n (fieldsOf c)) i 0 ≡ getD (fieldsOf c) i 0 = λ i. zero-tail n (fieldsOf c) i (carries-parts e c h .1) in
-    rw (z 0, z 1, z 2) (call-of-fields e c)
-
--- Edition 1 carries every call.
-pub carries-one : (e : ℕ) (c : Call) → e ≡ 1 → carries e c ≡ true
-unfolding fieldsOf kindOf widths widths1 carries zeros lengthOf lengthIn total
-carries-one e c h = rw h (go c)
+-- The fields that its kind lacks are 0.
+pub carries-none : (e : ℕ) (c : Call) (f : ℕ) → carries e c ≡ true → has (suc f) (fieldsOf e (c .kind)) ≡ false → valueOf (suc f) c ≡ 0
+unfolding callOf valueOf numbers bare made
+carries-none e c f h n =
+    ap (valueOf (suc f)) (sym (call-of-values e c h)) ∙ filled-other (fieldsOf e (c .kind)) (valuesOf e c) (bare (c .kind)) (suc f) n ∙ bare-none (c .kind) f
   where
-    go : (c : Call) → carries 1 c ≡ true
-    go (Rig g) = refl
-    go (Claim c g l) = refl
-    go (Release c t) = refl
-    go (Withdraw c t) = refl
-    go (Clock c) = refl
+    bare-none : (k f : ℕ) → valueOf (suc f) (bare k) ≡ 0
+    bare-none k zero = refl
+    bare-none k (suc zero) = refl
+    bare-none k (suc (suc zero)) = refl
+    bare-none k (suc (suc (suc zero))) = refl
+    bare-none k (suc (suc (suc (suc f)))) = refl
 
--- ── kind and values of a call that was made from them ──
-pub kind-of-call : (e k : ℕ) (vs : List ℕ) → 0 < lengthOf e k → kindOf (callOf e k vs) ≡ k
-unfolding callOf kindOf
-kind-of-call e k vs h = kinds (λ e k. kindOf (callOf e k vs) ≡ k) e k h refl refl refl refl refl
-
-module _ (e k : ℕ) (bs : List ℕ) (h : 0 < lengthOf e k) where
-  pub values-of-call : valuesOf e (callOf e k (fieldValues (widths e k) bs)) ≡ fieldValues (widths e k) bs
-  unfolding callOf valuesOf fieldsOf kindOf fieldValues widths widths1
-  values-of-call = kinds (λ e k. valuesOf e (callOf e k (fieldValues (widths e k) bs)) ≡ fieldValues (widths e k) bs) e k h refl refl refl refl refl
-
-  pub call-carried : carries e (callOf e k (fieldValues (widths e k) bs)) ≡ true
-  unfolding callOf fieldsOf kindOf fieldValues widths widths1 carries zeros lengthOf lengthIn total
-  call-carried = kinds (λ e k. carries e (callOf e k (fieldValues (widths e k) bs)) ≡ true) e k h refl refl refl refl refl
+-- ── types ──
+-- The numbers of a call in the code go into their widths.
+pub typed-call : (c : Call) → c .kind < 2 ^ 8 → c .clock < 2 ^ 64 → c .groups < 2 ^ 64 → c .length < 2 ^ 32 → c .ticket < 2 ^ 16 → Typed c
+unfolding valueOf numbers widthOf fieldWidths
+typed-call c k t g l n zero = k
+typed-call c k t g l n (suc zero) = t
+typed-call c k t g l n (suc (suc zero)) = g
+typed-call c k t g l n (suc (suc (suc zero))) = l
+typed-call c k t g l n (suc (suc (suc (suc zero)))) = n
+typed-call c k t g l n (suc (suc (suc (suc (suc f))))) = omega arith

@@ -1,3 +1,4 @@
+pub mod Format
 pub mod Calls
 pub mod Bytes
 pub mod Reading
@@ -5,3 +6,4 @@ pub mod Loads
 pub mod RoundTrip
 pub mod Decoding
 pub mod Writing
+pub mod Rows

@@ -2,29 +2,31 @@
 use Prim.Native.Nat.{ℕ, zero, suc, _+_, _≤_, _<_}
 use mathlib.Core.Bool.{Bool, true, false, _&&_, and-true, and-false}
 use mathlib.Core.List.{List, [], _∷_, _++_}
-use mathlib.Core.Path.{_≡_, refl, sym, ap, _∙_}
+use mathlib.Core.Path.{_≡_, refl, sym, ap, subst, _∙_}
 use native.Mathlib.Omega.{arith}
 use lib.Dec.{eqb}
 use borrow.Author.Tests.{ne-eqb}
-use lib.ListN.{length, take, drop, length-append, length-drop, take-append-drop}
+use lib.ListN.{length, take, drop, length-append, length-drop, length-map, take-append-drop}
 use lib.Seq.{drop-at, take-add, drop-cons, drop-drop}
 use Rattle.numerals.proofs.BigEndian.{numeral-digits, digits-numeral}
 use Rattle.load.specs.declared.Call.{Call}
 use Rattle.load.specs.declared.Item.{Item}
 use Rattle.load.specs.declared.Item.the-variants.{Record, End, Refused}
-use Rattle.load.specs.Calls.{widths, total, lengthOf, kindOf, valuesOf, carries}
-use Rattle.load.specs.Bytes.{big, bigValue, fieldValues, recordBytes, recordsBytes, loadBytes}
+use Rattle.load.specs.Format.{widthOf, fieldsOf, widths, total, lengthOf}
+use Rattle.load.specs.Calls.{valuesOf, carries}
+use Rattle.load.specs.Bytes.{big, bigValue, fieldBytes, fieldValues, recordBytes, recordsBytes, loadBytes}
 use Rattle.load.specs.Reading.{agree, lengthField, kindField, misfit, readAt, editionOf, itemAt, openNumber, onto, follow, walkIn, walk}
-use Rattle.load.specs.RoundTrip.{Bytes}
-use Rattle.load.proofs.Calls.{kind-of-call, values-of-call, call-of-values, call-carried, length-small, length-total, carries-length}
-use Rattle.load.proofs.Bytes.{Fit, bytes-drop, values-of-bytes, bytes-of-values, values-fit, record-length, record-front}
+use Rattle.load.specs.RoundTrip.{Bytes, Typed}
+use Rattle.load.proofs.Format.{length-small, length-total}
+use Rattle.load.proofs.Calls.{kind-of-call, values-of-call, call-of-values, call-carried, carries-length}
+use Rattle.load.proofs.Bytes.{Fit, bytes-drop, values-of-bytes, bytes-of-values, values-fit, values-length, typed-fits, fits-typed, record-length, record-front}
 use Rattle.load.proofs.Reading.{callIn, read-record, stands, step-next, step-refused, step-end, step-past, misfit-not, misfit-none, walk-record, walk-end, open-known}
 
 -- A call that may stand first, or behind the first.
 pub record Sound (e : ℕ) (first : Bool) (c : Call) : Type 0 where
-  pub place : agree (eqb (kindOf c) 1) first ≡ true
+  pub place : agree (eqb (c .kind) 1) first ≡ true
   pub carried : carries e c ≡ true
-  pub fit : Fit (widths e (kindOf c)) (valuesOf e c)
+  pub typed : Typed c
 
 -- Calls that make a load, or its rest.
 pub data Loadable (e : ℕ) : Bool → List Call → Type 0 where
@@ -37,13 +39,16 @@ record-reads e at c rest v =
     let h = carries-length e c (v .carried) in
     let l = record-length e c h in
     let r = record-front e c rest in
-    let n : lengthField (recordBytes e c ++ rest) ≡ lengthOf e (kindOf c) = ap bigValue (r .0) ∙ numeral-digits 2 (lengthOf e (kindOf c)) (length-small e (kindOf c)) in
+    let n : lengthField (recordBytes e c ++ rest) ≡ lengthOf e (c .kind) = ap bigValue (r .0) ∙ numeral-digits 2 (lengthOf e (c .kind)) (length-small e (c .kind)) in
     let a = length-append (recordBytes e c) rest in
-    let m : misfit e at (lengthField (recordBytes e c ++ rest)) (kindField (recordBytes e c ++ rest)) ≡ false = rw (n, r .1) (misfit-none e at (kindOf c) h (v .place)) in
+    let m : misfit e at (lengthField (recordBytes e c ++ rest)) (kindField (recordBytes e c ++ rest)) ≡ false = rw (n, r .1) (misfit-none e at (c .kind) h (v .place)) in
     read-record e at (recordBytes e c ++ rest) (omega arith) m
-    ∙ rw (n, r .1, r .2, values-of-bytes (v .fit) rest, call-of-values e c (v .carried), l)
+    ∙ rw (n, r .1, r .2, values-of-bytes (typed-fits e c (v .typed)) rest, call-of-values e c (v .carried), l)
 
 -- Bytes that are a record.
+abbrev valuesRead : ℕ → List ℕ → List ℕ
+valuesRead e bs = fieldValues (widths e (kindField bs)) (drop 3 bs)
+
 module _ (e at : ℕ) (bs : List ℕ) (s : Bytes bs) (h : 2 + lengthField bs ≤ length bs) (m : misfit e at (lengthField bs) (kindField bs) ≡ false) where
   has-length : 0 < lengthOf e (kindField bs)
   has-length = let q = misfit-not e at (lengthField bs) (kindField bs) m in omega (arith, q .0, q .1)
@@ -53,28 +58,39 @@ module _ (e at : ℕ) (bs : List ℕ) (s : Bytes bs) (h : 2 + lengthField bs ≤
       let q = misfit-not e at (lengthField bs) (kindField bs) m in
       omega (arith, q .1, length-total e (kindField bs) has-length, length-drop 3 bs)
 
+  many : length (valuesRead e bs) ≡ length (fieldsOf e (kindField bs))
+  unfolding widths
+  many = values-length (widths e (kindField bs)) (drop 3 bs) ∙ length-map (fieldsOf e (kindField bs)) widthOf
+
+  kind-is : callIn e bs .kind ≡ kindField bs
+  kind-is = kind-of-call e (kindField bs) (valuesRead e bs)
+
+  values-are : valuesOf e (callIn e bs) ≡ valuesRead e bs
+  values-are = values-of-call e (kindField bs) (valuesRead e bs) many
+
   written-again : recordBytes e (callIn e bs) ≡ take (2 + lengthField bs) bs
   unfolding recordBytes
   written-again =
       let k = kindField bs in
       let n = lengthField bs in
       let q = misfit-not e at n k m in
-      let kk = kind-of-call e k (fieldValues (widths e k) (drop 3 bs)) has-length in
-      let vv = values-of-call e k (drop 3 bs) has-length in
       let jj = bytes-of-values (widths e k) (drop 3 bs) fields-whole (bytes-drop bs 3 s) in
       let nn : n ≡ suc (total (widths e k)) = q .1 ∙ length-total e k has-length in
       let bb : big 2 (lengthOf e k) ≡ take 2 bs = ap (big 2) (sym (q .1)) ∙ digits-numeral 2 bs (omega arith) s in
       let e1 : take (2 + n) bs ≡ take 2 bs ++ take n (drop 2 bs) = take-add 2 n bs in
       let e2 : take n (drop 2 bs) ≡ k ∷ take (total (widths e k)) (drop 3 bs) = rw (nn, drop-cons bs 2 0 (omega arith)) in
-      rw (kk, vv, jj, bb) (sym (e1 ∙ ap (λ r. take 2 bs ++ r) e2))
+      ap (λ (j : ℕ). big 2 (lengthOf e j) ++ (j ∷ fieldBytes (widths e j) (valuesOf e (callIn e bs)))) kind-is
+      ∙ rw (values-are, jj, bb) (sym (e1 ∙ ap (λ r. take 2 bs ++ r) e2))
 
   sound-call : Sound e (eqb at 1) (callIn e bs)
   sound-call =
       let k = kindField bs in
-      let kk = kind-of-call e k (fieldValues (widths e k) (drop 3 bs)) has-length in
-      let vv = values-of-call e k (drop 3 bs) has-length in
+      let c = callIn e bs in
       let f = values-fit (widths e k) (drop 3 bs) fields-whole (bytes-drop bs 3 s) in
-      record { place = rw kk (misfit-not e at (lengthField bs) k m .2); carried = call-carried e k (drop 3 bs) has-length; fit = rw (kk, vv) f }
+      let g : Fit (widths e (c .kind)) (valuesOf e c) = subst (λ (j : ℕ). Fit (widths e j) (valuesOf e c)) (sym kind-is) (rw values-are f) in
+      let h = call-carried e k (valuesRead e bs) many has-length in
+      let b : c .kind < 256 = omega (arith, kind-is, s 2) in
+      record { place = ap (λ (j : ℕ). agree (eqb j 1) (eqb at 1)) kind-is ∙ misfit-not e at (lengthField bs) k m .2; carried = h; typed = fits-typed e c b h g }
 
 -- ── the bytes of calls read as them ──
 walk-good : (e : ℕ) (s : List ℕ) (first : Bool) (cs : List Call) → Loadable e first cs

@@ -1,21 +1,23 @@
 -- Laws of the reader: what stands at a position, by cases; a walk without its count of items; what the tests of a load say.
-use Prim.Native.Nat.{ℕ, zero, suc, _+_, _-_, _*_, _≤_, _<_}
+use Prim.Native.Nat.{ℕ, zero, suc, _+_, _-_, _*_, _/_, _≤_, _<_}
 use mathlib.Core.Bool.{Bool, true, false, not, _||_, cond, true≢false}
 use mathlib.Core.List.{List, [], _∷_}
 use mathlib.Core.Path.{_≡_, refl, ap, _∙_}
 use native.Mathlib.Omega.{arith}
+use native.Mathlib.Nat.{le-div-iff-mul-le, div-le-self}
 use lib.Dec.{ltb, eqb}
 use borrow.Author.Tests.{ltb-false, eqb-true, eqb-false, le-ltb, eq-eqb, ne-eqb}
 use lib.ListN.{length, drop, length-drop, drop-of-length-le}
 use Rattle.load.specs.declared.Call.{Call}
 use Rattle.load.specs.declared.Item.{Item}
 use Rattle.load.specs.declared.Item.the-variants.{Record, End, Refused}
-use Rattle.load.specs.Calls.{known, widths, lengthOf, callOf}
+use Rattle.load.specs.Format.{known, widths, lengthOf, leastLength}
+use Rattle.load.specs.Calls.{callOf}
 use Rattle.load.specs.Bytes.{fieldValues, loadBytes}
 use Rattle.load.specs.Answers.{itemValues}
 use Rattle.load.specs.Reading.{inPlace, lengthField, kindField, short, misfit, readAt, editionOf, itemAt, recordNumber, ItemNumbered}
 use Rattle.load.specs.Reading.{openNumber, Walk, ended, onto, follow, walkIn, walk, orElse, unlessRefused, reading, loadNumber, ReadingTested}
-use Rattle.load.proofs.Calls.{length-least}
+use Rattle.load.proofs.Format.{least-some, length-least}
 
 -- ── what stands at a position ──
 -- The call that bytes say, where they are a record.
@@ -167,8 +169,8 @@ pub walk-refused : (s : List ℕ) (at n : ℕ) → itemAt s at ≡ Refused n →
 unfolding walk walkIn
 walk-refused s at n e = rw e
 
--- A record has 11 bytes at least, so that a load has few of them.
-record-size : (s : List ℕ) (at : ℕ) (c : Call) (next : ℕ) → itemAt s at ≡ Record c next → at + 11 ≤ next
+-- A record has so many bytes at least, and a load has few of them.
+record-size : (s : List ℕ) (at : ℕ) (c : Call) (next : ℕ) → itemAt s at ≡ Record c next → at + leastLength ≤ next
 record-size s at c next h =
     let r = stands s at c next h in
     let n = lengthField (drop at s) in
@@ -176,19 +178,23 @@ record-size s at c next h =
     let f = misfit-not (editionOf s) at n k (r .fits) in
     omega (arith, r .behind, f .0, f .1, length-least (editionOf s) k (omega (arith, f .0, f .1)))
 
-walk-in-few : (k : ℕ) (s : List ℕ) (at : ℕ) → 11 * length (walkIn k s at .calls) ≤ length s - at
+walk-in-few : (k : ℕ) (s : List ℕ) (at : ℕ) → leastLength * length (walkIn k s at .calls) ≤ length s - at
 unfolding walkIn
 walk-in-few zero s at = omega arith
 walk-in-few (suc k) s at = go (walk-in-few k s) (itemAt s at) refl
   where
-    go : ((n : ℕ) → 11 * length (walkIn k s n .calls) ≤ length s - n) → (x : Item) → itemAt s at ≡ x → 11 * length (follow (λ n. walkIn k s n) x .calls) ≤ length s - at
+    go : ((n : ℕ) → leastLength * length (walkIn k s n .calls) ≤ length s - n) → (x : Item) → itemAt s at ≡ x → leastLength * length (follow (λ n. walkIn k s n) x .calls) ≤ length s - at
     go ih (Record c n) e = omega (arith, ih n, record-size s at c n e, step-next s at c n e .1)
     go ih End e = omega arith
     go ih (Refused n) e = omega arith
 
-pub walk-few : (s : List ℕ) (at : ℕ) → 11 * length (walk s at .calls) ≤ length s - at
+-- A load has no more records than its length has room for.
+pub walk-few : (s : List ℕ) (at : ℕ) → length (walk s at .calls) ≤ length s / leastLength
 unfolding walk
-walk-few s at = walk-in-few (suc (length s)) s at
+walk-few s at = le-div-iff-mul-le least-some .1 (omega (arith, walk-in-few (suc (length s)) s at))
+
+pub walk-short : (s : List ℕ) (at : ℕ) → length (walk s at .calls) ≤ length s
+walk-short s at = omega (arith, walk-few s at, div-le-self (length s) leastLength)
 
 -- ── the tests of a load ──
 pub or-else : (k n : ℕ) → orElse k n ≡ 0 → (k ≡ 0) × (n ≡ 0)
@@ -213,18 +219,18 @@ unfolding loadNumber
 load-parts s h = or-else (openNumber s) (walk s 1 .stop) h
 
 -- A load that opens has an edition, and is within its bound.
-pub open-known : (s : List ℕ) → openNumber s ≡ 0 → (0 < length s) × (editionOf s ≡ 1) × (length s ≤ 65536)
+pub open-known : (s : List ℕ) → openNumber s ≡ 0 → (0 < length s) × (known (editionOf s) ≡ true) × (length s ≤ 65536)
 unfolding openNumber
 open-known s h = go (ltb 65536 (length s)) (eqb (length s) 0) (known (editionOf s)) refl refl refl h
   where
     go : (a b k : Bool) → ltb 65536 (length s) ≡ a → eqb (length s) 0 ≡ b → known (editionOf s) ≡ k
-        → cond {A = ℕ} a 14 (cond b 12 (cond k 0 11)) ≡ 0 → (0 < length s) × (editionOf s ≡ 1) × (length s ≤ 65536)
+        → cond {A = ℕ} a 14 (cond b 12 (cond k 0 11)) ≡ 0 → (0 < length s) × (known (editionOf s) ≡ true) × (length s ≤ 65536)
     go true b k p q r h = absurd (omega arith)
     go false true k p q r h = absurd (omega arith)
     go false false false p q r h = absurd (omega arith)
-    go false false true p q r h = let z = eqb-false (length s) 0 q in (omega (arith, z), eqb-true (editionOf s) 1 r, ltb-false 65536 (length s) p)
+    go false false true p q r h = let z = eqb-false (length s) 0 q in (omega (arith, z), r, ltb-false 65536 (length s) p)
 
-pub load-known : (s : List ℕ) → loadNumber s ≡ 0 → (0 < length s) × (editionOf s ≡ 1) × (length s ≤ 65536)
+pub load-known : (s : List ℕ) → loadNumber s ≡ 0 → (0 < length s) × (known (editionOf s) ≡ true) × (length s ≤ 65536)
 load-known s h = open-known s (load-parts s h .0)
 
 -- And the load of calls opens.

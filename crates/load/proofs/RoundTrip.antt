@@ -5,38 +5,19 @@ use mathlib.Core.List.{List, [], _∷_, _++_, append-assoc, append-nil}
 use mathlib.Core.Path.{_≡_, refl, sym, ap, _∙_}
 use native.Mathlib.Omega.{arith}
 use lib.Dec.{eqb}
-use borrow.Author.Tests.{eqb-true, eq-eqb}
 use lib.ListN.{length, take, drop}
 use lib.Seq.{take-at}
 use Rattle.load.specs.declared.Call.{Call}
-use Rattle.load.specs.declared.Call.the-variants.{Rig, Claim, Release, Withdraw, Clock}
 use Rattle.load.specs.declared.Written.the-variants.{Length}
-use Rattle.load.specs.Calls.{known, widths1, widths, kindOf, fieldsOf, valuesOf}
+use Rattle.load.specs.Format.{known}
 use Rattle.load.specs.Bytes.{recordBytes, recordsBytes, loadBytes}
 use Rattle.load.specs.Reading.{editionOf, openNumber, walk, loadNumber}
 use Rattle.load.specs.Writing.{grown, growNumber, appendNumber, answered, appendAnswer, appendOut}
 use Rattle.load.specs.RoundTrip.{Typed, Appended, WrittenReads, ReadWritten, ReadBounded}
-use Rattle.load.proofs.Bytes.{Fit, load-append, load-longer, load-edition}
+use Rattle.load.proofs.Bytes.{load-append, load-longer, load-edition}
 use Rattle.load.proofs.Reading.{load-parts, load-known, opens}
 use Rattle.load.proofs.Loads.{Sound, Loadable, reads-back, is-read, read-loadable, none?, loadable-more, loadable-at, alone}
 use Rattle.load.proofs.Writing.{Grows, grow-known, grows, append-parts}
-
--- A value within its type fits its width, and back.
-typed-fits : (c : Call) → Typed c → Fit (widths 1 (kindOf c)) (valuesOf 1 c)
-unfolding widths widths1 kindOf valuesOf fieldsOf
-typed-fits (Rig g) h = Fit.one h Fit.none
-typed-fits (Claim c g l) h = Fit.one (h .0) (Fit.one (h .1) (Fit.one (h .2) Fit.none))
-typed-fits (Release c t) h = Fit.one (h .0) (Fit.one (h .1) Fit.none)
-typed-fits (Withdraw c t) h = Fit.one (h .0) (Fit.one (h .1) Fit.none)
-typed-fits (Clock c) h = Fit.one h Fit.none
-
-fits-typed : (c : Call) → Fit (widths 1 (kindOf c)) (valuesOf 1 c) → Typed c
-unfolding widths widths1 kindOf valuesOf fieldsOf
-fits-typed (Rig g) (Fit.one h Fit.none) = h
-fits-typed (Claim c g l) (Fit.one h (Fit.one i (Fit.one j Fit.none))) = (h, i, j)
-fits-typed (Release c t) (Fit.one h (Fit.one i Fit.none)) = (h, i)
-fits-typed (Withdraw c t) (Fit.one h (Fit.one i Fit.none)) = (h, i)
-fits-typed (Clock c) (Fit.one h Fit.none) = h
 
 -- ── what the writer makes reads as its calls ──
 -- What holds of every load that the writer makes.
@@ -77,8 +58,7 @@ module _ (e : ℕ) (cs : List Call) (s : List ℕ) (g : Good e cs s) where
   good-grown : (c : Call) (room : ℕ) → Typed c → growNumber (editionOf s) (length s) c room ≡ 0 → Good e (cs ++ (c ∷ [])) (grown s c)
   good-grown c room t h =
       let k = grow-known s c room h in
-      let f : Fit (widths e (kindOf c)) (valuesOf e c) = rw (eqb-true e 1 (g .edition)) (typed-fits c t) in
-      let v : Sound e (none? cs) c = record { place = rw first-is at (k .place); carried = rw edition-is at (k .carried); fit = f } in
+      let v : Sound e (none? cs) c = record { place = rw first-is at (k .place); carried = rw edition-is at (k .carried); typed = t } in
       record { edition = g .edition; is = grown-is c; calls = loadable-more e true cs c (g .calls) v; bound = k .bounded }
 
 appended-good : (e : ℕ) (cs : List Call) (s : List ℕ) → Appended e cs s → Good e cs s
@@ -114,8 +94,7 @@ append-one e ds c k l v b a =
     let s = loadBytes e ds in
     let out = loadBytes e (ds ++ (c ∷ [])) in
     let n = next-taken e ds c (length out) k l v b (omega arith) in
-    let t : Typed c = fits-typed c (rw (eqb-true e 1 k) at (v .fit)) in
-    rw (appended-is s c out (n .0) ∙ n .1) at (Appended.one c out (length (grown s c)) a t (rw (n .0)))
+    rw (appended-is s c out (n .0) ∙ n .1) at (Appended.one c out (length (grown s c)) a (v .typed) (rw (n .0)))
 
 append-all : (e : ℕ) (cs ds : List Call) → known e ≡ true → Loadable e true (ds ++ cs) → length (loadBytes e (ds ++ cs)) ≤ 65536
     → Appended e ds (loadBytes e ds) → Appended e (ds ++ cs) (loadBytes e (ds ++ cs))
@@ -135,7 +114,7 @@ read-written s b h =
     let cs = walk s 1 .calls in
     let k = load-known s h in
     let r : s ≡ loadBytes e cs = is-read s b (o .0) (o .1) in
-    let a = append-all e cs [] (eq-eqb e 1 (k .1)) (read-loadable s b) (rw r at (k .2)) (Appended.none (eq-eqb e 1 (k .1))) in
+    let a = append-all e cs [] (k .1) (read-loadable s b) (rw r at (k .2)) (Appended.none (k .1)) in
     (r, rw (← r) at a)
 
 pub read-bounded : ReadBounded

@@ -1,67 +1,56 @@
 -- The writer's definitions as the code meets them: the tests in its order, the answer, and the pieces of a record.
-use Prim.Native.Nat.{ℕ, zero, suc, _+_, _≤_, _<_}
+use Prim.Native.Nat.{ℕ, zero, suc, _+_, _^_, _≤_, _<_}
 use mathlib.Core.Bool.{Bool, true, false, not, _||_, cond}
-use mathlib.Core.List.{List, _∷_, _++_, append-nil}
+use mathlib.Core.List.{List, _∷_, _++_}
 use mathlib.Core.Path.{_≡_, refl, sym, ap, _∙_}
 use native.Mathlib.Omega.{arith}
-use lib.Dec.{ltb}
-use borrow.Author.Tests.{lt-ltb, le-ltb, ltb-false}
-use lib.ListN.{length, drop, length-append}
-use Rattle.numerals.specs.Laid.{Put}
-use Rattle.numerals.proofs.Laying.{laid-fits, put-short}
+use lib.Dec.{ltb, eqb}
+use borrow.Author.Tests.{lt-ltb, le-ltb, ltb-false, eqb-false, ne-eqb}
+use lib.ListN.{length, take, length-append, take-append-drop}
+use lib.Seq.{length-take-le, getD-take}
+use Rattle.numerals.specs.Laid.{behind, laid, Put}
+use Rattle.numerals.proofs.Laying.{behind-small, laid-fits, put, put-then, put-short}
 use Rattle.load.specs.declared.Call.{Call}
-use Rattle.load.specs.declared.Call.the-variants.{Rig, Claim, Release, Withdraw, Clock}
+use Rattle.load.specs.declared.Written.{Written}
 use Rattle.load.specs.declared.Written.the-variants.{Length, Refusal}
-use Rattle.load.specs.Calls.{widths1, widths, lengthOf, kindOf, fieldsOf, valuesOf, carries}
-use Rattle.load.specs.Answers.{WrittenValues, writtenValues}
+use Rattle.load.specs.Format.{widths, lengthOf}
+use Rattle.load.specs.Calls.{valuesOf, carries}
+use Rattle.load.specs.Answers.{writtenValues}
 use Rattle.load.specs.Bytes.{big, fieldBytes, recordBytes}
-use Rattle.load.specs.Reading.{inPlace, editionOf, loadNumber, unlessRefused}
-use Rattle.load.specs.Writing.{grown, roomNumber, growNumber, appendNumber, answered, lent, appendAnswer, appendValues, appendOut}
-use Rattle.load.proofs.Calls.{edition-one, carries-one}
+use Rattle.load.specs.Reading.{inPlace, editionOf, loadNumber, orElse}
+use Rattle.load.specs.Writing.{grown, roomNumber, growNumber, appendNumber, appendAnswer, appendValues, appendOut, answered, answeredValues, lent, begun, heldNumber, growAnswer, growValues, growOut}
+use Rattle.load.proofs.Calls.{carries-length}
 use Rattle.load.proofs.Bytes.{record-length}
 use Rattle.load.proofs.Reading.{or-else, or-first, load-known}
 
 -- ── the tests ──
--- Of the code's order: kind is the call's, b whether its place is right.
-module _ (e size : ℕ) (c : Call) (room kind : ℕ) (k : kind ≡ kindOf c) (b : Bool) (p : b ≡ inPlace kind size) where
-  place : inPlace (kindOf c) size ≡ b
-  place = rw (← k) (sym p)
-
-  pub grow-place : b ≡ false → 13 ≡ growNumber e size c room
+-- In the code's order: kind is the call's, n the length of its record.
+module _ (e size : ℕ) (c : Call) (room : ℕ) where
+  pub grow-place : inPlace (c .kind) size ≡ false → 13 ≡ growNumber e size c room
   unfolding growNumber
-  grow-place q = rw (place ∙ q)
+  grow-place q = rw q
 
-  module _ (q : b ≡ true) (n : ℕ) (i : n ≡ lengthOf e kind) where
-    length-is : lengthOf e (kindOf c) ≡ n
-    length-is = rw (← k) (sym i)
+  pub grow-carried : inPlace (c .kind) size ≡ true → carries e c ≡ false → 13 ≡ growNumber e size c room
+  unfolding growNumber
+  grow-carried p q = rw (p, q)
 
-    pub grow-kind : n ≡ 0 → 13 ≡ growNumber e size c room
-    unfolding growNumber carries
-    grow-kind u = rw (place ∙ q, length-is ∙ u)
+  module _ (p : inPlace (c .kind) size ≡ true) (q : carries e c ≡ true) (n : ℕ) (i : n ≡ lengthOf e (c .kind)) where
+    sizes : roomNumber (size + (2 + n)) room ≡ growNumber e size c room
+    unfolding growNumber
+    sizes = rw (p, q, record-length e c (carries-length e c q), ← i)
 
-    module _ (u : n ≡ 0 → ⊥) where
-      whole : size + length (recordBytes e c) ≡ size + (2 + n)
-      whole = let l = length-is in rw (record-length e c (omega (arith, u)), length-is)
+    pub grow-long : 65536 < size + (2 + n) → 14 ≡ growNumber e size c room
+    unfolding roomNumber
+    grow-long l = rw (lt-ltb 65536 (size + (2 + n)) l) at sizes
 
-      carried : carries e c ≡ true
-      carried = let l = length-is in carries-one e c (edition-one e (kindOf c) (omega (arith, u)))
-
-      sizes : roomNumber (size + (2 + n)) room ≡ growNumber e size c room
-      unfolding growNumber
-      sizes = rw (place ∙ q, carried, whole)
-
-      pub grow-long : 65536 < size + (2 + n) → 14 ≡ growNumber e size c room
+    module _ (l : size + (2 + n) ≤ 65536) where
+      pub grow-room : room < size + (2 + n) → 15 ≡ growNumber e size c room
       unfolding roomNumber
-      grow-long l = rw (lt-ltb 65536 (size + (2 + n)) l) at sizes
+      grow-room r = rw (le-ltb 65536 (size + (2 + n)) l, lt-ltb room (size + (2 + n)) r) at sizes
 
-      module _ (l : size + (2 + n) ≤ 65536) where
-        pub grow-room : room < size + (2 + n) → 15 ≡ growNumber e size c room
-        unfolding roomNumber
-        grow-room r = rw (le-ltb 65536 (size + (2 + n)) l, lt-ltb room (size + (2 + n)) r) at sizes
-
-        pub grow-good : size + (2 + n) ≤ room → 0 ≡ growNumber e size c room
-        unfolding roomNumber
-        grow-good r = rw (le-ltb 65536 (size + (2 + n)) l, le-ltb room (size + (2 + n)) r) at sizes
+      pub grow-good : size + (2 + n) ≤ room → 0 ≡ growNumber e size c room
+      unfolding roomNumber
+      grow-good r = rw (le-ltb 65536 (size + (2 + n)) l, le-ltb room (size + (2 + n)) r) at sizes
 
 -- Of a load: t is its own number.
 module _ (s : List ℕ) (c : Call) (room t : ℕ) (z : t ≡ loadNumber s) where
@@ -75,7 +64,7 @@ module _ (s : List ℕ) (c : Call) (room t : ℕ) (z : t ≡ loadNumber s) where
 
 -- A call that grows a load: what number 0 says, and what gives it.
 pub record Grows (s : List ℕ) (c : Call) (room : ℕ) : Type 0 where
-  pub place : inPlace (kindOf c) (length s) ≡ true
+  pub place : inPlace (c .kind) (length s) ≡ true
   pub carried : carries (editionOf s) c ≡ true
   pub bounded : length (grown s c) ≤ 65536
   pub goes-in : length (grown s c) ≤ room
@@ -87,9 +76,9 @@ grown-length s c = sym (length-append s (recordBytes (editionOf s) c))
 pub grow-known : (s : List ℕ) (c : Call) (room : ℕ) → growNumber (editionOf s) (length s) c room ≡ 0 → Grows s c room
 unfolding growNumber roomNumber
 grow-known s c room h =
-    go (inPlace (kindOf c) (length s)) (carries (editionOf s) c) (ltb 65536 (length (grown s c))) (ltb room (length (grown s c))) refl refl refl refl (rw (grown-length s c) at h)
+    go (inPlace (c .kind) (length s)) (carries (editionOf s) c) (ltb 65536 (length (grown s c))) (ltb room (length (grown s c))) refl refl refl refl (rw (grown-length s c) at h)
   where
-    go : (a b x y : Bool) → inPlace (kindOf c) (length s) ≡ a → carries (editionOf s) c ≡ b → ltb 65536 (length (grown s c)) ≡ x → ltb room (length (grown s c)) ≡ y
+    go : (a b x y : Bool) → inPlace (c .kind) (length s) ≡ a → carries (editionOf s) c ≡ b → ltb 65536 (length (grown s c)) ≡ x → ltb room (length (grown s c)) ≡ y
         → cond {A = ℕ} (not a || not b) 13 (cond x 14 (cond y 15 0)) ≡ 0 → Grows s c room
     go false b x y p q u v h = absurd (omega arith)
     go true false x y p q u v h = absurd (omega arith)
@@ -106,66 +95,118 @@ pub append-parts : (s : List ℕ) (c : Call) (room : ℕ) → appendNumber s c r
 unfolding appendNumber
 append-parts s c room h = or-else (loadNumber s) (growNumber (editionOf s) (length s) c room) h
 
-pub append-known : (s : List ℕ) (c : Call) (room : ℕ) → appendNumber s c room ≡ 0 → (editionOf s ≡ 1) × (length s ≤ 65536) × (length (grown s c) ≤ room)
-append-known s c room h =
-    let q = append-parts s c room h in
-    let k = load-known s (q .0) in
-    (k .1, k .2, grow-known s c room (q .1) .goes-in)
+pub append-some : (s : List ℕ) (c : Call) (room k : ℕ) → k ≡ appendNumber s c room → k ≡ 0 → 0 < length s
+append-some s c room k e z = load-known s (append-parts s c room (sym e ∙ z) .0) .0
+
+-- ── a load in the buffer ──
+module _ (out : List ℕ) (n : ℕ) (c : Call) where
+  pub held-none : n ≡ 0 → 12 ≡ heldNumber out n c
+  unfolding heldNumber
+  held-none z = rw z
+
+  module _ (z : n ≡ 0 → ⊥) where
+    pub held-short : length out < n → 15 ≡ heldNumber out n c
+    unfolding heldNumber
+    held-short l = rw (ne-eqb n 0 z, lt-ltb (length out) n l)
+
+    pub held-grow : n ≤ length out → growNumber (editionOf out) n c (length out) ≡ heldNumber out n c
+    unfolding heldNumber
+    held-grow l = rw (ne-eqb n 0 z, le-ltb (length out) n l)
+
+  pub held-within : heldNumber out n c ≡ 0 → (0 < n) × (n ≤ length out) × (growNumber (editionOf out) n c (length out) ≡ 0)
+  unfolding heldNumber
+  held-within h = go (eqb n 0) (ltb (length out) n) refl refl h
+    where
+      go : (a b : Bool) → eqb n 0 ≡ a → ltb (length out) n ≡ b → cond {A = ℕ} a 12 (cond b 15 (growNumber (editionOf out) n c (length out))) ≡ 0
+          → (0 < n) × (n ≤ length out) × (growNumber (editionOf out) n c (length out) ≡ 0)
+      go true b p q h = absurd (omega arith)
+      go false true p q h = absurd (omega arith)
+      go false false p q h = let z = eqb-false n 0 p in (omega (arith, z), ltb-false (length out) n q, h)
+
+  -- What it is, is the buffer's first bytes.
+  module _ (p : 0 < n) (l : n ≤ length out) where
+    first-length : length (take n out) ≡ n
+    first-length = length-take-le n out l
+
+    first-edition : editionOf (take n out) ≡ editionOf out
+    first-edition = getD-take n out 0 0 p
+
+    first-number : growNumber (editionOf (take n out)) (length (take n out)) c (length out) ≡ growNumber (editionOf out) n c (length out)
+    first-number = rw (first-length, first-edition)
+
+    -- Where they read to their end, growing in place is appending.
+    pub grows-in-place : loadNumber (take n out) ≡ 0 → (growAnswer out n c ≡ appendAnswer (take n out) c out) × (growOut out n c ≡ appendOut (take n out) c out)
+    unfolding growAnswer growOut appendAnswer appendOut appendNumber
+    grows-in-place o =
+        let k : heldNumber out n c ≡ orElse (loadNumber (take n out)) (growNumber (editionOf (take n out)) (length (take n out)) c (length out))
+        = sym (held-grow (λ z. omega arith) l) ∙ sym first-number ∙ rw o in
+        rw (← k) (refl, refl)
+
+  pub held-known : heldNumber out n c ≡ 0 → Grows (take n out) c (length out)
+  held-known h = let q = held-within h in grow-known (take n out) c (length out) (first-number (q .0) (q .1) ∙ q .2)
 
 -- ── the answer and the buffer ──
-pub append-refused : (s : List ℕ) (c : Call) (out : List ℕ) (n : ℕ)
-    → n ≡ appendNumber s c (length out) → (n ≡ 0 → ⊥) → (Refusal n ≡ appendAnswer s c out) × (out ≡ appendOut s c out)
-unfolding appendAnswer appendOut
-append-refused s c out n p q = go (appendNumber s c (length out)) p
-  where
-    go : (k : ℕ) → n ≡ k → (Refusal n ≡ answered k (length (grown s c))) × (out ≡ lent k (grown s c ++ drop (length (grown s c)) out) out)
-    go zero p = absurd (q p)
-    go (suc k) p = (ap Refusal p, refl)
+-- k is the number, and g the grown load.
+abbrev Answers : List ℕ → List ℕ → ℕ → Written → List ℕ → Type 0
+Answers g out k r p = (r ≡ answered k (length g)) × ((p ≡ lent k (begun g out) out) × (writtenValues r ≡ answeredValues k (length g)))
 
-pub append-written : (s : List ℕ) (c : Call) (out p : List ℕ) (r : ℕ)
-    → appendNumber s c (length out) ≡ 0 → Put out 0 (s ++ recordBytes 1 c) r p → (Length r ≡ appendAnswer s c out) × (p ≡ appendOut s c out)
-unfolding appendAnswer appendOut grown
-append-written s c out p r h w =
-    let k = append-known s c (length out) h in
-    let g : s ++ recordBytes 1 c ≡ grown s c = rw (k .0) in
-    let l = ap length g in
-    let b = grow-known s c (length out) (append-parts s c (length out) h .1) .bounded in
+refused : (g out : List ℕ) (k n : ℕ) → n ≡ k → (n ≡ 0 → ⊥) → Answers g out k (Refusal n) out
+refused g out zero n p q = absurd (q p)
+refused g out (suc k) n p q = (ap Refusal p, (refl, ap (λ (m : ℕ). writtenValues (Refusal m)) p))
+
+written : (g out : List ℕ) (k : ℕ) (p : List ℕ) (r : ℕ) → k ≡ 0 → length g ≤ 65536 → length g ≤ length out → Put out 0 g r p → Answers g out k (Length r) p
+written g out k p r h b l w =
     let e = put-short (omega arith) w in
-    rw h (ap Length (e .0 ∙ l), e .1 ∙ rw g (laid-fits out (grown s c) (k .2)))
+    rw h (ap Length (e .0), (e .1 ∙ laid-fits out g l, ap (λ (m : ℕ). writtenValues (Length m)) (e .0)))
 
--- The answer's number and length.
-pub append-values : (s : List ℕ) (c : Call) (out : List ℕ) → writtenValues (appendAnswer s c out) ≡ appendValues s c out
-unfolding appendAnswer appendValues
-append-values s c out = go (appendNumber s c (length out)) (length (grown s c))
-  where
-    go : (k n : ℕ) → _≡_ {A = WrittenValues} (writtenValues (answered k n)) (record { number = k; length = unlessRefused k (λ m. 0) n })
-    go zero n = refl
-    go (suc k) n = refl
+-- Appending.
+abbrev Appends : List ℕ → Call → List ℕ → Written → List ℕ → Type 0
+Appends s c out r p = (r ≡ appendAnswer s c out) × ((p ≡ appendOut s c out) × (writtenValues r ≡ appendValues s c out))
+
+module _ (s : List ℕ) (c : Call) (out : List ℕ) (k : ℕ) (e : k ≡ appendNumber s c (length out)) where
+  pub append-refused : (k ≡ 0 → ⊥) → Appends s c out (Refusal k) out
+  unfolding appendAnswer appendOut appendValues
+  append-refused z = refused (grown s c) out (appendNumber s c (length out)) k e z
+
+  pub append-written : k ≡ 0 → (p : List ℕ) (r : ℕ) → Put out 0 (s ++ recordBytes (editionOf s) c) r p → Appends s c out (Length r) p
+  unfolding appendAnswer appendOut appendValues grown
+  append-written z p r w =
+      let g = grow-known s c (length out) (append-parts s c (length out) (sym e ∙ z) .1) in
+      written (grown s c) out (appendNumber s c (length out)) p r (sym e ∙ z) (g .bounded) (g .goes-in) w
+
+-- Growing in place.
+abbrev Grown : List ℕ → ℕ → Call → Written → List ℕ → Type 0
+Grown out n c r p = (r ≡ growAnswer out n c) × ((p ≡ growOut out n c) × (writtenValues r ≡ growValues out n c))
+
+-- A record laid behind the first bytes of a buffer is the grown load laid at its start.
+put-behind : (out : List ℕ) (n : ℕ) (c : Call) (p : List ℕ) (r : ℕ) → length out < 2 ^ 64 → 0 < n → n ≤ length out
+    → (r ≡ behind n (length (recordBytes (editionOf out) c))) × (p ≡ laid out n (recordBytes (editionOf out) c)) → Put out 0 (grown (take n out) c) r p
+unfolding grown
+put-behind out n c p r h z l w =
+    let t = first-length out n c z l in
+    let a : Put out 0 (take n out) n out = record {
+      next = sym (behind-small 0 (length (take n out)) (omega arith) ∙ omega arith);
+      is = sym (laid-fits out (take n out) (omega arith) ∙ rw t (take-append-drop n out));
+    } in
+    rw (first-edition out n c z l) (put-then out 0 (take n out) (recordBytes (editionOf out) c) n r out p h a (put w))
+
+module _ (out : List ℕ) (n : ℕ) (c : Call) (k : ℕ) (e : k ≡ heldNumber out n c) where
+  pub grow-refused : (k ≡ 0 → ⊥) → Grown out n c (Refusal k) out
+  unfolding growAnswer growOut growValues
+  grow-refused z = refused (grown (take n out) c) out (heldNumber out n c) k e z
+
+  pub grow-some : k ≡ 0 → 0 < length out
+  grow-some z = let q = held-within out n c (sym e ∙ z) in omega (arith, q .0, q .1)
+
+  pub grow-written : k ≡ 0 → length out < 2 ^ 64 → (p : List ℕ) (r : ℕ)
+      → (r ≡ behind n (length (recordBytes (editionOf out) c))) × (p ≡ laid out n (recordBytes (editionOf out) c)) → Grown out n c (Length r) p
+  unfolding growAnswer growOut growValues
+  grow-written z h p r w =
+      let i = held-within out n c (sym e ∙ z) in
+      let g = held-known out n c (sym e ∙ z) in
+      written (grown (take n out) c) out (heldNumber out n c) p r (sym e ∙ z) (g .bounded) (g .goes-in) (put-behind out n c p r h (i .0) (i .1) w)
 
 -- ── the pieces of a record ──
-abbrev pub fieldsPut : Call → List ℕ
-fieldsPut c = fieldBytes (widths 1 (kindOf c)) (valuesOf 1 c)
-
-pub rig-fields : (c : Call) (g : ℕ) → c ≡ Rig g → big 8 g ≡ fieldsPut c
-unfolding fieldBytes widths widths1 kindOf valuesOf fieldsOf
-rig-fields c g e = rw e (sym (append-nil (big 8 g)))
-
-pub claim-fields : (c : Call) (k g l : ℕ) → c ≡ Claim k g l → big 8 k ++ (big 8 g ++ big 4 l) ≡ fieldsPut c
-unfolding fieldBytes widths widths1 kindOf valuesOf fieldsOf
-claim-fields c k g l e = rw e (ap (λ r. big 8 k ++ (big 8 g ++ r)) (sym (append-nil (big 4 l))))
-
-pub release-fields : (c : Call) (k t : ℕ) → c ≡ Release k t → big 8 k ++ big 2 t ≡ fieldsPut c
-unfolding fieldBytes widths widths1 kindOf valuesOf fieldsOf
-release-fields c k t e = rw e (ap (λ r. big 8 k ++ r) (sym (append-nil (big 2 t))))
-
-pub withdraw-fields : (c : Call) (k t : ℕ) → c ≡ Withdraw k t → big 8 k ++ big 2 t ≡ fieldsPut c
-unfolding fieldBytes widths widths1 kindOf valuesOf fieldsOf
-withdraw-fields c k t e = rw e (ap (λ r. big 8 k ++ r) (sym (append-nil (big 2 t))))
-
-pub clock-fields : (c : Call) (k : ℕ) → c ≡ Clock k → big 8 k ≡ fieldsPut c
-unfolding fieldBytes widths widths1 kindOf valuesOf fieldsOf
-clock-fields c k e = rw e (sym (append-nil (big 8 k)))
-
-pub record-pieces : (c : Call) (n k : ℕ) → n ≡ lengthOf 1 k → k ≡ kindOf c → big 2 n ++ (k ∷ fieldsPut c) ≡ recordBytes 1 c
+pub record-pieces : (e : ℕ) (c : Call) (n : ℕ) → n ≡ lengthOf e (c .kind) → big 2 n ++ (c .kind ∷ fieldBytes (widths e (c .kind)) (valuesOf e c)) ≡ recordBytes e c
 unfolding recordBytes
-record-pieces c n k p q = rw (p, q)
+record-pieces e c n p = rw p

@@ -6,7 +6,8 @@ use lib.ListN.{take, drop, getD}
 -- passed on: a number as bytes is part of the format
 unfoldable pub use Rattle.numerals.specs.Digits.{numeral, digits}
 use Rattle.load.specs.declared.Call.{Call}
-use Rattle.load.specs.Calls.{widths, lengthOf, kindOf, valuesOf}
+use Rattle.load.specs.Format.{widths, lengthOf}
+use Rattle.load.specs.Calls.{valuesOf}
 
 -- A number v in n bytes, "big-endian".
 abbrev pub big : ℕ → ℕ → List ℕ
@@ -28,7 +29,7 @@ fieldValues (w ∷ ws) bs = bigValue (take w bs) ∷ fieldValues ws (drop w bs)
 
 -- A record: "length in two bytes (the bytes after it), a kind byte, fields".
 unfoldable pub recordBytes : ℕ → Call → List ℕ
-recordBytes e c = big 2 (lengthOf e (kindOf c)) ++ (kindOf c ∷ fieldBytes (widths e (kindOf c)) (valuesOf e c))
+recordBytes e c = big 2 (lengthOf e (c .kind)) ++ (c .kind ∷ fieldBytes (widths e (c .kind)) (valuesOf e c))
 
 unfoldable pub recordsBytes : ℕ → List Call → List ℕ
 recordsBytes e [] = []

@@ -1,81 +1,74 @@
--- Kinds and fields: the table of document 01, "The load", there and back. An edition is a case of `known` and of `widths`; a kind is a
--- case of its edition's widths, of `kindOf`, of `fieldsOf` and of `callOf`. Quotations are from document 01.
-use Prim.Native.Nat.{ℕ, _+_}
-use mathlib.Core.Bool.{Bool, true, _&&_, cond}
-use mathlib.Core.List.{List, [], _∷_}
+-- A call as numbers, and its values in the fields of an edition, there and back.
+use Prim.Native.Nat.{ℕ, zero, suc}
+use mathlib.Core.Bool.{Bool, true, _&&_}
+use mathlib.Core.List.{List, [], _∷_, map}
 use lib.Dec.{ltb, eqb}
-use lib.ListN.{length, take, drop, getD}
+use lib.ListN.{length, drop, getD, set}
 use Rattle.load.specs.declared.Call.{Call}
-use Rattle.load.specs.declared.Call.the-variants.{Rig, Claim, Release, Withdraw, Clock}
+use Rattle.load.specs.Format.{fieldWidths, fieldsOf, lengthOf}
 
--- The editions that there are: "so far only 1".
-abbrev pub known : ℕ → Bool
-known e = eqb e 1
+-- Each number stands at the place that names its field.
+unfoldable pub numbers : Call → List ℕ
+numbers c = c .kind ∷ c .clock ∷ c .groups ∷ c .length ∷ c .ticket ∷ []
 
--- The fields of each kind in edition 1, each by its width in bytes. A kind that the edition lacks has none.
-unfoldable pub widths1 : ℕ → List ℕ
-widths1 k =
-    -- "rig: groups 8"
-    cond (eqb k 1) (8 ∷ [])
-    -- "claim: clock 8, groups 8, length 4"
-    (cond (eqb k 2) (8 ∷ 8 ∷ 4 ∷ [])
-    -- "release: clock 8, ticket 2"
-    (cond (eqb k 3) (8 ∷ 2 ∷ [])
-    -- "withdraw: clock 8, ticket 2"
-    (cond (eqb k 4) (8 ∷ 2 ∷ [])
-    -- "clock: clock 8"
-    (cond (eqb k 5) (8 ∷ [])
-    []))))
+-- The call of such numbers. One that is not there is 0.
+unfoldable pub made : List ℕ → Call
+made ns = record { kind = getD ns 0 0; clock = getD ns 1 0; groups = getD ns 2 0; length = getD ns 3 0; ticket = getD ns 4 0 }
 
--- The same for each edition.
-unfoldable pub widths : ℕ → ℕ → List ℕ
-widths e k = cond (eqb e 1) (widths1 k) []
+unfoldable pub valueOf : ℕ → Call → ℕ
+valueOf f c = getD (numbers c) f 0
 
-unfoldable pub total : List ℕ → ℕ
-total [] = 0
-total (w ∷ ws) = w + total ws
+unfoldable pub withValue : ℕ → ℕ → Call → Call
+withValue f v c = made (set (numbers c) f v)
 
--- "length in two bytes (the bytes after it), a kind byte, fields": the kind byte and the fields. 0 stands for no such kind.
-unfoldable pub lengthIn : List ℕ → ℕ
-lengthIn [] = 0
-lengthIn (w ∷ ws) = 1 + total (w ∷ ws)
+-- A call of a kind with no values.
+unfoldable pub bare : ℕ → Call
+bare k = made (k ∷ [])
 
-unfoldable pub lengthOf : ℕ → ℕ → ℕ
-lengthOf e k = lengthIn (widths e k)
+-- Values put into fields, one after the other.
+unfoldable pub filled : List ℕ → List ℕ → Call → Call
+filled [] vs c = c
+filled (f ∷ fs) vs c = filled fs (drop 1 vs) (withValue f (getD vs 0 0) c)
 
--- "1 rig, 2 claim, 3 release, 4 withdraw, 5 clock".
-unfoldable pub kindOf : Call → ℕ
-kindOf (Rig groups) = 1
-kindOf (Claim clock groups length) = 2
-kindOf (Release clock ticket) = 3
-kindOf (Withdraw clock ticket) = 4
-kindOf (Clock clock) = 5
-
--- The values of a call in the order of its fields, those of the newest edition.
-unfoldable pub fieldsOf : Call → List ℕ
-fieldsOf (Rig groups) = groups ∷ []
-fieldsOf (Claim clock groups length) = clock ∷ groups ∷ length ∷ []
-fieldsOf (Release clock ticket) = clock ∷ ticket ∷ []
-fieldsOf (Withdraw clock ticket) = clock ∷ ticket ∷ []
-fieldsOf (Clock clock) = clock ∷ []
-
--- Those that an edition has: as many as its widths.
-unfoldable pub valuesOf : ℕ → Call → List ℕ
-valuesOf e c = take (length (widths e (kindOf c))) (fieldsOf c)
-
--- The call of a kind with these values. A value that is not there reads as 0. (Asked only of kinds that the edition has.)
+-- The call of a kind with these values in the order of its fields. The fields that the kind lacks are 0.
 unfoldable pub callOf : ℕ → ℕ → List ℕ → Call
-callOf e k vs =
-    cond (eqb k 1) (Rig (getD vs 0 0))
-    (cond (eqb k 2) (Claim (getD vs 0 0) (getD vs 1 0) (getD vs 2 0))
-    (cond (eqb k 3) (Release (getD vs 0 0) (getD vs 1 0))
-    (cond (eqb k 4) (Withdraw (getD vs 0 0) (getD vs 1 0))
-    (Clock (getD vs 0 0)))))
+callOf e k vs = filled (fieldsOf e k) vs (bare k)
 
-unfoldable pub zeros : List ℕ → Bool
-zeros [] = true
-zeros (v ∷ vs) = eqb v 0 && zeros vs
+-- The values of a call in the order of the fields that its kind has in an edition.
+abbrev pub valuesIn : List ℕ → Call → List ℕ
+valuesIn fs c = map (λ f. valueOf f c) fs
 
--- The edition can carry the call: it has the kind, and the values that it has no field for are 0.
+unfoldable pub valuesOf : ℕ → Call → List ℕ
+valuesOf e c = valuesIn (fieldsOf e (c .kind)) c
+
+-- The numbers of two calls are the same, up to a place.
+unfoldable pub sameBelow : ℕ → Call → Call → Bool
+sameBelow zero c d = true
+sameBelow (suc n) c d = eqb (valueOf n c) (valueOf n d) && sameBelow n c d
+
+abbrev pub same : Call → Call → Bool
+same c d = sameBelow (length fieldWidths) c d
+
+-- What an edition keeps of a call: the fields that it lacks become 0.
+unfoldable pub kept : ℕ → Call → Call
+kept e c = callOf e (c .kind) (valuesOf e c)
+
+-- The edition can carry the call: it has the kind, and every field that it lacks is 0, so that it keeps the whole call.
 unfoldable pub carries : ℕ → Call → Bool
-carries e c = ltb 0 (lengthOf e (kindOf c)) && zeros (drop (length (widths e (kindOf c))) (fieldsOf c))
+carries e c = ltb 0 (lengthOf e (c .kind)) && same (kept e c) c
+
+-- ── the calls of edition 1, for examples ──
+abbrev pub rig : ℕ → Call
+rig groups = callOf 1 1 (groups ∷ [])
+
+abbrev pub claim : ℕ → ℕ → ℕ → Call
+claim clock groups length = callOf 1 2 (clock ∷ groups ∷ length ∷ [])
+
+abbrev pub release : ℕ → ℕ → Call
+release clock ticket = callOf 1 3 (clock ∷ ticket ∷ [])
+
+abbrev pub withdraw : ℕ → ℕ → Call
+withdraw clock ticket = callOf 1 4 (clock ∷ ticket ∷ [])
+
+abbrev pub clock : ℕ → Call
+clock at = callOf 1 5 (at ∷ [])

@@ -1,3 +1,4 @@
+pub mod Format
 pub mod Calls
 pub mod Answers
 pub mod Bytes

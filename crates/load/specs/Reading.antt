@@ -9,7 +9,8 @@ use lib.ListN.{length, take, drop, getD}
 use Rattle.load.specs.declared.Call.{Call}
 use Rattle.load.specs.declared.Item.{Item}
 use Rattle.load.specs.declared.Item.the-variants.{Record, End, Refused}
-use Rattle.load.specs.Calls.{known, widths, lengthOf, callOf}
+use Rattle.load.specs.Format.{known, widths, lengthOf}
+use Rattle.load.specs.Calls.{callOf}
 use Rattle.load.specs.Answers.{itemValues}
 use Rattle.load.specs.Bytes.{bigValue, fieldValues}
 

@@ -6,9 +6,9 @@ use mathlib.Core.List.{List, [], _∷_, _++_}
 use mathlib.Core.Path.{_≡_}
 use lib.ListN.{length, take, getD}
 use Rattle.load.specs.declared.Call.{Call}
-use Rattle.load.specs.declared.Call.the-variants.{Rig, Claim, Release, Withdraw, Clock}
 use Rattle.load.specs.declared.Written.the-variants.{Length}
-use Rattle.load.specs.Calls.{known}
+use Rattle.load.specs.Format.{widthOf, known}
+use Rattle.load.specs.Calls.{valueOf}
 use Rattle.load.specs.Bytes.{loadBytes}
 use Rattle.load.specs.Reading.{editionOf, walk, loadNumber}
 use Rattle.load.specs.Writing.{appendAnswer, appendOut}
@@ -17,13 +17,9 @@ use Rattle.load.specs.Writing.{appendAnswer, appendOut}
 abbrev pub Bytes : List ℕ → Type 0
 Bytes s = (i : ℕ) → getD s i 0 < 256
 
--- Every value is within its type in the code: u64, u32 for a length, u16 for a ticket.
+-- Every value goes into its field's width. The code's types are so wide.
 abbrev pub Typed : Call → Type 0
-Typed (Rig groups) = groups < 2 ^ 64
-Typed (Claim clock groups length) = (clock < 2 ^ 64) × (groups < 2 ^ 64) × (length < 2 ^ 32)
-Typed (Release clock ticket) = (clock < 2 ^ 64) × (ticket < 2 ^ 16)
-Typed (Withdraw clock ticket) = (clock < 2 ^ 64) × (ticket < 2 ^ 16)
-Typed (Clock clock) = clock < 2 ^ 64
+Typed c = (f : ℕ) → valueOf f c < 256 ^ widthOf f
 
 -- The load that the writer makes of calls, one after the other. "Writing begins from the edition byte alone." Each call is appended to the
 -- load so far and answered with a length n; the load is then the first n bytes of the lent buffer, whatever that held.

@@ -3,12 +3,12 @@
 use Prim.Native.Nat.{ℕ, zero, suc, _+_}
 use mathlib.Core.Bool.{not, _||_, cond}
 use mathlib.Core.List.{List, _++_}
-use lib.Dec.{ltb}
-use lib.ListN.{length, drop}
+use lib.Dec.{ltb, eqb}
+use lib.ListN.{length, take, drop}
 use Rattle.load.specs.declared.Call.{Call}
 use Rattle.load.specs.declared.Written.{Written}
 use Rattle.load.specs.declared.Written.the-variants.{Length, Refusal}
-use Rattle.load.specs.Calls.{kindOf, carries}
+use Rattle.load.specs.Calls.{carries}
 use Rattle.load.specs.Answers.{WrittenValues}
 use Rattle.load.specs.Bytes.{recordBytes}
 use Rattle.load.specs.Reading.{inPlace, editionOf, loadNumber, orElse, unlessRefused}
@@ -23,7 +23,7 @@ unfoldable pub roomNumber : ℕ → ℕ → ℕ
 roomNumber whole room = cond (ltb 65536 whole) 14 (cond (ltb room whole) 15 0)
 
 unfoldable pub growNumber : ℕ → ℕ → Call → ℕ → ℕ
-growNumber e n c room = cond (not (inPlace (kindOf c) n) || not (carries e c)) 13 (roomNumber (n + length (recordBytes e c)) room)
+growNumber e n c room = cond (not (inPlace (c .kind) n) || not (carries e c)) 13 (roomNumber (n + length (recordBytes e c)) room)
 
 -- "The load it is given is tested as by the reader, then come .."
 unfoldable pub appendNumber : List ℕ → Call → ℕ → ℕ
@@ -39,17 +39,35 @@ abbrev pub lent : ℕ → List ℕ → List ℕ → List ℕ
 lent zero new old = new
 lent (suc k) new old = old
 
+-- The answer in numbers: the number, and the length where that is 0.
+abbrev pub answeredValues : ℕ → ℕ → WrittenValues
+answeredValues k n = record { number = k; length = unlessRefused k (λ m. 0) n }
+
 -- What the writer answers: "the new length", or the refusal.
 unfoldable pub appendAnswer : List ℕ → Call → List ℕ → Written
 appendAnswer s c out = answered (appendNumber s c (length out)) (length (grown s c))
 
--- The same in numbers: the number, and "the new length" where that is 0.
 unfoldable pub appendValues : List ℕ → Call → List ℕ → WrittenValues
-appendValues s c out = record {
-  number = appendNumber s c (length out);
-  length = unlessRefused (appendNumber s c (length out)) (λ n. 0) (length (grown s c));
-}
+appendValues s c out = answeredValues (appendNumber s c (length out)) (length (grown s c))
 
 -- What the lent buffer holds afterwards: the grown load at its start, and "later bytes of the buffer keep their contents".
+abbrev pub begun : List ℕ → List ℕ → List ℕ
+begun s out = s ++ drop (length s) out
+
 unfoldable pub appendOut : List ℕ → Call → List ℕ → List ℕ
-appendOut s c out = lent (appendNumber s c (length out)) (grown s c ++ drop (length (grown s c)) out) out
+appendOut s c out = lent (appendNumber s c (length out)) (begun (grown s c) out) out
+
+-- ── a load that stands in the lent buffer ──
+-- Its first n bytes, which are not tested again: 12 where there are none, 15 where the buffer has not so many. (Where they read to their end
+-- answer and buffer are `append`'s: proofs/Writing, `grows-in-place`.)
+unfoldable pub heldNumber : List ℕ → ℕ → Call → ℕ
+heldNumber out n c = cond (eqb n 0) 12 (cond (ltb (length out) n) 15 (growNumber (editionOf out) n c (length out)))
+
+unfoldable pub growAnswer : List ℕ → ℕ → Call → Written
+growAnswer out n c = answered (heldNumber out n c) (length (grown (take n out) c))
+
+unfoldable pub growValues : List ℕ → ℕ → Call → WrittenValues
+growValues out n c = answeredValues (heldNumber out n c) (length (grown (take n out) c))
+
+unfoldable pub growOut : List ℕ → ℕ → Call → List ℕ
+growOut out n c = lent (heldNumber out n c) (begun (grown (take n out) c) out) out

@@ -1,27 +1,25 @@
 // The load format: opening a load, reading the record at a position, testing a whole load, and appending a record.
 // All calls take any bytes and any values. A load is a slice of the caller's; nothing is copied to read it.
+ghost use Prim.Native.Nat.{_%_, _^_, _≤_, _<_};
 ghost use mathlib.Core.Path.{_≡_};
 ghost use mathlib.Core.List.{_++_};
-ghost use lib.ListN.{length};
+ghost use lib.ListN.{length, getD};
 ghost use Rattle.numerals.specs.Laid.{behind, laid, Put};
-ghost use Rattle.load.specs.Calls.{valuesOf, kindOf, lengthOf, callOf, widths};
+ghost use Rattle.load.specs.Format.{known, fieldsOf, widthOf, widths, lengthOf, leastLength};
+ghost use Rattle.load.specs.Calls.{valueOf, withValue, bare, callOf, valuesOf, kept, same, carries};
 ghost use Rattle.load.specs.Answers.{itemValues, writtenValues};
-ghost use Rattle.load.specs.Bytes.{recordBytes, fieldBytes, big, fieldValues};
+ghost use Rattle.load.specs.Bytes.{recordBytes, fieldBytes, fieldValues};
 ghost use Rattle.load.specs.Reading.{inPlace, openNumber, misfit, itemAt, recordNumber, loadNumber};
 ghost use Rattle.load.specs.Writing.{growNumber, appendNumber, appendAnswer, appendValues, appendOut};
+ghost use Rattle.load.specs.Writing.{heldNumber, growAnswer, growValues, growOut};
 
-// One record of a load, with its fields in the order of the format.
-pub enum Call {
-    // groups
-    Rig(u64),
-    // clock, groups, length
-    Claim(u64, u64, u32),
-    // clock, ticket
-    Release(u64, u16),
-    // clock, ticket
-    Withdraw(u64, u16),
-    // clock
-    Clock(u64),
+// One record of a load: its kind, and a value for each field that some kind has. A field that its kind lacks is 0.
+pub struct Call {
+    pub kind: u8,
+    pub clock: u64,
+    pub groups: u64,
+    pub length: u32,
+    pub ticket: u16,
 }
 
 // What stands at a position: a record's call with the position behind it, the end, or the number of a refusal.
@@ -37,6 +35,187 @@ pub enum Written {
     Refusal(u8),
 }
 
+// ---- the format
+// A field is named by a number: kind 0, clock 1, groups 2, length 3, ticket 4. Their widths in bytes:
+const WIDTHS: [usize; 5] = [1, 8, 8, 4, 2];
+
+// The fields of each kind from 0 on, edition after edition, in the order of the format; 0 is none.
+const FIELDS: [[u8; 3]; 6] = [
+    // edition 1
+    [0, 0, 0],
+    // rig: groups
+    [2, 0, 0],
+    // claim: clock, groups, length
+    [1, 2, 3],
+    // release: clock, ticket
+    [1, 4, 0],
+    // withdraw: clock, ticket
+    [1, 4, 0],
+    // clock: clock
+    [1, 0, 0],
+];
+
+// The editions are 1 alone.
+fn known(edition: u8) -> bool
+    ensures { λ r. ⌜ r ≡ known edition ⌝ }
+{
+    if edition == 0 {
+        return false;
+    }
+    edition <= 1
+}
+
+// The field at place i, from 0, of a kind of an edition; 0 behind the last, and for a kind that the edition lacks.
+pub fn field_at(edition: u8, kind: u8, i: usize) -> u8
+    ensures { λ r. ⌜ r ≡ getD (fieldsOf edition kind) i 0 ⌝ }
+{
+    if 5 < kind {
+        return 0;
+    }
+    if 2 < i {
+        return 0;
+    }
+    if known(edition) {
+        let row = (edition as usize - 1) * 6 + kind as usize;
+        return FIELDS[row][i];
+    }
+    0
+}
+
+// The width of a field in bytes; 0 where there is no such field.
+pub fn width_of(field: u8) -> usize
+    ensures { λ r. ⌜ (r ≡ widthOf field) × (r ≤ 8) ⌝ }
+{
+    if field < 5 {
+        return WIDTHS[field as usize];
+    }
+    0
+}
+
+// The value of a field; 0 where there is no such field.
+pub fn value_of(call: Call, field: u8) -> u64
+    ensures { λ r. ⌜ (r ≡ valueOf field call) × (r < 256 ^ widthOf field) ⌝ }
+{
+    let numbers = [
+        call.kind as u64,
+        call.clock,
+        call.groups,
+        call.length as u64,
+        call.ticket as u64,
+    ];
+    if field < 5 {
+        return numbers[field as usize];
+    }
+    0
+}
+
+// The call with a value in a field: as much of it as goes into the field's width.
+pub fn with_value(call: Call, field: u8, value: u64) -> Call
+    ensures { λ r. ⌜ r ≡ withValue field (value % 256 ^ widthOf field) call ⌝ }
+{
+    let mut c = call;
+    match field {
+        0 => {
+            c.kind = (value % 256) as u8;
+        }
+        1 => {
+            c.clock = value;
+        }
+        2 => {
+            c.groups = value;
+        }
+        3 => {
+            c.length = (value % 4294967296) as u32;
+        }
+        4 => {
+            c.ticket = (value % 65536) as u16;
+        }
+        _ => {}
+    }
+    c
+}
+
+// A call of a kind with no values.
+pub fn bare(kind: u8) -> Call
+    ensures { λ r. ⌜ r ≡ bare kind ⌝ }
+{
+    Call {
+        kind,
+        clock: 0,
+        groups: 0,
+        length: 0,
+        ticket: 0,
+    }
+}
+
+// The length of a record: its kind byte and its fields. 0 for a kind that the edition lacks.
+pub fn length_of(edition: u8, kind: u8) -> usize
+    ensures { λ r. ⌜ r ≡ lengthOf edition kind ⌝ }
+{
+    let mut n: usize = 0;
+    let mut i: usize = 0;
+    loop {
+        let f = field_at(edition, kind, i);
+        if f == 0 {
+            if i == 0 {
+                return 0;
+            }
+            return width_of(0) + n;
+        }
+        n += width_of(f);
+        i += 1;
+    }
+}
+
+// The least length of a whole record, its two length bytes included.
+pub fn least_length() -> usize
+    ensures { λ r. ⌜ (r ≡ leastLength) × (0 < r) ⌝ }
+{
+    11
+}
+
+// What an edition keeps of a call: the fields that it lacks become 0.
+fn kept(edition: u8, call: Call) -> Call
+    ensures { λ r. ⌜ r ≡ kept edition call ⌝ }
+{
+    let kind = call.kind;
+    let mut c = bare(kind);
+    let mut i: usize = 0;
+    loop {
+        let f = field_at(edition, kind, i);
+        if f == 0 {
+            return c;
+        }
+        let v = value_of(call, f);
+        c = with_value(c, f, v);
+        i += 1;
+    }
+}
+
+fn same(a: Call, b: Call) -> bool
+    ensures { λ r. ⌜ r ≡ same a b ⌝ }
+{
+    let mut f: u8 = 5;
+    while 0 < f {
+        f -= 1;
+        if value_of(a, f) != value_of(b, f) {
+            return false;
+        }
+    }
+    true
+}
+
+// Whether an edition can carry a call: it has the kind, and every field that it lacks is 0.
+pub fn carries(edition: u8, call: Call) -> bool
+    ensures { λ r. ⌜ r ≡ carries edition call ⌝ }
+{
+    if length_of(edition, call.kind) == 0 {
+        return false;
+    }
+    let k = kept(edition, call);
+    same(k, call)
+}
+
 // ---- reading
 // 0 for a load that opens; else 14, 12 for an empty one, or 11. Looks at the length and the first byte alone.
 pub fn open_number(load: &[u8]) -> u8
@@ -49,28 +228,10 @@ pub fn open_number(load: &[u8]) -> u8
     if size == 0 {
         return 12;
     }
-    if load[0] == 1 {
+    if known(load[0]) {
         return 0;
     }
     11
-}
-
-// The length of a record: its kind byte and its fields. 0 for a kind that the edition lacks.
-pub fn length_of(edition: u8, kind: u8) -> usize
-    ensures { λ r. ⌜ r ≡ lengthOf edition kind ⌝ }
-{
-    if edition == 1 {
-        match kind {
-            1 => 1 + 8,
-            2 => 1 + 8 + 8 + 4,
-            3 => 1 + 8 + 2,
-            4 => 1 + 8 + 2,
-            5 => 1 + 8,
-            _ => 0,
-        }
-    } else {
-        0
-    }
 }
 
 // A rig is first, and nothing else is.
@@ -96,30 +257,23 @@ fn misfits(edition: u8, at: usize, n: usize, kind: u8) -> bool
     !placed(kind, at)
 }
 
-// The call that the fields of a record of edition 1 say. Bytes behind the fields are not looked at.
-fn call_of(fields: &[u8], kind: u8) -> Call
-    ensures { λ r. ⌜ r ≡ callOf 1 kind (fieldValues (widths 1 kind) (now (fields .entry))) ⌝ }
+// The call that the fields of a record say. Bytes behind the fields are not looked at.
+fn call_of(edition: u8, kind: u8, fields: &[u8]) -> Call
+    ensures { λ r. ⌜ r ≡ callOf edition kind (fieldValues (widths edition kind) (now (fields .entry))) ⌝ }
 {
-    match kind {
-        1 => Call::Rig(numerals::number(fields, 0, 8)),
-        2 => {
-            let c = numerals::number(fields, 0, 8);
-            let g = numerals::number(fields, 8, 8);
-            let l = numerals::be32(fields, 16);
-            Call::Claim(c, g, l)
+    let mut c = bare(kind);
+    let mut at: usize = 0;
+    let mut i: usize = 0;
+    loop {
+        let f = field_at(edition, kind, i);
+        if f == 0 {
+            return c;
         }
-        3 => {
-            let c = numerals::number(fields, 0, 8);
-            let t = numerals::be16(fields, 8);
-            Call::Release(c, t)
-        }
-        4 => {
-            let c = numerals::number(fields, 0, 8);
-            let t = numerals::be16(fields, 8);
-            Call::Withdraw(c, t)
-        }
-        5 => Call::Clock(numerals::number(fields, 0, 8)),
-        _ => Call::Clock(0),
+        let w = width_of(f);
+        let v = numerals::number(fields, at, w);
+        c = with_value(c, f, v);
+        at += w;
+        i += 1;
     }
 }
 
@@ -143,12 +297,13 @@ pub fn record_at(load: &[u8], at: usize) -> Item
     if n == 0 {
         return Item::Refused(13);
     }
+    let edition = load[0];
     let kind = load[at + 2];
-    if misfits(load[0], at, n, kind) {
+    if misfits(edition, at, n, kind) {
         return Item::Refused(13);
     }
     let from = at + 3;
-    let call = call_of(&load[from..], kind);
+    let call = call_of(edition, kind, &load[from..]);
     Item::Record(call, at + (2 + n))
 }
 
@@ -177,39 +332,25 @@ pub fn load_number(load: &[u8]) -> u8
 }
 
 // ---- writing
-// The kind byte of a call.
-pub fn kind_of(call: Call) -> u8
-    ensures { λ r. ⌜ r ≡ kindOf call ⌝ }
-{
-    match call {
-        Call::Rig(_g) => 1,
-        Call::Claim(_c, _g, _l) => 2,
-        Call::Release(_c, _t) => 3,
-        Call::Withdraw(_c, _t) => 4,
-        Call::Clock(_c) => 5,
-    }
-}
-
 // For a load of an edition and a size that reads to its end: 0 for a call that can be appended in so much room; else 13, 14 or 15.
 pub fn grow_number(edition: u8, size: usize, call: Call, room: usize) -> u8
     ensures { λ r. ⌜ r ≡ growNumber edition size call room ⌝ }
 {
-    let kind = kind_of(call);
-    if placed(kind, size) {
-        let n = length_of(edition, kind);
-        if n == 0 {
-            return 13;
-        }
-        let more = 2 + n;
-        if 65536 - more < size {
-            return 14;
-        }
-        if room < size + more {
-            return 15;
-        }
-        return 0;
+    let kind = call.kind;
+    if !placed(kind, size) {
+        return 13;
     }
-    13
+    if !carries(edition, call) {
+        return 13;
+    }
+    let more = 2 + length_of(edition, kind);
+    if 65536 - more < size {
+        return 14;
+    }
+    if room < size + more {
+        return 15;
+    }
+    0
 }
 
 // The same for any load, which is tested whole: its own number comes first.
@@ -223,45 +364,34 @@ fn append_number(load: &[u8], call: Call, room: usize) -> u8
     grow_number(load[0], load.len(), call, room)
 }
 
-// The fields of a release or a withdrawal.
-fn put_leave(out: &mut [u8], at: usize, clock: u64, ticket: u16) -> usize
-    ensures { λ r. ⌜ Put (now (out .entry)) at (big 8 clock ++ big 2 ticket) r (now (out .exit)) ⌝ }
+// The fields of a call, laid at a place one behind the other.
+fn put_fields(out: &mut [u8], at: usize, edition: u8, call: Call) -> usize
+    ensures { λ r. ⌜ Put (now (out .entry)) at (fieldBytes (widths edition (call .kind)) (valuesOf edition call)) r (now (out .exit)) ⌝ }
 {
-    let m = numerals::put_big(out, at, 8, clock);
-    numerals::put_big(out, m, 2, ticket as u64)
-}
-
-// The fields of a claim.
-fn put_claim(out: &mut [u8], at: usize, clock: u64, groups: u64, length: u32) -> usize
-    ensures { λ r. ⌜ Put (now (out .entry)) at (big 8 clock ++ (big 8 groups ++ big 4 length)) r (now (out .exit)) ⌝ }
-{
-    let a = numerals::put_big(out, at, 8, clock);
-    let b = numerals::put_big(out, a, 8, groups);
-    numerals::put_big(out, b, 4, length as u64)
-}
-
-// The fields of a call, by its kind.
-fn put_fields(out: &mut [u8], at: usize, call: Call) -> usize
-    ensures { λ r. ⌜ Put (now (out .entry)) at (fieldBytes (widths 1 (kindOf call)) (valuesOf 1 call)) r (now (out .exit)) ⌝ }
-{
-    match call {
-        Call::Rig(g) => numerals::put_big(out, at, 8, g),
-        Call::Claim(c, g, l) => put_claim(out, at, c, g, l),
-        Call::Release(c, t) => put_leave(out, at, c, t),
-        Call::Withdraw(c, t) => put_leave(out, at, c, t),
-        Call::Clock(c) => numerals::put_big(out, at, 8, c),
+    let kind = call.kind;
+    let mut to = at;
+    let mut i: usize = 0;
+    loop {
+        let f = field_at(edition, kind, i);
+        if f == 0 {
+            return to;
+        }
+        let w = width_of(f);
+        let v = value_of(call, f);
+        to = numerals::put_big(out, to, w, v);
+        i += 1;
     }
 }
 
-// A record of edition 1 laid at a place: length, kind, fields. Answers the place behind it.
-pub fn put_record(out: &mut [u8], at: usize, call: Call) -> usize
-    ensures { λ r. ⌜ (r ≡ behind at (length (recordBytes 1 call))) × (now (out .exit) ≡ laid (now (out .entry)) at (recordBytes 1 call)) ⌝ }
+// A record of an edition laid at a place: length, kind, fields. Answers the place behind it.
+pub fn put_record(out: &mut [u8], at: usize, edition: u8, call: Call) -> usize
+    ensures { λ r. ⌜ (r ≡ behind at (length (recordBytes edition call))) × (now (out .exit) ≡ laid (now (out .entry)) at (recordBytes edition call)) ⌝ }
 {
-    let kind = kind_of(call);
-    let n = length_of(1, kind);
+    let kind = call.kind;
+    let n = length_of(edition, kind);
     let a = numerals::put_big(out, at, 2, n as u64);
     let b = numerals::put_byte(out, a, kind);
-    put_fields(out, b, call)
+    put_fields(out, b, edition, call)
 }
 
 // Puts the load with one record more at the start of the buffer and answers the new length; the buffer's later bytes stay. Turned down it
@@ -277,6 +407,35 @@ pub fn append(load: &[u8], call: Call, out: &mut [u8]) -> Written
         return Written::Refusal(t);
     }
     let m = numerals::put_bytes(out, 0, load);
-    let r = put_record(out, m, call);
+    let whole = put_record(out, m, load[0], call);
+    Written::Length(whole)
+}
+
+// The number of a load that is known to read to its end and stands in the first `size` bytes of a buffer.
+fn held_number(out: &[u8], size: usize, call: Call) -> u8
+    ensures { λ r. ⌜ r ≡ heldNumber (now (out .entry)) size call ⌝ }
+{
+    if size == 0 {
+        return 12;
+    }
+    let room = out.len();
+    if room < size {
+        return 15;
+    }
+    grow_number(out[0], size, call, room)
+}
+
+// The same for a load that stands in the first `size` bytes of the buffer and is known to read to its end: it is neither tested nor copied.
+pub fn grow(out: &mut [u8], size: usize, call: Call) -> Written
+    ensures answer { λ r. ⌜ r ≡ growAnswer (now (out .entry)) size call ⌝ }
+    ensures buffer { λ _. ⌜ now (out .exit) ≡ growOut (now (out .entry)) size call ⌝ }
+    ensures values { λ r. ⌜ writtenValues r ≡ growValues (now (out .entry)) size call ⌝ }
+{
+    let t = held_number(out, size, call);
+    if t != 0 {
+        return Written::Refusal(t);
+    }
+    let edition = out[0];
+    let r = put_record(out, size, edition, call);
     Written::Length(r)
 }

@@ -10,7 +10,7 @@ use Rattle.load.specs.declared.Item.{Item}
 use Rattle.load.specs.declared.Item.the-variants.{Record, End, Refused}
 use Rattle.load.specs.Answers.{itemValues}
 use Rattle.load.specs.Reading.{openNumber, ended, walk, unlessRefused, reading}
-use Rattle.load.proofs.Reading.{walk-few}
+use Rattle.load.proofs.Reading.{walk-short}
 use Rattle.reader.specs.declared.Reader.{Reader}
 use Rattle.reader.specs.Items.{itemOf, positionAfter}
 use Rattle.reader.specs.Turns.{Reads}
@@ -38,7 +38,7 @@ unfolding reading
 few s = go (openNumber s)
   where
     go : (k : ℕ) → length (unlessRefused k ended (walk s 1) .calls) ≤ length s
-    go zero = omega (arith, walk-few s 1)
+    go zero = walk-short s 1
     go (suc k) = omega arith
 
 module _ (s : RefT (List ℕ)) where

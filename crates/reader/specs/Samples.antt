@@ -5,9 +5,9 @@ use mathlib.Core.List.{List, [], _∷_, _++_}
 use mathlib.Core.Path.{_≡_}
 use lib.ListN.{length}
 use Rattle.load.specs.declared.Call.{Call}
-use Rattle.load.specs.declared.Call.the-variants.{Rig, Claim, Release, Clock}
 use Rattle.load.specs.declared.Item.{Item}
 use Rattle.load.specs.declared.Item.the-variants.{Record, End, Refused}
+use Rattle.load.specs.Calls.{rig, claim, release, clock}
 use Rattle.load.specs.Bytes.{recordBytes, loadBytes}
 use Rattle.load.specs.Reading.{Walk, reading}
 use Rattle.reader.specs.Items.{itemOf}
@@ -34,20 +34,20 @@ samples =
     ∷ sample (0x01 ∷ 0x00 ∷ []) (Refused 12) [] 12
     -- "01 00 00 gives 13"
     ∷ sample (0x01 ∷ 0x00 ∷ 0x00 ∷ []) (Refused 13) [] 13
-    -- no edition, with records after it
-    ∷ sample (0xFF ∷ recordBytes 1 (Rig 0xF)) (Refused 11) [] 11
-    ∷ sample (0x02 ∷ recordBytes 1 (Rig 0xF) ++ recordBytes 1 (Clock 1)) (Refused 11) [] 11
+    -- no edition, with records behind it
+    ∷ sample (0xFF ∷ recordBytes 1 (rig 0xF)) (Refused 11) [] 11
+    ∷ sample (0x02 ∷ recordBytes 1 (rig 0xF) ++ recordBytes 1 (clock 1)) (Refused 11) [] 11
     -- "Reader and writer pass fields on without judging them": a dark rig
-    ∷ sample (loadBytes 1 (Rig 0 ∷ Clock 1 ∷ [])) (Record (Rig 0) 12) (Rig 0 ∷ Clock 1 ∷ []) 0
+    ∷ sample (loadBytes 1 (rig 0 ∷ clock 1 ∷ [])) (Record (rig 0) 12) (rig 0 ∷ clock 1 ∷ []) 0
     -- "The first record is the rig and no other is"
-    ∷ sample (loadBytes 1 (Clock 1 ∷ [])) (Refused 13) [] 13
-    ∷ sample (loadBytes 1 (Rig 0xF ∷ Rig 0xF ∷ Clock 1 ∷ [])) (Record (Rig 0xF) 12) (Rig 0xF ∷ []) 13
+    ∷ sample (loadBytes 1 (clock 1 ∷ [])) (Refused 13) [] 13
+    ∷ sample (loadBytes 1 (rig 0xF ∷ rig 0xF ∷ clock 1 ∷ [])) (Record (rig 0xF) 12) (rig 0xF ∷ []) 13
     -- a kind that the edition lacks, and a record that is cut off
-    ∷ sample (loadBytes 1 (Rig 0xF ∷ []) ++ (0x00 ∷ 0x01 ∷ 0x06 ∷ [])) (Record (Rig 0xF) 12) (Rig 0xF ∷ []) 13
-    ∷ sample (loadBytes 1 (Rig 0xF ∷ []) ++ (0x00 ∷ 0x09 ∷ 0x05 ∷ [])) (Record (Rig 0xF) 12) (Rig 0xF ∷ []) 12
+    ∷ sample (loadBytes 1 (rig 0xF ∷ []) ++ (0x00 ∷ 0x01 ∷ 0x06 ∷ [])) (Record (rig 0xF) 12) (rig 0xF ∷ []) 13
+    ∷ sample (loadBytes 1 (rig 0xF ∷ []) ++ (0x00 ∷ 0x09 ∷ 0x05 ∷ [])) (Record (rig 0xF) 12) (rig 0xF ∷ []) 12
     -- the load whose listing the paper prints
-    ∷ sample (loadBytes 1 (Rig 0xF ∷ Claim 0 0x8 10 ∷ Claim 0 0xC 10 ∷ Claim 0 0x6 11 ∷ Claim 0 0x3 20 ∷ Release 4 1 ∷ [])) (Record (Rig 0xF) 12)
-    (Rig 0xF ∷ Claim 0 0x8 10 ∷ Claim 0 0xC 10 ∷ Claim 0 0x6 11 ∷ Claim 0 0x3 20 ∷ Release 4 1 ∷ []) 0
+    ∷ sample (loadBytes 1 (rig 0xF ∷ claim 0 0x8 10 ∷ claim 0 0xC 10 ∷ claim 0 0x6 11 ∷ claim 0 0x3 20 ∷ release 4 1 ∷ [])) (Record (rig 0xF) 12)
+    (rig 0xF ∷ claim 0 0x8 10 ∷ claim 0 0xC 10 ∷ claim 0 0x6 11 ∷ claim 0 0x3 20 ∷ release 4 1 ∷ []) 0
     ∷ []
 
 -- What the reader gives, and what the table says.

@@ -1,4 +1,5 @@
 -- `load::open_number` meets its contract: each test in turn.
+use mathlib.Core.Path.{sym, _∙_}
 use borrow.Author.Tests.{lt-ltb, le-ltb, eq-eqb, ne-eqb}
 use Rattle.load.specs.Reading.{openNumber}
 use borrow.Author.Needs.{needs}
@@ -15,11 +16,15 @@ returns-2 c = rw (le-ltb 65536 _ (c .before .if1 .left), eq-eqb _ _ (c .if2 .tak
 
 returns-3 : tie.Need-returns-3
 unfolding openNumber
-returns-3 c = rw (le-ltb 65536 _ (c .before .before .before .if1 .left), ne-eqb _ _ (c .before .before .if2 .left), eq-eqb _ _ (c .if3 .taken))
+returns-3 c =
+    let e = c .before .before .before in
+    rw (le-ltb 65536 _ (e .before .if1 .left), ne-eqb _ _ (e .if2 .left), sym (c .before .known .ensures) ∙ c .if3 .taken)
 
 returns-4 : tie.Need-returns-4
 unfolding openNumber
-returns-4 c = rw (le-ltb 65536 _ (c .before .before .before .if1 .left), ne-eqb _ _ (c .before .before .if2 .left), ne-eqb _ _ (c .if3 .left))
+returns-4 c =
+    let e = c .before .before .before in
+    rw (le-ltb 65536 _ (e .before .if1 .left), ne-eqb _ _ (e .if2 .left), sym (c .before .known .ensures) ∙ c .if3 .left)
 
 pub open-number-spec : {M : Type 1} → statement M
-open-number-spec = tie.close (tie.spec returns returns-2 (λ c. search needs) returns-3 returns-4)
+open-number-spec = tie.close (tie.spec returns returns-2 (λ c. search needs) (λ c κs. search needs) returns-3 returns-4)

@@ -1,7 +1,7 @@
 -- `load::put_record` meets its contract: length, kind and fields laid one behind the other.
 use native.Mathlib.Omega.{arith}
-use Rattle.load.proofs.Writing.{record-pieces}
 use Rattle.numerals.proofs.Laying.{put, put-digits, put-then, put-as}
+use Rattle.load.proofs.Writing.{record-pieces}
 use borrow.Author.Needs.{needs}
 use Rattle.load.proofs.put_record.Statement.{statement}
 use Rattle.load.proofs.put_record.Tie as tie
@@ -11,9 +11,8 @@ returns c =
     let f = c .before .before in
     let b = f .before .before .before .before in
     let a = b .before .before .before .before in
-    let n = a .before .before in
     let w =
-    put-as _ _ (record-pieces _ _ _ (n .length-of .ensures) (n .before .kind-of .ensures))
+    put-as _ _ (record-pieces _ _ _ (a .before .before .length-of .ensures))
     (put-then _ _ _ _ _ _ _ _ (omega arith) (put-digits 256 0 _ _ (a .put-big .ensures)) (put-then _ _ _ _ _ _ _ _ (omega arith) (put (b .put-byte .ensures)) (f .put-fields .ensures))) in
     (w .next, w .is)
 
@@ -21,7 +20,6 @@ pub put-record-spec : {M : Type 1} → statement M
 put-record-spec =
     tie.close
     (tie.spec
-    (λ c κs. search needs)
     (λ c κs. search needs)
     (λ c κs. search needs)
     (λ c κs. search needs)

@@ -1,0 +1,99 @@
+-- The load format as one table: document 01, "The load". Reader, writer and round trip are driven by it. An edition and a kind are rows of
+-- `format`; a field is a name and a width here, and a number of a call (specs/Calls). Quotations are from document 01.
+use Prim.Native.Nat.{ℕ, _+_, min}
+use mathlib.Core.Bool.{Bool, false, _&&_, _||_, cond}
+use mathlib.Core.List.{List, [], _∷_, map}
+use lib.Dec.{eqb}
+use lib.ListN.{getD}
+
+-- ── fields ──
+-- A field is named by a number, its place among the numbers of a call. The first is the kind byte, which every record has.
+abbrev pub theKind : ℕ
+theKind = 0
+
+abbrev pub theClock : ℕ
+theClock = 1
+
+abbrev pub theGroups : ℕ
+theGroups = 2
+
+abbrev pub theLength : ℕ
+theLength = 3
+
+abbrev pub theTicket : ℕ
+theTicket = 4
+
+-- Their widths in bytes, in that order: kind 1, clock 8, groups 8, length 4, ticket 2.
+unfoldable pub fieldWidths : List ℕ
+fieldWidths = 1 ∷ 8 ∷ 8 ∷ 4 ∷ 2 ∷ []
+
+unfoldable pub widthOf : ℕ → ℕ
+widthOf f = getD fieldWidths f 0
+
+-- ── rows ──
+-- A kind of an edition: its name, and its fields in their order.
+pub record Row : Type 0 where
+  pub edition : ℕ
+  pub kind : ℕ
+  pub name : List ℕ
+  pub fields : List ℕ
+
+abbrev pub row : ℕ → ℕ → List ℕ → List ℕ → Row
+row edition kind name fields = record { edition = edition; kind = kind; name = name; fields = fields }
+
+unfoldable pub format : List Row
+format =
+    -- edition 1: "1 rig", groups
+    row 1 1 (114 ∷ 105 ∷ 103 ∷ []) (theGroups ∷ [])
+    -- "2 claim", clock, groups, length
+    ∷ row 1 2 (99 ∷ 108 ∷ 97 ∷ 105 ∷ 109 ∷ []) (theClock ∷ theGroups ∷ theLength ∷ [])
+    -- "3 release", clock, ticket
+    ∷ row 1 3 (114 ∷ 101 ∷ 108 ∷ 101 ∷ 97 ∷ 115 ∷ 101 ∷ []) (theClock ∷ theTicket ∷ [])
+    -- "4 withdraw", clock, ticket
+    ∷ row 1 4 (119 ∷ 105 ∷ 116 ∷ 104 ∷ 100 ∷ 114 ∷ 97 ∷ 119 ∷ []) (theClock ∷ theTicket ∷ [])
+    -- "5 clock", clock
+    ∷ row 1 5 (99 ∷ 108 ∷ 111 ∷ 99 ∷ 107 ∷ []) (theClock ∷ [])
+    ∷ []
+
+-- ── from the table ──
+-- The editions that there are.
+unfoldable pub knownIn : List Row → ℕ → Bool
+knownIn [] e = false
+knownIn (r ∷ rs) e = eqb (r .edition) e || knownIn rs e
+
+unfoldable pub known : ℕ → Bool
+known e = knownIn format e
+
+-- The row of a kind of an edition; one with no name and no fields where there is none.
+unfoldable pub rowIn : List Row → ℕ → ℕ → Row
+rowIn [] e k = row 0 0 [] []
+rowIn (r ∷ rs) e k = cond (eqb (r .edition) e && eqb (r .kind) k) r (rowIn rs e k)
+
+unfoldable pub nameOf : ℕ → ℕ → List ℕ
+nameOf e k = rowIn format e k .name
+
+unfoldable pub fieldsOf : ℕ → ℕ → List ℕ
+fieldsOf e k = rowIn format e k .fields
+
+unfoldable pub widths : ℕ → ℕ → List ℕ
+widths e k = map widthOf (fieldsOf e k)
+
+unfoldable pub total : List ℕ → ℕ
+total [] = 0
+total (w ∷ ws) = w + total ws
+
+-- "length in two bytes (the bytes after it), a kind byte, fields": the kind byte and the fields. 0 stands for no such kind.
+unfoldable pub lengthIn : List ℕ → ℕ
+lengthIn [] = 0
+lengthIn (f ∷ fs) = total (map widthOf (theKind ∷ f ∷ fs))
+
+unfoldable pub lengthOf : ℕ → ℕ → ℕ
+lengthOf e k = lengthIn (fieldsOf e k)
+
+-- The least length of a whole record, its two length bytes included. (Two bytes say 65,535 at most.)
+unfoldable pub leastIn : List Row → ℕ
+leastIn [] = 2 + 65535
+leastIn (r ∷ rs) = min (2 + lengthIn (r .fields)) (leastIn rs)
+
+unfoldable pub leastLength : ℕ
+leastLength = leastIn format
