@@ -12,7 +12,7 @@ use lib.Seq.{take-at, drop-at, take-add, getD-drop}
 use Rattle.numerals.specs.Digits.{digits}
 use Rattle.numerals.proofs.BigEndian.{digits-length, numeral-digits, digits-numeral, numeral-below}
 use Rattle.load.specs.declared.Call.{Call}
-use Rattle.load.specs.Format.{fieldWidths, widthOf, fieldsOf, widths, total, lengthOf}
+use Rattle.load.specs.Format.{fieldWidths, fieldWidth, fieldsOf, widths, total, lengthOf}
 use Rattle.load.specs.Calls.{numbers, valueOf, valuesIn, valuesOf, carries}
 use Rattle.load.specs.Bytes.{big, fieldBytes, fieldValues, recordBytes, recordsBytes, loadBytes}
 use Rattle.load.specs.Reading.{editionOf}
@@ -64,7 +64,7 @@ values-length [] bs = refl
 values-length (w ∷ ws) bs = ap suc (values-length ws (drop w bs))
 
 -- ── the values of a call ──
-values-typed : (fs : List ℕ) (c : Call) → Typed c → Fit (map widthOf fs) (valuesIn fs c)
+values-typed : (fs : List ℕ) (c : Call) → Typed c → Fit (map fieldWidth fs) (valuesIn fs c)
 values-typed [] c t = Fit.none
 values-typed (f ∷ fs) c t = Fit.one (t f) (values-typed fs c t)
 
@@ -72,24 +72,24 @@ pub typed-fits : (e : ℕ) (c : Call) → Typed c → Fit (widths e (c .kind)) (
 unfolding widths valuesOf
 typed-fits e c t = values-typed (fieldsOf e (c .kind)) c t
 
-fits-at : (fs : List ℕ) (c : Call) (f : ℕ) → Fit (map widthOf fs) (valuesIn fs c) → has f fs ≡ true → valueOf f c < 256 ^ widthOf f
+fits-at : (fs : List ℕ) (c : Call) (f : ℕ) → Fit (map fieldWidth fs) (valuesIn fs c) → has f fs ≡ true → valueOf f c < 256 ^ fieldWidth f
 unfolding has
 fits-at [] c f Fit.none h = let z : _≡_ {A = ℕ} 0 1 = cc in absurd (omega arith)
 fits-at (g ∷ fs) c f (Fit.one v r) h = go (eqb f g) refl h (fits-at fs c f r)
   where
-    go : (b : Bool) → eqb f g ≡ b → (b || has f fs) ≡ true → (has f fs ≡ true → valueOf f c < 256 ^ widthOf f) → valueOf f c < 256 ^ widthOf f
+    go : (b : Bool) → eqb f g ≡ b → (b || has f fs) ≡ true → (has f fs ≡ true → valueOf f c < 256 ^ fieldWidth f) → valueOf f c < 256 ^ fieldWidth f
     go true p h ih = rw (eqb-true f g p) v
     go false p h ih = ih h
 
 -- A call that an edition carries is typed if its kind and values are.
 pub fits-typed : (e : ℕ) (c : Call) → c .kind < 256 → carries e c ≡ true → Fit (widths e (c .kind)) (valuesOf e c) → Typed c
-unfolding widths valuesOf valueOf numbers widthOf fieldWidths
+unfolding widths valuesOf valueOf numbers fieldWidth fieldWidths
 fits-typed e c k h t zero = k
 fits-typed e c k h t (suc f) = go (has (suc f) (fieldsOf e (c .kind))) refl
   where
-    go : (b : Bool) → has (suc f) (fieldsOf e (c .kind)) ≡ b → valueOf (suc f) c < 256 ^ widthOf (suc f)
+    go : (b : Bool) → has (suc f) (fieldsOf e (c .kind)) ≡ b → valueOf (suc f) c < 256 ^ fieldWidth (suc f)
     go true p = fits-at (fieldsOf e (c .kind)) c (suc f) t p
-    go false p = rw (carries-none e c f h p) (one-le-pow (widthOf (suc f)) 256 (omega arith))
+    go false p = rw (carries-none e c f h p) (one-le-pow (fieldWidth (suc f)) 256 (omega arith))
 
 -- ── records ──
 pub record-length : (e : ℕ) (c : Call) → 0 < lengthOf e (c .kind) → length (recordBytes e c) ≡ 2 + lengthOf e (c .kind)

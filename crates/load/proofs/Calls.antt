@@ -10,7 +10,7 @@ use borrow.Author.Tests.{ltb-true, lt-ltb, le-ltb, eqb-true, eqb-false, eq-eqb, 
 use lib.ListN.{length, drop, getD, set, length-set, length-map, List·getD-eq-default}
 use lib.Seq.{getD-set-same, getD-set-other, set-out}
 use Rattle.load.specs.declared.Call.{Call}
-use Rattle.load.specs.Format.{fieldWidths, widthOf, fieldsOf, lengthOf}
+use Rattle.load.specs.Format.{fieldWidths, fieldWidth, fieldsOf, lengthOf}
 use Rattle.load.specs.Calls.{numbers, made, valueOf, withValue, bare, filled, callOf, valuesIn, valuesOf, sameBelow, same, kept, carries}
 use Rattle.load.specs.RoundTrip.{Typed}
 use Rattle.load.proofs.Format.{both, has, proper, proper-first, proper-once, proper-rest, fields-proper}
@@ -38,16 +38,16 @@ pub value-other : (f g v : ℕ) (c : Call) → eqb f g ≡ false → valueOf f (
 unfolding withValue valueOf
 value-other f g v c h = made-has (set (numbers c) g v) (set-length g v c) f ∙ getD-set-other (numbers c) g f v 0 (eqb-false f g h)
 
-pub no-value : (f : ℕ) (c : Call) → 5 ≤ f → (0 ≡ valueOf f c) × (0 < 256 ^ widthOf f)
+pub no-value : (f : ℕ) (c : Call) → 5 ≤ f → (0 ≡ valueOf f c) × (0 < 256 ^ fieldWidth f)
 unfolding valueOf numbers
-no-value f c h = (sym (List·getD-eq-default (numbers c) 0 h), one-le-pow (widthOf f) 256 (omega arith))
+no-value f c h = (sym (List·getD-eq-default (numbers c) 0 h), one-le-pow (fieldWidth f) 256 (omega arith))
 
 -- A value put into a field, as the code does: what goes into the width of field k, the whole where it is within it, and no field.
 module _ (f v : ℕ) (c : Call) where
-  pub with-part : (k : ℕ) (d : Call) → f ≡ k → d ≡ withValue k (v % 256 ^ widthOf k) c → d ≡ withValue f (v % 256 ^ widthOf f) c
+  pub with-part : (k : ℕ) (d : Call) → f ≡ k → d ≡ withValue k (v % 256 ^ fieldWidth k) c → d ≡ withValue f (v % 256 ^ fieldWidth f) c
   with-part k d e h = rw e h
 
-  pub with-whole : (k : ℕ) (d : Call) → f ≡ k → v < 256 ^ widthOf k → d ≡ withValue k v c → d ≡ withValue f (v % 256 ^ widthOf f) c
+  pub with-whole : (k : ℕ) (d : Call) → f ≡ k → v < 256 ^ fieldWidth k → d ≡ withValue k v c → d ≡ withValue f (v % 256 ^ fieldWidth f) c
   with-whole k d e l h = rw (e, mod-eq-of-lt l) h
 
 pub with-none : (f w : ℕ) (c : Call) → 5 ≤ f → c ≡ withValue f w c
@@ -183,7 +183,7 @@ carries-none e c f h n =
 -- ── types ──
 -- The numbers of a call in the code go into their widths.
 pub typed-call : (c : Call) → c .kind < 2 ^ 8 → c .clock < 2 ^ 64 → c .groups < 2 ^ 64 → c .length < 2 ^ 32 → c .ticket < 2 ^ 16 → Typed c
-unfolding valueOf numbers widthOf fieldWidths
+unfolding valueOf numbers fieldWidth fieldWidths
 typed-call c k t g l n zero = k
 typed-call c k t g l n (suc zero) = t
 typed-call c k t g l n (suc (suc zero)) = g

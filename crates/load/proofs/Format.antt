@@ -10,7 +10,7 @@ use borrow.Author.Tests.{lt-ltb, ltb-true, ltb-false, leb-true, eqb-true, eqb-fa
 use native.Mathlib.Numerals.{add-one}
 use lib.ListN.{length, drop, getD, List·getD-eq-default}
 use lib.Seq.{drop-nil}
-use Rattle.load.specs.Format.{Row, fieldWidths, widthOf, format, knownIn, known, rowIn, fieldsOf, widths, total, lengthIn, lengthOf, leastIn, leastLength}
+use Rattle.load.specs.Format.{Row, fieldWidths, fieldWidth, format, knownIn, known, rowIn, fieldsOf, widths, total, entryOf, lengthIn, lengthOf, leastIn, leastLength}
 use Rattle.load.specs.Reading.{agree}
 
 -- ── computed tests ──
@@ -94,7 +94,7 @@ tested e k fs h =
     }
 
 pub lawful : (e k : ℕ) → (fieldsOf e k ≡ []) ⊎ Lawful e k (fieldsOf e k)
-unfolding fieldsOf format known knownIn proper has lengthIn total fieldWidths widthOf leastLength leastIn test allRows
+unfolding fieldsOf format known knownIn proper has lengthIn total fieldWidths fieldWidth leastLength leastIn test allRows
 lawful e k = ⊎-elim (λ n. inl n) (λ t. inr (tested e k (fieldsOf e k) t)) (row-passes test format e k refl)
 
 -- ── lengths ──
@@ -117,7 +117,7 @@ pub length-under : (e k n : ℕ) → n ≡ lengthOf e k → n ≤ 255
 length-under e k n p = omega (arith, p, length-few e k)
 
 pub least-some : 0 < leastLength
-unfolding leastLength leastIn format lengthIn total widthOf fieldWidths
+unfolding leastLength leastIn format lengthIn total fieldWidth fieldWidths
 least-some = omega arith
 
 pub length-least : (e k : ℕ) → 0 < lengthOf e k → leastLength ≤ 2 + lengthOf e k
@@ -125,19 +125,11 @@ unfolding lengthOf lengthIn
 length-least e k h = ⊎-elim (λ n. let z = ap lengthIn n in absurd (omega arith)) (λ l. l .least) (lawful e k)
 
 pub length-total : (e k : ℕ) → 0 < lengthOf e k → lengthOf e k ≡ suc (total (widths e k))
-unfolding lengthOf lengthIn widths total widthOf fieldWidths
+unfolding lengthOf lengthIn widths total fieldWidth fieldWidths
 length-total e k h = go (fieldsOf e k) h
   where
-    go : (fs : List ℕ) → 0 < lengthIn fs → lengthIn fs ≡ suc (total (map widthOf fs))
+    go : (fs : List ℕ) → 0 < lengthIn fs → lengthIn fs ≡ suc (total (map fieldWidth fs))
     go [] h = absurd (omega arith)
-    go (f ∷ fs) h = omega arith
-
-pub total-few : (e k : ℕ) → total (widths e k) ≤ 255
-unfolding widths lengthIn total
-total-few e k = ⊎-elim (λ n. rw n (omega arith)) (λ l. go (fieldsOf e k) (l .short)) (lawful e k)
-  where
-    go : (fs : List ℕ) → lengthIn fs < 256 → total (map widthOf fs) ≤ 255
-    go [] h = omega arith
     go (f ∷ fs) h = omega arith
 
 -- ── the fields of a row, one after the other ──
@@ -188,54 +180,66 @@ known-none e z = rw z
 pub known-upto : (e : ℕ) → e < 256 → (e ≡ 0 → ⊥) → leb e 1 ≡ known e
 known-upto e h z = sym (known-is e h ∙ rw (lt-ltb 0 e (omega (arith, z))))
 
--- FIELDS: rows edition after edition, six kinds each, three fields each.
-unfoldable pub codeFields : List (List ℕ)
-codeFields =
-    (0 ∷ 0 ∷ 0 ∷ []) ∷ (2 ∷ 0 ∷ 0 ∷ []) ∷ (1 ∷ 2 ∷ 3 ∷ []) ∷ (1 ∷ 4 ∷ 0 ∷ []) ∷ (1 ∷ 4 ∷ 0 ∷ []) ∷ (1 ∷ 0 ∷ 0 ∷ []) ∷ []
+-- FORMAT: rows edition after edition, six kinds each, four entries each.
+unfoldable pub codeFormat : List (List ℕ)
+codeFormat =
+    (0 ∷ 0 ∷ 0 ∷ 0 ∷ []) ∷ (9 ∷ 2 ∷ 0 ∷ 0 ∷ []) ∷ (21 ∷ 1 ∷ 2 ∷ 3 ∷ []) ∷ (11 ∷ 1 ∷ 4 ∷ 0 ∷ []) ∷ (11 ∷ 1 ∷ 4 ∷ 0 ∷ []) ∷ (9 ∷ 1 ∷ 0 ∷ 0 ∷ []) ∷ []
 
-field-test : ℕ → ℕ → Bool
-field-test p i = eqb (getD (getD codeFields p []) i 0) (getD (fieldsOf (suc (p / 6)) (p % 6)) i 0)
+entry-test : ℕ → ℕ → Bool
+entry-test p i = eqb (getD (getD codeFormat p []) i 0) (entryOf (suc (p / 6)) (p % 6) i)
 
-pub field-is : (e k i : ℕ) → e < 256 → known e ≡ true → k ≤ 5 → i ≤ 2 → getD (getD codeFields ((e - 1) * 6 + k) []) i 0 ≡ getD (fieldsOf e k) i 0
-unfolding codeFields fieldsOf format rowIn allBelow field-test
-field-is e k i b s l m =
+pub entry-is : (e k i : ℕ) → e < 256 → known e ≡ true → k ≤ 5 → i ≤ 3 → getD (getD codeFormat ((e - 1) * 6 + k) []) i 0 ≡ entryOf e k i
+unfolding codeFormat entryOf fieldsOf format rowIn lengthOf lengthIn total fieldWidth fieldWidths allBelow entry-test
+entry-is e k i b s l m =
     let r = known-range e b s in
     let p = (e - 1) * 6 + k in
     let x : suc (p / 6) ≡ e = omega (arith, r .0, r .1) in
     let y : p % 6 ≡ k = omega (arith, r .0, r .1) in
-    let row = below-passes 6 (λ p. allBelow 3 (field-test p)) refl p (omega (arith, r .0, r .1)) in
-    eqb-true (getD (getD codeFields p []) i 0) (getD (fieldsOf (suc (p / 6)) (p % 6)) i 0) (below-passes 3 (field-test p) row i (omega arith))
-    ∙ ap (λ (z : ℕ). getD (fieldsOf z (p % 6)) i 0) x
-    ∙ ap (λ (z : ℕ). getD (fieldsOf e z) i 0) y
+    let row = below-passes 6 (λ p. allBelow 4 (entry-test p)) refl p (omega (arith, r .0, r .1)) in
+    eqb-true (getD (getD codeFormat p []) i 0) (entryOf (suc (p / 6)) (p % 6) i) (below-passes 4 (entry-test p) row i (omega arith))
+    ∙ ap (λ (z : ℕ). entryOf z (p % 6) i) x
+    ∙ ap (λ (z : ℕ). entryOf e z i) y
 
--- Outside the table there are no fields.
+-- Outside the table there is nothing.
 module _ (e k i : ℕ) where
-  outside : ((l : Lawful e k (fieldsOf e k)) → length (fieldsOf e k) ≤ i) → getD (fieldsOf e k) i 0 ≡ 0
-  outside f = ⊎-elim (λ n. ap (λ (x : List ℕ). getD x i 0) n) (λ l. List·getD-eq-default (fieldsOf e k) 0 (f l)) (lawful e k)
+  outside : (Lawful e k (fieldsOf e k) → length (fieldsOf e k) < i) → 0 ≡ entryOf e k i
+  unfolding entryOf lengthOf lengthIn
+  outside f = ⊎-elim (λ n. sym (ap (λ (x : List ℕ). getD (lengthIn x ∷ x) i 0) n ∙ none i)) (λ l. sym (List·getD-eq-default (lengthOf e k ∷ fieldsOf e k) 0 (f l))) (lawful e k)
+    where
+      none : (i : ℕ) → _≡_ {A = ℕ} (getD (0 ∷ []) i 0) 0
+      none zero = refl
+      none (suc i) = refl
 
-  pub no-edition : known e ≡ false → getD (fieldsOf e k) i 0 ≡ 0
+  pub no-edition : known e ≡ false → 0 ≡ entryOf e k i
   no-edition h = outside (λ l. let z : true ≡ false = sym (l .edition) ∙ h in let y : _≡_ {A = ℕ} 0 1 = cc in absurd (omega arith))
 
-  pub no-kind : 5 < k → getD (fieldsOf e k) i 0 ≡ 0
+  pub no-kind : 5 < k → 0 ≡ entryOf e k i
   no-kind h = outside (λ l. let q = l .kind in absurd (omega arith))
 
-  pub no-field : 2 < i → getD (fieldsOf e k) i 0 ≡ 0
-  no-field h = outside (λ l. let q = l .few in omega arith)
+  pub no-entry : 3 < i → 0 ≡ entryOf e k i
+  no-entry h = outside (λ l. let q = l .few in omega arith)
+
+  pub no-field : 2 < i → 0 ≡ getD (fieldsOf e k) i 0
+  no-field h = sym (List·getD-eq-default (fieldsOf e k) 0 (omega (arith, fields-few e k)))
+
+  pub field-entry : entryOf e k (i + 1) ≡ getD (fieldsOf e k) i 0
+  unfolding entryOf
+  field-entry = rw add-one
 
 -- WIDTHS.
 unfoldable pub codeWidths : List ℕ
 codeWidths = 1 ∷ 8 ∷ 8 ∷ 4 ∷ 2 ∷ []
 
 width-test : ℕ → Bool
-width-test f = eqb (getD codeWidths f 0) (widthOf f) && leb (widthOf f) 8
+width-test f = eqb (getD codeWidths f 0) (fieldWidth f) && leb (fieldWidth f) 8
 
-pub width-is : (f : ℕ) → f < 5 → (getD codeWidths f 0 ≡ widthOf f) × (getD codeWidths f 0 ≤ 8)
-unfolding codeWidths widthOf fieldWidths allBelow width-test
+pub width-is : (f : ℕ) → f < 5 → (getD codeWidths f 0 ≡ fieldWidth f) × (getD codeWidths f 0 ≤ 8)
+unfolding codeWidths fieldWidth fieldWidths allBelow width-test
 width-is f l =
-    let q = both (eqb (getD codeWidths f 0) (widthOf f)) (leb (widthOf f) 8) (below-passes 5 width-test refl f l) in
-    let e = eqb-true (getD codeWidths f 0) (widthOf f) (q .0) in
-    (e, omega (arith, e, leb-true (widthOf f) 8 (q .1)))
+    let q = both (eqb (getD codeWidths f 0) (fieldWidth f)) (leb (fieldWidth f) 8) (below-passes 5 width-test refl f l) in
+    let e = eqb-true (getD codeWidths f 0) (fieldWidth f) (q .0) in
+    (e, omega (arith, e, leb-true (fieldWidth f) 8 (q .1)))
 
-pub no-width : (f : ℕ) → 5 ≤ f → widthOf f ≡ 0
-unfolding widthOf fieldWidths
+pub no-width : (f : ℕ) → 5 ≤ f → fieldWidth f ≡ 0
+unfolding fieldWidth fieldWidths
 no-width f h = List·getD-eq-default fieldWidths 0 h

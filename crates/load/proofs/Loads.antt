@@ -12,7 +12,7 @@ use Rattle.numerals.proofs.BigEndian.{numeral-digits, digits-numeral}
 use Rattle.load.specs.declared.Call.{Call}
 use Rattle.load.specs.declared.Item.{Item}
 use Rattle.load.specs.declared.Item.the-variants.{Record, End, Refused}
-use Rattle.load.specs.Format.{widthOf, fieldsOf, widths, total, lengthOf}
+use Rattle.load.specs.Format.{fieldWidth, fieldsOf, widths, total, lengthOf}
 use Rattle.load.specs.Calls.{valuesOf, carries}
 use Rattle.load.specs.Bytes.{big, bigValue, fieldBytes, fieldValues, recordBytes, recordsBytes, loadBytes}
 use Rattle.load.specs.Reading.{agree, lengthField, kindField, misfit, readAt, editionOf, itemAt, openNumber, onto, follow, walkIn, walk}
@@ -60,7 +60,7 @@ module _ (e at : ℕ) (bs : List ℕ) (s : Bytes bs) (h : 2 + lengthField bs ≤
 
   many : length (valuesRead e bs) ≡ length (fieldsOf e (kindField bs))
   unfolding widths
-  many = values-length (widths e (kindField bs)) (drop 3 bs) ∙ length-map (fieldsOf e (kindField bs)) widthOf
+  many = values-length (widths e (kindField bs)) (drop 3 bs) ∙ length-map (fieldsOf e (kindField bs)) fieldWidth
 
   kind-is : callIn e bs .kind ≡ kindField bs
   kind-is = kind-of-call e (kindField bs) (valuesRead e bs)

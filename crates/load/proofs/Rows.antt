@@ -11,7 +11,7 @@ use Rattle.numerals.specs.Laid.{behind, laid, Put}
 use Rattle.numerals.proofs.Laying.{put-digits}
 use Rattle.numerals.proofs.Going.{Going, going-step, going-as, going-none}
 use Rattle.load.specs.declared.Call.{Call}
-use Rattle.load.specs.Format.{theKind, widthOf, fieldsOf, widths, total, lengthIn, lengthOf}
+use Rattle.load.specs.Format.{fieldWidth, fieldsOf}
 use Rattle.load.specs.Calls.{valueOf, withValue, filled, valuesIn}
 use Rattle.load.specs.Bytes.{big, bigValue, fieldBytes, fieldValues}
 use Rattle.load.proofs.Format.{fields-proper, rest-some, rest-none}
@@ -21,32 +21,16 @@ abbrev pub left : ℕ → ℕ → ℕ → List ℕ
 left e k i = drop i (fieldsOf e k)
 
 abbrev pub readLeft : ℕ → ℕ → ℕ → List ℕ → Call → Call
-readLeft e k i bs c = filled (left e k i) (fieldValues (map widthOf (left e k i)) bs) c
+readLeft e k i bs c = filled (left e k i) (fieldValues (map fieldWidth (left e k i)) bs) c
 
 abbrev pub bytesLeft : ℕ → ℕ → ℕ → Call → List ℕ
-bytesLeft e k i c = fieldBytes (map widthOf (left e k i)) (valuesIn (left e k i) c)
+bytesLeft e k i c = fieldBytes (map fieldWidth (left e k i)) (valuesIn (left e k i) c)
 
 -- f is what `field_at` answers at place i.
 module _ (e k i f : ℕ) (s : f ≡ getD (fieldsOf e k) i 0) where
   module _ (z : f ≡ 0) where
     pub row-end : left e k i ≡ []
     row-end = rest-none (fieldsOf e k) i f (fields-proper e k) s z
-
-    pub counted : (n : ℕ) → n + total (map widthOf (left e k i)) ≡ total (widths e k) → n ≡ total (widths e k)
-    unfolding total
-    counted n h = let q = rw row-end at h in omega arith
-
-    pub length-none : i ≡ 0 → 0 ≡ lengthOf e k
-    unfolding lengthOf lengthIn
-    length-none o = let q : fieldsOf e k ≡ [] = rw o at row-end in rw q
-
-    pub length-some : (i ≡ 0 → ⊥) → i ≤ length (fieldsOf e k) → (n w : ℕ) → n ≡ total (widths e k) → w ≡ widthOf theKind → w + n ≡ lengthOf e k
-    unfolding lengthOf lengthIn widths total
-    length-some o l n w p q = go (fieldsOf e k) l p
-      where
-        go : (fs : List ℕ) → i ≤ length fs → n ≡ total (map widthOf fs) → w + n ≡ lengthIn fs
-        go [] l p = absurd (o (omega arith))
-        go (g ∷ fs) l p = omega arith
 
     pub filled-end : (vs : List ℕ) (c : Call) → filled (left e k i) vs c ≡ c
     unfolding filled
@@ -63,18 +47,14 @@ module _ (e k i f : ℕ) (s : f ≡ getD (fieldsOf e k) i 0) where
     row-next : left e k i ≡ f ∷ left e k (i + 1)
     row-next = rest-some (fieldsOf e k) i f s z .1
 
-    module _ (w : ℕ) (u : w ≡ widthOf f) where
-      pub counts : (n : ℕ) → n + total (map widthOf (left e k i)) ≡ total (widths e k) → n + w + total (map widthOf (left e k (i + 1))) ≡ total (widths e k)
-      unfolding total
-      counts n h = let q = rw row-next at h in omega (arith, u)
-
-      pub reads : (bs : List ℕ) (at v : ℕ) (c d : Call) → w ≤ 8 → v ≡ bigValue (bytesAt bs at w) → v < 256 ^ w → d ≡ withValue f (v % 256 ^ widthOf f) c
+    module _ (w : ℕ) (u : w ≡ fieldWidth f) where
+      pub reads : (bs : List ℕ) (at v : ℕ) (c d : Call) → w ≤ 8 → v ≡ bigValue (bytesAt bs at w) → v < 256 ^ w → d ≡ withValue f (v % 256 ^ fieldWidth f) c
           → readLeft e k (i + 1) (drop (at + w) bs) d ≡ readLeft e k i (drop at bs) c
       unfolding filled fieldValues
       reads bs at v c d l p q r =
           let m : min w 8 ≡ w = omega arith in
-          let x : v ≡ bigValue (take (widthOf f) (drop at bs)) = p ∙ rw (m, u) in
-          let y : d ≡ withValue f (bigValue (take (widthOf f) (drop at bs))) c = r ∙ rw (← u, mod-eq-of-lt q) (ap (λ (b : ℕ). withValue f b c) (x ∙ rw u)) in
+          let x : v ≡ bigValue (take (fieldWidth f) (drop at bs)) = p ∙ rw (m, u) in
+          let y : d ≡ withValue f (bigValue (take (fieldWidth f) (drop at bs))) c = r ∙ rw (← u, mod-eq-of-lt q) (ap (λ (b : ℕ). withValue f b c) (x ∙ rw u)) in
           rw (row-next, y, ← u, drop-drop w at bs)
 
       pub puts : (o₀ : List ℕ) (at : ℕ) (whole o : List ℕ) (n v : ℕ) (c : Call) (p : List ℕ) (m : ℕ) → v ≡ valueOf f c
@@ -84,7 +64,7 @@ module _ (e k i f : ℕ) (s : f ≡ getD (fieldsOf e k) i 0) where
           let x : bytesLeft e k i c ≡ big w v ++ bytesLeft e k (i + 1) c = rw (row-next, u, q) in
           going-step o₀ at whole o n (big w v) (bytesLeft e k (i + 1) c) p m (going-as o₀ at whole o n (bytesLeft e k i c) (big w v ++ bytesLeft e k (i + 1) c) x g) (put-digits 256 0 w v r)
 
-    pub keeps : (a c d : Call) (v : ℕ) → v ≡ valueOf f a → v < 256 ^ widthOf f → d ≡ withValue f (v % 256 ^ widthOf f) c
+    pub keeps : (a c d : Call) (v : ℕ) → v ≡ valueOf f a → v < 256 ^ fieldWidth f → d ≡ withValue f (v % 256 ^ fieldWidth f) c
         → filled (left e k (i + 1)) (valuesIn (left e k (i + 1)) a) d ≡ filled (left e k i) (valuesIn (left e k i) a) c
     unfolding filled
     keeps a c d v p q r = rw (row-next, r, mod-eq-of-lt q, p)

@@ -27,8 +27,8 @@ theTicket = 4
 unfoldable pub fieldWidths : List ℕ
 fieldWidths = 1 ∷ 8 ∷ 8 ∷ 4 ∷ 2 ∷ []
 
-unfoldable pub widthOf : ℕ → ℕ
-widthOf f = getD fieldWidths f 0
+unfoldable pub fieldWidth : ℕ → ℕ
+fieldWidth f = getD fieldWidths f 0
 
 -- ── rows ──
 -- A kind of an edition: its name, and its fields in their order.
@@ -76,7 +76,7 @@ unfoldable pub fieldsOf : ℕ → ℕ → List ℕ
 fieldsOf e k = rowIn format e k .fields
 
 unfoldable pub widths : ℕ → ℕ → List ℕ
-widths e k = map widthOf (fieldsOf e k)
+widths e k = map fieldWidth (fieldsOf e k)
 
 unfoldable pub total : List ℕ → ℕ
 total [] = 0
@@ -85,10 +85,14 @@ total (w ∷ ws) = w + total ws
 -- "length in two bytes (the bytes after it), a kind byte, fields": the kind byte and the fields. 0 stands for no such kind.
 unfoldable pub lengthIn : List ℕ → ℕ
 lengthIn [] = 0
-lengthIn (f ∷ fs) = total (map widthOf (theKind ∷ f ∷ fs))
+lengthIn (f ∷ fs) = total (map fieldWidth (theKind ∷ f ∷ fs))
 
 unfoldable pub lengthOf : ℕ → ℕ → ℕ
 lengthOf e k = lengthIn (fieldsOf e k)
+
+-- A row as the code has it: the length at place 0, then the fields.
+unfoldable pub entryOf : ℕ → ℕ → ℕ → ℕ
+entryOf e k i = getD (lengthOf e k ∷ fieldsOf e k) i 0
 
 -- The least length of a whole record, its two length bytes included. (Two bytes say 65,535 at most.)
 unfoldable pub leastIn : List Row → ℕ

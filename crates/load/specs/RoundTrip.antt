@@ -7,7 +7,7 @@ use mathlib.Core.Path.{_≡_}
 use lib.ListN.{length, take, getD}
 use Rattle.load.specs.declared.Call.{Call}
 use Rattle.load.specs.declared.Written.the-variants.{Length}
-use Rattle.load.specs.Format.{widthOf, known}
+use Rattle.load.specs.Format.{fieldWidth, known}
 use Rattle.load.specs.Calls.{valueOf}
 use Rattle.load.specs.Bytes.{loadBytes}
 use Rattle.load.specs.Reading.{editionOf, walk, loadNumber}
@@ -19,7 +19,7 @@ Bytes s = (i : ℕ) → getD s i 0 < 256
 
 -- Every value goes into its field's width. The code's types are so wide.
 abbrev pub Typed : Call → Type 0
-Typed c = (f : ℕ) → valueOf f c < 256 ^ widthOf f
+Typed c = (f : ℕ) → valueOf f c < 256 ^ fieldWidth f
 
 -- The load that the writer makes of calls, one after the other. "Writing begins from the edition byte alone." Each call is appended to the
 -- load so far and answered with a length n; the load is then the first n bytes of the lent buffer, whatever that held.

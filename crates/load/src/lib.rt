@@ -5,7 +5,7 @@ ghost use mathlib.Core.Path.{_≡_};
 ghost use mathlib.Core.List.{_++_};
 ghost use lib.ListN.{length, getD};
 ghost use Rattle.numerals.specs.Laid.{behind, laid, Put};
-ghost use Rattle.load.specs.Format.{known, fieldsOf, widthOf, widths, lengthOf, leastLength};
+ghost use Rattle.load.specs.Format.{known, fieldsOf, entryOf, fieldWidth, widths, lengthOf, leastLength};
 ghost use Rattle.load.specs.Calls.{valueOf, withValue, bare, callOf, valuesOf, kept, same, carries};
 ghost use Rattle.load.specs.Answers.{itemValues, writtenValues};
 ghost use Rattle.load.specs.Bytes.{recordBytes, fieldBytes, fieldValues};
@@ -39,20 +39,20 @@ pub enum Written {
 // A field is named by a number: kind 0, clock 1, groups 2, length 3, ticket 4. Their widths in bytes:
 const WIDTHS: [usize; 5] = [1, 8, 8, 4, 2];
 
-// The fields of each kind from 0 on, edition after edition, in the order of the format; 0 is none.
-const FIELDS: [[u8; 3]; 6] = [
+// The kinds from 0 on, edition after edition: the length of a record, its kind byte and its fields, then the fields in their order; 0 is none.
+const FORMAT: [[u8; 4]; 6] = [
     // edition 1
-    [0, 0, 0],
+    [0, 0, 0, 0],
     // rig: groups
-    [2, 0, 0],
+    [9, 2, 0, 0],
     // claim: clock, groups, length
-    [1, 2, 3],
+    [21, 1, 2, 3],
     // release: clock, ticket
-    [1, 4, 0],
+    [11, 1, 4, 0],
     // withdraw: clock, ticket
-    [1, 4, 0],
+    [11, 1, 4, 0],
     // clock: clock
-    [1, 0, 0],
+    [9, 1, 0, 0],
 ];
 
 // The editions are 1 alone.
@@ -65,26 +65,43 @@ fn known(edition: u8) -> bool
     edition <= 1
 }
 
-// The field at place i, from 0, of a kind of an edition; 0 behind the last, and for a kind that the edition lacks.
-pub fn field_at(edition: u8, kind: u8, i: usize) -> u8
-    ensures { λ r. ⌜ r ≡ getD (fieldsOf edition kind) i 0 ⌝ }
+// An entry of the row of a kind of an edition: the record's length at 0, the fields from 1 on; 0 where there is none.
+fn entry(edition: u8, kind: u8, i: usize) -> u8
+    ensures { λ r. ⌜ r ≡ entryOf edition kind i ⌝ }
 {
     if 5 < kind {
         return 0;
     }
-    if 2 < i {
+    if 3 < i {
         return 0;
     }
     if known(edition) {
         let row = (edition as usize - 1) * 6 + kind as usize;
-        return FIELDS[row][i];
+        return FORMAT[row][i];
     }
     0
 }
 
+// The field at place i, from 0, of a kind of an edition; 0 behind the last, and for a kind that the edition lacks.
+pub fn field_at(edition: u8, kind: u8, i: usize) -> u8
+    ensures { λ r. ⌜ r ≡ getD (fieldsOf edition kind) i 0 ⌝ }
+{
+    if 2 < i {
+        return 0;
+    }
+    entry(edition, kind, i + 1)
+}
+
+// The length of a record: its kind byte and its fields. 0 for a kind that the edition lacks.
+pub fn length_of(edition: u8, kind: u8) -> usize
+    ensures { λ r. ⌜ r ≡ lengthOf edition kind ⌝ }
+{
+    entry(edition, kind, 0) as usize
+}
+
 // The width of a field in bytes; 0 where there is no such field.
 pub fn width_of(field: u8) -> usize
-    ensures { λ r. ⌜ (r ≡ widthOf field) × (r ≤ 8) ⌝ }
+    ensures { λ r. ⌜ (r ≡ fieldWidth field) × (r ≤ 8) ⌝ }
 {
     if field < 5 {
         return WIDTHS[field as usize];
@@ -94,7 +111,7 @@ pub fn width_of(field: u8) -> usize
 
 // The value of a field; 0 where there is no such field.
 pub fn value_of(call: Call, field: u8) -> u64
-    ensures { λ r. ⌜ (r ≡ valueOf field call) × (r < 256 ^ widthOf field) ⌝ }
+    ensures { λ r. ⌜ (r ≡ valueOf field call) × (r < 256 ^ fieldWidth field) ⌝ }
 {
     let numbers = [
         call.kind as u64,
@@ -111,7 +128,7 @@ pub fn value_of(call: Call, field: u8) -> u64
 
 // The call with a value in a field: as much of it as goes into the field's width.
 pub fn with_value(call: Call, field: u8, value: u64) -> Call
-    ensures { λ r. ⌜ r ≡ withValue field (value % 256 ^ widthOf field) call ⌝ }
+    ensures { λ r. ⌜ r ≡ withValue field (value % 256 ^ fieldWidth field) call ⌝ }
 {
     let mut c = call;
     match field {
@@ -145,25 +162,6 @@ pub fn bare(kind: u8) -> Call
         groups: 0,
         length: 0,
         ticket: 0,
-    }
-}
-
-// The length of a record: its kind byte and its fields. 0 for a kind that the edition lacks.
-pub fn length_of(edition: u8, kind: u8) -> usize
-    ensures { λ r. ⌜ r ≡ lengthOf edition kind ⌝ }
-{
-    let mut n: usize = 0;
-    let mut i: usize = 0;
-    loop {
-        let f = field_at(edition, kind, i);
-        if f == 0 {
-            if i == 0 {
-                return 0;
-            }
-            return width_of(0) + n;
-        }
-        n += width_of(f);
-        i += 1;
     }
 }
 

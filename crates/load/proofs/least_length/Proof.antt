@@ -1,12 +1,12 @@
 -- `load::least_length` meets its contract: the least is computed over the table.
 use mathlib.Core.Path.{refl}
 use native.Mathlib.Omega.{arith}
-use Rattle.load.specs.Format.{leastLength, leastIn, format, lengthIn, total, widthOf, fieldWidths}
+use Rattle.load.specs.Format.{leastLength, leastIn, format, lengthIn, total, fieldWidth, fieldWidths}
 use Rattle.load.proofs.least_length.Statement.{statement}
 use Rattle.load.proofs.least_length.Tie as tie
 
 returns : tie.Need-returns
-unfolding leastLength leastIn format lengthIn total widthOf fieldWidths
+unfolding leastLength leastIn format lengthIn total fieldWidth fieldWidths
 returns c = (refl, omega arith)
 
 pub least-length-spec : {M : Type 1} → statement M
