@@ -1,6 +1,8 @@
 // Reads a load on standard input and prints its listing.
 ghost use mathlib.Core.Path.{_≡_};
 ghost use lib.ListN.{length};
+ghost use Prim.Native.Nat.{_≤_};
+ghost use Rattle.listing.specs.Room.{roomFor};
 
 // Room for a load, which may have 65,536 bytes, and one byte more, so that a longer one is told (14).
 fn load_buffer() -> [u8; 65537]
@@ -9,9 +11,9 @@ fn load_buffer() -> [u8; 65537]
     [0; 65537]
 }
 
-// Room for every listing: none has over 71 + 129 * (65536 / 11) bytes.
+// Room for every listing: no load that is read has over 65,536 bytes.
 fn listing_buffer() -> [u8; 1048576]
-    ensures { λ r. ⌜ 1048576 ≡ length r ⌝ }
+    ensures { λ r. ⌜ (1048576 ≡ length r) × (roomFor 65536 ≤ 1048576) ⌝ }
 {
     [0; 1048576]
 }

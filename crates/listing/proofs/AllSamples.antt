@@ -11,13 +11,14 @@ use Rattle.rules.specs.Granting.{goes, granted, grant, grants}
 use Rattle.rules.specs.Tests.{firstOf}
 use Rattle.rules.specs.Calls.{tests, advance, finish, join, remove, admit, act, step, new}
 use Rattle.numerals.specs.Digits.{numeral, digits, widthUpTo, widthOf, decimalOf, column, pair}
-use Rattle.load.specs.Calls.{total, widths1, widths, lengthIn, lengthOf, kindOf, fieldsOf, valuesOf, callOf}
+use Rattle.load.specs.Format.{fieldWidths, fieldWidth, format, knownIn, known, rowIn, fieldsOf, widths, total, lengthIn, lengthOf}
+use Rattle.load.specs.Calls.{numbers, made, valueOf, withValue, bare, filled, callOf, valuesOf}
 use Rattle.load.specs.Bytes.{fieldBytes, fieldValues, recordBytes, recordsBytes, loadBytes}
 use Rattle.load.specs.Reading.{misfit, readAt, itemAt, openNumber, walkIn, walk}
 use Rattle.listing.specs.Lines.{lineOf, onLine, onLines, stopLine}
-use Rattle.listing.specs.Text.{stepOf, entryOf, linesFrom, linesOf, listingOf}
+use Rattle.listing.specs.Text.{saysCall, stepOf, entryOf, ending, linesFrom, linesOf, listingOf}
 use Rattle.listing.specs.Samples.{samples, given, expected}
 
 pub all-samples : map given samples ≡ map expected samples
-unfolding someFrom shares empty within greatest least sum all any keep heldUntil endOf remaining precedes before startFor moved ahead startWithin packedStart pack clear fits seek place contention startBound goes granted grant grants firstOf tests advance finish join remove admit act step new numeral digits widthUpTo widthOf decimalOf total fieldBytes fieldValues widths1 widths lengthIn lengthOf kindOf fieldsOf valuesOf callOf recordBytes recordsBytes loadBytes misfit readAt itemAt openNumber walkIn walk column pair lineOf onLine onLines stopLine stepOf entryOf linesFrom linesOf listingOf samples
+unfolding someFrom shares empty within greatest least sum all any keep heldUntil endOf remaining precedes before startFor moved ahead startWithin packedStart pack clear fits seek place contention startBound goes granted grant grants firstOf tests advance finish join remove admit act step new numeral digits widthUpTo widthOf decimalOf fieldWidths fieldWidth format knownIn known rowIn fieldsOf widths total lengthIn lengthOf numbers made valueOf withValue bare filled callOf valuesOf fieldBytes fieldValues recordBytes recordsBytes loadBytes misfit readAt itemAt openNumber walkIn walk column pair lineOf onLine onLines stopLine saysCall stepOf entryOf ending linesFrom linesOf listingOf samples
 all-samples = refl

@@ -1,17 +1,18 @@
--- No listing is longer than its load's length allows: a record has 11 bytes at least, its line 84 at most, an `on` line 45, and over a
--- load there are no more `on` lines than tickets issued, one a record at most.
+-- No listing is longer than its load's length allows: it has few records (`walk-few`), a record's line has 84 bytes at most, an `on` line 45,
+-- and over a load there are no more `on` lines than tickets issued, one a record at most.
 use mathlib.Core.Path.{_≡_, refl, sym}
 use mathlib.Core.Bool.{Bool, true, false, cond}
 use mathlib.Core.List.{List, [], _∷_, _++_}
 use Prim.Native.Nat.{ℕ, zero, suc, _+_, _*_, _/_, _^_, _≤_, _<_}
 use native.Mathlib.Omega.{arith}
+use native.Mathlib.Nat.{div-le-self}
 use lib.Dec.{ltb, leb, eqb}
 use borrow.Author.Tests.{le-leb, ltb-false}
 use lib.ListN.{length, length-append}
 use Rattle.rules.specs.Calls.{Model, Step, blank}
 use Rattle.table.proofs.Promised.{waiting, none-waits, granted-once, issues-few}
 use Rattle.load.specs.declared.Call.{Call}
-use Rattle.load.specs.Calls.{known}
+use Rattle.load.specs.Format.{known, leastLength}
 use Rattle.load.specs.Reading.{editionOf, walk, openNumber}
 use Rattle.load.proofs.Reading.{walk-few}
 use Rattle.listing.specs.Lines.{lineOf, onLines, stopLine}
@@ -56,17 +57,17 @@ listing-bounded s = go (ltb 65536 (length s)) refl
         let rest = linesFrom 1 (blank 0) (walk s 1 .calls) (walk s 1 .stop) in
         let c = walk-few s 1 in
         let l = lines-length 1 (blank 0) (walk s 1 .calls) (walk s 1 .stop) in
-        let b : length rest ≤ 47 + 129 * (length s / 11) = omega (arith, none-waits 0) in
-        rw e (omega (arith, stop-length (cond (eqb (length s) 0) 12 (cond (known (editionOf s)) 0 11)) 0 (47 + 129 * (length s / 11)) rest b (omega arith)))
+        let b : length rest ≤ 47 + 129 * (length s / leastLength) = omega (arith, none-waits 0) in
+        rw e (omega (arith, stop-length (cond (eqb (length s) 0) 12 (cond (known (editionOf s)) 0 11)) 0 (47 + 129 * (length s / leastLength)) rest b (omega arith)))
 
 -- So its length is a usize.
 pub listing-short : (s : List ℕ) → length (listingOf s) < 2 ^ 64
 unfolding roomFor
 listing-short s = go (ltb 65536 (length s)) refl (listing-bounded s)
   where
-    go : (b : Bool) → ltb 65536 (length s) ≡ b → length (listingOf s) ≤ cond b 71 (71 + 129 * (length s / 11)) → length (listingOf s) < 2 ^ 64
+    go : (b : Bool) → ltb 65536 (length s) ≡ b → length (listingOf s) ≤ cond b 71 (71 + 129 * (length s / leastLength)) → length (listingOf s) < 2 ^ 64
     go true e h = omega arith
-    go false e h = omega (arith, ltb-false 65536 (length s) e)
+    go false e h = omega (arith, ltb-false 65536 (length s) e, div-le-self (length s) leastLength)
 
 -- Where the room is that much, the listing goes in.
 pub goes-surely : (s : List ℕ) (n room : ℕ) → n ≡ roomFor (length s) → n ≤ room → true ≡ leb (length (listingOf s)) room

@@ -2,27 +2,27 @@
 use mathlib.Core.Path.{_≡_, refl, sym, ap, _∙_}
 use mathlib.Core.Bool.{Bool, true, false, cond}
 use mathlib.Core.List.{List, [], _++_}
+use mathlib.Core.Logic.{_⊎_, ⊎-elim}
 use Prim.Native.Nat.{ℕ, zero, suc, _+_, _^_, _≤_, _<_}
 use native.Mathlib.Omega.{arith}
 use lib.ListN.{length, take}
-use lib.Dec.{leb}
-use borrow.Author.Tests.{leb-true}
+use lib.Dec.{leb, eqb}
+use borrow.Author.Tests.{leb-true, eqb-false, eq-eqb, ne-eqb}
 use Rattle.rules.specs.declared.Table.{Table}
-use Rattle.rules.specs.Calls.{Model, claim, release, withdraw, clock, blank, new}
+use Rattle.rules.specs.Calls.{Model, claim, release, withdraw, clock, step, blank, new}
 use Rattle.rules.specs.Tables.{model}
 use Rattle.numerals.specs.Laid.{laid, lentOut, Put}
 use Rattle.numerals.proofs.Laying.{laid-fits}
 use Rattle.table.specs.declared.Outcome.{Outcome}
 use Rattle.table.specs.Valid.{Valid}
-use Rattle.table.specs.Outcomes.{outcome}
+use Rattle.table.specs.Outcomes.{outcome, leaving}
 use Rattle.table.proofs.Promised.{Promised, by-call, by-new, outcome-model, outcome-grants, granted-few, new-none}
 use Rattle.load.specs.declared.Call.{Call}
-use Rattle.load.specs.declared.Call.the-variants.{Rig, Claim, Release, Withdraw, Clock}
 use Rattle.load.specs.declared.Item.the-variants.{Record, End, Refused}
 use Rattle.load.specs.Reading.{itemAt, walk, openNumber}
 use Rattle.load.proofs.Reading.{walk-record, walk-end, walk-refused, step-refused, step-next}
 use Rattle.listing.specs.Lines.{header, lineOf, onLines, stopLine}
-use Rattle.listing.specs.Text.{stepOf, entryOf, ending, stopOr, linesFrom, linesOf, listingOf, answerOf}
+use Rattle.listing.specs.Text.{saysCall, stepOf, entryOf, ending, stopOr, linesFrom, linesOf, listingOf, answerOf}
 use Rattle.numerals.proofs.Going.{Going, going-start, going-step, going-as, going-none, going-last}
 
 -- ── what an outcome prints ──
@@ -32,11 +32,38 @@ shown k o = lineOf k (o .number) (o .ticket) (o .start) ++ onLines (o .table .cl
 -- What a record does is what a call promises.
 pub record-promised : (m : Model) (c : Call) → Promised m (stepOf m c)
 unfolding stepOf
-record-promised m (Rig g) = by-new g
-record-promised m (Claim t g n) = by-call (claim t (record { groups = g; length = n }))
-record-promised m (Release t k) = by-call (release t k)
-record-promised m (Withdraw t k) = by-call (withdraw t k)
-record-promised m (Clock t) = by-call (clock t)
+record-promised m c = go (eqb (c .kind) 1)
+  where
+    go : (b : Bool) → Promised m (cond b (new (c .groups)) (step m (saysCall c)))
+    go true = by-new (c .groups)
+    go false = by-call (saysCall c)
+
+-- By its kind.
+module _ (m : Model) (c : Call) where
+  pub step-rig : c .kind ≡ 1 → new (c .groups) ≡ stepOf m c
+  unfolding stepOf
+  step-rig k = rw (eq-eqb (c .kind) 1 k)
+
+  pub step-claim : c .kind ≡ 2 → step m (claim (c .clock) (record { groups = c .groups; length = c .length })) ≡ stepOf m c
+  unfolding stepOf saysCall
+  step-claim k = rw (ne-eqb (c .kind) 1 (λ z. omega arith), eq-eqb (c .kind) 2 k)
+
+  -- A release and a withdrawal are one call of the table.
+  pub step-leave : 3 ≤ c .kind → c .kind ≤ 4 → step m (leaving (eqb (c .kind) 3) (c .clock) (c .ticket)) ≡ stepOf m c
+  unfolding stepOf saysCall
+  step-leave h l = rw (ne-eqb (c .kind) 1 (λ z. omega arith), ne-eqb (c .kind) 2 (λ z. omega arith)) (ap (step m) (go (eqb (c .kind) 3) (eqb (c .kind) 4) refl refl))
+    where
+      go : (a b : Bool) → eqb (c .kind) 3 ≡ a → eqb (c .kind) 4 ≡ b
+          → leaving a (c .clock) (c .ticket) ≡ cond a (release (c .clock) (c .ticket)) (cond b (withdraw (c .clock) (c .ticket)) (clock (c .clock)))
+      go true b x y = refl
+      go false true x y = refl
+      go false false x y = let p = eqb-false (c .kind) 3 x in let q = eqb-false (c .kind) 4 y in absurd (omega (arith, p, q))
+
+  pub step-clock : (c .kind < 1) ⊎ (5 ≤ c .kind) → step m (clock (c .clock)) ≡ stepOf m c
+  unfolding stepOf saysCall
+  step-clock h =
+      let n : (k : ℕ) → 1 ≤ k → k ≤ 4 → eqb (c .kind) k ≡ false = λ k l u. ne-eqb (c .kind) k (λ z. ⊎-elim (λ v. omega arith) (λ v. omega arith) h) in
+      rw (n 1 (omega arith) (omega arith), n 2 (omega arith) (omega arith), n 3 (omega arith) (omega arith), n 4 (omega arith) (omega arith))
 
 -- An outcome of the rules with a valid table.
 module _ (m : Model) (c : Call) (o : Outcome) (p : o ≡ outcome (stepOf m c)) where

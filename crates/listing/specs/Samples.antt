@@ -2,7 +2,7 @@
 -- proofs/AllSamples has the theorem that covers the table.
 use mathlib.Core.List.{List, [], _∷_, _++_}
 use Prim.Native.Nat.{ℕ}
-use Rattle.load.specs.declared.Call.the-variants.{Rig, Claim, Release, Clock}
+use Rattle.load.specs.Calls.{rig, claim, release, clock}
 use Rattle.load.specs.Bytes.{loadBytes}
 use Rattle.listing.specs.Lines.{header}
 use Rattle.listing.specs.Text.{listingOf}
@@ -19,7 +19,7 @@ sample load lines = record { load = load; lines = lines }
 abbrev pub printed : Sample
 printed =
     sample
-    (loadBytes 1 (Rig 0xF ∷ Claim 0 0x8 10 ∷ Claim 0 0xC 10 ∷ Claim 0 0x6 11 ∷ Claim 0 0x3 20 ∷ Release 4 1 ∷ []))
+    (loadBytes 1 (rig 0xF ∷ claim 0 0x8 10 ∷ claim 0 0xC 10 ∷ claim 0 0x6 11 ∷ claim 0 0x3 20 ∷ release 4 1 ∷ []))
     (
     -- 1 0 0 0
     49 ∷ 32 ∷ 48 ∷ 32 ∷ 48 ∷ 32 ∷ 48 ∷ 10 ∷
@@ -54,8 +54,8 @@ samples =
     ∷ sample (0x01 ∷ 0x00 ∷ []) (115 ∷ 116 ∷ 111 ∷ 112 ∷ 32 ∷ 49 ∷ 50 ∷ 32 ∷ 49 ∷ 10 ∷ [])
     -- "01 00 00 gives 13": stop 13 1
     ∷ sample (0x01 ∷ 0x00 ∷ 0x00 ∷ []) (115 ∷ 116 ∷ 111 ∷ 112 ∷ 32 ∷ 49 ∷ 51 ∷ 32 ∷ 49 ∷ 10 ∷ [])
-    -- a dark rig, and nothing after it: stop 1 1
-    ∷ sample (loadBytes 1 (Rig 0 ∷ Clock 1 ∷ [])) (115 ∷ 116 ∷ 111 ∷ 112 ∷ 32 ∷ 49 ∷ 32 ∷ 49 ∷ 10 ∷ [])
+    -- a dark rig, and nothing behind it: stop 1 1
+    ∷ sample (loadBytes 1 (rig 0 ∷ clock 1 ∷ [])) (115 ∷ 116 ∷ 111 ∷ 112 ∷ 32 ∷ 49 ∷ 32 ∷ 49 ∷ 10 ∷ [])
     ∷ []
 
 abbrev pub given : Sample → List ℕ

@@ -3,21 +3,24 @@
 use mathlib.Core.Bool.{cond}
 use mathlib.Core.List.{List, [], _∷_, _++_}
 use Prim.Native.Nat.{ℕ, zero, suc, _+_}
-use lib.Dec.{leb}
+use lib.Dec.{leb, eqb}
 use lib.ListN.{length}
-use Rattle.rules.specs.Calls.{Model, Step, claim, release, withdraw, clock, step, blank, new}
+use Rattle.rules.specs.Calls.{Model, Step, Call as TableCall, claim, release, withdraw, clock, step, blank, new}
 use Rattle.load.specs.declared.Call.{Call}
-use Rattle.load.specs.declared.Call.the-variants.{Rig, Claim, Release, Withdraw, Clock}
 use Rattle.load.specs.Reading.{Walk, walk, openNumber}
 use Rattle.listing.specs.Lines.{header, lineOf, onLines, stopLine}
 
--- What a record does: the rig makes the table, each other is a call on it.
+-- The call of the table that a record says: "2 claim", "3 release", "4 withdraw", "5 clock". (The reader gives no other kind.)
+unfoldable pub saysCall : Call → TableCall
+saysCall c =
+    cond (eqb (c .kind) 2) (claim (c .clock) (record { groups = c .groups; length = c .length }))
+    (cond (eqb (c .kind) 3) (release (c .clock) (c .ticket))
+    (cond (eqb (c .kind) 4) (withdraw (c .clock) (c .ticket))
+    (clock (c .clock))))
+
+-- What a record does: the rig, kind 1, makes the table; each other is a call on it.
 unfoldable pub stepOf : Model → Call → Step
-stepOf m (Rig g) = new g
-stepOf m (Claim t g n) = step m (claim t (record { groups = g; length = n }))
-stepOf m (Release t k) = step m (release t k)
-stepOf m (Withdraw t k) = step m (withdraw t k)
-stepOf m (Clock t) = step m (clock t)
+stepOf m c = cond (eqb (c .kind) 1) (new (c .groups)) (step m (saysCall c))
 
 -- "one line for each record .. Each grant adds `on TICKET CLOCK`": the call's clock, which is the table's after it.
 unfoldable pub entryOf : ℕ → Step → List ℕ
@@ -26,12 +29,8 @@ entryOf k s =
     lineOf k (a .number) (a .ticket) (a .start) ++ onLines (s .model .clock) (a .grants)
 
 -- The number by which a record that was read ends the listing, 0 for none: "Only 11 to 14 and a dark rig end the listing early."
-abbrev pub ending : Call → ℕ → ℕ
-ending (Rig g) n = n
-ending (Claim t g l) n = 0
-ending (Release t k) n = 0
-ending (Withdraw t k) n = 0
-ending (Clock t) n = 0
+unfoldable pub ending : Call → ℕ → ℕ
+ending c n = cond (eqb (c .kind) 1) n 0
 
 -- Lines, or where a number is not 0 "`stop NUMBER RECORD`, in place of" them.
 abbrev pub stopOr : ℕ → ℕ → List ℕ → List ℕ

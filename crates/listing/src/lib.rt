@@ -71,33 +71,30 @@ fn put_entry(out: &mut [u8], at: usize, k: u64, o: Outcome) -> usize
 fn ending_of(call: Call, number: u8) -> u8
     ensures { λ r. ⌜ r ≡ ending call number ⌝ }
 {
-    match call {
-        Call::Rig(_g) => number,
-        Call::Claim(_t, _g, _n) => 0,
-        Call::Release(_t, _k) => 0,
-        Call::Withdraw(_t, _k) => 0,
-        Call::Clock(_t) => 0,
+    if call.kind == 1 {
+        return number;
     }
+    0
 }
 
-// The call of the table that a record says. Release and withdrawal (kinds 3 and 4) are one call site: the compiler then makes no copy of
-// the table for either.
+// The call of the table that a record says, by its kind. Release and withdrawal (3 and 4) are one call site: the compiler then makes no copy
+// of the table for either.
 fn act(t: Table, call: Call) -> Outcome
     requires { ⌜ Valid t ⌝ }
     ensures { λ r. ⌜ (r ≡ outcome (stepOf (model t) call)) × Valid (r .table) ⌝ }
 {
-    let kind = load::kind_of(call);
-    match call {
-        Call::Rig(g) => table::new(g),
-        Call::Claim(c, g, n) => {
+    let kind = call.kind;
+    match kind {
+        1 => table::new(call.groups),
+        2 => {
             let ask = Request {
-                groups: g,
-                length: n,
+                groups: call.groups,
+                length: call.length,
             };
-            table::claim(t, c, ask)
+            table::claim(t, call.clock, ask)
         }
-        Call::Release(c, k) | Call::Withdraw(c, k) => table::leave(t, kind == 3, c, k),
-        Call::Clock(c) => table::clock(t, c),
+        3 | 4 => table::leave(t, kind == 3, call.clock, call.ticket),
+        _ => table::clock(t, call.clock),
     }
 }
 
@@ -151,7 +148,7 @@ fn room_for(size: usize) -> usize
     if 65536 < size {
         return 71;
     }
-    71 + 129 * (size / 11)
+    71 + 129 * (size / load::least_length())
 }
 
 // Whether the listing goes into so much room. Where the load's length does not tell, it is counted, on a buffer that takes one byte.
@@ -166,7 +163,7 @@ fn goes_into(load: &[u8], room: usize) -> bool
 }
 
 // The listing of a load at the start of a buffer: the count of bytes written, or 15 and the buffer untouched.
-// Cost: one call of the table for each record; two where the buffer has under 71 + 129 * (load.len() / 11) bytes.
+// Cost: one call of the table for each record; two where the buffer has under 71 + 129 * (load.len() / load::least_length()) bytes.
 #[no_mangle]
 pub extern "C" fn belgwyth_listing(load: &[u8], out: &mut [u8]) -> usize
     ensures answer { λ r. ⌜ r ≡ answerOf (listingOf (now (load .entry))) (now (out .entry)) ⌝ }

@@ -1,55 +1,34 @@
 use borrow.Author.Needs.{needs}
-use mathlib.Core.Logic.{_⊎_, inl, inr, ⊎-elim}
-use mathlib.Core.Path.{_≡_, sym, _∙_, ap}
-use Prim.Native.Nat.{ℕ}
-use lib.Dec.{eqb}
-use Rattle.rules.specs.Calls.{Model, step}
-use Rattle.load.specs.declared.Call.{Call}
-use Rattle.load.specs.declared.Call.the-variants.{Release, Withdraw}
-use Rattle.load.specs.Calls.{kindOf}
-use Rattle.table.specs.Outcomes.{outcome, leaving}
-use Rattle.listing.specs.Text.{stepOf}
+use mathlib.Core.Logic.{inl, inr, ⊎-elim}
+use mathlib.Core.Path.{ap, _∙_}
+use native.Mathlib.Omega.{arith}
+use Rattle.table.specs.Outcomes.{outcome}
+use Rattle.listing.proofs.Turns.{step-rig, step-claim, step-leave, step-clock}
 use Rattle.listing.proofs.act.Statement.{statement}
 use Rattle.listing.proofs.act.Tie as tie
 
--- A release and a withdrawal are one call of the table.
-leave-record : (m : Model) (call : Call) (n x k : ℕ) → n ≡ kindOf call → (call ≡ Release x k) ⊎ (call ≡ Withdraw x k)
-    → step m (leaving (eqb n 3) x k) ≡ stepOf m call
-unfolding stepOf kindOf
-leave-record m call n x k e (inl q) = ap (λ (d : ℕ). step m (leaving (eqb d 3) x k)) (e ∙ ap kindOf q) ∙ ap (stepOf m) (sym q)
-leave-record m call n x k e (inr q) = ap (λ (d : ℕ). step m (leaving (eqb d 3) x k)) (e ∙ ap kindOf q) ∙ ap (stepOf m) (sym q)
-
--- In the arm of both it is one of them.
-left : (c : tie.At-match-came) → (c .before .before .args .call ≡ Release (c .match .c) (c .match .k)) ⊎ (c .before .before .args .call ≡ Withdraw (c .match .c) (c .match .k))
-left c = ⊎-elim (λ w. inl (rw (w .3, w .4) (w .1 .given .1))) (λ w. inr (rw (w .3, w .4) (w .1 .given .1))) (c .match .came)
-
 returns : tie.Need-returns
-unfolding stepOf
-returns c = rw (c .before .before .call .given .1) (c .new .ensures)
+returns c = (c .new .ensures .0 ∙ ap outcome (step-rig _ _ (c .before .match .keys1)), c .new .ensures .1)
 
 returns-2 : tie.Need-returns-2
-unfolding stepOf
-returns-2 c = rw (c .before .before .call2 .given .1) (c .claim .ensures)
+returns-2 c = (c .claim .ensures .0 ∙ ap outcome (step-claim _ _ (c .before .match .keys2)), c .claim .ensures .1)
 
 returns-3 : tie.Need-returns-3
-unfolding stepOf
-returns-3 c = rw (c .before .before .call5 .given .1) (c .clock .ensures)
+returns-3 c =
+    let l = c .before .before in
+    let r = l .before .match .rest in
+    let k = l .before .before .args .call in
+    (c .leave .ensures .0 ∙ ap outcome (step-leave _ k (omega (arith, l .if1 .left, r .0 .1, r .1)) (omega (arith, c .before .if2 .taken))), c .leave .ensures .1)
 
 returns-4 : tie.Need-returns-4
-returns-4 c = (c .leave .ensures .0 ∙ ap outcome (leave-record _ _ _ _ _ (c .before .before .kind-of .ensures) (left (c .before))), c .leave .ensures .1)
+returns-4 c = (c .clock .ensures .0 ∙ ap outcome (step-clock _ _ (⊎-elim (λ w. inl (w .taken)) (λ w. inr (w .1 .left)) (c .before .if1 .came))), c .clock .ensures .1)
 
 pub act-spec : {M : Type 1} → statement M
 act-spec =
     tie.close
     (tie.spec
     (λ c κs. search needs)
-    (λ c. search needs)
     (λ c κs. search needs)
-    (λ c. search needs)
-    (λ c κs. search needs)
-    (λ c. search needs)
-    (λ c. search needs)
-    (λ c. search needs)
     (λ c κs. search needs)
     (λ c κs. search needs)
     returns
