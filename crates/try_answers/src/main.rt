@@ -60,28 +60,29 @@ fn act(t: Table, call: Call) -> Outcome
     requires { ⌜ Valid t ⌝ }
     ensures { λ r. ⌜ Valid (r .table) ⌝ }
 {
-    match call {
-        Call::Rig(g) => table::new(g),
-        Call::Claim(c, g, n) => {
+    let kind = call.kind;
+    match kind {
+        1 => table::new(call.groups),
+        2 => {
             let ask = Request {
-                groups: g,
-                length: n,
+                groups: call.groups,
+                length: call.length,
             };
-            table::claim(t, c, ask)
+            table::claim(t, call.clock, ask)
         }
-        Call::Release(c, k) => table::release(t, c, k),
-        Call::Withdraw(c, k) => table::withdraw(t, c, k),
-        Call::Clock(c) => table::clock(t, c),
+        3 => table::release(t, call.clock, call.ticket),
+        4 => table::withdraw(t, call.clock, call.ticket),
+        _ => table::clock(t, call.clock),
     }
 }
 
-// The records to the load's end or the first refusal of the reader; a rig without groups ends them too. No load has 6,000 records.
+// The records to the load's end or the first refusal of the reader; a rig without groups ends them too. A load has fewer records than bytes.
 fn records(load: &[u8]) {
     let none = table::new(0);
     let mut t = none.table;
     let mut at: usize = 1;
     let mut k: u64 = 0;
-    while k < 6000 {
+    while k < 65536 {
         k += 1;
         match load::record_at(load, at) {
             Item::Record(call, next) => {

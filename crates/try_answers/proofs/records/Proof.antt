@@ -1,4 +1,4 @@
--- The table is valid before each record, and at most 6,000 are taken.
+-- The table is valid before each record, and at most 65,536 are taken.
 use Prim.Native.Nat.{_-_, _≤_}
 use native.Mathlib.Omega.{arith}
 use borrow.Author.Needs.{needs}
@@ -7,10 +7,10 @@ use Rattle.try_answers.proofs.records.Statement.{statement}
 use Rattle.try_answers.proofs.records.Tie as tie
 
 abbrev Inv-loop : tie.InvT-loop
-Inv-loop load t₀ at₀ k₀ t at k = (k ≤ 6000) × Valid t
+Inv-loop load t₀ at₀ k₀ t at k = (k ≤ 65536) × Valid t
 
 abbrev μ-loop : tie.MeasureT-loop
-μ-loop load t₀ at₀ k₀ t at k = 6000 - k
+μ-loop load t₀ at₀ k₀ t at k = 65536 - k
 
 loop-holds : tie.Need-loop-holds Inv-loop μ-loop
 loop-holds c = (omega arith, c .before .new .ensures .1)
