@@ -55,11 +55,11 @@ fn print_stop(at: usize, number: u8) {
     print_two(b"stop ", at as u64, number as u64);
 }
 
-// The records from the first on, and where the reader stops. No load has 6,000 records.
+// The records from the first on, and where the reader stops. A load has fewer records than bytes.
 fn records(load: &[u8]) {
     let mut at: usize = 1;
     let mut k: u64 = 0;
-    while k < 6000 {
+    while k < 65536 {
         match reader::item_at(load, at) {
             Item::Record(_call, _next) => {
                 print_record(load, at);
@@ -136,7 +136,7 @@ fn rewrite(load: &[u8], a: &mut [u8], b: &mut [u8]) {
     let mut n = numerals::put_bytes(a, 0, first(load, 1));
     let mut at: usize = 1;
     let mut k: u64 = 0;
-    while k < 6000 {
+    while k < 65536 {
         match reader::item_at(load, at) {
             Item::Record(call, next) => {
                 n = turn(k, n, call, a, b);
@@ -188,8 +188,26 @@ fn print(load: &[u8]) {
     if load::open_number(load) == 0 {
         rewritten(load);
     }
-    attempts(load, Call::Rig(15));
-    attempts(load, Call::Clock(1));
+    attempts(
+        load,
+        Call {
+            kind: 1,
+            clock: 0,
+            groups: 15,
+            length: 0,
+            ticket: 0,
+        },
+    );
+    attempts(
+        load,
+        Call {
+            kind: 5,
+            clock: 1,
+            groups: 0,
+            length: 0,
+            ticket: 0,
+        },
+    );
 }
 
 // `room` is for the longest load and one byte more.

@@ -1,14 +1,14 @@
--- At most 6,000 records are taken.
+-- At most 65,536 records are taken.
 use Prim.Native.Nat.{_-_, _≤_}
 use borrow.Author.Needs.{needs}
 use Rattle.try_loads.proofs.records.Statement.{statement}
 use Rattle.try_loads.proofs.records.Tie as tie
 
 abbrev Inv-loop : tie.InvT-loop
-Inv-loop load at₀ k₀ at k = k ≤ 6000
+Inv-loop load at₀ k₀ at k = k ≤ 65536
 
 abbrev μ-loop : tie.MeasureT-loop
-μ-loop load at₀ k₀ at k = 6000 - k
+μ-loop load at₀ k₀ at k = 65536 - k
 
 pub records-spec : {M : Type 1} → statement M
 records-spec =

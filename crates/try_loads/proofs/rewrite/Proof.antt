@@ -1,4 +1,4 @@
--- The buffers keep their lengths, and at most 6,000 records are taken.
+-- The buffers keep their lengths, and at most 65,536 records are taken.
 use Prim.Native.Nat.{_-_}
 use mathlib.Core.Path.{_≡_}
 use lib.ListN.{length}
@@ -10,7 +10,7 @@ abbrev Inv-loop : tie.InvT-loop
 Inv-loop load a₀ b₀ n₀ at₀ k₀ a b n at k = (length a ≡ length a₀) × (length b ≡ length b₀)
 
 abbrev μ-loop : tie.MeasureT-loop
-μ-loop load a₀ b₀ n₀ at₀ k₀ a b n at k = 6000 - k
+μ-loop load a₀ b₀ n₀ at₀ k₀ a b n at k = 65536 - k
 
 pub rewrite-spec : {M : Type 1} → statement M
 rewrite-spec =
