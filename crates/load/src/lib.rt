@@ -2,7 +2,6 @@
 // All calls take any bytes and any values. A load is a slice of the caller's; nothing is copied to read it.
 ghost use Prim.Native.Nat.{_%_, _^_, _≤_, _<_};
 ghost use mathlib.Core.Path.{_≡_};
-ghost use mathlib.Core.List.{_++_};
 ghost use lib.ListN.{length, getD};
 ghost use Rattle.numerals.specs.Laid.{behind, laid, Put};
 ghost use Rattle.load.specs.Format.{known, fieldsOf, entryOf, fieldWidth, widths, lengthOf, leastLength};
@@ -37,7 +36,7 @@ pub enum Written {
 
 // ---- the format
 // A field is named by a number: kind 0, clock 1, groups 2, length 3, ticket 4. Their widths in bytes:
-const WIDTHS: [usize; 5] = [1, 8, 8, 4, 2];
+const WIDTHS: [u8; 5] = [1, 8, 8, 4, 2];
 
 // The kinds from 0 on, edition after edition: the length of a record, its kind byte and its fields, then the fields in their order; 0 is none.
 const FORMAT: [[u8; 4]; 6] = [
@@ -77,7 +76,8 @@ fn entry(edition: u8, kind: u8, i: usize) -> u8
     }
     if known(edition) {
         let row = (edition as usize - 1) * 6 + kind as usize;
-        return FORMAT[row][i];
+        let entries = FORMAT[row];
+        return entries[i];
     }
     0
 }
@@ -104,7 +104,7 @@ pub fn width_of(field: u8) -> usize
     ensures { λ r. ⌜ (r ≡ fieldWidth field) × (r ≤ 8) ⌝ }
 {
     if field < 5 {
-        return WIDTHS[field as usize];
+        return WIDTHS[field as usize] as usize;
     }
     0
 }
@@ -409,7 +409,8 @@ pub fn append(load: &[u8], call: Call, out: &mut [u8]) -> Written
     Written::Length(whole)
 }
 
-// The number of a load that is known to read to its end and stands in the first `size` bytes of a buffer.
+// For a load that is known to read to its end and is the first `size` bytes of a buffer: 0 for a call that can be laid behind it; else 12 for
+// no load, 15 for one longer than the buffer, 13, 14 or 15.
 fn held_number(out: &[u8], size: usize, call: Call) -> u8
     ensures { λ r. ⌜ r ≡ heldNumber (now (out .entry)) size call ⌝ }
 {
@@ -423,7 +424,8 @@ fn held_number(out: &[u8], size: usize, call: Call) -> u8
     grow_number(out[0], size, call, room)
 }
 
-// The same for a load that stands in the first `size` bytes of the buffer and is known to read to its end: it is neither tested nor copied.
+// Lays one record more behind a load that is the first `size` bytes of the buffer and is known to read to its end. Answers and refuses as
+// `append` does, but neither tests the load nor copies it.
 pub fn grow(out: &mut [u8], size: usize, call: Call) -> Written
     ensures answer { λ r. ⌜ r ≡ growAnswer (now (out .entry)) size call ⌝ }
     ensures buffer { λ _. ⌜ now (out .exit) ≡ growOut (now (out .entry)) size call ⌝ }

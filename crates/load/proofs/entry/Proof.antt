@@ -15,8 +15,8 @@ returns-2 c = no-entry _ _ _ (c .if2 .taken)
 sub-row : tie.Need-sub-row
 sub-row c = let r = known-range _ (search needs) (sym (c .before .known .ensures) ∙ c .if3 .taken) in omega (arith, r .0, r .1)
 
-index-1-result : tie.Need-index-1-result
-index-1-result c = let r = known-range _ (search needs) (sym (c .before .known .ensures) ∙ c .if3 .taken) in omega (arith, r .0, r .1)
+array-copy-out-entries : tie.Need-array-copy-out-entries
+array-copy-out-entries c = let r = known-range _ (search needs) (sym (c .before .known .ensures) ∙ c .if3 .taken) in omega (arith, r .0, r .1)
 
 returns-3 : tie.Need-returns-3
 unfolding codeFormat
@@ -39,7 +39,7 @@ entry-spec =
     (λ c. search needs)
     (λ c. search needs)
     (λ c. search needs)
-    index-1-result
+    array-copy-out-entries
     (λ c. search needs)
     returns-3
     returns-4)

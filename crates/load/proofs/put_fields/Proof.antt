@@ -1,7 +1,6 @@
 -- `load::put_fields` meets its contract: the fields laid so far, with those left, are all of them.
 use borrow.Author.Needs.{needs}
 use native.Mathlib.Omega.{arith}
-use mathlib.Core.Path.{_≡_}
 use Prim.Native.Nat.{_-_, _≤_}
 use lib.ListN.{length}
 use Rattle.numerals.proofs.Going.{Going, going-start}
