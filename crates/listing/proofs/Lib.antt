@@ -1,4 +1,4 @@
 pub mod AllSamples
 pub mod Lines
-pub mod Turns
+pub mod RecordLoop
 pub mod Sizes

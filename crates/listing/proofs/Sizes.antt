@@ -18,7 +18,7 @@ use Rattle.load.proofs.Reading.{walk-few}
 use Rattle.listing.specs.Lines.{lineOf, onLines, stopLine}
 use Rattle.listing.specs.Text.{stepOf, entryOf, ending, stopOr, linesFrom, linesOf, listingOf}
 use Rattle.listing.specs.Room.{roomFor}
-use Rattle.listing.proofs.Turns.{record-promised}
+use Rattle.listing.proofs.RecordLoop.{record-promised}
 use Rattle.numerals.proofs.Laying.{pair-length}
 use Rattle.listing.proofs.Lines.{line-length, ons-length}
 
@@ -43,7 +43,7 @@ lines-length k m (c ∷ cs) n =
     let q = record-promised m c in
     let rest = linesFrom (k + 1) (s .model) cs n in
     let l = length-append (entryOf k s) rest in
-    stop-length (ending c (s .answer .number)) k _ (entryOf k s ++ rest)
+    stop-length (ending k (s .answer .number)) k _ (entryOf k s ++ rest)
     (omega (arith, l, entry-length k s, lines-length (k + 1) (s .model) cs n, granted-once q, issues-few q))
     (omega arith)
 

@@ -3,7 +3,8 @@
 use mathlib.Core.Bool.{cond}
 use Prim.Native.Nat.{ℕ, _+_, _*_, _/_}
 use lib.Dec.{ltb}
+use Rattle.numbers.specs.Numbers.{mostBytes}
 use Rattle.load.specs.Format.{leastLength}
 
 unfoldable pub roomFor : ℕ → ℕ
-roomFor n = cond (ltb 65536 n) 71 (71 + 129 * (n / leastLength))
+roomFor n = cond (ltb mostBytes n) 71 (71 + 129 * (n / leastLength))

@@ -1,10 +1,11 @@
 -- The listing of a load: its records, as the load format reads them (load, Reading), are calls of the rules (rules, Calls), and each
 -- prints what it answers. Quotations are from document 01, "What the program prints".
-use mathlib.Core.Bool.{cond}
+use mathlib.Core.Bool.{_&&_, _||_, cond}
 use mathlib.Core.List.{List, [], _∷_, _++_}
 use Prim.Native.Nat.{ℕ, zero, suc, _+_}
 use lib.Dec.{leb, eqb}
 use lib.ListN.{length}
+use Rattle.numbers.specs.Numbers.{darkNumber, editionNumber, overlongNumber, noSpaceNumber}
 use Rattle.rules.specs.Calls.{Model, Step, Call as TableCall, claim, release, withdraw, clock, step, blank, new}
 use Rattle.load.specs.declared.Call.{Call}
 use Rattle.load.specs.Reading.{Walk, walk, openNumber}
@@ -28,9 +29,10 @@ entryOf k s =
     let a = s .answer in
     lineOf k (a .number) (a .ticket) (a .start) ++ onLines (s .model .clock) (a .grants)
 
--- The number by which a record that was read ends the listing, 0 for none: "Only 11 to 14 and a dark rig end the listing early."
-unfoldable pub ending : Call → ℕ → ℕ
-ending c n = cond (eqb (c .kind) 1) n 0
+-- The number by which record k, answered n, ends the listing, 0 for none: "Only 11 to 14 and a dark rig end the listing early." The rig is
+-- record 1.
+unfoldable pub ending : ℕ → ℕ → ℕ
+ending k n = cond (leb editionNumber n && leb n overlongNumber || eqb n darkNumber && eqb k 1) n 0
 
 -- Lines, or where a number is not 0 "`stop NUMBER RECORD`, in place of" them.
 abbrev pub stopOr : ℕ → ℕ → List ℕ → List ℕ
@@ -42,7 +44,7 @@ unfoldable pub linesFrom : ℕ → Model → List Call → ℕ → List ℕ
 linesFrom k m [] n = stopOr n k []
 linesFrom k m (c ∷ cs) n =
     let s = stepOf m c in
-    stopOr (ending c (s .answer .number)) k (entryOf k s ++ linesFrom (k + 1) (s .model) cs n)
+    stopOr (ending k (s .answer .number)) k (entryOf k s ++ linesFrom (k + 1) (s .model) cs n)
 
 unfoldable pub linesOf : ℕ → Model → Walk → List ℕ
 linesOf k m w = linesFrom k m (w .calls) (w .stop)
@@ -55,4 +57,4 @@ listingOf load = header ++ stopOr (openNumber load) 0 (linesOf 1 (blank 0) (walk
 -- "answers the count of bytes written, a stop line included"; "it answers 15 if the whole listing doesn't go in". What it leaves in the
 -- buffer is `lentOut` of numerals/specs/Laid.
 unfoldable pub answerOf : List ℕ → List ℕ → ℕ
-answerOf text out = cond (leb (length text) (length out)) (length text) 15
+answerOf text out = cond (leb (length text) (length out)) (length text) noSpaceNumber

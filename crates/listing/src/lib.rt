@@ -4,6 +4,7 @@ ghost use mathlib.Core.List.{_++_};
 ghost use Prim.Native.Nat.{_≤_};
 ghost use lib.Dec.{leb};
 ghost use lib.ListN.{length, take};
+ghost use Rattle.numbers.specs.Numbers.{mostBytes};
 ghost use Rattle.rules.specs.Calls.{blank};
 ghost use Rattle.rules.specs.Tables.{model};
 ghost use Rattle.numerals.specs.Laid.{laid, lentOut, Put};
@@ -68,18 +69,27 @@ fn put_entry(out: &mut [u8], at: usize, k: u64, o: Outcome) -> usize
 // ── records ──
 
 // The number by which a record ends the listing, 0 for none.
-fn ending_of(call: Call, number: u8) -> u8
-    ensures { λ r. ⌜ r ≡ ending call number ⌝ }
+fn ending_of(k: u64, number: u8) -> u8
+    ensures { λ r. ⌜ r ≡ ending k number ⌝ }
 {
-    if call.kind == 1 {
-        return number;
+    if number == numbers::DARK {
+        if k == 1 {
+            return number;
+        }
+        return 0;
     }
-    0
+    if number < numbers::EDITION {
+        return 0;
+    }
+    if numbers::OVERLONG < number {
+        return 0;
+    }
+    number
 }
 
-// The call of the table that a record says, by its kind. Release and withdrawal (3 and 4) are one call site: the compiler then makes no copy
+// What a record does to a table, by its kind: the call of the table that it says. Release and withdrawal (3 and 4) are one call site: the compiler then makes no copy
 // of the table for either.
-fn act(t: Table, call: Call) -> Outcome
+pub fn act(t: Table, call: Call) -> Outcome
     requires { ⌜ Valid t ⌝ }
     ensures { λ r. ⌜ (r ≡ outcome (stepOf (model t) call)) × Valid (r .table) ⌝ }
 {
@@ -100,7 +110,7 @@ fn act(t: Table, call: Call) -> Outcome
 
 // The lines of a load's records. What the last call handed back is kept, with its table, so that no table is copied between calls.
 fn records(load: &[u8], out: &mut [u8], from: usize) -> usize
-    requires { ⌜ length (now load) ≤ 65536 ⌝ }
+    requires { ⌜ length (now load) ≤ mostBytes ⌝ }
     ensures { λ r. ⌜ Put (now (out .entry)) from (linesOf 1 (blank 0) (walk (now (load .entry)) 1)) r (now (out .exit)) ⌝ }
 {
     let mut o = table::new(0);
@@ -111,7 +121,7 @@ fn records(load: &[u8], out: &mut [u8], from: usize) -> usize
         match load::record_at(load, at) {
             Item::Record(call, next) => {
                 o = act(o.table, call);
-                let stop = ending_of(call, o.number);
+                let stop = ending_of(k, o.number);
                 if stop != 0 {
                     return put_stop(out, n, stop, k);
                 }
@@ -145,7 +155,7 @@ fn run(load: &[u8], out: &mut [u8]) -> usize
 fn room_for(size: usize) -> usize
     ensures { λ r. ⌜ r ≡ roomFor size ⌝ }
 {
-    if 65536 < size {
+    if numbers::MOST_BYTES < size {
         return 71;
     }
     71 + 129 * (size / load::least_length())
@@ -172,5 +182,5 @@ pub extern "C" fn belgwyth_listing(load: &[u8], out: &mut [u8]) -> usize
     if goes_into(load, out.len()) {
         return run(load, out);
     }
-    15
+    numbers::NO_SPACE as usize
 }

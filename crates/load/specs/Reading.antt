@@ -6,6 +6,7 @@ use mathlib.Core.List.{List, [], _∷_}
 use mathlib.Core.Path.{_≡_}
 use lib.Dec.{ltb, eqb}
 use lib.ListN.{length, take, drop, getD}
+use Rattle.numbers.specs.Numbers.{shortNumber, misfitNumber, overlongNumber, editionNumber, mostBytes}
 use Rattle.load.specs.declared.Call.{Call}
 use Rattle.load.specs.declared.Item.{Item}
 use Rattle.load.specs.declared.Item.the-variants.{Record, End, Refused}
@@ -43,8 +44,8 @@ misfit e at n kind = eqb n 0 || (not (eqb n (lengthOf e kind)) || not (inPlace k
 unfoldable pub readAt : ℕ → ℕ → List ℕ → Item
 readAt e at bs =
     cond (eqb (length bs) 0) End
-    (cond (short bs) (Refused 12)
-    (cond (misfit e at (lengthField bs) (kindField bs)) (Refused 13)
+    (cond (short bs) (Refused shortNumber)
+    (cond (misfit e at (lengthField bs) (kindField bs)) (Refused misfitNumber)
     (Record (callOf e (kindField bs) (fieldValues (widths e (kindField bs)) (drop 3 bs))) (at + (2 + lengthField bs)))))
 
 -- A load's edition is its first byte.
@@ -59,8 +60,8 @@ itemAt s at = readAt (editionOf s) at (drop at s)
 unfoldable pub recordNumber : List ℕ → ℕ → ℕ
 recordNumber s at =
     cond (eqb (length (drop at s)) 0) 0
-    (cond (short (drop at s)) 12
-    (cond (misfit (editionOf s) at (lengthField (drop at s)) (kindField (drop at s))) 13
+    (cond (short (drop at s)) shortNumber
+    (cond (misfit (editionOf s) at (lengthField (drop at s)) (kindField (drop at s))) misfitNumber
     0))
 
 -- Every item has that number. (Proved in proofs/Reading: item-numbered.)
@@ -70,7 +71,7 @@ ItemNumbered = (s : List ℕ) (at : ℕ) → itemValues at (itemAt s at) .number
 -- ── a whole load ──
 -- 14 "load over 65,536 bytes", 12 "the load is empty", 11 "first byte of a load names no edition the reader knows"; 0 for none of them.
 unfoldable pub openNumber : List ℕ → ℕ
-openNumber s = cond (ltb 65536 (length s)) 14 (cond (eqb (length s) 0) 12 (cond (known (editionOf s)) 0 11))
+openNumber s = cond (ltb mostBytes (length s)) overlongNumber (cond (eqb (length s) 0) shortNumber (cond (known (editionOf s)) 0 editionNumber))
 
 -- The calls up to the end or the first refusal, and the number of that, 0 at the end.
 pub record Walk : Type 0 where

@@ -5,6 +5,7 @@ use mathlib.Core.Bool.{true}
 use mathlib.Core.List.{List, [], _∷_, _++_}
 use mathlib.Core.Path.{_≡_}
 use lib.ListN.{length, take, getD}
+use Rattle.numbers.specs.Numbers.{mostBytes}
 use Rattle.load.specs.declared.Call.{Call}
 use Rattle.load.specs.declared.Written.the-variants.{Length}
 use Rattle.load.specs.Format.{fieldWidth, known}
@@ -40,4 +41,4 @@ ReadWritten = (s : List ℕ) → Bytes s → loadNumber s ≡ 0
 
 -- (c) "load over 65,536 bytes": every load that reads to its end is within them.
 abbrev pub ReadBounded : Type 0
-ReadBounded = (s : List ℕ) → loadNumber s ≡ 0 → length s ≤ 65536
+ReadBounded = (s : List ℕ) → loadNumber s ≡ 0 → length s ≤ mostBytes

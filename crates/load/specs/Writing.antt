@@ -5,6 +5,7 @@ use mathlib.Core.Bool.{not, _||_, cond}
 use mathlib.Core.List.{List, _++_}
 use lib.Dec.{ltb, eqb}
 use lib.ListN.{length, take, drop}
+use Rattle.numbers.specs.Numbers.{shortNumber, misfitNumber, overlongNumber, noSpaceNumber, mostBytes}
 use Rattle.load.specs.declared.Call.{Call}
 use Rattle.load.specs.declared.Written.{Written}
 use Rattle.load.specs.declared.Written.the-variants.{Length, Refusal}
@@ -20,10 +21,10 @@ grown s c = s ++ recordBytes (editionOf s) c
 -- "then come 13 (a rig that isn't first, another record that is, or a call with a value that the load's edition can't carry), 14 (the grown
 -- load would pass 65,536 bytes) and 15". The load has edition e and n bytes; room is the length of the lent buffer.
 unfoldable pub roomNumber : ℕ → ℕ → ℕ
-roomNumber whole room = cond (ltb 65536 whole) 14 (cond (ltb room whole) 15 0)
+roomNumber whole room = cond (ltb mostBytes whole) overlongNumber (cond (ltb room whole) noSpaceNumber 0)
 
 unfoldable pub growNumber : ℕ → ℕ → Call → ℕ → ℕ
-growNumber e n c room = cond (not (inPlace (c .kind) n) || not (carries e c)) 13 (roomNumber (n + length (recordBytes e c)) room)
+growNumber e n c room = cond (not (inPlace (c .kind) n) || not (carries e c)) misfitNumber (roomNumber (n + length (recordBytes e c)) room)
 
 -- "The load it is given is tested as by the reader, then come .."
 unfoldable pub appendNumber : List ℕ → Call → ℕ → ℕ
@@ -61,7 +62,7 @@ appendOut s c out = lent (appendNumber s c (length out)) (begun (grown s c) out)
 -- Its first n bytes, which are not tested again: 12 where there are none, 15 where the buffer has not so many. (Where they read to their end
 -- answer and buffer are `append`'s: proofs/Writing, `grows-in-place`.)
 unfoldable pub heldNumber : List ℕ → ℕ → Call → ℕ
-heldNumber out n c = cond (eqb n 0) 12 (cond (ltb (length out) n) 15 (growNumber (editionOf out) n c (length out)))
+heldNumber out n c = cond (eqb n 0) shortNumber (cond (ltb (length out) n) noSpaceNumber (growNumber (editionOf out) n c (length out)))
 
 unfoldable pub growAnswer : List ℕ → ℕ → Call → Written
 growAnswer out n c = answered (heldNumber out n c) (length (grown (take n out) c))

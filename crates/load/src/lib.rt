@@ -220,16 +220,16 @@ pub fn open_number(load: &[u8]) -> u8
     ensures { λ r. ⌜ r ≡ openNumber (now (load .entry)) ⌝ }
 {
     let size = load.len();
-    if 65536 < size {
-        return 14;
+    if numbers::MOST_BYTES < size {
+        return numbers::OVERLONG;
     }
     if size == 0 {
-        return 12;
+        return numbers::SHORT;
     }
     if known(load[0]) {
         return 0;
     }
-    11
+    numbers::EDITION
 }
 
 // A rig is first, and nothing else is.
@@ -286,19 +286,19 @@ pub fn record_at(load: &[u8], at: usize) -> Item
     }
     let left = size - at;
     if left < 2 {
-        return Item::Refused(12);
+        return Item::Refused(numbers::SHORT);
     }
     let n = numerals::be16(load, at) as usize;
     if left - 2 < n {
-        return Item::Refused(12);
+        return Item::Refused(numbers::SHORT);
     }
     if n == 0 {
-        return Item::Refused(13);
+        return Item::Refused(numbers::MISFIT);
     }
     let edition = load[0];
     let kind = load[at + 2];
     if misfits(edition, at, n, kind) {
-        return Item::Refused(13);
+        return Item::Refused(numbers::MISFIT);
     }
     let from = at + 3;
     let call = call_of(edition, kind, &load[from..]);
@@ -336,17 +336,17 @@ pub fn grow_number(edition: u8, size: usize, call: Call, room: usize) -> u8
 {
     let kind = call.kind;
     if !placed(kind, size) {
-        return 13;
+        return numbers::MISFIT;
     }
     if !carries(edition, call) {
-        return 13;
+        return numbers::MISFIT;
     }
     let more = 2 + length_of(edition, kind);
-    if 65536 - more < size {
-        return 14;
+    if numbers::MOST_BYTES - more < size {
+        return numbers::OVERLONG;
     }
     if room < size + more {
-        return 15;
+        return numbers::NO_SPACE;
     }
     0
 }
@@ -415,11 +415,11 @@ fn held_number(out: &[u8], size: usize, call: Call) -> u8
     ensures { λ r. ⌜ r ≡ heldNumber (now (out .entry)) size call ⌝ }
 {
     if size == 0 {
-        return 12;
+        return numbers::SHORT;
     }
     let room = out.len();
     if room < size {
-        return 15;
+        return numbers::NO_SPACE;
     }
     grow_number(out[0], size, call, room)
 }

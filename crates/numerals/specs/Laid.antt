@@ -7,6 +7,7 @@ use mathlib.Core.Path.{_≡_}
 use lib.Dec.{leb}
 use lib.ListN.{length, drop}
 use lib.Seq.{sets}
+use Rattle.numbers.specs.Numbers.{noSpaceNumber}
 
 -- The place after n bytes from a place on; the greatest usize where there is none.
 unfoldable pub behind : ℕ → ℕ → ℕ
@@ -24,7 +25,7 @@ pub record Put (o : List ℕ) (at : ℕ) (xs : List ℕ) (r : ℕ) (p : List ℕ
 -- ── a lent buffer, for the callers of public functions ──
 -- 15 where "a lent output buffer is shorter than the output", else 0.
 unfoldable pub spaceNumber : List ℕ → List ℕ → ℕ
-spaceNumber text out = cond (leb (length text) (length out)) 0 15
+spaceNumber text out = cond (leb (length text) (length out)) 0 noSpaceNumber
 
 -- The output at the buffer's start, whose "later bytes .. keep their contents"; where it does not go in, "no byte of a lent buffer differs".
 unfoldable pub lentOut : List ℕ → List ℕ → List ℕ

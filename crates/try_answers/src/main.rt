@@ -2,9 +2,7 @@
 // contention and start bound, and then how each pending ticket stands. A listing prints less.
 ghost use Prim.Native.Nat.{_≤_};
 ghost use Rattle.table.specs.Valid.{Valid};
-use load::Call;
 use load::Item;
-use rules::Request;
 use rules::Standing;
 use rules::Table;
 use table::Outcome;
@@ -56,26 +54,6 @@ fn print(k: u64, o: Outcome, mut room: [u8; 4096])
     }
 }
 
-fn act(t: Table, call: Call) -> Outcome
-    requires { ⌜ Valid t ⌝ }
-    ensures { λ r. ⌜ Valid (r .table) ⌝ }
-{
-    let kind = call.kind;
-    match kind {
-        1 => table::new(call.groups),
-        2 => {
-            let ask = Request {
-                groups: call.groups,
-                length: call.length,
-            };
-            table::claim(t, call.clock, ask)
-        }
-        3 => table::release(t, call.clock, call.ticket),
-        4 => table::withdraw(t, call.clock, call.ticket),
-        _ => table::clock(t, call.clock),
-    }
-}
-
 // The records to the load's end or the first refusal of the reader; a rig without groups ends them too. A load has fewer records than bytes.
 fn records(load: &[u8]) {
     let none = table::new(0);
@@ -86,7 +64,7 @@ fn records(load: &[u8]) {
         k += 1;
         match load::record_at(load, at) {
             Item::Record(call, next) => {
-                let o = act(t, call);
+                let o = listing::act(t, call);
                 print(k, o, [0; 4096]);
                 if k == 1 && o.number != 0 {
                     return;

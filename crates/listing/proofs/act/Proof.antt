@@ -3,7 +3,7 @@ use mathlib.Core.Logic.{inl, inr, ⊎-elim}
 use mathlib.Core.Path.{ap, _∙_}
 use native.Mathlib.Omega.{arith}
 use Rattle.table.specs.Outcomes.{outcome}
-use Rattle.listing.proofs.Turns.{step-rig, step-claim, step-leave, step-clock}
+use Rattle.listing.proofs.RecordLoop.{step-rig, step-claim, step-leave, step-clock}
 use Rattle.listing.proofs.act.Statement.{statement}
 use Rattle.listing.proofs.act.Tie as tie
 

@@ -1,5 +1,5 @@
 use mathlib.Core.Path.{sym, _∙_}
-use Rattle.listing.proofs.Turns.{listing-none, listing-all}
+use Rattle.listing.proofs.RecordLoop.{listing-none, listing-all}
 use borrow.Author.Needs.{needs}
 use Rattle.listing.proofs.belgwyth_listing.Statement.{statement}
 use Rattle.listing.proofs.belgwyth_listing.Tie as tie
@@ -12,4 +12,4 @@ returns-2 c = listing-none _ _ (sym (c .before .goes-into .ensures) ∙ c .if1 .
 
 pub belgwyth-listing-spec : {M : Type 1} → statement M
 belgwyth-listing-spec =
-    tie.close (tie.spec (λ c κs. search needs) (λ c κs. search needs) (λ c. search needs) returns returns-2)
+    tie.close (tie.spec (λ c κs. search needs) (λ c κs. search needs) (λ c. search needs) returns (λ c. search needs) returns-2)

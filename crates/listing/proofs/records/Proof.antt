@@ -4,7 +4,7 @@ use mathlib.Core.Path.{sym, _∙_}
 use Prim.Native.Nat.{_-_}
 use lib.ListN.{length}
 use Rattle.load.proofs.Reading.{step-next}
-use Rattle.listing.proofs.Turns.{Turn, turn-start, turn-more, run-end, run-refused, run-stop, few-granted}
+use Rattle.listing.proofs.RecordLoop.{Turn, turn-start, turn-more, run-end, run-refused, run-stop, few-granted}
 use Rattle.listing.proofs.records.Statement.{statement}
 use Rattle.listing.proofs.records.Tie as tie
 

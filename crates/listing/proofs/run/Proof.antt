@@ -3,7 +3,7 @@ use mathlib.Core.Path.{sym, _∙_}
 use Rattle.numerals.proofs.Laying.{put, put-then, put-as, put-short}
 use Rattle.load.proofs.Reading.{open-known}
 use Rattle.listing.proofs.Sizes.{listing-short}
-use Rattle.listing.proofs.Turns.{text-stopped, text-read}
+use Rattle.listing.proofs.RecordLoop.{text-stopped, text-read}
 use borrow.Author.Needs.{needs}
 use Rattle.listing.proofs.run.Statement.{statement}
 use Rattle.listing.proofs.run.Tie as tie

@@ -96,9 +96,9 @@ module _ (s : List ℕ) (at : ℕ) (m : Model) (k : ℕ) where
   unfolding linesOf linesFrom
   lines-refused n e = rw (walk-refused s at n e) (stop-some n k [] (λ z. omega (arith, step-refused s at n e)))
 
-  module _ (c : Call) (next : ℕ) (e : itemAt s at ≡ Record c next) (o : Outcome) (p : o ≡ outcome (stepOf m c)) (n : ℕ) (q : n ≡ ending c (o .number)) where
-    ends-as : n ≡ ending c (stepOf m c .answer .number)
-    ends-as = q ∙ ap (λ (x : Outcome). ending c (x .number)) p
+  module _ (c : Call) (next : ℕ) (e : itemAt s at ≡ Record c next) (o : Outcome) (p : o ≡ outcome (stepOf m c)) (n : ℕ) (q : n ≡ ending k (o .number)) where
+    ends-as : n ≡ ending k (stepOf m c .answer .number)
+    ends-as = q ∙ ap (λ (x : Outcome). ending k (x .number)) p
 
     lines-stop : (n ≡ 0 → ⊥) → linesOf k m (walk s at) ≡ stopLine n k
     unfolding linesOf linesFrom
@@ -115,7 +115,7 @@ module _ (s : List ℕ) (at : ℕ) (m : Model) (k : ℕ) where
     pub run-refused : (x r : ℕ) (p : List ℕ) → itemAt s at ≡ Refused x → Put out n (stopLine x k) r p → Put o₀ at₀ w r p
     run-refused x r p e z = going-last o₀ at₀ w out n (stopLine x k) p r (going-as o₀ at₀ w out n _ _ (lines-refused x e) g) z
 
-    module _ (c : Call) (next : ℕ) (e : itemAt s at ≡ Record c next) (o : Outcome) (h : o ≡ outcome (stepOf m c)) (x : ℕ) (q : x ≡ ending c (o .number)) (r : ℕ) (p : List ℕ) where
+    module _ (c : Call) (next : ℕ) (e : itemAt s at ≡ Record c next) (o : Outcome) (h : o ≡ outcome (stepOf m c)) (x : ℕ) (q : x ≡ ending k (o .number)) (r : ℕ) (p : List ℕ) where
       pub run-stop : (x ≡ 0 → ⊥) → Put out n (stopLine x k) r p → Put o₀ at₀ w r p
       run-stop y z = going-last o₀ at₀ w out n (stopLine x k) p r (going-as o₀ at₀ w out n _ _ (lines-stop c next e o h x q y) g) z
 
@@ -141,7 +141,7 @@ turn-start s o from r h k e v =
 
 pub turn-more : (s o₀ : List ℕ) (from : ℕ) (out : List ℕ) (t : Table) (at k n : ℕ) → Turn s o₀ from out t at k n → length s ≤ 65536
     → (c : Call) (next : ℕ) → itemAt s at ≡ Record c next → (o : Outcome) → o ≡ outcome (stepOf (model t) c) → Valid (o .table)
-    → (x : ℕ) → x ≡ ending c (o .number) → x ≡ 0 → (r : ℕ) (p : List ℕ) → Put out n (shown k o) r p → Turn s o₀ from p (o .table) next (k + 1) r
+    → (x : ℕ) → x ≡ ending k (o .number) → x ≡ 0 → (r : ℕ) (p : List ℕ) → Put out n (shown k o) r p → Turn s o₀ from p (o .table) next (k + 1) r
 turn-more s o₀ from out t at k n u l c next e o h v x q y r p z =
     let i = step-next s at c next e in
     record {
