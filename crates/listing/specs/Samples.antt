@@ -54,7 +54,7 @@ samples =
     ∷ sample (0x01 ∷ 0x00 ∷ []) (115 ∷ 116 ∷ 111 ∷ 112 ∷ 32 ∷ 49 ∷ 50 ∷ 32 ∷ 49 ∷ 10 ∷ [])
     -- "01 00 00 gives 13": stop 13 1
     ∷ sample (0x01 ∷ 0x00 ∷ 0x00 ∷ []) (115 ∷ 116 ∷ 111 ∷ 112 ∷ 32 ∷ 49 ∷ 51 ∷ 32 ∷ 49 ∷ 10 ∷ [])
-    -- a dark rig, and nothing behind it: stop 1 1
+    -- a dark rig, and nothing after it: stop 1 1
     ∷ sample (loadBytes 1 (rig 0 ∷ clock 1 ∷ [])) (115 ∷ 116 ∷ 111 ∷ 112 ∷ 32 ∷ 49 ∷ 32 ∷ 49 ∷ 10 ∷ [])
     ∷ []
 

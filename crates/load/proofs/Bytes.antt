@@ -96,7 +96,7 @@ pub record-length : (e : ℕ) (c : Call) → 0 < lengthOf e (c .kind) → length
 unfolding recordBytes
 record-length e c h = let t = length-total e (c .kind) h in simp (length-append, digits-length, field-bytes-length) (omega arith)
 
--- Length, kind and fields of a record, whatever stands behind it.
+-- Length, kind and fields of a record, whatever stands after it.
 pub record-front : (e : ℕ) (c : Call) (rest : List ℕ)
     → (take 2 (recordBytes e c ++ rest) ≡ big 2 (lengthOf e (c .kind)))
     × (getD (recordBytes e c ++ rest) 2 0 ≡ c .kind)

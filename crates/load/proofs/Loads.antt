@@ -22,7 +22,7 @@ use Rattle.load.proofs.Calls.{kind-of-call, values-of-call, call-of-val
 use Rattle.load.proofs.Bytes.{Fit, bytes-drop, values-of-bytes, bytes-of-values, values-fit, values-length, typed-fits, fits-typed, record-length, record-front}
 use Rattle.load.proofs.Reading.{callIn, read-record, stands, step-next, step-refused, step-end, step-past, misfit-not, misfit-none, walk-record, walk-end, open-known}
 
--- A call that may stand first, or behind the first.
+-- A call that may stand first, or after the first.
 pub record Sound (e : ℕ) (first : Bool) (c : Call) : Type 0 where
   pub place : agree (eqb (c .kind) 1) first ≡ true
   pub carried : carries e c ≡ true

@@ -84,7 +84,7 @@ stands s at c next h =
     (λ p r q. record { whole = p; fits = r; call = cc; behind = cc })
     h
 
--- A record is behind its position and inside the load.
+-- A record is after its position and inside the load.
 pub step-next : (s : List ℕ) (at : ℕ) (c : Call) (next : ℕ) → itemAt s at ≡ Record c next → (at < next) × (next ≤ length s)
 step-next s at c next h =
     let r = stands s at c next h in

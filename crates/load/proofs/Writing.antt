@@ -178,7 +178,7 @@ module _ (s : List ℕ) (c : Call) (out : List ℕ) (k : ℕ) (e : k ≡ appendN
 abbrev Grown : List ℕ → ℕ → Call → Written → List ℕ → Type 0
 Grown out n c r p = (r ≡ growAnswer out n c) × ((p ≡ growOut out n c) × (writtenValues r ≡ growValues out n c))
 
--- A record laid behind the first bytes of a buffer is the grown load laid at its start.
+-- A record laid after the first bytes of a buffer is the grown load laid at its start.
 put-behind : (out : List ℕ) (n : ℕ) (c : Call) (p : List ℕ) (r : ℕ) → length out < 2 ^ 64 → 0 < n → n ≤ length out
     → (r ≡ behind n (length (recordBytes (editionOf out) c))) × (p ≡ laid out n (recordBytes (editionOf out) c)) → Put out 0 (grown (take n out) c) r p
 unfolding grown

@@ -17,7 +17,7 @@ big n v = digits 256 0 n v
 abbrev pub bigValue : List ℕ → ℕ
 bigValue bs = numeral 0 bs
 
--- Values written one behind the other, each at its width.
+-- Values written one after the other, each at its width.
 unfoldable pub fieldBytes : List ℕ → List ℕ → List ℕ
 fieldBytes [] vs = []
 fieldBytes (w ∷ ws) vs = big w (getD vs 0 0) ++ fieldBytes ws (drop 1 vs)

@@ -21,7 +21,7 @@ pub struct Call {
     pub ticket: u16,
 }
 
-// What stands at a position: a record's call with the position behind it, the end, or the number of a refusal.
+// What stands at a position: a record's call with the position after it, the end, or the number of a refusal.
 pub enum Item {
     Record(Call, usize),
     End,
@@ -82,7 +82,7 @@ fn entry(edition: u8, kind: u8, i: usize) -> u8
     0
 }
 
-// The field at place i, from 0, of a kind of an edition; 0 behind the last, and for a kind that the edition lacks.
+// The field at place i, from 0, of a kind of an edition; 0 after the last, and for a kind that the edition lacks.
 pub fn field_at(edition: u8, kind: u8, i: usize) -> u8
     ensures { λ r. ⌜ r ≡ getD (fieldsOf edition kind) i 0 ⌝ }
 {
@@ -255,7 +255,7 @@ fn misfits(edition: u8, at: usize, n: usize, kind: u8) -> bool
     !placed(kind, at)
 }
 
-// The call that the fields of a record say. Bytes behind the fields are not looked at.
+// The call that the fields of a record say. Bytes after the fields are not looked at.
 fn call_of(edition: u8, kind: u8, fields: &[u8]) -> Call
     ensures { λ r. ⌜ r ≡ callOf edition kind (fieldValues (widths edition kind) (now (fields .entry))) ⌝ }
 {
@@ -362,7 +362,7 @@ fn append_number(load: &[u8], call: Call, room: usize) -> u8
     grow_number(load[0], load.len(), call, room)
 }
 
-// The fields of a call, laid at a place one behind the other.
+// The fields of a call, laid at a place one after the other.
 fn put_fields(out: &mut [u8], at: usize, edition: u8, call: Call) -> usize
     ensures { λ r. ⌜ Put (now (out .entry)) at (fieldBytes (widths edition (call .kind)) (valuesOf edition call)) r (now (out .exit)) ⌝ }
 {
@@ -381,7 +381,7 @@ fn put_fields(out: &mut [u8], at: usize, edition: u8, call: Call) -> usize
     }
 }
 
-// A record of an edition laid at a place: length, kind, fields. Answers the place behind it.
+// A record of an edition laid at a place: length, kind, fields. Answers the place after it.
 pub fn put_record(out: &mut [u8], at: usize, edition: u8, call: Call) -> usize
     ensures { λ r. ⌜ (r ≡ behind at (length (recordBytes edition call))) × (now (out .exit) ≡ laid (now (out .entry)) at (recordBytes edition call)) ⌝ }
 {
@@ -409,7 +409,7 @@ pub fn append(load: &[u8], call: Call, out: &mut [u8]) -> Written
     Written::Length(whole)
 }
 
-// For a load that is known to read to its end and is the first `size` bytes of a buffer: 0 for a call that can be laid behind it; else 12 for
+// For a load that is known to read to its end and is the first `size` bytes of a buffer: 0 for a call that can be laid after it; else 12 for
 // no load, 15 for one longer than the buffer, 13, 14 or 15.
 fn held_number(out: &[u8], size: usize, call: Call) -> u8
     ensures { λ r. ⌜ r ≡ heldNumber (now (out .entry)) size call ⌝ }
@@ -424,7 +424,7 @@ fn held_number(out: &[u8], size: usize, call: Call) -> u8
     grow_number(out[0], size, call, room)
 }
 
-// Lays one record more behind a load that is the first `size` bytes of the buffer and is known to read to its end. Answers and refuses as
+// Lays one record more after a load that is the first `size` bytes of the buffer and is known to read to its end. Answers and refuses as
 // `append` does, but neither tests the load nor copies it.
 pub fn grow(out: &mut [u8], size: usize, call: Call) -> Written
     ensures answer { λ r. ⌜ r ≡ growAnswer (now (out .entry)) size call ⌝ }

@@ -34,7 +34,7 @@ samples =
     ∷ sample (0x01 ∷ 0x00 ∷ []) (Refused 12) [] 12
     -- "01 00 00 gives 13"
     ∷ sample (0x01 ∷ 0x00 ∷ 0x00 ∷ []) (Refused 13) [] 13
-    -- no edition, with records behind it
+    -- no edition, with records after it
     ∷ sample (0xFF ∷ recordBytes 1 (rig 0xF)) (Refused 11) [] 11
     ∷ sample (0x02 ∷ recordBytes 1 (rig 0xF) ++ recordBytes 1 (clock 1)) (Refused 11) [] 11
     -- "Reader and writer pass fields on without judging them": a dark rig

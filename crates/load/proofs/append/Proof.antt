@@ -1,4 +1,4 @@
--- `load::append` meets its contract: the tests come first; then the load and the record are laid one behind the other.
+-- `load::append` meets its contract: the tests come first; then the load and the record are laid one after the other.
 use native.Mathlib.Omega.{arith}
 use Rattle.numerals.proofs.Laying.{put, put-then}
 use Rattle.load.proofs.Writing.{append-refused, append-some, append-written}

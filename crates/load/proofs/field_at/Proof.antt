@@ -1,4 +1,4 @@
--- `load::field_at` meets its contract: the fields stand behind the length.
+-- `load::field_at` meets its contract: the fields stand after the length.
 use mathlib.Core.Path.{_∙_}
 use borrow.Author.Needs.{needs}
 use Rattle.load.proofs.Format.{no-field, field-entry}

@@ -1,4 +1,4 @@
--- `load::grow` meets its contract: the tests come first; then the record is laid behind the load.
+-- `load::grow` meets its contract: the tests come first; then the record is laid after the load.
 use native.Mathlib.Omega.{arith}
 use Rattle.load.proofs.Writing.{grow-refused, grow-some, grow-written}
 use borrow.Author.Needs.{needs}

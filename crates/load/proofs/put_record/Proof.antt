@@ -1,4 +1,4 @@
--- `load::put_record` meets its contract: length, kind and fields laid one behind the other.
+-- `load::put_record` meets its contract: length, kind and fields laid one after the other.
 use native.Mathlib.Omega.{arith}
 use Rattle.numerals.proofs.Laying.{put, put-digits, put-then, put-as}
 use Rattle.load.proofs.Writing.{record-pieces}
