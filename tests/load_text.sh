@@ -124,6 +124,23 @@ bad "rig not first" 'clock 0\nrig F\n' 'line 1: rig must be first'
 bad "second rig in a text" 'rig F\nclock 0\nrig F\n' 'line 3: rig must be first'
 bad "a bad line at the end writes nothing" 'rig F\nclaim 0 1 1\nclaim 0 1 1\nnonsense\n' 'line 4: unknown call'
 
+# editions
+good "edition 1 alone" 'edition 1\n' 01
+good "edition 1 behind comments and blank lines" '# x\n\n \t edition 001 # y\r\nrig F\n' "01$rig"
+bad "edition 2" '# x\nedition 2\nrig F\n' 'line 2: unknown edition'
+bad "edition 0" 'edition 0\n' 'line 1: unknown edition'
+bad "edition 257" 'edition 257\n' 'line 1: unknown edition'
+bad "edition that is no number" 'edition one\n' 'line 1: unknown edition'
+bad "edition without its number" 'edition # 1\nrig F\n' 'line 1: a number is missing'
+bad "edition with a word more" 'edition 1 rig\n' 'line 1: too many words'
+bad "edition upper case" 'Edition 1\n' 'line 1: unknown call'
+bad "second edition" 'edition 1\nedition 1\n' 'line 2: unknown call'
+bad "edition behind a call" 'rig F\nedition 1\n' 'line 2: unknown call'
+bad "a wrong line behind the edition" '# x\nedition 1\nrig F\n\nclock\n' 'line 5: a number is missing'
+bad "a call before the rig behind the edition" 'edition 1\nclock 0\n' 'line 2: rig must be first'
+bad "the count of words goes before their values" 'rig F\nclaim x y\n' 'line 2: a number is missing'
+bad "the first wrong word decides" 'rig F\nclaim 0 64, x\n' 'line 2: group over 63'
+
 # sizes: the edition byte, the rig and 5,956 clocks are 65,528 bytes
 { echo "rig F"; yes "clock 1" | head -n 5956; } >"$tmp/full"
 run load_write <"$tmp/full"

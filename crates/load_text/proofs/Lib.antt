@@ -1,11 +1,13 @@
-pub mod Calls
+pub mod Fields
+pub mod Headings
 pub mod Lines
 pub mod Making
 pub mod Numbers
 pub mod Parts
 pub mod ReadBack
-pub mod Remaking
 pub mod Reading
+pub mod Remaking
 pub mod Showing
 pub mod Spans
+pub mod Tables
 pub mod Within

@@ -1,20 +1,27 @@
 -- Laws of lines: hex digit by digit, and lengths, none of which is long.
 use Prim.Native.Nat.{ℕ, zero, suc, _+_, _-_, _/_, _%_, _^_, _≤_, _<_}
 use mathlib.Core.Bool.{Bool, true, false, cond}
-use mathlib.Core.List.{List, [], _∷_, _++_}
-use mathlib.Core.Path.{_≡_, refl, ap}
+use mathlib.Core.List.{List, [], _∷_, _++_, map}
+use mathlib.Core.Logic.{⊎-elim}
+use mathlib.Core.Path.{_≡_, refl, sym, ap}
 use native.Mathlib.Omega.{arith}
-use lib.Dec.{ltb, eqb}
-use lib.ListN.{length, length-append}
-use borrow.Author.Tests.{lt-ltb, le-ltb, ne-eqb}
-use Rattle.numerals.specs.Digits.{decimalOf, column, pair}
+use lib.Dec.{ltb, leb, eqb}
+use lib.ListN.{length, drop, getD, length-append}
+use borrow.Author.Tests.{lt-ltb, le-ltb, eq-eqb, ne-eqb, leb-true}
+use Rattle.numerals.specs.Digits.{digits, widthUpTo, widthOf, decimalOf, column}
 use Rattle.numerals.specs.Laid.{Put, spaceNumber, lentOut}
-use Rattle.numerals.proofs.Laying.{width-small, decimal-length, column-length, pair-length, put-short, lent-all, lent-none, lent-known}
+use Rattle.numerals.proofs.Laying.{width-small, decimal-length, pair-length, put-short, lent-all, lent-none, lent-known}
 use Rattle.load.specs.declared.Call.{Call}
-use Rattle.load.specs.declared.Call.the-variants.{Rig, Claim, Release, Withdraw, Clock}
+use Rattle.load.specs.Format.{theGroups, Row, format, known, rowIn, nameOf, fieldsOf}
+use Rattle.load.specs.Calls.{valueOf}
+use Rattle.load.proofs.Format.{allBelow, below-passes, rest-some}
+use Rattle.load.proofs.Rows.{row-end}
 use Rattle.load_text.specs.declared.print.Printed.the-variants.{Length, Refusal}
-use Rattle.load_text.specs.Lines.{glyphOf, hexUpTo, setOf, lineOf, stopLine, reasonText, reportOf, printedAs, printed}
-use Rattle.load_text.specs.Reasons.{unknown, missing, tooMany, noClock, noTicket, noLength, noGroups, tooLarge, over63, backward, misfit, overlong, noSpace}
+use Rattle.load_text.specs.Lines.{glyphOf, hexUpTo, wordOf, fieldsText, lineOf, stopLine, headerOf, reasons, reasonTexts, reasonText, reportOf, printedAs, printed}
+use Rattle.load_text.specs.Parsing.{placeOf, is}
+use Rattle.load_text.specs.Reasons.{noSpace}
+use Rattle.load_text.proofs.Parts.{place-high}
+use Rattle.load_text.proofs.Tables.{allRows, row-cases, known-passes}
 
 -- ── hex ──
 pub glyph-low : (v : ℕ) → v % 16 < 10 → 48 + v % 16 ≡ glyphOf v
@@ -50,47 +57,88 @@ hex-length (suc k) v = go (hex-length k (v / 16)) (ltb v 16)
     go h true = omega arith
     go h false = omega (arith, length-append (hexUpTo k (v / 16)) (glyphOf v ∷ []))
 
+-- ── fields: f is what `field_at` answers at place i ──
+module _ (e k i f : ℕ) (s : f ≡ getD (fieldsOf e k) i 0) (c : Call) where
+  pub text-last : f ≡ 0 → fieldsText (drop i (fieldsOf e k)) c ≡ 10 ∷ []
+  unfolding fieldsText
+  text-last z = rw (row-end e k i f s z)
+
+  pub text-next : (f ≡ 0 → ⊥) → (v : ℕ) → v ≡ valueOf f c → fieldsText (drop i (fieldsOf e k)) c ≡ ((32 ∷ []) ++ wordOf f v) ++ fieldsText (drop (i + 1) (fieldsOf e k)) c
+  unfolding fieldsText
+  text-next z v q = rw (rest-some (fieldsOf e k) i f s z .1, q)
+
+pub word-groups : (f v : ℕ) → f ≡ theGroups → hexUpTo 15 v ≡ wordOf f v
+unfolding wordOf
+word-groups f v e = rw (eq-eqb f theGroups e)
+
+pub word-number : (f v : ℕ) → (f ≡ theGroups → ⊥) → decimalOf v ≡ wordOf f v
+unfolding wordOf
+word-number f v e = rw (ne-eqb f theGroups e)
+
+pub header-one : (e : ℕ) → e ≡ 1 → headerOf 1 ≡ headerOf e
+header-one e z = ap headerOf (sym z)
+
+pub header-other : (e : ℕ) → (e ≡ 1 → ⊥) → (101 ∷ 100 ∷ 105 ∷ 116 ∷ 105 ∷ 111 ∷ 110 ∷ 32 ∷ []) ++ column e 10 ≡ headerOf e
+unfolding headerOf
+header-other e n = rw (ne-eqb e 1 n)
+
 -- ── lengths ──
-set-length : (g b : ℕ) → length (setOf g b) ≤ 17
-unfolding setOf
-set-length g b = omega (arith, length-append (hexUpTo 15 g) (b ∷ []), hex-length 15 g)
+-- A field's word with the space in front of it, and the line feed.
+bound : List ℕ → ℕ
+bound [] = 1
+bound (f ∷ fs) = cond (eqb f theGroups) 17 21 + bound fs
 
-pub line-length : (c : Call) → length (lineOf c) ≤ 65
-unfolding lineOf
-line-length (Rig g) = omega (arith, set-length g 10)
-line-length (Claim c g l) = omega (arith, length-append (column c 32) (setOf g 32 ++ column l 10), length-append (setOf g 32) (column l 10), column-length c 32, set-length g 32, column-length l 10)
-line-length (Release c t) = omega (arith, pair-length c t 10)
-line-length (Withdraw c t) = omega (arith, pair-length c t 10)
-line-length (Clock c) = omega (arith, column-length c 10)
+word-length : (f v : ℕ) → suc (length (wordOf f v)) ≤ cond (eqb f theGroups) 17 21
+unfolding wordOf
+word-length f v = go (eqb f theGroups)
+  where
+    go : (b : Bool) → suc (length (cond b (hexUpTo 15 v) (decimalOf v))) ≤ cond b 17 21
+    go true = omega (arith, hex-length 15 v)
+    go false = omega (arith, decimal-length v, width-small v)
 
-pub line-short : (c : Call) → length (lineOf c) < 2 ^ 64
-line-short c = omega (arith, line-length c)
+fields-length : (fs : List ℕ) (c : Call) → length (fieldsText fs c) ≤ bound fs
+unfolding fieldsText bound
+fields-length [] c = omega arith
+fields-length (f ∷ fs) c = omega (arith, length-append (wordOf f (valueOf f c)) (fieldsText fs c), word-length f (valueOf f c), fields-length fs c)
+
+-- The longest line has 65 bytes.
+long-test : Row → Bool
+long-test r = leb (length (r .name) + bound (r .fields)) 65
+
+pub line-length : (e : ℕ) (c : Call) → length (lineOf e c) ≤ 65
+unfolding lineOf nameOf fieldsOf long-test allRows format bound
+line-length e c =
+    let k = c .kind in
+    let r = rowIn format e k in
+    let l = length-append (r .name) (fieldsText (r .fields) c) in
+    let b : length (r .name) + bound (r .fields) ≤ 65 =
+    ⊎-elim (λ n. rw n (omega arith)) (λ t. leb-true (length (r .name) + bound (r .fields)) 65 (t .0)) (row-cases long-test format refl e k) in
+    omega (arith, fields-length (r .fields) c)
+
+pub line-short : (e : ℕ) (c : Call) → length (lineOf e c) < 2 ^ 64
+line-short e c = omega (arith, line-length e c)
+
+-- The header of an edition that there is has at most 12.
+header-test : ℕ → Bool
+header-test e = leb (length (headerOf e)) 12
+
+pub header-length : (e : ℕ) → known e ≡ true → length (headerOf e) ≤ 12
+unfolding header-test allRows known format headerOf column decimalOf widthOf widthUpTo digits
+header-length e k = leb-true (length (headerOf e)) 12 (known-passes header-test format refl e k)
 
 pub stop-length : (n k : ℕ) → length (stopLine n k) ≤ 49
 unfolding stopLine
 stop-length n k = omega (arith, pair-length n k 10)
 
 -- ── reports ──
-shorter : (b : Bool) (x y : List ℕ) (m : ℕ) → length x ≤ m → length y ≤ m → length (cond b x y) ≤ m
-shorter true x y m h k = h
-shorter false x y m h k = k
+short-test : ℕ → Bool
+short-test i = leb (length (getD reasonTexts i [])) 29
 
 reason-length : (n : ℕ) → length (reasonText n) ≤ 29
-unfolding reasonText
+unfolding reasonText reasonTexts reasons short-test allBelow
 reason-length n =
-    shorter (eqb n unknown) _ _ 29 (omega arith)
-    (shorter (eqb n missing) _ _ 29 (omega arith)
-    (shorter (eqb n tooMany) _ _ 29 (omega arith)
-    (shorter (eqb n noClock) _ _ 29 (omega arith)
-    (shorter (eqb n noTicket) _ _ 29 (omega arith)
-    (shorter (eqb n noLength) _ _ 29 (omega arith)
-    (shorter (eqb n noGroups) _ _ 29 (omega arith)
-    (shorter (eqb n tooLarge) _ _ 29 (omega arith)
-    (shorter (eqb n over63) _ _ 29 (omega arith)
-    (shorter (eqb n backward) _ _ 29 (omega arith)
-    (shorter (eqb n misfit) _ _ 29 (omega arith)
-    (shorter (eqb n overlong) _ _ 29 (omega arith)
-    (omega arith))))))))))))
+    let i = placeOf (is n) (map (λ r. r .number) reasons) 0 in
+    leb-true (length (getD reasonTexts i [])) 29 (below-passes 14 short-test refl i (omega (arith, place-high (is n) (map (λ r. r .number) reasons) 0)))
 
 pub report-length : (line n : ℕ) → length (reportOf line n) ≤ 56
 unfolding reportOf
@@ -98,32 +146,6 @@ report-length line n = omega (arith, length-append (decimalOf line) (58 ∷ 32 �
 
 pub report-short : (line n : ℕ) → length (reportOf line n) < 2 ^ 64
 report-short line n = omega (arith, report-length line n)
-
--- A number that is no reason by itself.
-pub reason-else : (n : ℕ) → (n ≡ unknown → ⊥) → (n ≡ missing → ⊥) → (n ≡ tooMany → ⊥) → (n ≡ noClock → ⊥) → (n ≡ noTicket → ⊥) → (n ≡ noLength → ⊥) → (n ≡ noGroups → ⊥) → (n ≡ tooLarge → ⊥) → (n ≡ over63 → ⊥) → (n ≡ backward → ⊥) → (n ≡ misfit → ⊥) → (n ≡ overlong → ⊥) → reasonText 0 ≡ reasonText n
-unfolding reasonText
-reason-else n a b c d e f g h i j k l = rw (ne-eqb n unknown a, ne-eqb n missing b, ne-eqb n tooMany c, ne-eqb n noClock d, ne-eqb n noTicket e, ne-eqb n noLength f, ne-eqb n noGroups g, ne-eqb n tooLarge h, ne-eqb n over63 i, ne-eqb n backward j, ne-eqb n misfit k, ne-eqb n overlong l)
-
--- ── lines by kind ──
-pub rig-line : (c : Call) (g : ℕ) → c ≡ Rig g → (114 ∷ 105 ∷ 103 ∷ 32 ∷ []) ++ setOf g 10 ≡ lineOf c
-unfolding lineOf
-rig-line c g e = rw e
-
-pub claim-line : (c : Call) (k g l : ℕ) → c ≡ Claim k g l → (99 ∷ 108 ∷ 97 ∷ 105 ∷ 109 ∷ 32 ∷ []) ++ (column k 32 ++ (setOf g 32 ++ column l 10)) ≡ lineOf c
-unfolding lineOf
-claim-line c k g l e = rw e
-
-pub release-line : (c : Call) (k t : ℕ) → c ≡ Release k t → (114 ∷ 101 ∷ 108 ∷ 101 ∷ 97 ∷ 115 ∷ 101 ∷ 32 ∷ []) ++ pair k t 10 ≡ lineOf c
-unfolding lineOf
-release-line c k t e = rw e
-
-pub withdraw-line : (c : Call) (k t : ℕ) → c ≡ Withdraw k t → (119 ∷ 105 ∷ 116 ∷ 104 ∷ 100 ∷ 114 ∷ 97 ∷ 119 ∷ 32 ∷ []) ++ pair k t 10 ≡ lineOf c
-unfolding lineOf
-withdraw-line c k t e = rw e
-
-pub clock-line : (c : Call) (k : ℕ) → c ≡ Clock k → (99 ∷ 108 ∷ 111 ∷ 99 ∷ 107 ∷ 32 ∷ []) ++ column k 10 ≡ lineOf c
-unfolding lineOf
-clock-line c k e = rw e
 
 -- ── what is answered ──
 pub print-none : (text o : List ℕ) → length o < length text → (Refusal noSpace ≡ printed text o) × (o ≡ lentOut text o)

@@ -1,7 +1,7 @@
 -- Laws of digits and of the numbers that they say, as the code reads them.
 use Prim.Native.Nat.{ℕ, suc, _+_, _-_, _*_, _/_, _≤_, _<_}
 use mathlib.Core.Path.{_≡_, refl, sym, ap, _∙_}
-use mathlib.Core.Bool.{Bool, true, false, _&&_, cond, false≢true}
+use mathlib.Core.Bool.{Bool, true, false, cond, and-eq-true-iff}
 use mathlib.Core.List.{List, [], _∷_}
 use native.Mathlib.Nat.{mul-le-mul-right, mul-le-mul-left, div-mul-le-self, suc-mul, mod-lt, div-add-mod'}
 use native.Mathlib.Numerals.{add-one}
@@ -9,10 +9,11 @@ use native.Mathlib.Omega.{arith}
 use lib.Dec.{ltb, leb}
 use lib.ListN.{length, getD, drop, drop-of-length-le}
 use lib.Seq.{drop-cons}
-use borrow.Author.Tests.{le-leb, lt-leb, lt-ltb, le-ltb, ltb-true, leb-true}
+use borrow.Author.Tests.{le-leb, lt-leb, lt-ltb, le-ltb, leb-true, leb-false}
 use Rattle.load_text.specs.declared.words.Field.{Field}
 use Rattle.load_text.specs.declared.words.Field.the-variants.{Value, Wrong}
-use Rattle.load_text.specs.Parsing.{digitOf, digitsIn, isNumber, valueIn, upToMost, numberIn}
+use Rattle.load_text.specs.Parsing.{digitOf, noDigit, digitsIn, isNumber, valueIn, upToMost, numberIn}
+use Rattle.load_text.proofs.Parts.{none-cons}
 
 -- ── a digit ──
 module _ (b : ℕ) where
@@ -49,46 +50,26 @@ module _ (b : ℕ) where
 -- ── a word of digits ──
 pub no-number : (base : ℕ) (w : List ℕ) → length w ≡ 0 → false ≡ isNumber base w
 unfolding isNumber
-no-number base [] h = refl
-no-number base (b ∷ w) h = absurd (omega arith)
+no-number base w h = rw (le-ltb 0 (length w) (omega arith))
 
 pub digits-number : (base : ℕ) (w : List ℕ) → 0 < length w → digitsIn base w ≡ isNumber base w
 unfolding isNumber
-digits-number base [] h = absurd (omega arith)
-digits-number base (b ∷ w) h = refl
+digits-number base w h = rw (lt-ltb 0 (length w) h)
 
 pub number-digits : (base : ℕ) (w : List ℕ) → isNumber base w ≡ true → digitsIn base w ≡ true
-unfolding isNumber digitsIn
-number-digits base [] e = refl
-number-digits base (b ∷ w) e = e
+unfolding isNumber
+number-digits base w e = and-eq-true-iff (ltb 0 (length w)) (digitsIn base w) .0 e .1
 
 module _ (base : ℕ) (w : List ℕ) (i : ℕ) (h : i < length w) where
-  digits-step : digitsIn base (drop i w) ≡ (ltb (digitOf (getD w i 0)) base && digitsIn base (drop (i + 1) w))
-  unfolding digitsIn
-  digits-step = rw (drop-cons w i 0 h, add-one)
-
-  pub digits-on : digitOf (getD w i 0) < base → digitsIn base (drop i w) ≡ digitsIn base (drop (i + 1) w)
-  digits-on k = rw (digits-step, lt-ltb (digitOf (getD w i 0)) base k)
-
-  pub digits-fail : base ≤ digitOf (getD w i 0) → digitsIn base (drop i w) ≡ false
-  digits-fail k = rw (digits-step, le-ltb (digitOf (getD w i 0)) base k)
-
   -- The first of digits is one, and the others are.
   pub digit-held : digitsIn base (drop i w) ≡ true → (digitOf (getD w i 0) < base) × (digitsIn base (drop (i + 1) w) ≡ true)
-  digit-held e = go (ltb (digitOf (getD w i 0)) base) refl (sym digits-step ∙ e)
-    where
-      go : (t : Bool) → ltb (digitOf (getD w i 0)) base ≡ t → (t && digitsIn base (drop (i + 1) w)) ≡ true
-          → (digitOf (getD w i 0) < base) × (digitsIn base (drop (i + 1) w) ≡ true)
-      go true k q = (ltb-true _ _ k, q)
-      go false k q = absurd (false≢true q)
+  digit-held e =
+      let q = none-cons (noDigit base) (getD w i 0) (drop (suc i) w) (rw (drop-cons w i 0 h) at e) in
+      (leb-false base (digitOf (getD w i 0)) (q .0), rw add-one (q .1))
 
   pub value-on : (v : ℕ) → valueIn base v (drop i w) ≡ valueIn base (v * base + digitOf (getD w i 0)) (drop (i + 1) w)
   unfolding valueIn
   value-on v = rw (drop-cons w i 0 h, add-one)
-
-pub digits-end : (base : ℕ) (w : List ℕ) (i : ℕ) → length w ≤ i → digitsIn base (drop i w) ≡ true
-unfolding digitsIn
-digits-end base w i h = rw (drop-of-length-le w h)
 
 pub value-end : (base v : ℕ) (w : List ℕ) (i : ℕ) → length w ≤ i → valueIn base v (drop i w) ≡ v
 unfolding valueIn
@@ -106,7 +87,7 @@ fits most large v h = rw (le-leb v most h)
 pub over : (most large v : ℕ) → most < v → Wrong large ≡ upToMost most large v
 over most large v h = rw (lt-leb v most h)
 
--- One digit more behind a number that has room for it, and behind one that has none.
+-- One digit more after a number that has room for it, and after one that has none.
 pub digit-more : (v base most d : ℕ) → d ≤ most → v ≤ (most - d) / base → v * base + d ≤ most
 digit-more v base most d h k = omega (arith, mul-le-mul-right base k, div-mul-le-self (most - d) base)
 

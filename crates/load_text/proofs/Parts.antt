@@ -1,14 +1,16 @@
 -- Laws of the parts of a text: the place of the first byte that passes p, step by step, and the parts cut there.
-use Prim.Native.Nat.{ℕ, suc, _+_, _-_, _≤_, _<_, max}
+use Prim.Native.Nat.{ℕ, zero, suc, _+_, _-_, _≤_, _<_, max}
 use mathlib.Core.Path.{_≡_, refl, sym, ap, _∙_}
-use mathlib.Core.Bool.{Bool, true, false, cond}
+use mathlib.Core.Bool.{Bool, true, false, not, _&&_, cond, and-eq-true-iff}
 use mathlib.Core.List.{List, [], _∷_}
-use native.Mathlib.Nat.{add-zero}
+use native.Mathlib.Nat.{add-zero, zero-add}
 use native.Mathlib.Numerals.{add-one}
 use native.Mathlib.Omega.{arith}
+use lib.Dec.{leb, leb·suc-zero, leb·suc-suc}
+use borrow.Author.Tests.{not-true}
 use lib.ListN.{length, getD, take, drop, drop-of-length-le, length-drop}
 use lib.Seq.{drop-cons, drop-drop, getD-drop}
-use Rattle.load_text.specs.Parsing.{until, since, placeOf, parts, inFront}
+use Rattle.load_text.specs.Parsing.{until, since, none, placeOf, parts, inFront}
 
 module _ (p : ℕ → Bool) where
   -- ── of a text from its start on ──
@@ -67,8 +69,36 @@ module _ (p : ℕ → Bool) where
       go f true e k = e
       go f false e k = f (omega arith)
 
+  -- ── where no byte passes ──
+  none-until : (l : List ℕ) → leb (length l) (length (until p l)) ≡ none p l
+  unfolding none until
+  none-until [] = refl
+  none-until (b ∷ l) = go (none-until l) (p b)
+    where
+      go : leb (length l) (length (until p l)) ≡ none p l → (t : Bool) → leb (suc (length l)) (length (cond t [] (b ∷ until p l))) ≡ (not t && none p l)
+      go h true = leb·suc-zero (length l)
+      go h false = leb·suc-suc (length l) (length (until p l)) ∙ h
+
+  pub none-place : (l : List ℕ) → leb (length l) (placeOf p l 0) ≡ none p l
+  unfolding placeOf
+  none-place l = rw zero-add (none-until l)
+
+  pub none-cons : (b : ℕ) (l : List ℕ) → none p (b ∷ l) ≡ true → (p b ≡ false) × (none p l ≡ true)
+  unfolding none
+  none-cons b l h = let q = and-eq-true-iff (not (p b)) (none p l) .0 h in (not-true (p b) (q .0), q .1)
+
+  pub none-at : (l : List ℕ) (i : ℕ) → p 0 ≡ false → none p l ≡ true → p (getD l i 0) ≡ false
+  none-at [] i z h = z
+  none-at (b ∷ l) zero z h = none-cons b l h .0
+  none-at (b ∷ l) (suc i) z h = none-at l i z (none-cons b l h .1)
+
+  pub until-none : (l : List ℕ) → none p l ≡ true → until p l ≡ l
+  unfolding until
+  until-none [] h = refl
+  until-none (b ∷ l) h = let q = none-cons b l h in rw (q .0) (ap (λ k. b ∷ k) (until-none l (q .1)))
+
   module _ (s : List ℕ) where
-    -- ── the place from `at` on: where the byte there passes, where it does not, and behind the end ──
+    -- ── the place from `at` on: where the byte there passes, where it does not, and after the end ──
     pub place-here : (at : ℕ) → at < length s → p (getD s at 0) ≡ true → placeOf p s at ≡ at
     unfolding placeOf until
     place-here at h e = rw (drop-cons s at 0 h, e) (add-zero at)
@@ -89,6 +119,10 @@ module _ (p : ℕ → Bool) where
     unfolding placeOf
     place-high at = omega (arith, until-length (drop at s), length-drop at s)
 
+    -- As the code has it.
+    pub place-reach : (at e : ℕ) → at < length s → e ≡ placeOf p s at → (at ≤ e) × (e ≤ length s)
+    place-reach at e h i = (omega (arith, i, place-low at), omega (arith, i, place-high at))
+
     pub place-passes : (at : ℕ) → placeOf p s at < length s → p (getD s (placeOf p s at) 0) ≡ true
     unfolding placeOf
     place-passes at h =
@@ -98,6 +132,10 @@ module _ (p : ℕ → Bool) where
     past : (at : ℕ) → placeOf p s at - at ≡ length (until p (drop at s))
     unfolding placeOf
     past at = omega arith
+
+    pub until-first : until p s ≡ take (placeOf p s 0) s
+    unfolding placeOf
+    until-first = rw zero-add (until-is s)
 
     pub until-take : (at : ℕ) → until p (drop at s) ≡ take (placeOf p s at - at) (drop at s)
     until-take at = rw (past at) (until-is (drop at s))

@@ -1,70 +1,56 @@
--- The line that a call is printed as says that call: its words are the call's name and its numbers in digits, and digits read back.
-use Prim.Native.Nat.{ℕ, zero, suc, _+_, _*_, _/_, _%_, _^_, _≤_, _<_}
+-- The line that a call is printed as says that call: its words are the kind's name and the values of its fields, and these read back.
+use Prim.Native.Nat.{ℕ, zero, suc, _+_, _-_, _*_, _/_, _%_, _^_, _≤_, _<_}
 use mathlib.Core.Path.{_≡_, refl, sym, ap, _∙_}
 use mathlib.Core.Bool.{Bool, true, false, not, _&&_, _||_, cond, false≢true}
 use mathlib.Core.List.{List, [], _∷_, _++_, map, append-assoc}
-use native.Mathlib.Nat.{pow-suc}
+use mathlib.Core.Logic.{⊎-elim}
+use native.Mathlib.Nat.{pow-suc, pow-le-pow-right}
 use native.Mathlib.Omega.{arith}
-use lib.Dec.{ltb, leb}
-use lib.ListN.{length, length-append}
-use borrow.Author.Tests.{eqb-true, ltb-true, ltb-false, lt-ltb}
-use Rattle.numerals.specs.Digits.{digits, widthUpTo, widthOf, decimalOf, column, pair}
+use lib.Dec.{ltb, leb, eqb}
+use lib.ListN.{length, drop, getD, length-append}
+use borrow.Author.Tests.{eqb-true, eqb-false, ltb-true, ltb-false, lt-ltb, leb-false, leb-true, le-leb, lt-leb, not-true}
+use Rattle.numerals.specs.Digits.{digits, widthUpTo, widthOf, decimalOf, column}
 use Rattle.load.specs.declared.Call.{Call}
-use Rattle.load.specs.declared.Call.the-variants.{Rig, Claim, Release, Withdraw, Clock}
-use Rattle.load.specs.Reading.{walk}
-use Rattle.load.specs.RoundTrip.{Typed, Appended}
-use Rattle.load.proofs.Reading.{load-parts}
-use Rattle.load.proofs.RoundTrip.{read-written}
+use Rattle.load.specs.Format.{theGroups, fieldWidths, fieldWidth, Row, format, known, rowIn, nameOf, fieldsOf, lengthIn, lengthOf}
+use Rattle.load.specs.Calls.{valueOf, withValue, bare, filled, callOf, valuesIn, valuesOf, carries}
+use Rattle.load.specs.Reading.{editionOf, walk}
+use Rattle.load.specs.RoundTrip.{Typed}
+use Rattle.load.proofs.Format.{both, width-is, no-width}
+use Rattle.load.proofs.Calls.{carries-length, call-of-values}
+use Rattle.load.proofs.Reading.{load-parts, load-known}
+use Rattle.load.proofs.Loads.{Sound, Loadable, read-loadable}
+use Rattle.load_text.specs.declared.parse.Head.the-variants.{Silent, Edition, Other}
 use Rattle.load_text.specs.declared.parse.Parsed.the-variants.{Nothing, Said}
 use Rattle.load_text.specs.declared.words.Field.the-variants.{Value, Wrong}
-use Rattle.load_text.specs.Lines.{glyphOf, hexUpTo, setOf, lineOf, linesOf, restOf, header, opened, textOf}
-use Rattle.load_text.specs.Parsing.{parts, inFront, full, is, isFeed, isBlank, linesIn, wordsIn, said, digitOf, digitsIn, valueIn, numberIn, isList, groupsIn, clockIn, ticketIn, lengthIn, rigWord, claimWord, releaseWord, withdrawWord, clockWord, isWord, callIn, lineSays}
+use Rattle.load_text.specs.Lines.{glyphOf, hexUpTo, wordOf, fieldsText, lineOf, linesOf, restOf, headerOf, opened, textOf}
+use Rattle.load_text.specs.Making.{Heading, plain, headingIn, heading, saidIn}
+use Rattle.load_text.specs.Parsing.{none, until, parts, inFront, full, is, isFeed, isBlank, isJoint, linesIn, wordsIn, chomped, said, digitOf, noDigit, digitsIn, valueIn, numberIn, groupsIn, noNumber, fieldIn, withField, filledIn, isWord, kindIn, kindNamed, kindSays, callIn, lineSays, editionWord, editionOr, editionIn, headIn, headSays}
 use Rattle.load_text.specs.ReadBack.{LineReadBack, TextReadBack}
+use Rattle.load_text.specs.Reasons.{noEdition, tooLarge}
+use Rattle.load_text.proofs.Parts.{none-cons, none-at, until-none}
 use Rattle.load_text.proofs.Numbers.{digit-ten, digit-upper, digits-number, number-is, fits}
 use Rattle.load_text.proofs.Reading.{full-cons}
 use Rattle.load_text.proofs.Spans.{groups-hex}
-use Rattle.load_text.proofs.Calls.{rig-said, clock-said, leave-said, claim-said, call-rig, call-claim, call-release, call-withdraw, call-clock, said-first}
+use Rattle.load_text.proofs.Fields.{field-groups}
+use Rattle.load_text.proofs.Tables.{allRows, row-cases, known-passes}
 
 -- ── parts of a text in front of a byte that ends one ──
--- No byte passes p.
-none : (ℕ → Bool) → List ℕ → Bool
-none p [] = true
-none p (b ∷ l) = not (p b) && none p l
-
 module _ (p : ℕ → Bool) where
   none-append : (x y : List ℕ) → none p x ≡ true → none p y ≡ true → none p (x ++ y) ≡ true
   unfolding none
   none-append [] y h k = k
-  none-append (b ∷ x) y h k = go (none-append x y) (not (p b)) h
-    where
-      go : (none p x ≡ true → none p y ≡ true → none p (x ++ y) ≡ true) → (t : Bool) → (t && none p x) ≡ true → (t && none p (x ++ y)) ≡ true
-      go f true h = f h k
-      go f false h = h
+  none-append (b ∷ x) y h k = let q = none-cons p b x h in rw (q .0) (none-append x y (q .1) k)
 
   parts-front : (x : List ℕ) (e : ℕ) (l : List ℕ) → none p x ≡ true → p e ≡ true → parts p (x ++ e ∷ l) ≡ x ∷ parts p l
-  unfolding none parts
+  unfolding parts
   parts-front [] e l h k = rw k
-  parts-front (b ∷ x) e l h k = go (parts-front x e l) (p b) h
-    where
-      go : (none p x ≡ true → p e ≡ true → parts p (x ++ e ∷ l) ≡ x ∷ parts p l) → (t : Bool) → (not t && none p x) ≡ true
-          → cond t ([] ∷ parts p (x ++ e ∷ l)) (inFront b (parts p (x ++ e ∷ l))) ≡ (b ∷ x) ∷ parts p l
-      go f true h = absurd (false≢true h)
-      go f false h = ap (inFront b) (f h k)
+  parts-front (b ∷ x) e l h k = let q = none-cons p b x h in rw (q .0) (ap (inFront b) (parts-front x e l (q .1) k))
 
   parts-last : (x : List ℕ) → 0 < length x → none p x ≡ true → parts p x ≡ x ∷ []
-  unfolding none parts
+  unfolding parts
   parts-last [] q h = absurd (omega arith)
-  parts-last (b ∷ []) q h = go (p b) h
-    where
-      go : (t : Bool) → (not t && true) ≡ true → cond t ([] ∷ []) (inFront b []) ≡ (b ∷ []) ∷ []
-      go true h = absurd (false≢true h)
-      go false h = refl
-  parts-last (b ∷ c ∷ x) q h = go (parts-last (c ∷ x) (omega arith)) (p b) h
-    where
-      go : (none p (c ∷ x) ≡ true → parts p (c ∷ x) ≡ (c ∷ x) ∷ []) → (t : Bool) → (not t && none p (c ∷ x)) ≡ true
-          → cond t ([] ∷ parts p (c ∷ x)) (inFront b (parts p (c ∷ x))) ≡ (b ∷ c ∷ x) ∷ []
-      go f true h = absurd (false≢true h)
-      go f false h = ap (inFront b) (f h)
+  parts-last (b ∷ []) q h = rw (none-cons p b [] h .0)
+  parts-last (b ∷ c ∷ x) q h = let n = none-cons p b (c ∷ x) h in rw (n .0) (ap (inFront b) (parts-last (c ∷ x) (omega arith) (n .1)))
 
 -- ── a line of words with a space between them ──
 spaced : List ℕ → List (List ℕ) → List ℕ
@@ -80,6 +66,17 @@ record Plain (w : List ℕ) : Type 0 where
   blank : none isBlank w ≡ true
   feed : none isFeed w ≡ true
   end : none isEnd w ≡ true
+
+isPlain : List ℕ → Bool
+isPlain w = (ltb 0 (length w) && none isBlank w) && (none isFeed w && none isEnd w)
+
+plain-word : (w : List ℕ) → isPlain w ≡ true → Plain w
+unfolding isPlain
+plain-word w h =
+    let a = both (ltb 0 (length w) && none isBlank w) (none isFeed w && none isEnd w) h in
+    let b = both (ltb 0 (length w)) (none isBlank w) (a .0) in
+    let c = both (none isFeed w) (none isEnd w) (a .1) in
+    record { some = ltb-true 0 (length w) (b .0); blank = b .1; feed = c .0; end = c .1 }
 
 data Plains : List (List ℕ) → Type 0 where
   nil : Plains []
@@ -99,31 +96,38 @@ module _ (p : ℕ → Bool) (q : p 32 ≡ false) (plain : (w : List ℕ) → Pla
   none-spaced w [] h hs = plain w h
   none-spaced w (v ∷ vs) h (also k ks) = none-append p w (32 ∷ spaced v vs) (plain w h) (rw q (none-spaced v vs k ks))
 
-said-whole : (l : List ℕ) → none isEnd l ≡ true → said l ≡ l
-unfolding none said
-said-whole [] h = refl
-said-whole (b ∷ []) h = go (is 35 b || is 13 b) h
-  where
-    go : (t : Bool) → (not t && true) ≡ true → cond t [] (b ∷ []) ≡ b ∷ []
-    go true h = absurd (false≢true h)
-    go false h = refl
-said-whole (b ∷ c ∷ l) h = go (said-whole (c ∷ l)) (is 35 b) (is 13 b) h
-  where
-    go : (none isEnd (c ∷ l) ≡ true → said (c ∷ l) ≡ c ∷ l) → (t u : Bool) → (not (t || u) && none isEnd (c ∷ l)) ≡ true
-        → cond t [] (b ∷ said (c ∷ l)) ≡ b ∷ c ∷ l
-    go f true u h = absurd (false≢true h)
-    go f false true h = absurd (false≢true h)
-    go f false false h = ap (λ k. b ∷ k) (f h)
+-- Nothing of such a line is left out.
+module _ (l : List ℕ) (h : none isEnd l ≡ true) where
+  no-return : is 13 (getD l (length l - 1) 0) ≡ false
+  no-return = go (is 35 x) (is 13 x) (none-at isEnd l (length l - 1) refl h)
+    where
+      x : ℕ
+      x = getD l (length l - 1) 0
 
--- What a line of plain words says, in front of other lines.
-says : (w : List ℕ) (ws : List (List ℕ)) (rest : List ℕ) → Plain w → Plains ws
-    → map lineSays (linesIn (spaced w ws ++ 10 ∷ rest)) ≡ callIn (w ∷ ws) ∷ map lineSays (linesIn rest)
-unfolding linesIn lineSays
-says w ws rest h hs =
-    let l = spaced w ws in
-    ap (map lineSays) (parts-front isFeed l 10 rest (none-spaced isFeed refl (λ w k. k .feed) w ws h hs) refl)
-    ∙ ap (λ s. callIn (wordsIn s) ∷ map lineSays (parts isFeed rest)) (said-whole l (none-spaced isEnd refl (λ w k. k .end) w ws h hs))
-    ∙ ap (λ v. callIn v ∷ map lineSays (parts isFeed rest)) (words-spaced w ws h hs)
+      go : (t u : Bool) → (t || u) ≡ false → u ≡ false
+      go true u q = absurd (false≢true (sym q))
+      go false u q = q
+
+  said-whole : said l ≡ l
+  unfolding said chomped none
+  said-whole = rw no-return (until-none (is 35) l (no-hash l h))
+    where
+      no-hash : (l : List ℕ) → none isEnd l ≡ true → none (is 35) l ≡ true
+      no-hash [] h = refl
+      no-hash (b ∷ l) h = let q = none-cons isEnd b l h in go (is 35 b) (is 13 b) (q .0) (no-hash l (q .1))
+        where
+          go : (t u : Bool) → (t || u) ≡ false → none (is 35) l ≡ true → (not t && none (is 35) l) ≡ true
+          go true u q k = absurd (false≢true (sym q))
+          go false u q k = k
+
+-- A line of plain words in front of other lines, and its words.
+module _ (w : List ℕ) (ws : List (List ℕ)) (h : Plain w) (hs : Plains ws) where
+  line-front : (rest : List ℕ) → linesIn (spaced w ws ++ 10 ∷ rest) ≡ spaced w ws ∷ linesIn rest
+  unfolding linesIn
+  line-front rest = parts-front isFeed (spaced w ws) 10 rest (none-spaced isFeed refl (λ w k. k .feed) w ws h hs) refl
+
+  line-words : wordsIn (said (spaced w ws)) ≡ w ∷ ws
+  line-words = ap wordsIn (said-whole (spaced w ws) (none-spaced isEnd refl (λ w k. k .end) w ws h hs)) ∙ words-spaced w ws h hs
 
 -- ── words of digits ──
 -- A byte that is no digit is not among digits.
@@ -134,15 +138,10 @@ no-is a b e h = go (is a b) refl
     go true q = absurd (omega (arith, ap digitOf (eqb-true b a q), e, h))
     go false q = refl
 
-module _ (p : ℕ → Bool) (fails : (b : ℕ) → digitOf b < 16 → p b ≡ false) where
-  none-digits : (w : List ℕ) → digitsIn 16 w ≡ true → none p w ≡ true
-  unfolding none digitsIn
-  none-digits [] h = refl
-  none-digits (b ∷ w) h = go (none-digits w) (ltb (digitOf b) 16) refl h
-    where
-      go : (digitsIn 16 w ≡ true → none p w ≡ true) → (t : Bool) → ltb (digitOf b) 16 ≡ t → (t && digitsIn 16 w) ≡ true → (not (p b) && none p w) ≡ true
-      go f true q h = rw (fails b (ltb-true _ _ q)) (f h)
-      go f false q h = absurd (false≢true h)
+none-digits : (p : ℕ → Bool) → ((b : ℕ) → digitOf b < 16 → p b ≡ false) → (w : List ℕ) → digitsIn 16 w ≡ true → none p w ≡ true
+unfolding none
+none-digits p fails [] h = refl
+none-digits p fails (b ∷ w) h = let q = none-cons (noDigit 16) b w h in rw (fails b (leb-false 16 (digitOf b) (q .0))) (none-digits p fails w (q .1))
 
 digits-plain : (w : List ℕ) → 0 < length w → digitsIn 16 w ≡ true → Plain w
 unfolding digitOf
@@ -153,25 +152,14 @@ digits-plain w h k = record {
   end = none-digits isEnd (λ b q. rw (no-is 35 b refl q, no-is 13 b refl q)) w k;
 }
 
-digits-no-list : (w : List ℕ) → digitsIn 16 w ≡ true → isList w ≡ false
-unfolding digitsIn isList digitOf
-digits-no-list [] h = refl
-digits-no-list (b ∷ w) h = go (digits-no-list w) (ltb (digitOf b) 16) refl h
-  where
-    go : (digitsIn 16 w ≡ true → isList w ≡ false) → (t : Bool) → ltb (digitOf b) 16 ≡ t → (t && digitsIn 16 w) ≡ true → (is 44 b || is 45 b || isList w) ≡ false
-    go f true q h = rw (no-is 44 b refl (ltb-true _ _ q), no-is 45 b refl (ltb-true _ _ q)) (f h)
-    go f false q h = absurd (false≢true h)
+digits-no-list : (w : List ℕ) → digitsIn 16 w ≡ true → none isJoint w ≡ true
+unfolding digitOf
+digits-no-list w k = none-digits isJoint (λ b q. rw (no-is 44 b refl q, no-is 45 b refl q)) w k
 
 module _ (base : ℕ) where
   digits-snoc : (w : List ℕ) (b : ℕ) → digitsIn base w ≡ true → digitOf b < base → digitsIn base (w ++ (b ∷ [])) ≡ true
-  unfolding digitsIn
-  digits-snoc [] b h q = rw (lt-ltb (digitOf b) base q)
-  digits-snoc (a ∷ w) b h q = go (digits-snoc w b) (ltb (digitOf a) base) h
-    where
-      go : (digitsIn base w ≡ true → digitOf b < base → digitsIn base (w ++ (b ∷ [])) ≡ true) → (t : Bool) → (t && digitsIn base w) ≡ true
-          → (t && digitsIn base (w ++ (b ∷ []))) ≡ true
-      go f true h = f h q
-      go f false h = h
+  unfolding none
+  digits-snoc w b h q = none-append (noDigit base) w (b ∷ []) h (rw (lt-leb base (digitOf b) q))
 
   value-snoc : (v : ℕ) (w : List ℕ) (b : ℕ) → valueIn base v (w ++ (b ∷ [])) ≡ valueIn base v w * base + digitOf b
   unfolding valueIn
@@ -185,8 +173,8 @@ record Says (base v : ℕ) (w : List ℕ) : Type 0 where
   value : valueIn base 0 w ≡ v
 
 says-one : (base v b : ℕ) → digitOf b < base → digitOf b ≡ v → Says base v (b ∷ [])
-unfolding digitsIn valueIn
-says-one base v b h e = record { some = omega arith; digit = rw (lt-ltb (digitOf b) base h); value = omega (arith, e) }
+unfolding none valueIn
+says-one base v b h e = record { some = omega arith; digit = rw (lt-leb base (digitOf b) h); value = omega (arith, e) }
 
 says-more : (base u v b : ℕ) (w : List ℕ) → Says base u w → digitOf b < base → u * base + digitOf b ≡ v → Says base v (w ++ (b ∷ []))
 says-more base u v b w s h e = record {
@@ -246,146 +234,191 @@ hex-says (suc k) v h = go (hex-says k (v / 16) (omega (arith, pow-suc 16 (suc k)
     go s true e = let q = ltb-true v 16 e in says-one 16 v (glyphOf v) (omega (arith, glyph v)) (omega (arith, glyph v))
     go s false e = says-more 16 (v / 16) v (glyphOf v) (hexUpTo k (v / 16)) s (omega (arith, glyph v)) (omega (arith, glyph v))
 
-set-says : (v : ℕ) → v < 2 ^ 64 → Says 16 v (hexUpTo 15 v)
-set-says v h = hex-says 15 v (omega arith)
-
-groups-said : (v : ℕ) → v < 2 ^ 64 → groupsIn (hexUpTo 15 v) ≡ Value v
-groups-said v h =
-    let s = set-says v h in
-    sym (groups-hex (hexUpTo 15 v) (digits-no-list (hexUpTo 15 v) (s .digit))) ∙ number-said 16 18446744073709551615 _ _ v (hexUpTo 15 v) s (omega arith)
-
 -- Decimal digits are hex digits.
 ten-sixteen : (w : List ℕ) → digitsIn 10 w ≡ true → digitsIn 16 w ≡ true
-unfolding digitsIn
+unfolding none
 ten-sixteen [] h = refl
-ten-sixteen (b ∷ w) h = go (ten-sixteen w) (ltb (digitOf b) 10) refl h
+ten-sixteen (b ∷ w) h = let q = none-cons (noDigit 10) b w h in let r = leb-false 10 (digitOf b) (q .0) in rw (lt-leb 16 (digitOf b) (omega arith)) (ten-sixteen w (q .1))
+
+-- ── a value as a word ──
+width-most : (f : ℕ) → fieldWidth f ≤ 8
+width-most f = go (ltb f 5) refl
   where
-    go : (digitsIn 10 w ≡ true → digitsIn 16 w ≡ true) → (t : Bool) → ltb (digitOf b) 10 ≡ t → (t && digitsIn 10 w) ≡ true → (ltb (digitOf b) 16 && digitsIn 16 w) ≡ true
-    go f true e h = let q = ltb-true (digitOf b) 10 e in rw (lt-ltb (digitOf b) 16 (omega arith)) (f h)
-    go f false e h = absurd (false≢true h)
+    go : (b : Bool) → ltb f 5 ≡ b → fieldWidth f ≤ 8
+    go true e = let q = width-is f (ltb-true f 5 e) in omega (arith, q .0, q .1)
+    go false e = omega (arith, no-width f (ltb-false f 5 e))
 
-clock-value : (v : ℕ) → v < 2 ^ 64 → clockIn (decimalOf v) ≡ Value v
-clock-value v h = number-said 10 18446744073709551615 _ _ v (decimalOf v) (decimal-says v h) (omega arith)
+module _ (f v : ℕ) (h : v < 256 ^ fieldWidth f) where
+  in-word : v < 2 ^ 64
+  in-word = let wide : 256 ^ fieldWidth f ≤ 256 ^ 8 = pow-le-pow-right (omega arith) (width-most f) in omega arith
 
-ticket-value : (v : ℕ) → v < 2 ^ 16 → ticketIn (decimalOf v) ≡ Value v
-ticket-value v h = number-said 10 65535 _ _ v (decimalOf v) (decimal-says v (omega arith)) (omega arith)
+  word-said : Plain (wordOf f v) × (fieldIn f (wordOf f v) ≡ Value v)
+  unfolding wordOf fieldIn fieldWidth fieldWidths
+  word-said = go (eqb f theGroups) refl
+    where
+      go : (b : Bool) → eqb f theGroups ≡ b
+          → Plain (cond b (hexUpTo 15 v) (decimalOf v)) × (cond b (groupsIn (cond b (hexUpTo 15 v) (decimalOf v))) (numberIn 10 (256 ^ fieldWidth f - 1) (noNumber f) tooLarge (cond b (hexUpTo 15 v) (decimalOf v))) ≡ Value v)
+      go true e =
+          let s = hex-says 15 v in-word in
+          let x = hexUpTo 15 v in
+          (digits-plain x (s .some) (s .digit), sym (groups-hex x (digits-no-list x (s .digit))) ∙ number-said 16 18446744073709551615 _ _ v x s (omega (arith, in-word)))
+      go false e =
+          let s = decimal-says v in-word in
+          let x = decimalOf v in
+          (digits-plain x (s .some) (ten-sixteen x (s .digit)), number-said 10 (256 ^ fieldWidth f - 1) _ _ v x s (omega arith))
 
-length-value : (v : ℕ) → v < 2 ^ 32 → lengthIn (decimalOf v) ≡ Value v
-length-value v h = number-said 10 4294967295 _ _ v (decimalOf v) (decimal-says v (omega arith)) (omega arith)
+-- ── the fields of a call ──
+wordsOf : List ℕ → Call → List (List ℕ)
+wordsOf [] c = []
+wordsOf (f ∷ fs) c = wordOf f (valueOf f c) ∷ wordsOf fs c
 
-decimal-plain : (v : ℕ) → v < 2 ^ 64 → Plain (decimalOf v)
-decimal-plain v h = let s = decimal-says v h in digits-plain (decimalOf v) (s .some) (ten-sixteen (decimalOf v) (s .digit))
+module _ (c : Call) (t : Typed c) where
+  fields-plain : (fs : List ℕ) → Plains (wordsOf fs c)
+  unfolding wordsOf
+  fields-plain [] = nil
+  fields-plain (f ∷ fs) = also (word-said f (valueOf f c) (t f) .0) (fields-plain fs)
 
-set-plain : (v : ℕ) → v < 2 ^ 64 → Plain (hexUpTo 15 v)
-set-plain v h = let s = set-says v h in digits-plain (hexUpTo 15 v) (s .some) (s .digit)
+  fields-said : (fs : List ℕ) (d : Call) → filledIn fs (wordsOf fs c) (Said d) ≡ Said (filled fs (valuesIn fs c) d)
+  unfolding wordsOf filledIn filled
+  fields-said [] d = refl
+  fields-said (f ∷ fs) d = rw (word-said f (valueOf f c) (t f) .1) (fields-said fs (withValue f (valueOf f c) d))
+
+fields-spaced : (c : Call) (rest w : List ℕ) (fs : List ℕ) → (w ++ fieldsText fs c) ++ rest ≡ spaced w (wordsOf fs c) ++ 10 ∷ rest
+unfolding fieldsText wordsOf spaced
+fields-spaced c rest w [] = append-assoc w (10 ∷ []) rest
+fields-spaced c rest w (f ∷ fs) =
+    let v = wordOf f (valueOf f c) in
+    append-assoc w (32 ∷ (v ++ fieldsText fs c)) rest
+    ∙ ap (λ x. w ++ 32 ∷ x) (fields-spaced c rest v fs)
+    ∙ sym (append-assoc w (32 ∷ spaced v (wordsOf fs c)) (10 ∷ rest))
 
 -- ── the names ──
-rig-plain : Plain rigWord
-unfolding none
-rig-plain = record { some = omega arith; blank = refl; feed = refl; end = refl }
+name-test : Row → Bool
+name-test r = (ltb 0 (r .kind) && eqb (kindNamed (r .edition) (r .name)) (r .kind)) && (not (isWord (r .name) editionWord) && isPlain (r .name))
 
-claim-plain : Plain claimWord
-unfolding none
-claim-plain = record { some = omega arith; blank = refl; feed = refl; end = refl }
+record Named (e k : ℕ) : Type 0 where
+  some : 0 < k
+  kind : kindNamed e (nameOf e k) ≡ k
+  other : isWord (nameOf e k) editionWord ≡ false
+  word : Plain (nameOf e k)
 
-release-plain : Plain releaseWord
-unfolding none
-release-plain = record { some = omega arith; blank = refl; feed = refl; end = refl }
+-- A kind that an edition has is named by its name alone, which is a plain word.
+named : (e : ℕ) (c : Call) → carries e c ≡ true → Named e (c .kind)
+unfolding nameOf lengthOf fieldsOf lengthIn name-test allRows format kindNamed kindIn isWord isPlain none
+named e c h = ⊎-elim (λ n. absurd (omega (arith, carries-length e c h, ap (λ (r : Row). lengthIn (r .fields)) n))) go (row-cases name-test format refl e (c .kind))
+  where
+    r : Row
+    r = rowIn format e (c .kind)
 
-withdraw-plain : Plain withdrawWord
-unfolding none
-withdraw-plain = record { some = omega arith; blank = refl; feed = refl; end = refl }
+    go : (name-test r ≡ true) × (r .edition ≡ e) × (r .kind ≡ c .kind) → Named e (c .kind)
+    go t =
+        let a = both (ltb 0 (r .kind) && eqb (kindNamed (r .edition) (r .name)) (r .kind)) (not (isWord (r .name) editionWord) && isPlain (r .name)) (t .0) in
+        let b = both (ltb 0 (r .kind)) (eqb (kindNamed (r .edition) (r .name)) (r .kind)) (a .0) in
+        let d = both (not (isWord (r .name) editionWord)) (isPlain (r .name)) (a .1) in
+        record {
+          some = omega (arith, ltb-true 0 (r .kind) (b .0), t .2);
+          kind = ap (λ (x : ℕ). kindNamed x (r .name)) (sym (t .1)) ∙ eqb-true _ _ (b .1) ∙ t .2;
+          other = not-true _ (d .0);
+          word = plain-word (r .name) (d .1);
+        }
 
-clock-plain : Plain clockWord
-unfolding none
-clock-plain = record { some = omega arith; blank = refl; feed = refl; end = refl }
+-- ── a line ──
+-- The line of a call, in front of other lines; what it says, and that it is no edition.
+record Line (e : ℕ) (c : Call) (rest : List ℕ) : Type 0 where
+  line : List ℕ
+  front : linesIn (lineOf e c ++ rest) ≡ line ∷ linesIn rest
+  says : lineSays e line ≡ Said c
+  head : headSays line ≡ Other
 
--- ── the lines ──
--- A field in front of others, and the last of a line.
-module _ (w rest : List ℕ) where
-  field-on : (y z : List ℕ) → y ++ rest ≡ z ++ 10 ∷ rest → w ++ (32 ∷ []) ++ y ++ rest ≡ (w ++ 32 ∷ z) ++ 10 ∷ rest
-  field-on y z e =
-      append-assoc (w ++ (32 ∷ [])) y rest
-      ∙ ap (λ t. w ++ (32 ∷ []) ++ t) e
-      ∙ append-assoc w (32 ∷ []) (z ++ 10 ∷ rest)
-      ∙ sym (append-assoc w (32 ∷ z) (10 ∷ rest))
-
-  field-last : w ++ (10 ∷ []) ++ rest ≡ w ++ 10 ∷ rest
-  field-last = append-assoc w (10 ∷ []) rest
-
-module _ (c : Call) (w : List ℕ) (ws : List (List ℕ)) (rest : List ℕ) where
-  line-said : lineOf c ++ rest ≡ spaced w ws ++ 10 ∷ rest → Plain w → Plains ws → Said c ≡ callIn (w ∷ ws)
-      → map lineSays (linesIn (lineOf c ++ rest)) ≡ Said c ∷ map lineSays (linesIn rest)
-  line-said e h hs k = ap (λ t. map lineSays (linesIn t)) e ∙ says w ws rest h hs ∙ ap (λ x. x ∷ map lineSays (linesIn rest)) (sym k)
+line-of : (e : ℕ) (c : Call) → carries e c ≡ true → Typed c → (rest : List ℕ) → Line e c rest
+unfolding lineOf lineSays callIn headSays headIn valuesOf callOf
+line-of e c h t rest =
+    let k = c .kind in
+    let n = named e c h in
+    let fs = fieldsOf e k in
+    let ps = fields-plain c t fs in
+    let name = nameOf e k in
+    let words = line-words name (wordsOf fs c) (n .word) ps in
+    record {
+      line = spaced name (wordsOf fs c);
+      front = ap linesIn (fields-spaced c rest name fs) ∙ line-front name (wordsOf fs c) (n .word) ps rest;
+      says = ap (callIn e) words ∙ ap (λ (x : ℕ). kindSays e x (wordsOf fs c)) (n .kind) ∙ go k (n .some) ∙ fields-said c t fs (bare k) ∙ ap Said (call-of-values e c h);
+      head = ap headIn words ∙ rw (n .other);
+    }
+  where
+    go : (k : ℕ) → 0 < k → kindSays e k (wordsOf (fieldsOf e (c .kind)) c) ≡ filledIn (fieldsOf e k) (wordsOf (fieldsOf e (c .kind)) c) (Said (bare k))
+    go zero z = absurd (omega arith)
+    go (suc k) z = refl
 
 pub line-read-back : LineReadBack
-unfolding lineOf setOf column pair spaced isWord
-line-read-back (Rig g) h rest =
-    let s = hexUpTo 15 g in
-    line-said (Rig g) rigWord (s ∷ []) rest
-    (ap (λ t. rigWord ++ 32 ∷ t) (field-last s rest))
-    rig-plain (also (set-plain g h) nil)
-    (rig-said refl g (groups-said g h) ∙ call-rig rigWord (s ∷ []) refl ∙ sym (said-first rigWord (s ∷ [])))
-line-read-back (Claim c g l) h rest =
-    let t = decimalOf c in
-    let s = hexUpTo 15 g in
-    let n = decimalOf l in
-    let ws = t ∷ s ∷ n ∷ [] in
-    line-said (Claim c g l) claimWord ws rest
-    (ap (λ x. claimWord ++ 32 ∷ x) (field-on t rest _ (s ++ 32 ∷ n) (field-on s rest _ n (field-last n rest))))
-    claim-plain (also (decimal-plain c (h .0)) (also (set-plain g (h .1)) (also (decimal-plain l (omega (arith, h .2))) nil)))
-    (claim-said refl c (clock-value c (h .0)) g (groups-said g (h .1)) l (length-value l (h .2)) ∙ call-claim claimWord ws refl refl ∙ sym (said-first claimWord ws))
-line-read-back (Release c k) h rest =
-    let t = decimalOf c in
-    let n = decimalOf k in
-    let ws = t ∷ n ∷ [] in
-    line-said (Release c k) releaseWord ws rest
-    (ap (λ x. releaseWord ++ 32 ∷ x) (field-on t rest _ n (field-last n rest)))
-    release-plain (also (decimal-plain c (h .0)) (also (decimal-plain k (omega (arith, h .1))) nil))
-    (leave-said Release refl c (clock-value c (h .0)) k (ticket-value k (h .1)) ∙ call-release releaseWord ws refl refl refl ∙ sym (said-first releaseWord ws))
-line-read-back (Withdraw c k) h rest =
-    let t = decimalOf c in
-    let n = decimalOf k in
-    let ws = t ∷ n ∷ [] in
-    line-said (Withdraw c k) withdrawWord ws rest
-    (ap (λ x. withdrawWord ++ 32 ∷ x) (field-on t rest _ n (field-last n rest)))
-    withdraw-plain (also (decimal-plain c (h .0)) (also (decimal-plain k (omega (arith, h .1))) nil))
-    (leave-said Withdraw refl c (clock-value c (h .0)) k (ticket-value k (h .1)) ∙ call-withdraw withdrawWord ws refl refl refl refl ∙ sym (said-first withdrawWord ws))
-line-read-back (Clock c) h rest =
-    let t = decimalOf c in
-    line-said (Clock c) clockWord (t ∷ []) rest
-    (ap (λ x. clockWord ++ 32 ∷ x) (field-last t rest))
-    clock-plain (also (decimal-plain c h) nil)
-    (clock-said refl c (clock-value c h) ∙ call-clock clockWord (t ∷ []) refl refl refl refl refl ∙ sym (said-first clockWord (t ∷ [])))
+line-read-back e c h t rest = let l = line-of e c h t rest in ap (map (lineSays e)) (l .front) ∙ ap (λ x. x ∷ map (lineSays e) (linesIn rest)) (l .says)
 
 -- ── the text of a load ──
-data Typeds : List Call → Type 0 where
-  nil : Typeds []
-  more : {c : Call} {cs : List Call} → Typed c → Typeds cs → Typeds (c ∷ cs)
-
-typed-snoc : (cs : List Call) (c : Call) → Typeds cs → Typed c → Typeds (cs ++ (c ∷ []))
-typed-snoc [] c h k = more k nil
-typed-snoc (b ∷ cs) c (more h hs) k = more h (typed-snoc cs c hs k)
-
-appended-typed : (e : ℕ) (cs : List Call) (s : List ℕ) → Appended e cs s → Typeds cs
-appended-typed e cs s (Appended.none k) = nil
-appended-typed e cs s (Appended.one {cs = ds} {s = r} c out n a t h) = typed-snoc ds c (appended-typed e ds r a) t
-
-lines-read-back : (k : ℕ) (cs : List Call) → Typeds cs → map lineSays (linesIn (linesOf k cs 0)) ≡ map Said cs
+lines-read-back : (e k : ℕ) (b : Bool) (cs : List Call) → Loadable e b cs → map (lineSays e) (linesIn (linesOf e k cs 0)) ≡ map Said cs
 unfolding linesOf linesIn parts
-lines-read-back k [] h = refl
-lines-read-back k (c ∷ cs) (more h hs) = line-read-back c h (linesOf (k + 1) cs 0) ∙ ap (λ l. Said c ∷ l) (lines-read-back (k + 1) cs hs)
+lines-read-back e k b [] Loadable.none = refl
+lines-read-back e k b (c ∷ cs) (Loadable.one v g) =
+    line-read-back e c (v .carried) (v .typed) (linesOf e (k + 1) cs 0) ∙ ap (λ l. Said c ∷ l) (lines-read-back e (k + 1) false cs g)
 
-header-says : (t : List ℕ) → map lineSays (linesIn (header ++ t)) ≡ Nothing ∷ map lineSays (linesIn t)
-unfolding lineSays said wordsIn linesIn parts callIn
-header-says t = refl
+-- Lines of calls have no heading.
+lines-plain : (e k : ℕ) (b : Bool) (cs : List Call) → Loadable e b cs → (i : ℕ) → headingIn i (map headSays (linesIn (linesOf e k cs 0))) ≡ plain
+unfolding linesOf linesIn parts headingIn
+lines-plain e k b [] Loadable.none i = refl
+lines-plain e k b (c ∷ cs) (Loadable.one v g) i = let l = line-of e c (v .carried) (v .typed) (linesOf e (k + 1) cs 0) in rw (l .front, l .head)
+
+-- The header of edition 1 says nothing; that of another its edition.
+module _ (t : List ℕ) where
+  header-comment : (linesIn (headerOf 1 ++ t) ≡ (35 ∷ 32 ∷ 101 ∷ 100 ∷ 105 ∷ 116 ∷ 105 ∷ 111 ∷ 110 ∷ 32 ∷ 49 ∷ []) ∷ linesIn t)
+  unfolding headerOf linesIn parts
+  header-comment = refl
+
+small-test : ℕ → Bool
+small-test e = leb e 255
+
+edition-says : (e : ℕ) → known e ≡ true → (t : List ℕ)
+    → (linesIn (((editionWord ++ (32 ∷ [])) ++ column e 10) ++ t) ≡ spaced editionWord (decimalOf e ∷ []) ∷ linesIn t) × (headSays (spaced editionWord (decimalOf e ∷ [])) ≡ Edition e)
+unfolding headSays headIn editionIn column spaced isWord isPlain none known format small-test allRows
+edition-says e k t =
+    let b = leb-true e 255 (known-passes small-test format refl e k) in
+    let s = decimal-says e (omega arith) in
+    let p = plain-word editionWord refl in
+    let d : Plain (decimalOf e) = digits-plain (decimalOf e) (s .some) (ten-sixteen (decimalOf e) (s .digit)) in (
+      ap (λ x. linesIn (editionWord ++ 32 ∷ x)) (append-assoc (decimalOf e) (10 ∷ []) t) ∙ line-front editionWord (decimalOf e ∷ []) p (also d nil) t,
+      ap headIn (line-words editionWord (decimalOf e ∷ []) p (also d nil)) ∙ ap editionOr (number-said 10 255 noEdition noEdition e (decimalOf e) s b),
+    )
+
+text-said : (e : ℕ) (cs : List Call) → known e ≡ true → Loadable e true cs → (t : List ℕ) → t ≡ headerOf e ++ linesOf e 1 cs 0
+    → (heading t .number ≡ 0) × (heading t .edition ≡ e) × (saidIn t ≡ cond (eqb e 1) (Nothing ∷ []) [] ++ map Said cs)
+unfolding heading headingIn saidIn headerOf headSays headIn lineSays callIn wordsIn said chomped until parts
+text-said e cs k g t q = go (eqb e 1) refl q
+  where
+    rest : List ℕ
+    rest = linesOf e 1 cs 0
+
+    go : (b : Bool) → eqb e 1 ≡ b → t ≡ cond b (35 ∷ 32 ∷ 101 ∷ 100 ∷ 105 ∷ 116 ∷ 105 ∷ 111 ∷ 110 ∷ 32 ∷ 49 ∷ 10 ∷ []) ((101 ∷ 100 ∷ 105 ∷ 116 ∷ 105 ∷ 111 ∷ 110 ∷ 32 ∷ []) ++ column e 10) ++ rest
+        → (heading t .number ≡ 0) × (heading t .edition ≡ e) × (saidIn t ≡ cond b (Nothing ∷ []) [] ++ map Said cs)
+    go true o q =
+        let l = ap linesIn q ∙ header-comment rest in
+        let h : heading t ≡ plain = ap (λ x. headingIn 0 (map headSays x)) l ∙ lines-plain e 1 true cs g 1 in
+        let i : e ≡ 1 = eqb-true e 1 o in (
+          ap (λ (x : Heading). x .number) h,
+          ap (λ (x : Heading). x .edition) h ∙ sym i,
+          ap (λ (x : Heading). map (lineSays (x .edition)) (drop (x .lines) (linesIn t))) h ∙ ap (map (lineSays 1)) l
+              ∙ ap (λ (x : ℕ). Nothing ∷ map (lineSays x) (linesIn rest)) (sym i) ∙ ap (λ x. Nothing ∷ x) (lines-read-back e 1 true cs g),
+        )
+    go false o q =
+        let s = edition-says e k rest in
+        let l = ap linesIn q ∙ s .0 in
+        let h : heading t ≡ record { number = 0; edition = e; lines = 1 } = ap (λ x. headingIn 0 (map headSays x)) l ∙ rw (s .1) in (
+          ap (λ (x : Heading). x .number) h,
+          ap (λ (x : Heading). x .edition) h,
+          ap (λ (x : Heading). map (lineSays (x .edition)) (drop (x .lines) (linesIn t))) h ∙ ap (λ x. map (lineSays e) (drop 1 x)) l ∙ lines-read-back e 1 true cs g,
+        )
 
 pub text-read-back : TextReadBack
 unfolding textOf restOf
-text-read-back s b e =
-    let h = load-parts s e in
+text-read-back s b z =
+    let h = load-parts s z in
+    let e = editionOf s in
     let cs = walk s 1 .calls in
-    ap (λ n. map lineSays (linesIn (opened n (linesOf 1 cs (walk s 1 .stop))))) (h .0)
-    ∙ ap (λ n. map lineSays (linesIn (header ++ linesOf 1 cs n))) (h .1)
-    ∙ header-says (linesOf 1 cs 0)
-    ∙ ap (λ l. Nothing ∷ l) (lines-read-back 1 cs (appended-typed _ cs s (read-written s b e .1)))
+    text-said e cs (load-known s z .1) (read-loadable s b) (textOf s) (rw (h .0, h .1))

@@ -1,5 +1,5 @@
 -- Laws of the words of a line, as the code finds them.
-use Prim.Native.Nat.{ℕ, suc, _+_, _-_, _≤_, _<_}
+use Prim.Native.Nat.{ℕ, _+_, _-_, _≤_, _<_}
 use mathlib.Core.Path.{_≡_, refl, sym, ap, subst, _∙_}
 use mathlib.Core.Bool.{Bool, true, false, not, _||_, cond}
 use mathlib.Core.List.{List, [], _∷_}
@@ -7,16 +7,16 @@ use native.Mathlib.Numerals.{add-one}
 use native.Mathlib.Omega.{arith}
 use lib.Dec.{eqb, ltb}
 use lib.ListN.{length, getD, take, drop, drop-of-length-le, length-drop, length-take}
-use lib.Seq.{drop-cons}
+use lib.Seq.{drop-cons, take-all, take-take}
 use borrow.Author.Tests.{eq-eqb, ne-eqb, not-true, lt-ltb, le-ltb, ltb-true, ltb-false}
-use Rattle.load_text.specs.Parsing.{since, placeOf, parts, full, is, isBlank, isFull, wordsIn, wordAt, FirstWord, said}
-use Rattle.load_text.proofs.Parts.{place-low, place-high, place-end, place-on, place-passes, since-drop, parts-cut}
+use Rattle.load_text.specs.Parsing.{until, since, placeOf, parts, full, is, isBlank, isFull, wordsIn, wordAt, FirstWord, chomped, said}
+use Rattle.load_text.proofs.Parts.{place-low, place-high, place-end, place-on, place-passes, until-first, since-drop, parts-cut}
 
-pub blank-first : (b : ℕ) → b ≡ 32 → eqb b 32 ≡ isBlank b
-blank-first b e = rw (eq-eqb b 32 e)
+pub either-first : (b c d : ℕ) → b ≡ c → eqb b c ≡ (is c b || is d b)
+either-first b c d e = rw (eq-eqb b c e)
 
-pub blank-second : (b : ℕ) → (b ≡ 32 → ⊥) → eqb b 9 ≡ isBlank b
-blank-second b e = rw (ne-eqb b 32 e)
+pub either-second : (b c d : ℕ) → (b ≡ c → ⊥) → eqb b d ≡ (is c b || is d b)
+either-second b c d e = rw (ne-eqb b c e)
 
 -- Blanks in front of a word say nothing.
 words-since : (l : List ℕ) → wordsIn l ≡ wordsIn (since isFull l)
@@ -82,55 +82,35 @@ module _ (l : List ℕ) (at from to : ℕ) (e : from ≡ placeOf isFull l at) (f
     words = words-since (drop at l) ∙ ap wordsIn (since-drop isFull l at ∙ ap (λ k. drop k l) (sym e)) ∙ is-first (ltb from (length l)) refl;
   }
 
--- ── a line before its comment ──
-said-hash : (b : ℕ) (l : List ℕ) → b ≡ 35 → length (said (b ∷ l)) ≡ 0
-unfolding said
-said-hash b [] e = rw (eq-eqb b 35 e)
-said-hash b (c ∷ l) e = rw (eq-eqb b 35 e)
-
-said-return : (b : ℕ) (l : List ℕ) → b ≡ 13 → length l ≡ 0 → length (said (b ∷ l)) ≡ 0
-unfolding said
-said-return b [] e h = rw (e)
-said-return b (c ∷ l) e h = absurd (omega arith)
-
-said-more : (b : ℕ) (l : List ℕ) → (b ≡ 35 → ⊥) → (b ≡ 13 → length l ≡ 0 → ⊥) → said (b ∷ l) ≡ b ∷ said l
-unfolding said
-said-more b [] p q = rw (ne-eqb b 35 p, ne-eqb b 13 (λ e. q e refl))
-said-more b (c ∷ l) p q = rw (ne-eqb b 35 p)
-
-pub said-take : (l : List ℕ) → take (length (said l)) l ≡ said l
-unfolding said
-said-take [] = refl
-said-take (b ∷ []) = go (is 35 b || is 13 b)
+-- ── a line before its end ──
+pub chomped-is : (l : List ℕ) → take (length (chomped l)) l ≡ chomped l
+unfolding chomped
+chomped-is l = go (is 13 (getD l (length l - 1) 0))
   where
-    go : (t : Bool) → take (length (cond t [] (b ∷ []))) (b ∷ []) ≡ cond t [] (b ∷ [])
-    go true = refl
-    go false = refl
-said-take (b ∷ c ∷ l) = go (said-take (c ∷ l)) (is 35 b)
-  where
-    go : take (length (said (c ∷ l))) (c ∷ l) ≡ said (c ∷ l) → (t : Bool)
-        → take (length (cond t [] (b ∷ said (c ∷ l)))) (b ∷ c ∷ l) ≡ cond t [] (b ∷ said (c ∷ l))
-    go h true = refl
-    go h false = ap (λ k. b ∷ k) h
+    go : (t : Bool) → take (length (cond t (take (length l - 1) l) l)) l ≡ cond t (take (length l - 1) l) l
+    go true = let n : length (take (length l - 1) l) ≡ length l - 1 = omega (arith, length-take (length l - 1) l) in rw n
+    go false = take-all (length l) l (omega arith)
 
-pub said-within : (l : List ℕ) → length (said l) ≤ length l
-said-within l = omega (arith, ap length (said-take l), length-take (length (said l)) l)
+pub chomped-within : (l : List ℕ) → length (chomped l) ≤ length l
+chomped-within l = omega (arith, ap length (chomped-is l), length-take (length (chomped l)) l)
 
--- How many of the bytes from place i on are read.
-module _ (l : List ℕ) (i : ℕ) where
-  pub read-end : length l ≤ i → length (said (drop i l)) ≡ 0
-  unfolding said
-  read-end h = rw (drop-of-length-le l h)
+module _ (l : List ℕ) where
+  pub chomped-none : length l ≡ 0 → 0 ≡ length (chomped l)
+  chomped-none h = omega (arith, chomped-within l)
 
-  module _ (h : i < length l) where
-    pub read-hash : getD l i 0 ≡ 35 → length (said (drop i l)) ≡ 0
-    read-hash e = rw (drop-cons l i 0 h) (said-hash _ _ e)
+  module _ (h : 0 < length l) where
+    pub chomped-return : getD l (length l - 1) 0 ≡ 13 → length l - 1 ≡ length (chomped l)
+    unfolding chomped
+    chomped-return e = rw (eq-eqb (getD l (length l - 1) 0) 13 e) (omega (arith, length-take (length l - 1) l))
 
-    left : length (drop (suc i) l) ≡ length l - suc i
-    left = length-drop (suc i) l
+    pub chomped-whole : (getD l (length l - 1) 0 ≡ 13 → ⊥) → length l ≡ length (chomped l)
+    unfolding chomped
+    chomped-whole e = rw (ne-eqb (getD l (length l - 1) 0) 13 e)
 
-    pub read-return : getD l i 0 ≡ 13 → i + 1 ≡ length l → length (said (drop i l)) ≡ 0
-    read-return e k = rw (drop-cons l i 0 h) (said-return _ _ e (omega (arith, left)))
-
-    pub read-on : (getD l i 0 ≡ 35 → ⊥) → (getD l i 0 ≡ 13 → i + 1 ≡ length l → ⊥) → length (said (drop i l)) ≡ suc (length (said (drop (i + 1) l)))
-    read-on p q = rw (drop-cons l i 0 h, add-one) (ap length (said-more _ _ p (λ e k. q e (omega (arith, left)))))
+-- What the code reads of a line: up to the comment of the line up to its end.
+pub said-is : (l : List ℕ) (n m : ℕ) → n ≡ length (chomped l) → m ≡ placeOf (is 35) (take n l) 0 → (m ≤ length l) × (take m l ≡ said l)
+unfolding said
+said-is l n m e f =
+    let h : m ≤ n = omega (arith, f, place-high (is 35) (take n l) 0, length-take n l) in
+    let q : take n l ≡ chomped l = ap (λ k. take k l) e ∙ chomped-is l in
+    (omega (arith, e, chomped-within l), sym (take-take m n l h) ∙ ap (λ k. take k (take n l)) f ∙ sym (until-first (is 35) (take n l)) ∙ ap (until (is 35)) q)

@@ -1,54 +1,65 @@
 -- A load printed as text makes that load again: ShownMakes of specs/ReadBack. The lines say the load's calls, and the writer takes each.
 use Prim.Native.Nat.{ℕ, _+_, _≤_}
-use mathlib.Core.Bool.{true}
+use mathlib.Core.Bool.{Bool, true, false, cond}
 use mathlib.Core.List.{List, [], _∷_, _++_, map, append-assoc, append-nil}
 use mathlib.Core.Path.{_≡_, refl, sym, ap, _∙_}
 use native.Mathlib.Omega.{arith}
+use lib.Dec.{eqb}
 use lib.ListN.{length}
 use Rattle.load.specs.declared.Call.{Call}
+use Rattle.load.specs.Format.{known}
 use Rattle.load.specs.Bytes.{recordBytes, recordsBytes, loadBytes}
-use Rattle.load.specs.Reading.{walk}
+use Rattle.load.specs.Reading.{editionOf, walk}
 use Rattle.load.specs.Writing.{growNumber}
 use Rattle.load.proofs.Bytes.{load-append, load-longer, load-edition}
-use Rattle.load.proofs.Reading.{load-known}
+use Rattle.load.proofs.Reading.{load-known, opens}
 use Rattle.load.proofs.Writing.{append-parts}
 use Rattle.load.proofs.Loads.{Loadable, loadable-at, read-loadable}
 use Rattle.load.proofs.RoundTrip.{next-taken, read-written}
+use Rattle.load_text.specs.declared.parse.Parsed.{Parsed}
 use Rattle.load_text.specs.declared.parse.Parsed.the-variants.{Nothing, Said}
-use Rattle.load_text.specs.Making.{whole, lineNumber, lineBytes, gathered, made}
+use Rattle.load_text.specs.Lines.{textOf}
+use Rattle.load_text.specs.Making.{whole, heading, headingNumber, lineNumber, lineBytes, gathered, made}
 use Rattle.load_text.specs.ReadBack.{ShownMakes}
 use Rattle.load_text.proofs.Making.{said-bytes}
 use Rattle.load_text.proofs.ReadBack.{text-read-back}
 
 -- A call that the writer takes, and one line more.
-taken : (k : ℕ) (s : List ℕ) (c : Call) (cs : List Call) → growNumber 1 (length s) c 65536 ≡ 0
-    → gathered k s (map Said (c ∷ cs)) ≡ gathered (k + 1) (s ++ recordBytes 1 c) (map Said cs)
+taken : (e k : ℕ) (s : List ℕ) (c : Call) (cs : List Call) → growNumber e (length s) c 65536 ≡ 0
+    → gathered e k s (map Said (c ∷ cs)) ≡ gathered e (k + 1) (s ++ recordBytes e c) (map Said cs)
 unfolding gathered lineNumber
-taken k s c cs z = rw (z, said-bytes c)
+taken e k s c cs z = rw (z, said-bytes e c)
 
--- Lines that say calls, behind a load of other calls, make the load of all.
-gathered-all : (k : ℕ) (cs ds : List Call) → Loadable 1 true (ds ++ cs) → length (loadBytes 1 (ds ++ cs)) ≤ 65536 → gathered k (loadBytes 1 ds) (map Said cs) ≡ whole (loadBytes 1 (ds ++ cs))
+-- Lines that say calls, after a load of other calls, make the load of all.
+gathered-all : (e : ℕ) → known e ≡ true → (k : ℕ) (cs ds : List Call) → Loadable e true (ds ++ cs) → length (loadBytes e (ds ++ cs)) ≤ 65536
+    → gathered e k (loadBytes e ds) (map Said cs) ≡ whole (loadBytes e (ds ++ cs))
 unfolding gathered
-gathered-all k [] ds l b = rw append-nil
-gathered-all k (c ∷ cs) ds l b =
+gathered-all e i k [] ds l b = rw append-nil
+gathered-all e i k (c ∷ cs) ds l b =
     let a = append-assoc ds (c ∷ []) cs in
-    let v = loadable-at 1 true ds c cs l in
-    let n = load-longer 1 (ds ++ (c ∷ [])) cs in
-    let h : length (loadBytes 1 (ds ++ (c ∷ []))) ≤ 65536 = omega (arith, ap (λ (y : List Call). length (loadBytes 1 y)) a, n, b) in
-    let t = next-taken 1 ds c 65536 refl (v .0) (v .1) h h in
-    let z : growNumber 1 (length (loadBytes 1 ds)) c 65536 ≡ 0 = rw (load-edition 1 ds) at (append-parts (loadBytes 1 ds) c 65536 (t .0) .1) in
-    taken k (loadBytes 1 ds) c cs z ∙ ap (λ (y : List ℕ). gathered (k + 1) y (map Said cs)) (sym (load-append 1 ds c))
-    ∙ (rw a at (gathered-all (k + 1) cs (ds ++ (c ∷ [])) (rw a l) (rw a b)))
+    let v = loadable-at e true ds c cs l in
+    let n = load-longer e (ds ++ (c ∷ [])) cs in
+    let h : length (loadBytes e (ds ++ (c ∷ []))) ≤ 65536 = omega (arith, ap (λ (y : List Call). length (loadBytes e y)) a, n, b) in
+    let t = next-taken e ds c 65536 i (v .0) (v .1) h h in
+    let z : growNumber e (length (loadBytes e ds)) c 65536 ≡ 0 = rw (load-edition e ds) at (append-parts (loadBytes e ds) c 65536 (t .0) .1) in
+    taken e k (loadBytes e ds) c cs z ∙ ap (λ (y : List ℕ). gathered e (k + 1) y (map Said cs)) (sym (load-append e ds c))
+    ∙ (rw a at (gathered-all e i (k + 1) cs (ds ++ (c ∷ [])) (rw a l) (rw a b)))
 
--- The header's line says nothing.
-skipped : (s : List ℕ) (cs : List Call) → gathered 0 s (Nothing ∷ map Said cs) ≡ gathered 1 s (map Said cs)
+-- A line that says nothing may stand before them.
+skipped : (b : Bool) (e : ℕ) (s u : List ℕ) (ps : List Parsed) → ((k : ℕ) → gathered e k s ps ≡ whole u) → (k : ℕ) → gathered e k s (cond b (Nothing ∷ []) [] ++ ps) ≡ whole u
 unfolding gathered lineNumber lineBytes recordsBytes
-skipped s cs = rw append-nil
+skipped true e s u ps f k = rw append-nil (f (k + 1))
+skipped false e s u ps f k = f k
 
 pub shown-makes : ShownMakes
-unfolding made loadBytes recordsBytes
+unfolding made headingNumber loadBytes recordsBytes
 shown-makes s b z =
+    let e = editionOf s in
+    let cs = walk s 1 .calls in
     let k = load-known s z in
-    let r : s ≡ loadBytes 1 (walk s 1 .calls) = read-written s b z .0 ∙ ap (λ (e : ℕ). loadBytes e (walk s 1 .calls)) (k .1) in
-    ap (gathered 0 (1 ∷ [])) (text-read-back s b z) ∙ skipped (1 ∷ []) (walk s 1 .calls)
-    ∙ gathered-all 1 (walk s 1 .calls) [] (rw (k .1) at (read-loadable s b)) (omega (arith, ap length r, k .2)) ∙ ap whole (sym r)
+    let t = text-read-back s b z in
+    let h = heading (textOf s) in
+    let r : s ≡ loadBytes e cs = read-written s b z .0 in
+    let all : (n : ℕ) → gathered e n (e ∷ []) (map Said cs) ≡ whole s =
+    (λ n. gathered-all e (k .1) n cs [] (read-loadable s b) (omega (arith, ap length r, k .2)) ∙ ap whole (sym r)) in
+    rw (t .0, t .1, t .2, opens e [] (k .1) (omega arith)) (skipped (eqb e 1) e (e ∷ []) s (map Said cs) all (h .lines))

@@ -1,5 +1,5 @@
 -- A turn of the loop over a load's records: a line, and the ways out.
-use Prim.Native.Nat.{ℕ, zero, suc, _+_, _*_, _^_, _≤_, _<_}
+use Prim.Native.Nat.{ℕ, zero, suc, _+_, _*_, _/_, _^_, _≤_, _<_}
 use mathlib.Core.List.{List, [], _∷_, _++_}
 use mathlib.Core.Path.{_≡_, refl, sym, ap, _∙_}
 use native.Mathlib.Omega.{arith}
@@ -8,83 +8,98 @@ use lib.Dec.{leb}
 use borrow.Author.Tests.{le-leb}
 use lib.ListN.{length, length-append}
 use Rattle.numerals.specs.Laid.{Put}
+use Rattle.numerals.proofs.Going.{Going, going-start, going-step, going-as, going-none, going-last}
 use Rattle.load.specs.declared.Call.{Call}
 use Rattle.load.specs.declared.Item.the-variants.{Record, End, Refused}
-use Rattle.load.specs.Reading.{itemAt, walk, openNumber}
+use Rattle.load.specs.Format.{fieldWidths, fieldWidth, format, total, lengthIn, leastIn, leastLength}
+use Rattle.load.specs.Reading.{editionOf, itemAt, walk, openNumber}
 use Rattle.load.proofs.Reading.{walk-record, walk-end, walk-refused, step-refused, step-next, walk-few, open-known}
-use Rattle.load_text.specs.Lines.{lineOf, stopLine, stopped, linesOf, restOf, header, opened, textOf}
-use Rattle.load_text.proofs.Lines.{line-length, stop-length}
-use Rattle.numerals.proofs.Going.{Going, going-start, going-step, going-as, going-none, going-last}
+use Rattle.load_text.specs.Lines.{lineOf, stopLine, stopped, linesOf, restOf, headerOf, opened, textOf}
+use Rattle.load_text.proofs.Lines.{line-length, stop-length, header-length}
 
-module _ (s : List ℕ) (at k : ℕ) where
-  rest-end : itemAt s at ≡ End → restOf k (walk s at) ≡ []
+module _ (e : ℕ) (s : List ℕ) (at k : ℕ) where
+  rest-end : itemAt s at ≡ End → restOf e k (walk s at) ≡ []
   unfolding restOf linesOf
-  rest-end e = rw (walk-end s at e)
+  rest-end i = rw (walk-end s at i)
 
-  rest-refused : (n : ℕ) → itemAt s at ≡ Refused n → restOf k (walk s at) ≡ stopLine n k
+  rest-refused : (n : ℕ) → itemAt s at ≡ Refused n → restOf e k (walk s at) ≡ stopLine n k
   unfolding restOf linesOf
-  rest-refused n e = rw (walk-refused s at n e) (go n (step-refused s at n e))
+  rest-refused n i = rw (walk-refused s at n i) (go n (step-refused s at n i))
     where
       go : (n : ℕ) → 0 < n → stopped n k ≡ stopLine n k
       go zero h = absurd (omega arith)
       go (suc n) h = refl
 
-  rest-record : (c : Call) (next : ℕ) → itemAt s at ≡ Record c next → restOf k (walk s at) ≡ lineOf c ++ restOf (k + 1) (walk s next)
+  rest-record : (c : Call) (next : ℕ) → itemAt s at ≡ Record c next → restOf e k (walk s at) ≡ lineOf e c ++ restOf e (k + 1) (walk s next)
   unfolding restOf linesOf
-  rest-record c next e = rw (walk-record s at c next e)
+  rest-record c next i = rw (walk-record s at c next i)
 
 -- the loop's invariant
-pub record Turn (s o₀ : List ℕ) (from : ℕ) (o : List ℕ) (at k n : ℕ) : Type 0 where
+pub record Turn (e : ℕ) (s o₀ : List ℕ) (from : ℕ) (o : List ℕ) (at k n : ℕ) : Type 0 where
   pub inside : at ≤ 65536
   pub few : k ≤ at
-  pub going : Going o₀ from (restOf 1 (walk s 1)) o n (restOf k (walk s at))
+  pub going : Going o₀ from (restOf e 1 (walk s 1)) o n (restOf e k (walk s at))
 
-pub turn-start : (s o : List ℕ) (from : ℕ) → length o < 2 ^ 64 → from < 2 ^ 64 → Turn s o from o 1 1 from
-turn-start s o from h k = record { inside = omega arith; few = omega arith; going = going-start o from (restOf 1 (walk s 1)) h k }
+pub turn-start : (e : ℕ) (s o : List ℕ) (from : ℕ) → length o < 2 ^ 64 → from < 2 ^ 64 → Turn e s o from o 1 1 from
+turn-start e s o from h k = record { inside = omega arith; few = omega arith; going = going-start o from (restOf e 1 (walk s 1)) h k }
 
-module _ (s o₀ : List ℕ) (from : ℕ) (o : List ℕ) (at k n : ℕ) (t : Turn s o₀ from o at k n) (m : ℕ) (p : List ℕ) where
-  pub turn-more : length s ≤ 65536 → (c : Call) (next : ℕ) → itemAt s at ≡ Record c next → Put o n (lineOf c) m p → Turn s o₀ from p next (k + 1) m
-  turn-more l c next e z =
-      let i = step-next s at c next e in
-      record {
-        inside = omega (arith, i .1);
-        few = omega (arith, i .0, t .few);
-        going = going-step o₀ from _ o n (lineOf c) _ p m (going-as o₀ from _ o n _ _ (rest-record s at k c next e) (t .going)) z;
-      }
+module _ (e : ℕ) (s o₀ : List ℕ) (from : ℕ) (o : List ℕ) (at k n : ℕ) (t : Turn e s o₀ from o at k n) where
+  pub turn-end : itemAt s at ≡ End → Put o₀ from (restOf e 1 (walk s 1)) n o
+  turn-end i = going-none o₀ from _ o n (going-as o₀ from _ o n _ _ (rest-end e s at k i) (t .going))
 
-  pub turn-refused : (x : ℕ) → itemAt s at ≡ Refused x → Put o n (stopLine x k) m p → Put o₀ from (restOf 1 (walk s 1)) m p
-  turn-refused x e z = going-last o₀ from _ o n (stopLine x k) p m (going-as o₀ from _ o n _ _ (rest-refused s at k x e) (t .going)) z
+  module _ (m : ℕ) (p : List ℕ) where
+    pub turn-more : length s ≤ 65536 → (c : Call) (next : ℕ) → itemAt s at ≡ Record c next → Put o n (lineOf e c) m p → Turn e s o₀ from p next (k + 1) m
+    turn-more l c next i z =
+        let j = step-next s at c next i in
+        record {
+          inside = omega (arith, j .1);
+          few = omega (arith, j .0, t .few);
+          going = going-step o₀ from _ o n (lineOf e c) _ p m (going-as o₀ from _ o n _ _ (rest-record e s at k c next i) (t .going)) z;
+        }
 
-pub turn-end : (s o₀ : List ℕ) (from : ℕ) (o : List ℕ) (at k n : ℕ) → Turn s o₀ from o at k n → itemAt s at ≡ End → Put o₀ from (restOf 1 (walk s 1)) n o
-turn-end s o₀ from o at k n t e = going-none o₀ from _ o n (going-as o₀ from _ o n _ _ (rest-end s at k e) (t .going))
+    pub turn-refused : (x : ℕ) → itemAt s at ≡ Refused x → Put o n (stopLine x k) m p → Put o₀ from (restOf e 1 (walk s 1)) m p
+    turn-refused x i z = going-last o₀ from _ o n (stopLine x k) p m (going-as o₀ from _ o n _ _ (rest-refused e s at k x i) (t .going)) z
 
 -- ── the whole ──
+abbrev whole : List ℕ → List ℕ
+whole s = headerOf (editionOf s) ++ restOf (editionOf s) 1 (walk s 1)
+
 pub text-open : (s : List ℕ) (n : ℕ) → n ≡ openNumber s → (n ≡ 0 → ⊥) → stopLine n 0 ≡ textOf s
 unfolding textOf
 text-open s n p q = go (openNumber s) p
   where
-    go : (m : ℕ) → n ≡ m → stopLine n 0 ≡ opened m (restOf 1 (walk s 1))
+    go : (m : ℕ) → n ≡ m → stopLine n 0 ≡ opened m (whole s)
     go zero p = absurd (q p)
     go (suc m) p = ap (λ i. stopLine i 0) p
 
-pub text-read : (s : List ℕ) (n : ℕ) → n ≡ openNumber s → n ≡ 0 → header ++ restOf 1 (walk s 1) ≡ textOf s
+pub text-read : (s : List ℕ) (n : ℕ) → n ≡ openNumber s → n ≡ 0 → whole s ≡ textOf s
 unfolding textOf
 text-read s n p q = rw (sym p ∙ q)
 
 -- A line has at most 65 bytes, and a load at most 5,957 records.
-lines-length : (k : ℕ) (cs : List Call) (stop : ℕ) → length (linesOf k cs stop) ≤ 49 + 65 * length cs
+lines-length : (e k : ℕ) (cs : List Call) (stop : ℕ) → length (linesOf e k cs stop) ≤ 49 + 65 * length cs
 unfolding linesOf
-lines-length k [] zero = omega arith
-lines-length k [] (suc n) = omega (arith, stop-length (suc n) k)
-lines-length k (c ∷ cs) stop = omega (arith, length-append (lineOf c) (linesOf (k + 1) cs stop), line-length c, lines-length (k + 1) cs stop)
+lines-length e k [] zero = omega arith
+lines-length e k [] (suc n) = omega (arith, stop-length (suc n) k)
+lines-length e k (c ∷ cs) stop = omega (arith, length-append (lineOf e c) (linesOf e (k + 1) cs stop), line-length e c, lines-length e (k + 1) cs stop)
+
+least : leastLength ≡ 11
+unfolding leastLength leastIn format lengthIn total fieldWidth fieldWidths
+least = refl
 
 text-length : (s : List ℕ) → length (textOf s) ≤ 387266
 unfolding textOf restOf
 text-length s = go (openNumber s) refl
   where
-    go : (m : ℕ) → openNumber s ≡ m → length (opened m (linesOf 1 (walk s 1 .calls) (walk s 1 .stop))) ≤ 387266
-    go zero e = omega (arith, open-known s e .2, walk-few s 1, lines-length 1 (walk s 1 .calls) (walk s 1 .stop))
-    go (suc m) e = omega (arith, stop-length (suc m) 0)
+    e : ℕ
+    e = editionOf s
+
+    go : (m : ℕ) → openNumber s ≡ m → length (opened m (headerOf e ++ linesOf e 1 (walk s 1 .calls) (walk s 1 .stop))) ≤ 387266
+    go zero z =
+        let o = open-known s z in
+        let f : length (walk s 1 .calls) ≤ length s / 11 = rw least at (walk-few s 1) in
+        omega (arith, o .2, f, header-length e (o .1), length-append (headerOf e) (linesOf e 1 (walk s 1 .calls) (walk s 1 .stop)), lines-length e 1 (walk s 1 .calls) (walk s 1 .stop))
+    go (suc m) z = omega (arith, stop-length (suc m) 0)
 
 pub text-short : (s : List ℕ) → length (textOf s) < 2 ^ 64
 text-short s = omega (arith, text-length s)

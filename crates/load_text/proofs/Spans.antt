@@ -7,14 +7,14 @@ use native.Mathlib.Nat.{two-pow-succ, sub-zero}
 use native.Mathlib.Numerals.{add-one}
 use native.Mathlib.Omega.{arith}
 use lib.Dec.{leb}
-use lib.ListN.{length, getD, take, drop, drop-of-length-le, length-drop}
+use lib.ListN.{length, take, drop, drop-of-length-le, length-drop}
 use lib.Seq.{drop-cons, take-all}
 use lib.Pow.{pow-mono}
-use borrow.Author.Tests.{eq-eqb, ne-eqb, le-leb, lt-leb, lt-ltb, le-ltb}
+use borrow.Author.Tests.{le-leb, lt-leb, lt-ltb, le-ltb}
 use Rattle.groups.specs.Groups.{setFrom, union}
 use Rattle.load_text.specs.declared.words.Field.{Field}
 use Rattle.load_text.specs.declared.words.Field.the-variants.{Value, Wrong}
-use Rattle.load_text.specs.Parsing.{until, since, placeOf, parts, isComma, isDash, isList, span, groupIn, upTo, rangeIn, itemIn, itemsIn, joined, withItems, wordAt, numberIn, groupsIn}
+use Rattle.load_text.specs.Parsing.{until, since, none, placeOf, parts, isComma, isDash, isJoint, isList, span, groupIn, upTo, rangeIn, itemIn, itemsIn, joined, withItems, wordAt, numberIn, groupsIn}
 use Rattle.load_text.specs.Reasons.{noGroups, tooLarge, backward}
 use Rattle.load_text.proofs.Parts.{until-take, since-drop, parts-cut}
 
@@ -37,7 +37,7 @@ module _ (low high : ℕ) where
   set-behind zero g h q = refl
   set-behind (suc k) g h q = rw (between-high g h q, set-behind k (suc g) (omega arith) (omega arith))
 
-  -- The group behind `high` is j groups from g on.
+  -- The group after `high` is j groups from g on.
   set-inside : (k g j : ℕ) → low ≤ g → g + j ≡ suc high → j ≤ k → setFrom k g between + 1 ≡ 2 ^ j
   unfolding setFrom
   set-inside k g zero h b q = rw (set-behind k g h (omega arith))
@@ -71,25 +71,6 @@ module _ (low high : ℕ) where
 pub shifted : (g : ℕ) → g ≤ 63 → 1 * 2 ^ g % 18446744073709551616 ≡ 2 ^ g
 shifted g k = let p : 2 ^ g ≤ 9223372036854775808 = pow-mono k in omega arith
 
--- ── a word as a list ──
-module _ (w : List ℕ) (i : ℕ) where
-  pub list-end : length w ≤ i → isList (drop i w) ≡ false
-  unfolding isList
-  list-end h = rw (drop-of-length-le w h)
-
-  module _ (h : i < length w) where
-    pub list-comma : getD w i 0 ≡ 44 → isList (drop i w) ≡ true
-    unfolding isList
-    list-comma e = rw (drop-cons w i 0 h, eq-eqb (getD w i 0) 44 e)
-
-    pub list-dash : (getD w i 0 ≡ 44 → ⊥) → getD w i 0 ≡ 45 → isList (drop i w) ≡ true
-    unfolding isList
-    list-dash e f = rw (drop-cons w i 0 h, ne-eqb (getD w i 0) 44 e, eq-eqb (getD w i 0) 45 f)
-
-    pub list-on : (getD w i 0 ≡ 44 → ⊥) → (getD w i 0 ≡ 45 → ⊥) → isList (drop i w) ≡ isList (drop (i + 1) w)
-    unfolding isList
-    list-on e f = rw (drop-cons w i 0 h, ne-eqb (getD w i 0) 44 e, ne-eqb (getD w i 0) 45 f, add-one)
-
 -- ── a range ──
 module _ (low : ℕ) (f : Field) where
   pub up-backward : (high : ℕ) → f ≡ Value high → high < low → Wrong backward ≡ upTo low f
@@ -101,7 +82,7 @@ module _ (low : ℕ) (f : Field) where
   pub up-wrong : (n : ℕ) → f ≡ Wrong n → Wrong n ≡ upTo low f
   up-wrong n e = rw e
 
--- ── an item: the group before the dash, and what stands behind it ──
+-- ── an item: the group before the dash, and what stands after it ──
 module _ (w : List ℕ) (end : ℕ) (e : end ≡ placeOf isDash w 0) (f : Field) (r : f ≡ groupIn (take end w)) where
   item-from : itemIn w ≡ rangeIn f (drop end w)
   unfolding itemIn
@@ -147,10 +128,11 @@ module _ (w : List ℕ) (at end s : ℕ) (h : at < length w) (e : end ≡ placeO
         items-wrong n rest ∙ sym (ap (withItems (Value s)) cut ∙ ap (λ x. withItems (joined s x) rest) (sym r ∙ k))
 
 -- ── a set ──
-pub groups-list : (w : List ℕ) → isList w ≡ true → withItems (Value 0) (itemsIn w) ≡ groupsIn w
-unfolding groupsIn
-groups-list w e = rw e
+module _ (w : List ℕ) where
+  pub groups-list : none isJoint w ≡ false → withItems (Value 0) (itemsIn w) ≡ groupsIn w
+  unfolding groupsIn isList
+  groups-list e = rw e
 
-pub groups-hex : (w : List ℕ) → isList w ≡ false → numberIn 16 18446744073709551615 noGroups tooLarge w ≡ groupsIn w
-unfolding groupsIn
-groups-hex w e = rw e
+  pub groups-hex : none isJoint w ≡ true → numberIn 16 18446744073709551615 noGroups tooLarge w ≡ groupsIn w
+  unfolding groupsIn isList
+  groups-hex e = rw e

@@ -1,21 +1,27 @@
 -- The values of a call that a line says are within their types, and a line that says none has a reason from 101 on.
-use Prim.Native.Nat.{ℕ, zero, suc, _+_, _*_, _^_, _≤_, _<_}
+use Prim.Native.Nat.{ℕ, zero, suc, _+_, _-_, _*_, _^_, _≤_, _<_}
 use mathlib.Core.Bool.{Bool, true, false, _&&_, _||_, cond}
 use mathlib.Core.List.{List, [], _∷_}
 use mathlib.Core.Path.{_≡_, refl}
 use native.Mathlib.Omega.{arith}
-use lib.Dec.{leb, ltb}
-use native.Mathlib.Nat.{two-pow-succ}
-use borrow.Author.Tests.{leb-true}
+use lib.Dec.{leb, ltb, eqb}
+use lib.ListN.{List·getD-eq-default}
+use native.Mathlib.Nat.{two-pow-succ, one-le-pow}
+use borrow.Author.Tests.{leb-true, ltb-true, ltb-false, eqb-true}
 use Rattle.groups.specs.Groups.{setFrom, union, has}
 use Rattle.load.specs.declared.Call.{Call}
-use Rattle.load.specs.declared.Call.the-variants.{Release, Withdraw}
+use Rattle.load.specs.Format.{theGroups, fieldWidths, fieldWidth, fieldsOf}
+use Rattle.load.specs.Calls.{made, valueOf, withValue, bare}
 use Rattle.load.specs.RoundTrip.{Typed}
+use Rattle.load.proofs.Format.{allBelow, below-passes}
+use Rattle.load.proofs.Calls.{value-same, value-other, with-none, typed-call}
 use Rattle.load_text.specs.declared.parse.Parsed.{Parsed}
 use Rattle.load_text.specs.declared.parse.Parsed.the-variants.{Nothing, Said, Bad}
 use Rattle.load_text.specs.declared.words.Field.{Field}
 use Rattle.load_text.specs.declared.words.Field.the-variants.{Value, Wrong}
-use Rattle.load_text.specs.Parsing.{until, since, isDash, isList, isWord, isNumber, valueIn, numberIn, groupIn, span, upTo, rangeIn, itemIn, itemsIn, withItem, withItems, joined, groupsIn, clockIn, ticketIn, lengthIn, withField, rigIn, clockCallIn, leaveIn, claimIn, callOf, callIn, wordsIn, said, lineSays, ReasonsApart}
+use Rattle.load_text.specs.Parsing.{until, since, isDash, isList, isNumber, valueIn, numberIn, groupIn, span, upTo, rangeIn, itemIn, itemsIn, withItem, withItems, joined, groupsIn, noNumbers, noNumber, fieldIn, withField, filledIn, kindNamed, kindSays, callIn, wordsIn, said, lineSays, ReasonsApart}
+use Rattle.load_text.specs.Reasons.{unknown, tooLarge}
+use Rattle.load_text.proofs.Tables.{kind-below}
 
 -- ── fields ──
 abbrev Under : ℕ → Field → Type 0
@@ -88,14 +94,28 @@ groups-under : (w : List ℕ) → Under 18446744073709551615 (groupsIn w)
 unfolding groupsIn
 groups-under w = under-cond _ (isList w) _ _ (items-under (Value 0) (itemsIn w) (omega arith)) (number-under 16 _ _ _ w (omega arith) (omega arith))
 
-clock-under : (w : List ℕ) → Under 18446744073709551615 (clockIn w)
-clock-under w = number-under 10 _ _ _ w (omega arith) (omega arith)
+-- The reason of a field is one, and so is what is told of a field's number.
+no-number-apart : (f : ℕ) → 101 ≤ noNumber f
+unfolding noNumber noNumbers allBelow
+no-number-apart f = go (ltb f 5) refl
+  where
+    go : (b : Bool) → ltb f 5 ≡ b → 101 ≤ noNumber f
+    go true e = leb-true 101 (noNumber f) (below-passes 5 (λ i. leb 101 (noNumber i)) refl f (ltb-true f 5 e))
+    go false e = omega (arith, List·getD-eq-default noNumbers unknown (ltb-false f 5 e))
 
-ticket-under : (w : List ℕ) → Under 65535 (ticketIn w)
-ticket-under w = number-under 10 _ _ _ w (omega arith) (omega arith)
+field-under : (f : ℕ) (w : List ℕ) → Under (256 ^ fieldWidth f - 1) (fieldIn f w)
+unfolding fieldIn fieldWidth fieldWidths
+field-under f w = go (eqb f theGroups) refl
+  where
+    go : (b : Bool) → eqb f theGroups ≡ b → Under (256 ^ fieldWidth f - 1) (cond b (groupsIn w) (numberIn 10 (256 ^ fieldWidth f - 1) (noNumber f) tooLarge w))
+    go true e = rw (eqb-true f theGroups e) (groups-under w)
+    go false e = number-under 10 _ _ _ w (no-number-apart f) (omega arith)
 
-length-under : (w : List ℕ) → Under 4294967295 (lengthIn w)
-length-under w = number-under 10 _ _ _ w (omega arith) (omega arith)
+-- What is read goes into the field.
+pub field-fits : (f v : ℕ) (w : List ℕ) → fieldIn f w ≡ Value v → v < 256 ^ fieldWidth f
+field-fits f v w e =
+    let u : v ≤ 256 ^ fieldWidth f - 1 = rw e at (field-under f w) in
+    omega (arith, one-le-pow (fieldWidth f) 256 (omega arith))
 
 -- ── calls ──
 abbrev Within : Parsed → Type 0
@@ -103,59 +123,40 @@ Within Nothing = 0 ≤ 0
 Within (Said c) = Typed c
 Within (Bad n) = 101 ≤ n
 
-within-cond : (t : Bool) (p q : Parsed) → Within p → Within q → Within (cond t p q)
-within-cond true p q h k = h
-within-cond false p q h k = k
+typed-with : (f v : ℕ) (c : Call) → v < 256 ^ fieldWidth f → Typed c → Typed (withValue f v c)
+typed-with f v c h t g = go (eqb g f) (ltb f 5) refl refl
+  where
+    go : (a b : Bool) → eqb g f ≡ a → ltb f 5 ≡ b → valueOf g (withValue f v c) < 256 ^ fieldWidth g
+    go true true p q = rw (eqb-true g f p, value-same f v c (ltb-true f 5 q)) h
+    go true false p q = rw (← (with-none f v c (ltb-false f 5 q))) (t g)
+    go false b p q = rw (value-other g f v c p) (t g)
 
-within-field : (most : ℕ) (f : Field) (g : ℕ → Parsed) → Under most f → ((v : ℕ) → v ≤ most → Within (g v)) → Within (withField f g)
-within-field most (Value v) g h k = k v h
-within-field most (Wrong n) g h k = h
+with-within : (f : ℕ) (x : Field) (p : Parsed) → Under (256 ^ fieldWidth f - 1) x → Within p → Within (withField f x p)
+with-within f (Value v) (Said c) u h = typed-with f v c (omega (arith, one-le-pow (fieldWidth f) 256 (omega arith))) h
+with-within f (Wrong n) (Said c) u h = u
+with-within f x Nothing u h = h
+with-within f x (Bad n) u h = h
 
-rig-within : (ws : List (List ℕ)) → Within (rigIn ws)
-unfolding rigIn
-rig-within [] = omega arith
-rig-within (g ∷ []) = within-field _ (groupsIn g) _ (groups-under g) (λ s h. omega arith)
-rig-within (g ∷ a ∷ ws) = omega arith
+fill-within : (fs : List ℕ) (ws : List (List ℕ)) (p : Parsed) → Within p → Within (filledIn fs ws p)
+unfolding filledIn
+fill-within [] [] p h = h
+fill-within [] (w ∷ ws) p h = omega arith
+fill-within (f ∷ fs) [] p h = omega arith
+fill-within (f ∷ fs) (w ∷ ws) p h = fill-within fs ws (withField f (fieldIn f w) p) (with-within f (fieldIn f w) p (field-under f w) h)
 
-clock-within : (ws : List (List ℕ)) → Within (clockCallIn ws)
-unfolding clockCallIn
-clock-within [] = omega arith
-clock-within (t ∷ []) = within-field _ (clockIn t) _ (clock-under t) (λ s h. omega arith)
-clock-within (t ∷ a ∷ ws) = omega arith
+call-within : (e : ℕ) (ws : List (List ℕ)) → Within (callIn e ws)
+unfolding callIn bare made
+call-within e [] = omega arith
+call-within e (k ∷ ws) = go (kindNamed e k) (kind-below e k)
+  where
+    go : (n : ℕ) → n < 256 → Within (kindSays e n ws)
+    go zero h = omega arith
+    go (suc n) h = fill-within (fieldsOf e (suc n)) ws (Said (bare (suc n))) (typed-call (bare (suc n)) h (omega arith) (omega arith) (omega arith) (omega arith))
 
-leave-within : (f : ℕ → ℕ → Call) → ((c n : ℕ) → c < 2 ^ 64 → n < 2 ^ 16 → Typed (f c n)) → (ws : List (List ℕ)) → Within (leaveIn f ws)
-unfolding leaveIn
-leave-within f k [] = omega arith
-leave-within f k (t ∷ []) = omega arith
-leave-within f k (t ∷ n ∷ []) =
-    within-field _ (clockIn t) _ (clock-under t) (λ c h. within-field _ (ticketIn n) _ (ticket-under n) (λ m l. k c m (omega arith) (omega arith)))
-leave-within f k (t ∷ n ∷ a ∷ ws) = omega arith
-
-claim-within : (ws : List (List ℕ)) → Within (claimIn ws)
-unfolding claimIn
-claim-within [] = omega arith
-claim-within (t ∷ []) = omega arith
-claim-within (t ∷ g ∷ []) = omega arith
-claim-within (t ∷ g ∷ n ∷ []) =
-    within-field _ (clockIn t) _ (clock-under t) (λ c h.
-    within-field _ (groupsIn g) _ (groups-under g) (λ s i.
-    within-field _ (lengthIn n) _ (length-under n) (λ l j. (omega arith, omega arith, omega arith))))
-claim-within (t ∷ g ∷ n ∷ a ∷ ws) = omega arith
-
-call-within : (ws : List (List ℕ)) → Within (callIn ws)
-unfolding callIn callOf
-call-within [] = omega arith
-call-within (k ∷ ws) =
-    within-cond (isWord k _) _ _ (rig-within ws)
-    (within-cond (isWord k _) _ _ (claim-within ws)
-    (within-cond (isWord k _) _ _ (leave-within Release (λ c n h l. (h, l)) ws)
-    (within-cond (isWord k _) _ _ (leave-within Withdraw (λ c n h l. (h, l)) ws)
-    (within-cond (isWord k _) _ _ (clock-within ws) (omega arith)))))
-
-pub says-typed : (l : List ℕ) (c : Call) → lineSays l ≡ Said c → Typed c
+pub says-typed : (e : ℕ) (l : List ℕ) (c : Call) → lineSays e l ≡ Said c → Typed c
 unfolding lineSays
-says-typed l c e = rw e at (call-within (wordsIn (said l)))
+says-typed e l c i = rw i at (call-within e (wordsIn (said l)))
 
 pub reasons-apart : ReasonsApart
 unfolding lineSays
-reasons-apart l n e = rw e at (call-within (wordsIn (said l)))
+reasons-apart e l n i = rw i at (call-within e (wordsIn (said l)))

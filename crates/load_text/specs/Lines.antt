@@ -1,17 +1,19 @@
 -- Calls and loads as text. Bytes are ASCII: 10 is a line feed, 32 a space.
 use Prim.Native.Nat.{ℕ, zero, suc, _+_, _/_, _%_}
 use mathlib.Core.Bool.{cond}
-use mathlib.Core.List.{List, [], _∷_, _++_}
+use mathlib.Core.List.{List, [], _∷_, _++_, map}
 use lib.Dec.{ltb, eqb}
-use lib.ListN.{length}
+use lib.ListN.{length, getD}
 use Rattle.numerals.specs.Digits.{decimalOf, column, pair}
 use Rattle.numerals.specs.Laid.{spaceNumber}
 use Rattle.load.specs.declared.Call.{Call}
-use Rattle.load.specs.declared.Call.the-variants.{Rig, Claim, Release, Withdraw, Clock}
-use Rattle.load.specs.Reading.{Walk, walk, openNumber}
+use Rattle.load.specs.Format.{theGroups, Row, row, format, nameOf, fieldsOf}
+use Rattle.load.specs.Calls.{valueOf}
+use Rattle.load.specs.Reading.{editionOf, Walk, walk, openNumber}
 use Rattle.load_text.specs.declared.print.Printed.{Printed}
 use Rattle.load_text.specs.declared.print.Printed.the-variants.{Length, Refusal}
-use Rattle.load_text.specs.Reasons.{unknown, missing, tooMany, noClock, noTicket, noLength, noGroups, tooLarge, over63, backward, misfit, overlong}
+use Rattle.load_text.specs.Parsing.{placeOf, is}
+use Rattle.load_text.specs.Reasons.{unknown, missing, tooMany, noClock, noTicket, noLength, noGroups, tooLarge, over63, backward, noEdition, misfit, overlong}
 
 -- the lowest digit of v in base 16: 0 to 9, A to F
 unfoldable pub glyphOf : ℕ → ℕ
@@ -22,17 +24,18 @@ unfoldable pub hexUpTo : ℕ → ℕ → List ℕ
 hexUpTo zero v = glyphOf v ∷ []
 hexUpTo (suc k) v = cond (ltb v 16) (glyphOf v ∷ []) (hexUpTo k (v / 16) ++ (glyphOf v ∷ []))
 
--- a set of groups
-unfoldable pub setOf : ℕ → ℕ → List ℕ
-setOf g b = hexUpTo 15 g ++ (b ∷ [])
+-- a value as a word: a set of groups in hex, any other in decimal
+unfoldable pub wordOf : ℕ → ℕ → List ℕ
+wordOf f v = cond (eqb f theGroups) (hexUpTo 15 v) (decimalOf v)
 
--- "rig ", "claim ", "release ", "withdraw ", "clock "
-unfoldable pub lineOf : Call → List ℕ
-lineOf (Rig g) = (114 ∷ 105 ∷ 103 ∷ 32 ∷ []) ++ setOf g 10
-lineOf (Claim c g l) = (99 ∷ 108 ∷ 97 ∷ 105 ∷ 109 ∷ 32 ∷ []) ++ (column c 32 ++ (setOf g 32 ++ column l 10))
-lineOf (Release c t) = (114 ∷ 101 ∷ 108 ∷ 101 ∷ 97 ∷ 115 ∷ 101 ∷ 32 ∷ []) ++ pair c t 10
-lineOf (Withdraw c t) = (119 ∷ 105 ∷ 116 ∷ 104 ∷ 100 ∷ 114 ∷ 97 ∷ 119 ∷ 32 ∷ []) ++ pair c t 10
-lineOf (Clock c) = (99 ∷ 108 ∷ 111 ∷ 99 ∷ 107 ∷ 32 ∷ []) ++ column c 10
+-- fields of a call, each after a space, and a line feed
+unfoldable pub fieldsText : List ℕ → Call → List ℕ
+fieldsText [] c = 10 ∷ []
+fieldsText (f ∷ fs) c = (32 ∷ []) ++ (wordOf f (valueOf f c) ++ fieldsText fs c)
+
+-- the kind's name and the fields that it has in edition e
+unfoldable pub lineOf : ℕ → Call → List ℕ
+lineOf e c = nameOf e (c .kind) ++ fieldsText (fieldsOf e (c .kind)) c
 
 -- "# stop "
 unfoldable pub stopLine : ℕ → ℕ → List ℕ
@@ -44,54 +47,83 @@ stopped zero k = []
 stopped (suc n) k = stopLine (suc n) k
 
 -- the lines from record k on
-unfoldable pub linesOf : ℕ → List Call → ℕ → List ℕ
-linesOf k [] stop = stopped stop k
-linesOf k (c ∷ cs) stop = lineOf c ++ linesOf (k + 1) cs stop
+unfoldable pub linesOf : ℕ → ℕ → List Call → ℕ → List ℕ
+linesOf e k [] stop = stopped stop k
+linesOf e k (c ∷ cs) stop = lineOf e c ++ linesOf e (k + 1) cs stop
 
-unfoldable pub restOf : ℕ → Walk → List ℕ
-restOf k w = linesOf k (w .calls) (w .stop)
+unfoldable pub restOf : ℕ → ℕ → Walk → List ℕ
+restOf e k w = linesOf e k (w .calls) (w .stop)
 
--- "# edition 1"
-abbrev pub header : List ℕ
-header = 35 ∷ 32 ∷ 101 ∷ 100 ∷ 105 ∷ 116 ∷ 105 ∷ 111 ∷ 110 ∷ 32 ∷ 49 ∷ 10 ∷ []
+-- "# edition 1" for edition 1, "edition " and its number for any other
+unfoldable pub headerOf : ℕ → List ℕ
+headerOf e =
+    cond (eqb e 1)
+    (35 ∷ 32 ∷ 101 ∷ 100 ∷ 105 ∷ 116 ∷ 105 ∷ 111 ∷ 110 ∷ 32 ∷ 49 ∷ 10 ∷ [])
+    ((101 ∷ 100 ∷ 105 ∷ 116 ∷ 105 ∷ 111 ∷ 110 ∷ 32 ∷ []) ++ column e 10)
 
 abbrev pub opened : ℕ → List ℕ → List ℕ
-opened zero t = header ++ t
+opened zero t = t
 opened (suc n) t = stopLine (suc n) 0
 
 -- the text of a load
 unfoldable pub textOf : List ℕ → List ℕ
-textOf s = opened (openNumber s) (restOf 1 (walk s 1))
+textOf s = opened (openNumber s) (headerOf (editionOf s) ++ restOf (editionOf s) 1 (walk s 1))
 
--- what is wrong with a line, by its number
-unfoldable pub reasonText : ℕ → List ℕ
-reasonText n =
+-- what is wrong with a line: a number and its text
+pub record Reason : Type 0 where
+  pub number : ℕ
+  pub text : List ℕ
+
+abbrev pub reason : ℕ → List ℕ → Reason
+reason number text = record { number = number; text = text }
+
+unfoldable pub reasons : List Reason
+reasons =
     -- "unknown call"
-    cond (eqb n unknown) (117 ∷ 110 ∷ 107 ∷ 110 ∷ 111 ∷ 119 ∷ 110 ∷ 32 ∷ 99 ∷ 97 ∷ 108 ∷ 108 ∷ 10 ∷ [])
+    reason unknown (117 ∷ 110 ∷ 107 ∷ 110 ∷ 111 ∷ 119 ∷ 110 ∷ 32 ∷ 99 ∷ 97 ∷ 108 ∷ 108 ∷ 10 ∷ [])
     -- "a number is missing"
-    (cond (eqb n missing) (97 ∷ 32 ∷ 110 ∷ 117 ∷ 109 ∷ 98 ∷ 101 ∷ 114 ∷ 32 ∷ 105 ∷ 115 ∷ 32 ∷ 109 ∷ 105 ∷ 115 ∷ 115 ∷ 105 ∷ 110 ∷ 103 ∷ 10 ∷ [])
+    ∷ reason missing (97 ∷ 32 ∷ 110 ∷ 117 ∷ 109 ∷ 98 ∷ 101 ∷ 114 ∷ 32 ∷ 105 ∷ 115 ∷ 32 ∷ 109 ∷ 105 ∷ 115 ∷ 115 ∷ 105 ∷ 110 ∷ 103 ∷ 10 ∷ [])
     -- "too many words"
-    (cond (eqb n tooMany) (116 ∷ 111 ∷ 111 ∷ 32 ∷ 109 ∷ 97 ∷ 110 ∷ 121 ∷ 32 ∷ 119 ∷ 111 ∷ 114 ∷ 100 ∷ 115 ∷ 10 ∷ [])
+    ∷ reason tooMany (116 ∷ 111 ∷ 111 ∷ 32 ∷ 109 ∷ 97 ∷ 110 ∷ 121 ∷ 32 ∷ 119 ∷ 111 ∷ 114 ∷ 100 ∷ 115 ∷ 10 ∷ [])
     -- "clock is not a number"
-    (cond (eqb n noClock) (99 ∷ 108 ∷ 111 ∷ 99 ∷ 107 ∷ 32 ∷ 105 ∷ 115 ∷ 32 ∷ 110 ∷ 111 ∷ 116 ∷ 32 ∷ 97 ∷ 32 ∷ 110 ∷ 117 ∷ 109 ∷ 98 ∷ 101 ∷ 114 ∷ 10 ∷ [])
+    ∷ reason noClock (99 ∷ 108 ∷ 111 ∷ 99 ∷ 107 ∷ 32 ∷ 105 ∷ 115 ∷ 32 ∷ 110 ∷ 111 ∷ 116 ∷ 32 ∷ 97 ∷ 32 ∷ 110 ∷ 117 ∷ 109 ∷ 98 ∷ 101 ∷ 114 ∷ 10 ∷ [])
     -- "ticket is not a number"
-    (cond (eqb n noTicket) (116 ∷ 105 ∷ 99 ∷ 107 ∷ 101 ∷ 116 ∷ 32 ∷ 105 ∷ 115 ∷ 32 ∷ 110 ∷ 111 ∷ 116 ∷ 32 ∷ 97 ∷ 32 ∷ 110 ∷ 117 ∷ 109 ∷ 98 ∷ 101 ∷ 114 ∷ 10 ∷ [])
+    ∷ reason noTicket (116 ∷ 105 ∷ 99 ∷ 107 ∷ 101 ∷ 116 ∷ 32 ∷ 105 ∷ 115 ∷ 32 ∷ 110 ∷ 111 ∷ 116 ∷ 32 ∷ 97 ∷ 32 ∷ 110 ∷ 117 ∷ 109 ∷ 98 ∷ 101 ∷ 114 ∷ 10 ∷ [])
     -- "length is not a number"
-    (cond (eqb n noLength) (108 ∷ 101 ∷ 110 ∷ 103 ∷ 116 ∷ 104 ∷ 32 ∷ 105 ∷ 115 ∷ 32 ∷ 110 ∷ 111 ∷ 116 ∷ 32 ∷ 97 ∷ 32 ∷ 110 ∷ 117 ∷ 109 ∷ 98 ∷ 101 ∷ 114 ∷ 10 ∷ [])
+    ∷ reason noLength (108 ∷ 101 ∷ 110 ∷ 103 ∷ 116 ∷ 104 ∷ 32 ∷ 105 ∷ 115 ∷ 32 ∷ 110 ∷ 111 ∷ 116 ∷ 32 ∷ 97 ∷ 32 ∷ 110 ∷ 117 ∷ 109 ∷ 98 ∷ 101 ∷ 114 ∷ 10 ∷ [])
     -- "groups are not hex or a list"
-    (cond (eqb n noGroups) (103 ∷ 114 ∷ 111 ∷ 117 ∷ 112 ∷ 115 ∷ 32 ∷ 97 ∷ 114 ∷ 101 ∷ 32 ∷ 110 ∷ 111 ∷ 116 ∷ 32 ∷ 104 ∷ 101 ∷ 120 ∷ 32 ∷ 111 ∷ 114 ∷ 32 ∷ 97 ∷ 32 ∷ 108 ∷ 105 ∷ 115 ∷ 116 ∷ 10 ∷ [])
+    ∷ reason noGroups (103 ∷ 114 ∷ 111 ∷ 117 ∷ 112 ∷ 115 ∷ 32 ∷ 97 ∷ 114 ∷ 101 ∷ 32 ∷ 110 ∷ 111 ∷ 116 ∷ 32 ∷ 104 ∷ 101 ∷ 120 ∷ 32 ∷ 111 ∷ 114 ∷ 32 ∷ 97 ∷ 32 ∷ 108 ∷ 105 ∷ 115 ∷ 116 ∷ 10 ∷ [])
     -- "number too large"
-    (cond (eqb n tooLarge) (110 ∷ 117 ∷ 109 ∷ 98 ∷ 101 ∷ 114 ∷ 32 ∷ 116 ∷ 111 ∷ 111 ∷ 32 ∷ 108 ∷ 97 ∷ 114 ∷ 103 ∷ 101 ∷ 10 ∷ [])
+    ∷ reason tooLarge (110 ∷ 117 ∷ 109 ∷ 98 ∷ 101 ∷ 114 ∷ 32 ∷ 116 ∷ 111 ∷ 111 ∷ 32 ∷ 108 ∷ 97 ∷ 114 ∷ 103 ∷ 101 ∷ 10 ∷ [])
     -- "group over 63"
-    (cond (eqb n over63) (103 ∷ 114 ∷ 111 ∷ 117 ∷ 112 ∷ 32 ∷ 111 ∷ 118 ∷ 101 ∷ 114 ∷ 32 ∷ 54 ∷ 51 ∷ 10 ∷ [])
+    ∷ reason over63 (103 ∷ 114 ∷ 111 ∷ 117 ∷ 112 ∷ 32 ∷ 111 ∷ 118 ∷ 101 ∷ 114 ∷ 32 ∷ 54 ∷ 51 ∷ 10 ∷ [])
     -- "range runs backward"
-    (cond (eqb n backward) (114 ∷ 97 ∷ 110 ∷ 103 ∷ 101 ∷ 32 ∷ 114 ∷ 117 ∷ 110 ∷ 115 ∷ 32 ∷ 98 ∷ 97 ∷ 99 ∷ 107 ∷ 119 ∷ 97 ∷ 114 ∷ 100 ∷ 10 ∷ [])
+    ∷ reason backward (114 ∷ 97 ∷ 110 ∷ 103 ∷ 101 ∷ 32 ∷ 114 ∷ 117 ∷ 110 ∷ 115 ∷ 32 ∷ 98 ∷ 97 ∷ 99 ∷ 107 ∷ 119 ∷ 97 ∷ 114 ∷ 100 ∷ 10 ∷ [])
+    -- "unknown edition"
+    ∷ reason noEdition (117 ∷ 110 ∷ 107 ∷ 110 ∷ 111 ∷ 119 ∷ 110 ∷ 32 ∷ 101 ∷ 100 ∷ 105 ∷ 116 ∷ 105 ∷ 111 ∷ 110 ∷ 10 ∷ [])
     -- "rig must be first"
-    (cond (eqb n misfit) (114 ∷ 105 ∷ 103 ∷ 32 ∷ 109 ∷ 117 ∷ 115 ∷ 116 ∷ 32 ∷ 98 ∷ 101 ∷ 32 ∷ 102 ∷ 105 ∷ 114 ∷ 115 ∷ 116 ∷ 10 ∷ [])
+    ∷ reason misfit (114 ∷ 105 ∷ 103 ∷ 32 ∷ 109 ∷ 117 ∷ 115 ∷ 116 ∷ 32 ∷ 98 ∷ 101 ∷ 32 ∷ 102 ∷ 105 ∷ 114 ∷ 115 ∷ 116 ∷ 10 ∷ [])
     -- "load over 65,536 bytes"
-    (cond (eqb n overlong) (108 ∷ 111 ∷ 97 ∷ 100 ∷ 32 ∷ 111 ∷ 118 ∷ 101 ∷ 114 ∷ 32 ∷ 54 ∷ 53 ∷ 44 ∷ 53 ∷ 51 ∷ 54 ∷ 32 ∷ 98 ∷ 121 ∷ 116 ∷ 101 ∷ 115 ∷ 10 ∷ [])
-    -- "not written"
-    (110 ∷ 111 ∷ 116 ∷ 32 ∷ 119 ∷ 114 ∷ 105 ∷ 116 ∷ 116 ∷ 101 ∷ 110 ∷ 10 ∷ []))))))))))))
+    ∷ reason overlong (108 ∷ 111 ∷ 97 ∷ 100 ∷ 32 ∷ 111 ∷ 118 ∷ 101 ∷ 114 ∷ 32 ∷ 54 ∷ 53 ∷ 44 ∷ 53 ∷ 51 ∷ 54 ∷ 32 ∷ 98 ∷ 121 ∷ 116 ∷ 101 ∷ 115 ∷ 10 ∷ [])
+    ∷ []
+
+-- "not written", for a number that has no text
+abbrev pub notWritten : List ℕ
+notWritten = 110 ∷ 111 ∷ 116 ∷ 32 ∷ 119 ∷ 114 ∷ 105 ∷ 116 ∷ 116 ∷ 101 ∷ 110 ∷ 10 ∷ []
+
+unfoldable pub reasonTexts : List (List ℕ)
+reasonTexts = map (λ r. r .text) reasons ++ (notWritten ∷ [])
+
+unfoldable pub reasonText : ℕ → List ℕ
+reasonText n = getD reasonTexts (placeOf (is n) (map (λ r. r .number) reasons) 0) []
+
+-- a row of the format, from 0 on
+abbrev pub rowAt : ℕ → Row
+rowAt i = getD format i (row 0 0 [] [])
+
+-- the texts of the code's table: the names of the format's rows, none for a kind that there is not, and those of the reasons
+unfoldable pub texts : List (List ℕ)
+texts = map (λ r. r .name) format ++ ([] ∷ reasonTexts)
 
 -- "line ", the line's number, ": ", and what is wrong
 unfoldable pub reportOf : ℕ → ℕ → List ℕ

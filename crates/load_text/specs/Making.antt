@@ -2,17 +2,61 @@
 use Prim.Native.Nat.{ℕ, zero, suc, _+_, _≤_}
 use mathlib.Core.List.{List, [], _∷_, _++_, map}
 use mathlib.Core.Path.{_≡_}
-use lib.ListN.{length, take}
+use lib.ListN.{length, take, drop}
 use Rattle.numerals.specs.Laid.{laid, spaceNumber, lentOut}
 use Rattle.load.specs.declared.Call.{Call}
 use Rattle.load.specs.declared.Written.{Written}
 use Rattle.load.specs.Bytes.{recordsBytes}
-use Rattle.load.specs.Reading.{loadNumber, walk, orElse}
+use Rattle.load.specs.Reading.{editionOf, openNumber, loadNumber, walk, orElse}
 use Rattle.load.specs.Writing.{growNumber, answered, lent}
 use Rattle.load_text.specs.declared.Made.{Made}
 use Rattle.load_text.specs.declared.Made.the-variants.{Load, Mistake}
+use Rattle.load_text.specs.declared.Start.{Start}
+use Rattle.load_text.specs.declared.parse.Head.{Head}
+use Rattle.load_text.specs.declared.parse.Head.the-variants.{Silent, Edition, Other, Misread}
 use Rattle.load_text.specs.declared.parse.Parsed.{Parsed}
-use Rattle.load_text.specs.Parsing.{linesIn, lineSays, numberOf, callsOf}
+use Rattle.load_text.specs.Parsing.{linesIn, lineSays, headSays, numberOf, callsOf}
+
+-- ── the heading ──
+-- A show may begin with its edition, before any call; without it the edition is 1. The heading ends after so many lines, the last of which
+-- is wrong where there is a number.
+pub record Heading : Type 0 where
+  pub number : ℕ
+  pub edition : ℕ
+  pub lines : ℕ
+
+abbrev pub plain : Heading
+plain = record { number = 0; edition = 1; lines = 0 }
+
+-- A heading by the line that is its k-th, unless that says nothing.
+abbrev pub headed : Head → ℕ → Heading → Heading
+headed Silent k h = h
+headed (Edition e) k h = record { number = 0; edition = e; lines = k }
+headed Other k h = plain
+headed (Misread n) k h = record { number = n; edition = 1; lines = k }
+
+unfoldable pub headingIn : ℕ → List Head → Heading
+headingIn k [] = plain
+headingIn k (h ∷ hs) = headed h (k + 1) (headingIn (k + 1) hs)
+
+unfoldable pub heading : List ℕ → Heading
+heading text = headingIn 0 (map headSays (linesIn text))
+
+-- What the lines after it say.
+unfoldable pub saidIn : List ℕ → List Parsed
+saidIn text = map (lineSays (heading text .edition)) (drop (heading text .lines) (linesIn text))
+
+-- Its number: what is wrong with the line, or 11 where a load of its edition byte alone does not open.
+unfoldable pub headingNumber : List ℕ → ℕ
+headingNumber text = orElse (heading text .number) (openNumber (heading text .edition ∷ []))
+
+-- What the code finds of it, with the place where the lines after it begin.
+pub record Starts (text : List ℕ) (r : Start) : Type 0 where
+  pub number : r .number ≡ headingNumber text
+  pub edition : r .edition ≡ heading text .edition
+  pub line : r .line ≡ heading text .lines
+  pub few : r .line ≤ r .at
+  pub rest : linesIn (drop (r .at) text) ≡ drop (heading text .lines) (linesIn text)
 
 -- ── a text ──
 -- What lines make: a load, or the first line that is wrong, counted from 1, and its number.
@@ -20,31 +64,35 @@ pub data Making : Type 0 where
   whole : List ℕ → Making
   wrong : ℕ → ℕ → Making
 
--- The number of calls behind a load of n bytes, 0 for none. A call is tested as by the writer, in room for the longest load: 13, then 14.
-abbrev pub callsNumber : ℕ → List Call → ℕ
-callsNumber n [] = 0
-callsNumber n (c ∷ cs) = growNumber 1 n c 65536
+-- The number of calls after a load of edition e and n bytes, 0 for none. A call is tested as by the writer, in room for the longest load:
+-- 13, then 14.
+abbrev pub callsNumber : ℕ → ℕ → List Call → ℕ
+callsNumber e n [] = 0
+callsNumber e n (c ∷ cs) = growNumber e n c 65536
 
--- The number of a line behind a load of n bytes, 0 for one that is not wrong, and the record that it adds.
-unfoldable pub lineNumber : ℕ → Parsed → ℕ
-lineNumber n p = orElse (numberOf p) (callsNumber n (callsOf p))
+-- The number of a line after such a load, 0 for one that is not wrong, and the record that it adds.
+unfoldable pub lineNumber : ℕ → ℕ → Parsed → ℕ
+lineNumber e n p = orElse (numberOf p) (callsNumber e n (callsOf p))
 
-unfoldable pub lineBytes : Parsed → List ℕ
-lineBytes p = recordsBytes 1 (callsOf p)
+unfoldable pub lineBytes : ℕ → Parsed → List ℕ
+lineBytes e p = recordsBytes e (callsOf p)
 
 -- On to what the later lines make, unless line k has a number.
 abbrev pub onFrom : ℕ → ℕ → Making → Making
 onFrom zero k m = m
 onFrom (suc n) k m = wrong k (suc n)
 
--- What lines make of a load s, behind k lines.
-unfoldable pub gathered : ℕ → List ℕ → List Parsed → Making
-gathered k s [] = whole s
-gathered k s (p ∷ ps) = onFrom (lineNumber (length s) p) (k + 1) (gathered (k + 1) (s ++ lineBytes p) ps)
+-- What lines make of a load s of edition e, after k lines.
+unfoldable pub gathered : ℕ → ℕ → List ℕ → List Parsed → Making
+gathered e k s [] = whole s
+gathered e k s (p ∷ ps) = onFrom (lineNumber e (length s) p) (k + 1) (gathered e (k + 1) (s ++ lineBytes e p) ps)
 
 -- What a text makes: "Writing begins from the edition byte alone".
+abbrev pub behindHeading : Heading → List Parsed → Making
+behindHeading h ps = gathered (h .edition) (h .lines) (h .edition ∷ []) ps
+
 unfoldable pub made : List ℕ → Making
-made text = gathered 0 (1 ∷ []) (map lineSays (linesIn text))
+made text = onFrom (headingNumber text) (heading text .lines) (behindHeading (heading text) (saidIn text))
 
 -- ── `make` ──
 -- The cases of `Made` by their number, line and length: 0 is a load of that length, any other number is told with its line.
@@ -57,7 +105,7 @@ abbrev pub answerOn : Making → List ℕ → Made
 answerOn (whole s) out = madeAs (spaceNumber s out) 0 (length s)
 answerOn (wrong k n) out = madeAs n k 0
 
--- The buffer behind it: where a number is answered, "no byte of a lent buffer differs".
+-- The buffer after it: where a number is answered, "no byte of a lent buffer differs".
 abbrev pub bufferOn : Making → List ℕ → List ℕ
 bufferOn (whole s) out = lentOut s out
 bufferOn (wrong k n) out = out
@@ -68,10 +116,10 @@ madeOf text out = answerOn (made text) out
 unfoldable pub madeOut : List ℕ → List ℕ → List ℕ
 madeOut text out = bufferOn (made text) out
 
--- What the code has in a buffer o of its own: q behind a line that says p and a load of n bytes, with the answer r on the line; and behind a
--- text, unless a line is wrong.
-abbrev pub Adds : ℕ → List ℕ → Parsed → Written → List ℕ → Type 0
-Adds n o p r q = (r ≡ answered (lineNumber n p) (n + length (lineBytes p))) × (q ≡ lent (lineNumber n p) (laid o n (lineBytes p)) o)
+-- What the code has in a buffer o of its own: q after a line that says p and a load of edition e and n bytes, with the answer r on the line;
+-- and after a text, unless a line is wrong.
+abbrev pub Adds : ℕ → ℕ → List ℕ → Parsed → Written → List ℕ → Type 0
+Adds e n o p r q = (r ≡ answered (lineNumber e n p) (n + length (lineBytes e p))) × (q ≡ lent (lineNumber e n p) (laid o n (lineBytes e p)) o)
 
 abbrev pub Gathers : Making → List ℕ → Made → List ℕ → Type 0
 Gathers (whole s) o r q = (r ≡ Load (length s)) × (q ≡ laid o 0 s)
@@ -83,9 +131,11 @@ unfoldable pub callsIn : List Parsed → List Call
 callsIn [] = []
 callsIn (p ∷ ps) = callsOf p ++ callsIn ps
 
--- A load that is answered with its length stands in the buffer's first bytes, and reads as the calls that the lines say, to its end.
+-- A load that is answered with its length stands in the buffer's first bytes, and reads as the calls that the lines say, to its end; its
+-- edition is the show's.
 -- proofs/Making has the proof: made-reads.
 abbrev pub MadeReads : Type 0
 MadeReads = (text out : List ℕ) (n : ℕ) → madeOf text out ≡ Load n
     → (n ≤ length out) × (loadNumber (take n (madeOut text out)) ≡ 0)
-    × (walk (take n (madeOut text out)) 1 ≡ record { calls = callsIn (map lineSays (linesIn text)); stop = 0 })
+    × (walk (take n (madeOut text out)) 1 ≡ record { calls = callsIn (saidIn text); stop = 0 })
+    × (editionOf (take n (madeOut text out)) ≡ heading text .edition)

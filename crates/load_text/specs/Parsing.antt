@@ -1,18 +1,23 @@
 -- What a text says. Bytes are ASCII: 9 is a tab, 10 a line feed, 13 a carriage return, 32 a space, 35 '#', 44 ',', 45 '-'.
-use Prim.Native.Nat.{ℕ, _+_, _-_, _*_, _≤_, max}
+use Prim.Native.Nat.{ℕ, zero, suc, _+_, _-_, _*_, _^_, _≤_, max}
 use mathlib.Core.Path.{_≡_}
 use mathlib.Core.Bool.{Bool, true, false, not, _&&_, _||_, cond}
 use mathlib.Core.List.{List, [], _∷_}
 use lib.Dec.{eqb, leb, ltb}
-use lib.ListN.{length, take, drop}
+use lib.ListN.{length, take, drop, getD}
 use Rattle.groups.specs.Groups.{setWhere, union}
 use Rattle.load.specs.declared.Call.{Call}
-use Rattle.load.specs.declared.Call.the-variants.{Rig, Claim, Release, Withdraw, Clock}
+use Rattle.load.specs.Format.{theGroups, fieldWidth, Row, format, fieldsOf}
+use Rattle.load.specs.Calls.{withValue, bare}
+use Rattle.load_text.specs.declared.parse.Head.{Head}
+use Rattle.load_text.specs.declared.parse.Head.the-variants.{Silent, Edition, Other, Misread}
 use Rattle.load_text.specs.declared.parse.Parsed.{Parsed}
 use Rattle.load_text.specs.declared.parse.Parsed.the-variants.{Nothing, Said, Bad}
 use Rattle.load_text.specs.declared.words.Field.{Field}
 use Rattle.load_text.specs.declared.words.Field.the-variants.{Value, Wrong}
-use Rattle.load_text.specs.Reasons.{unknown, missing, tooMany, noClock, noTicket, noLength, noGroups, tooLarge, over63, backward}
+use Rattle.load_text.specs.declared.words.Mark.{Mark}
+use Rattle.load_text.specs.declared.words.Mark.the-variants.{Byte, Blank, Full, Joint, NoDigit}
+use Rattle.load_text.specs.Reasons.{noEdition, unknown, missing, tooMany, noClock, noTicket, noLength, noGroups, tooLarge, over63, backward}
 
 -- ── parts of a text ──
 -- The bytes before the first that passes p, and those from it on.
@@ -23,6 +28,11 @@ until p (b ∷ l) = cond (p b) [] (b ∷ until p l)
 unfoldable pub since : (ℕ → Bool) → List ℕ → List ℕ
 since p [] = []
 since p (b ∷ l) = cond (p b) (b ∷ l) (since p l)
+
+-- No byte passes p.
+unfoldable pub none : (ℕ → Bool) → List ℕ → Bool
+none p [] = true
+none p (b ∷ l) = not (p b) && none p l
 
 -- The place of the first byte from `at` on that passes p, or the text's end.
 unfoldable pub placeOf : (ℕ → Bool) → List ℕ → ℕ → ℕ
@@ -44,7 +54,7 @@ full [] = []
 full ([] ∷ ws) = full ws
 full ((b ∷ w) ∷ ws) = (b ∷ w) ∷ full ws
 
--- A byte is a; a line feed, a space or a tab, any other byte, a comma, a dash.
+-- A byte is a; a line feed, a space or a tab, any other byte, a comma, a dash, either of the two.
 abbrev pub is : ℕ → ℕ → Bool
 is a b = eqb b a
 
@@ -63,6 +73,9 @@ isComma b = is 44 b
 abbrev pub isDash : ℕ → Bool
 isDash b = is 45 b
 
+abbrev pub isJoint : ℕ → Bool
+isJoint b = isComma b || isDash b
+
 -- The lines of a text, the words of a line, the items of a list.
 unfoldable pub linesIn : List ℕ → List (List ℕ)
 linesIn l = parts isFeed l
@@ -77,7 +90,7 @@ itemsIn l = parts isComma l
 abbrev pub wordAt : List ℕ → ℕ → ℕ → List ℕ
 wordAt l from to = take (to - from) (drop from l)
 
--- What the code finds of the first word from `at` on: its first byte and the place behind its last, both the text's end where there is none.
+-- What the code finds of the first word from `at` on: its first byte and the place after its last, both the text's end where there is none.
 pub record FirstWord (l : List ℕ) (at from to : ℕ) : Type 0 where
   pub low : at ≤ from
   pub order : from ≤ to
@@ -85,11 +98,12 @@ pub record FirstWord (l : List ℕ) (at from to : ℕ) : Type 0 where
   pub none : to ≤ from → length l ≤ to
   pub words : wordsIn (drop at l) ≡ cond (ltb from to) (wordAt l from to ∷ wordsIn (drop to l)) []
 
--- A line before its comment, and before a carriage return that ends it.
+-- A line without the carriage return that ends it, and of that what stands before its comment.
+unfoldable pub chomped : List ℕ → List ℕ
+chomped l = cond (is 13 (getD l (length l - 1) 0)) (take (length l - 1) l) l
+
 unfoldable pub said : List ℕ → List ℕ
-said [] = []
-said (b ∷ []) = cond (is 35 b || is 13 b) [] (b ∷ [])
-said (b ∷ c ∷ l) = cond (is 35 b) [] (b ∷ said (c ∷ l))
+said l = until (is 35) (chomped l)
 
 -- ── numbers ──
 -- The value of a digit up to F in either case, 16 for any other byte.
@@ -99,19 +113,28 @@ digitOf b =
     (cond (leb 65 b && leb b 70) (b - 55)
     (cond (leb 97 b && leb b 102) (b - 87) 16))
 
--- v, and the digits behind it.
+-- v, and the digits after it.
 unfoldable pub valueIn : ℕ → ℕ → List ℕ → ℕ
 valueIn base v [] = v
 valueIn base v (b ∷ l) = valueIn base (v * base + digitOf b) l
 
+abbrev pub noDigit : ℕ → ℕ → Bool
+noDigit base b = leb base (digitOf b)
+
 -- Only digits of the base; and at least one.
-unfoldable pub digitsIn : ℕ → List ℕ → Bool
-digitsIn base [] = true
-digitsIn base (b ∷ l) = ltb (digitOf b) base && digitsIn base l
+abbrev pub digitsIn : ℕ → List ℕ → Bool
+digitsIn base w = none (noDigit base) w
 
 unfoldable pub isNumber : ℕ → List ℕ → Bool
-isNumber base [] = false
-isNumber base (b ∷ l) = digitsIn base (b ∷ l)
+isNumber base w = ltb 0 (length w) && digitsIn base w
+
+-- The bytes that the code looks for.
+abbrev pub passes : Mark → ℕ → Bool
+passes (Byte a) b = is a b
+passes Blank b = isBlank b
+passes Full b = isFull b
+passes Joint b = isJoint b
+passes (NoDigit base) b = noDigit base b
 
 -- A number, `large` where it is over `most`.
 abbrev pub upToMost : ℕ → ℕ → ℕ → Field
@@ -133,7 +156,7 @@ abbrev pub upTo : ℕ → Field → Field
 upTo low (Value high) = cond (ltb high low) (Wrong backward) (Value (span low high))
 upTo low (Wrong n) = Wrong n
 
--- A group, and what stands behind it from a dash on.
+-- A group, and what stands after it from a dash on.
 abbrev pub rangeIn : Field → List ℕ → Field
 rangeIn (Value g) [] = Value (span g g)
 rangeIn (Value g) (dash ∷ l) = upTo g (groupIn l)
@@ -158,51 +181,37 @@ withItems f [] = f
 withItems f (w ∷ ws) = withItems (withItem f w) ws
 
 unfoldable pub isList : List ℕ → Bool
-isList [] = false
-isList (b ∷ l) = isComma b || isDash b || isList l
+isList w = not (none isJoint w)
 
 -- A word with a comma or a dash is a list, any other a set in hex.
 unfoldable pub groupsIn : List ℕ → Field
 groupsIn w = cond (isList w) (withItems (Value 0) (itemsIn w)) (numberIn 16 18446744073709551615 noGroups tooLarge w)
 
 -- ── calls ──
-abbrev pub clockIn : List ℕ → Field
-clockIn w = numberIn 10 18446744073709551615 noClock tooLarge w
+-- The reasons of words that say nothing as a field, in the order of the fields: the kind has no word, then clock, groups, length, ticket.
+unfoldable pub noNumbers : List ℕ
+noNumbers = unknown ∷ noClock ∷ noGroups ∷ noLength ∷ noTicket ∷ []
 
-abbrev pub ticketIn : List ℕ → Field
-ticketIn w = numberIn 10 65535 noTicket tooLarge w
+unfoldable pub noNumber : ℕ → ℕ
+noNumber f = getD noNumbers f unknown
 
-abbrev pub lengthIn : List ℕ → Field
-lengthIn w = numberIn 10 4294967295 noLength tooLarge w
+-- What a word says as a field: a set of groups, or a number in decimal that goes into the field's width.
+unfoldable pub fieldIn : ℕ → List ℕ → Field
+fieldIn f w = cond (eqb f theGroups) (groupsIn w) (numberIn 10 (256 ^ fieldWidth f - 1) (noNumber f) tooLarge w)
 
--- What a call makes of a field; its reason where it is wrong.
-abbrev pub withField : Field → (ℕ → Parsed) → Parsed
-withField (Value v) f = f v
-withField (Wrong n) f = Bad n
+-- A call with that in the field; the first word that is wrong decides.
+abbrev pub withField : ℕ → Field → Parsed → Parsed
+withField f (Value v) (Said c) = Said (withValue f v c)
+withField f (Wrong n) (Said c) = Bad n
+withField f x Nothing = Nothing
+withField f x (Bad n) = Bad n
 
--- The words behind the first of a line, which are counted first.
-unfoldable pub rigIn : List (List ℕ) → Parsed
-rigIn [] = Bad missing
-rigIn (g ∷ []) = withField (groupsIn g) (λ s. Said (Rig s))
-rigIn (g ∷ a ∷ ws) = Bad tooMany
-
-unfoldable pub clockCallIn : List (List ℕ) → Parsed
-clockCallIn [] = Bad missing
-clockCallIn (t ∷ []) = withField (clockIn t) (λ c. Said (Clock c))
-clockCallIn (t ∷ a ∷ ws) = Bad tooMany
-
-unfoldable pub leaveIn : (ℕ → ℕ → Call) → List (List ℕ) → Parsed
-leaveIn f [] = Bad missing
-leaveIn f (t ∷ []) = Bad missing
-leaveIn f (t ∷ k ∷ []) = withField (clockIn t) (λ c. withField (ticketIn k) (λ n. Said (f c n)))
-leaveIn f (t ∷ k ∷ a ∷ ws) = Bad tooMany
-
-unfoldable pub claimIn : List (List ℕ) → Parsed
-claimIn [] = Bad missing
-claimIn (t ∷ []) = Bad missing
-claimIn (t ∷ g ∷ []) = Bad missing
-claimIn (t ∷ g ∷ n ∷ []) = withField (clockIn t) (λ c. withField (groupsIn g) (λ s. withField (lengthIn n) (λ l. Said (Claim c s l))))
-claimIn (t ∷ g ∷ n ∷ a ∷ ws) = Bad tooMany
+-- The words put into the fields, one after the other. How many there are is judged before what they say.
+unfoldable pub filledIn : List ℕ → List (List ℕ) → Parsed → Parsed
+filledIn [] [] p = p
+filledIn [] (w ∷ ws) p = Bad tooMany
+filledIn (f ∷ fs) [] p = Bad missing
+filledIn (f ∷ fs) (w ∷ ws) p = filledIn fs ws (withField f (fieldIn f w) p)
 
 unfoldable pub isWord : List ℕ → List ℕ → Bool
 isWord [] [] = true
@@ -210,39 +219,50 @@ isWord [] (b ∷ l) = false
 isWord (a ∷ k) [] = false
 isWord (a ∷ k) (b ∷ l) = eqb a b && isWord k l
 
--- "rig", "claim", "release", "withdraw", "clock".
-abbrev pub rigWord : List ℕ
-rigWord = 114 ∷ 105 ∷ 103 ∷ []
+-- The kind of an edition's row whose name is a word, 0 for none.
+unfoldable pub kindIn : List Row → ℕ → List ℕ → ℕ
+kindIn [] e w = 0
+kindIn (r ∷ rs) e w = cond (isWord w (r .name) && eqb (r .edition) e) (r .kind) (kindIn rs e w)
 
-abbrev pub claimWord : List ℕ
-claimWord = 99 ∷ 108 ∷ 97 ∷ 105 ∷ 109 ∷ []
+unfoldable pub kindNamed : ℕ → List ℕ → ℕ
+kindNamed e w = kindIn format e w
 
-abbrev pub releaseWord : List ℕ
-releaseWord = 114 ∷ 101 ∷ 108 ∷ 101 ∷ 97 ∷ 115 ∷ 101 ∷ []
+-- The call of a kind that words say.
+abbrev pub kindSays : ℕ → ℕ → List (List ℕ) → Parsed
+kindSays e zero ws = Bad unknown
+kindSays e (suc k) ws = filledIn (fieldsOf e (suc k)) ws (Said (bare (suc k)))
 
-abbrev pub withdrawWord : List ℕ
-withdrawWord = 119 ∷ 105 ∷ 116 ∷ 104 ∷ 100 ∷ 114 ∷ 97 ∷ 119 ∷ []
+unfoldable pub callIn : ℕ → List (List ℕ) → Parsed
+callIn e [] = Nothing
+callIn e (k ∷ ws) = kindSays e (kindNamed e k) ws
 
-abbrev pub clockWord : List ℕ
-clockWord = 99 ∷ 108 ∷ 111 ∷ 99 ∷ 107 ∷ []
+-- What a line of a show of edition e says.
+unfoldable pub lineSays : ℕ → List ℕ → Parsed
+lineSays e l = callIn e (wordsIn (said l))
 
-unfoldable pub callOf : List ℕ → List (List ℕ) → Parsed
-callOf k ws =
-    cond (isWord k rigWord) (rigIn ws)
-    (cond (isWord k claimWord) (claimIn ws)
-    (cond (isWord k releaseWord) (leaveIn Release ws)
-    (cond (isWord k withdrawWord) (leaveIn Withdraw ws)
-    (cond (isWord k clockWord) (clockCallIn ws)
-    (Bad unknown)))))
+-- ── the edition ──
+-- "edition"
+abbrev pub editionWord : List ℕ
+editionWord = 101 ∷ 100 ∷ 105 ∷ 116 ∷ 105 ∷ 111 ∷ 110 ∷ []
 
-unfoldable pub callIn : List (List ℕ) → Parsed
-callIn [] = Nothing
-callIn (k ∷ ws) = callOf k ws
+abbrev pub editionOr : Field → Head
+editionOr (Value e) = Edition e
+editionOr (Wrong n) = Misread n
 
--- What a line says.
-unfoldable pub lineSays : List ℕ → Parsed
-lineSays l = callIn (wordsIn (said l))
+unfoldable pub editionIn : List (List ℕ) → Head
+editionIn [] = Misread missing
+editionIn (w ∷ []) = editionOr (numberIn 10 255 noEdition noEdition w)
+editionIn (w ∷ a ∷ ws) = Misread tooMany
 
+unfoldable pub headIn : List (List ℕ) → Head
+headIn [] = Silent
+headIn (k ∷ ws) = cond (isWord k editionWord) (editionIn ws) Other
+
+-- What a line says as the first of a show: nothing, its edition, something else, or no edition that a byte can name.
+unfoldable pub headSays : List ℕ → Head
+headSays l = headIn (wordsIn (said l))
+
+-- ── what a line comes to ──
 -- The cases of `Parsed` by their number, 0 for a line that is not wrong, and by the calls that they say.
 abbrev pub numberOf : Parsed → ℕ
 numberOf Nothing = 0
@@ -256,4 +276,4 @@ callsOf (Bad n) = []
 
 -- A line that is wrong has a reason that is no number of document 01. proofs/Within has the proof: reasons-apart.
 abbrev pub ReasonsApart : Type 0
-ReasonsApart = (l : List ℕ) (n : ℕ) → lineSays l ≡ Bad n → 101 ≤ n
+ReasonsApart = (e : ℕ) (l : List ℕ) (n : ℕ) → lineSays e l ≡ Bad n → 101 ≤ n

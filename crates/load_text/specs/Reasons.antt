@@ -1,5 +1,5 @@
 -- Why a text makes no load, by number, as in src/reasons.rt: from 101 on for a line that says no call, so that no reason can be taken for a
--- number of document 01; 13, 14 and 15 are document 01's own.
+-- number of document 01; 11, 13, 14 and 15 are document 01's own.
 use Prim.Native.Nat.{ℕ}
 
 abbrev pub unknown : ℕ
@@ -31,6 +31,9 @@ over63 = 109
 
 abbrev pub backward : ℕ
 backward = 110
+
+abbrev pub noEdition : ℕ
+noEdition = 11
 
 abbrev pub misfit : ℕ
 misfit = 13

@@ -4,21 +4,24 @@
 ghost use mathlib.Core.Path.{_≡_};
 ghost use lib.ListN.{length};
 ghost use Rattle.load_text.specs.Parsing.{lineSays};
-ghost use Rattle.load_text.specs.Making.{Adds, Gathers, made, madeOf, madeOut};
+ghost use Rattle.load_text.specs.Making.{Starts, Adds, Gathers, made, madeOf, madeOut};
 
 mod parse;
 mod print;
 mod reasons;
 mod sets;
+mod texts;
 mod words;
 
 use load::Written;
+use parse::Head;
 pub use parse::Parsed;
 pub use parse::parse_line;
 pub use print::Printed;
 pub use print::put_line;
 pub use print::report;
 pub use print::show;
+use words::Mark;
 
 // The length of the load that a text makes; or the first line that is wrong, and its number; or 15, at line 0.
 pub enum Made {
@@ -26,18 +29,73 @@ pub enum Made {
     Mistake(u64, u8),
 }
 
-// The record of a line laid behind a load of so many bytes, and the load's length with it; or the line's number, and nothing is laid.
-fn add(out: &mut [u8], size: usize, line: &[u8]) -> Written
-    ensures { λ r. ⌜ Adds size (now (out .entry)) (lineSays (now (line .entry))) r (now (out .exit)) ⌝ }
+// The heading of a text: the number of what is wrong with it, or 0; the edition; the lines that it takes up, and the place after them.
+pub struct Start {
+    pub number: u8,
+    pub edition: u8,
+    pub line: u64,
+    pub at: usize,
+}
+
+fn heading(text: &[u8]) -> Start
+    ensures { λ r. ⌜ Starts (now (text .entry)) r ⌝ }
 {
-    match parse::parse_line(line) {
+    let mut at: usize = 0;
+    let mut line: u64 = 0;
+    while at < text.len() {
+        line += 1;
+        let end = words::place(text, Mark::Byte(10), at);
+        match parse::head_line(&text[at..end]) {
+            Head::Silent => {}
+            Head::Edition(edition) => {
+                let load = [edition];
+                let number = load::open_number(&load);
+                return Start {
+                    number: number,
+                    edition: edition,
+                    line: line,
+                    at: end + 1,
+                };
+            }
+            Head::Other => {
+                return Start {
+                    number: 0,
+                    edition: 1,
+                    line: 0,
+                    at: 0,
+                };
+            }
+            Head::Misread(n) => {
+                return Start {
+                    number: n,
+                    edition: 1,
+                    line: line,
+                    at: end + 1,
+                };
+            }
+        }
+        at = end + 1;
+    }
+    Start {
+        number: 0,
+        edition: 1,
+        line: 0,
+        at: 0,
+    }
+}
+
+// The record of a line laid after a load of so many bytes, and the load's length with it; or the line's number, and nothing is laid.
+fn add(out: &mut [u8], size: usize, edition: u8, line: &[u8]) -> Written
+    ensures { λ r. ⌜ Adds edition size (now (out .entry)) (lineSays edition (now (line .entry))) r (now (out .exit)) ⌝ }
+{
+    match parse::parse_line(edition, line) {
         Parsed::Nothing => Written::Length(size),
         Parsed::Said(call) => {
-            let n = load::grow_number(1, size, call, 65536);
+            let n = load::grow_number(edition, size, call, 65536);
             if n != 0 {
                 return Written::Refusal(n);
             }
-            let r = load::put_record(out, size, call);
+            let r = load::put_record(out, size, edition, call);
             Written::Length(r)
         }
         Parsed::Bad(n) => Written::Refusal(n),
@@ -48,13 +106,19 @@ fn add(out: &mut [u8], size: usize, line: &[u8]) -> Written
 fn gather(text: &[u8], out: &mut [u8]) -> Made
     ensures { λ r. ⌜ Gathers (made (now (text .entry))) (now (out .entry)) r (now (out .exit)) ⌝ }
 {
-    let mut size = numerals::put_byte(out, 0, 1);
-    let mut at: usize = 0;
-    let mut line: u64 = 0;
+    let start = heading(text);
+    let edition = start.edition;
+    let mut at = start.at;
+    let mut line = start.line;
+    let number = start.number;
+    if number != 0 {
+        return Made::Mistake(line, number);
+    }
+    let mut size = numerals::put_byte(out, 0, edition);
     while at < text.len() {
         line += 1;
-        let end = words::place(text, 10, at);
-        match add(out, size, &text[at..end]) {
+        let end = words::place(text, Mark::Byte(10), at);
+        match add(out, size, edition, &text[at..end]) {
             Written::Length(n) => {
                 size = n;
             }

@@ -1,17 +1,20 @@
-// A line of text to a call. What a line says is defined in specs/Parsing.antt.
+// A line of text to a call, and the first line of a show to its edition. What a line says is defined in specs/Parsing.antt.
 ghost use mathlib.Core.Path.{_≡_};
-ghost use mathlib.Core.Bool.{cond};
 ghost use Prim.Native.Nat.{_≤_};
-ghost use lib.ListN.{length, drop};
-ghost use Rattle.load.specs.declared.Call.the-variants.{Release, Withdraw};
-ghost use Rattle.load_text.specs.Parsing.{callIn, callOf, claimIn, clockCallIn, clockIn, groupsIn, leaveIn, lengthIn, lineSays, rigIn, said, ticketIn, wordAt, wordsIn};
+ghost use lib.ListN.{length, take, drop};
+ghost use Rattle.load.specs.Format.{fieldsOf};
+ghost use Rattle.load.specs.Calls.{bare};
+ghost use Rattle.load_text.specs.declared.parse.Parsed.the-variants.{Said};
+ghost use Rattle.load_text.specs.Parsing.{callIn, chomped, editionIn, fieldIn, filledIn, headIn, headSays, kindSays, lineSays, said, withField, wordsIn};
 use crate::reasons;
 use crate::sets::groups_of;
+use crate::texts::kind_named;
 use crate::words::Field;
-use crate::words::Word;
+use crate::words::Mark;
 use crate::words::is_empty;
 use crate::words::next_word;
 use crate::words::number;
+use crate::words::place;
 use load::Call;
 
 // What a line says: nothing, a call, or what is wrong with it.
@@ -21,192 +24,123 @@ pub enum Parsed {
     Bad(u8),
 }
 
-// Where the words of a line end: at a comment, else at the line's end, before a carriage return there.
-fn said_end(line: &[u8]) -> usize
-    ensures { λ r. ⌜ r ≡ length (said (now (line .entry))) ⌝ }
+// What a line says as the first of a show: nothing, its edition, something else, or what is wrong with it.
+pub enum Head {
+    Silent,
+    Edition(u8),
+    Other,
+    Misread(u8),
+}
+
+// ---- fields
+// The groups among the fields, and for each field from 0 on the greatest number and the reason of a word that is none.
+const GROUPS: u8 = 2;
+
+const MOST: [u64; 5] = [255, u64::MAX, u64::MAX, 4294967295, 65535];
+
+const NONE: [u8; 5] = [
+    reasons::UNKNOWN,
+    reasons::NO_CLOCK,
+    reasons::NO_GROUPS,
+    reasons::NO_LENGTH,
+    reasons::NO_TICKET,
+];
+
+// What a word says as a field.
+fn field_of(field: u8, word: &[u8]) -> Field
+    ensures { λ r. ⌜ r ≡ fieldIn field (now (word .entry)) ⌝ }
 {
-    let size = line.len();
-    let mut i: usize = 0;
-    while i < size {
-        if line[i] == b'#' {
-            return i;
-        }
-        if line[i] == 13 {
-            if i + 1 == size {
-                return i;
+    if field == GROUPS {
+        return groups_of(word);
+    }
+    if 4 < field {
+        return number(word, 10, 0, reasons::UNKNOWN, reasons::TOO_LARGE);
+    }
+    let most = MOST[field as usize];
+    let none = NONE[field as usize];
+    number(word, 10, most, none, reasons::TOO_LARGE)
+}
+
+// A call with what a word says in a field; the first word that is wrong decides.
+fn with_word(p: Parsed, field: u8, word: &[u8]) -> Parsed
+    ensures { λ r. ⌜ r ≡ withField field (fieldIn field (now (word .entry))) p ⌝ }
+{
+    match p {
+        Parsed::Nothing => Parsed::Nothing,
+        Parsed::Said(call) => match field_of(field, word) {
+            Field::Value(v) => {
+                let c = load::with_value(call, field, v);
+                Parsed::Said(c)
             }
+            Field::Wrong(n) => Parsed::Bad(n),
+        },
+        Parsed::Bad(n) => Parsed::Bad(n),
+    }
+}
+
+// The words from a place on put into the fields of a kind. How many there are is judged before what they say.
+fn fill(edition: u8, kind: u8, said: &[u8], from: usize) -> Parsed
+    ensures { λ r. ⌜ r ≡ filledIn (fieldsOf edition kind) (wordsIn (drop from (now (said .entry)))) (Said (bare kind)) ⌝ }
+{
+    let c = load::bare(kind);
+    let mut p = Parsed::Said(c);
+    let mut at = from;
+    let mut i: usize = 0;
+    loop {
+        let f = load::field_at(edition, kind, i);
+        let w = next_word(said, at);
+        if f == 0 {
+            if is_empty(w) {
+                return p;
+            }
+            return Parsed::Bad(reasons::TOO_MANY);
         }
+        if is_empty(w) {
+            return Parsed::Bad(reasons::MISSING);
+        }
+        let start = w.from;
+        let end = w.to;
+        p = with_word(p, f, &said[start..end]);
+        at = end;
         i += 1;
     }
-    size
 }
 
-// What the word of a line says, as one of the fields of a call.
-fn clock_at(said: &[u8], w: Word) -> Field
-    requires { ⌜ (w .from ≤ w .to) × (w .to ≤ length (now said)) ⌝ }
-    ensures { λ r. ⌜ r ≡ clockIn (wordAt (now (said .entry)) (w .from) (w .to)) ⌝ }
+// ---- lines
+// Where a line ends, before a carriage return; and where its words end, before a comment.
+fn line_end(line: &[u8]) -> usize
+    ensures { λ r. ⌜ r ≡ length (chomped (now (line .entry))) ⌝ }
 {
-    let from = w.from;
-    let to = w.to;
-    number(
-        &said[from..to],
-        10,
-        u64::MAX,
-        reasons::NO_CLOCK,
-        reasons::TOO_LARGE,
-    )
+    let n = line.len();
+    if n == 0 {
+        return 0;
+    }
+    if line[n - 1] == 13 {
+        return n - 1;
+    }
+    n
 }
 
-fn ticket_at(said: &[u8], w: Word) -> Field
-    requires { ⌜ (w .from ≤ w .to) × (w .to ≤ length (now said)) ⌝ }
-    ensures { λ r. ⌜ r ≡ ticketIn (wordAt (now (said .entry)) (w .from) (w .to)) ⌝ }
+fn said_end(line: &[u8]) -> usize
+    ensures { λ r. ⌜ (r ≤ length (now (line .entry))) × (take r (now (line .entry)) ≡ said (now (line .entry))) ⌝ }
 {
-    let from = w.from;
-    let to = w.to;
-    number(
-        &said[from..to],
-        10,
-        65535,
-        reasons::NO_TICKET,
-        reasons::TOO_LARGE,
-    )
+    let size = line_end(line);
+    place(&line[..size], Mark::Byte(b'#'), 0)
 }
 
-fn length_at(said: &[u8], w: Word) -> Field
-    requires { ⌜ (w .from ≤ w .to) × (w .to ≤ length (now said)) ⌝ }
-    ensures { λ r. ⌜ r ≡ lengthIn (wordAt (now (said .entry)) (w .from) (w .to)) ⌝ }
+// The call that a kind's words from a place on say.
+fn call(edition: u8, kind: u8, said: &[u8], at: usize) -> Parsed
+    ensures { λ r. ⌜ r ≡ kindSays edition kind (wordsIn (drop at (now (said .entry)))) ⌝ }
 {
-    let from = w.from;
-    let to = w.to;
-    number(
-        &said[from..to],
-        10,
-        4294967295,
-        reasons::NO_LENGTH,
-        reasons::TOO_LARGE,
-    )
-}
-
-fn groups_at(said: &[u8], w: Word) -> Field
-    requires { ⌜ (w .from ≤ w .to) × (w .to ≤ length (now said)) ⌝ }
-    ensures { λ r. ⌜ r ≡ groupsIn (wordAt (now (said .entry)) (w .from) (w .to)) ⌝ }
-{
-    let from = w.from;
-    let to = w.to;
-    groups_of(&said[from..to])
-}
-
-// Each kind of call reads its words from a place on, and the number of words is judged before what they say.
-fn rig(said: &[u8], at: usize) -> Parsed
-    ensures { λ r. ⌜ r ≡ rigIn (wordsIn (drop at (now (said .entry)))) ⌝ }
-{
-    let a = next_word(said, at);
-    let more = next_word(said, a.to);
-    if is_empty(a) {
-        return Parsed::Bad(reasons::MISSING);
+    if kind == 0 {
+        return Parsed::Bad(reasons::UNKNOWN);
     }
-    if !is_empty(more) {
-        return Parsed::Bad(reasons::TOO_MANY);
-    }
-    match groups_at(said, a) {
-        Field::Value(g) => Parsed::Said(Call::Rig(g)),
-        Field::Wrong(n) => Parsed::Bad(n),
-    }
-}
-
-fn clock(said: &[u8], at: usize) -> Parsed
-    ensures { λ r. ⌜ r ≡ clockCallIn (wordsIn (drop at (now (said .entry)))) ⌝ }
-{
-    let a = next_word(said, at);
-    let more = next_word(said, a.to);
-    if is_empty(a) {
-        return Parsed::Bad(reasons::MISSING);
-    }
-    if !is_empty(more) {
-        return Parsed::Bad(reasons::TOO_MANY);
-    }
-    match clock_at(said, a) {
-        Field::Value(t) => Parsed::Said(Call::Clock(t)),
-        Field::Wrong(n) => Parsed::Bad(n),
-    }
-}
-
-fn leave(said: &[u8], at: usize, release: bool) -> Parsed
-    ensures { λ r. ⌜ r ≡ leaveIn (cond release Release Withdraw) (wordsIn (drop at (now (said .entry)))) ⌝ }
-{
-    let a = next_word(said, at);
-    let b = next_word(said, a.to);
-    let more = next_word(said, b.to);
-    if is_empty(b) {
-        return Parsed::Bad(reasons::MISSING);
-    }
-    if !is_empty(more) {
-        return Parsed::Bad(reasons::TOO_MANY);
-    }
-    match clock_at(said, a) {
-        Field::Value(t) => match ticket_at(said, b) {
-            Field::Value(k) => {
-                if release {
-                    return Parsed::Said(Call::Release(t, k as u16));
-                }
-                Parsed::Said(Call::Withdraw(t, k as u16))
-            }
-            Field::Wrong(n) => Parsed::Bad(n),
-        },
-        Field::Wrong(n) => Parsed::Bad(n),
-    }
-}
-
-fn claim(said: &[u8], at: usize) -> Parsed
-    ensures { λ r. ⌜ r ≡ claimIn (wordsIn (drop at (now (said .entry)))) ⌝ }
-{
-    let a = next_word(said, at);
-    let b = next_word(said, a.to);
-    let c = next_word(said, b.to);
-    let more = next_word(said, c.to);
-    if is_empty(c) {
-        return Parsed::Bad(reasons::MISSING);
-    }
-    if !is_empty(more) {
-        return Parsed::Bad(reasons::TOO_MANY);
-    }
-    match clock_at(said, a) {
-        Field::Value(t) => match groups_at(said, b) {
-            Field::Value(g) => match length_at(said, c) {
-                Field::Value(l) => Parsed::Said(Call::Claim(t, g, l as u32)),
-                Field::Wrong(n) => Parsed::Bad(n),
-            },
-            Field::Wrong(n) => Parsed::Bad(n),
-        },
-        Field::Wrong(n) => Parsed::Bad(n),
-    }
-}
-
-// The call that a word names, with its words from a place on.
-fn call(word: &[u8], said: &[u8], at: usize) -> Parsed
-    ensures { λ r. ⌜ r ≡ callOf (now (word .entry)) (wordsIn (drop at (now (said .entry)))) ⌝ }
-{
-    if check::same(word, b"rig") {
-        return rig(said, at);
-    }
-    if check::same(word, b"claim") {
-        return claim(said, at);
-    }
-    if check::same(word, b"release") {
-        return leave(said, at, true);
-    }
-    if check::same(word, b"withdraw") {
-        return leave(said, at, false);
-    }
-    if check::same(word, b"clock") {
-        return clock(said, at);
-    }
-    Parsed::Bad(reasons::UNKNOWN)
+    fill(edition, kind, said, at)
 }
 
 // A line's part before its end or its comment.
-fn parse(said: &[u8]) -> Parsed
-    ensures { λ r. ⌜ r ≡ callIn (wordsIn (now (said .entry))) ⌝ }
+fn parse(edition: u8, said: &[u8]) -> Parsed
+    ensures { λ r. ⌜ r ≡ callIn edition (wordsIn (now (said .entry))) ⌝ }
 {
     let w = next_word(said, 0);
     if is_empty(w) {
@@ -214,13 +148,64 @@ fn parse(said: &[u8]) -> Parsed
     }
     let from = w.from;
     let to = w.to;
-    call(&said[from..to], said, to)
+    let kind = kind_named(edition, &said[from..to]);
+    call(edition, kind, said, to)
 }
 
-// A line without its line feed.
-pub fn parse_line(line: &[u8]) -> Parsed
-    ensures { λ r. ⌜ r ≡ lineSays (now (line .entry)) ⌝ }
+// A line of a show of an edition, without its line feed.
+pub fn parse_line(edition: u8, line: &[u8]) -> Parsed
+    ensures { λ r. ⌜ r ≡ lineSays edition (now (line .entry)) ⌝ }
 {
     let end = said_end(line);
-    parse(&line[..end])
+    parse(edition, &line[..end])
+}
+
+// ---- the edition
+// The words after the first, which is `edition`.
+fn edition_at(said: &[u8], at: usize) -> Head
+    ensures { λ r. ⌜ r ≡ editionIn (wordsIn (drop at (now (said .entry)))) ⌝ }
+{
+    let w = next_word(said, at);
+    if is_empty(w) {
+        return Head::Misread(reasons::MISSING);
+    }
+    let from = w.from;
+    let to = w.to;
+    let more = next_word(said, to);
+    if !is_empty(more) {
+        return Head::Misread(reasons::TOO_MANY);
+    }
+    match number(
+        &said[from..to],
+        10,
+        255,
+        reasons::NO_EDITION,
+        reasons::NO_EDITION,
+    ) {
+        Field::Value(e) => Head::Edition(e as u8),
+        Field::Wrong(n) => Head::Misread(n),
+    }
+}
+
+fn head_of(said: &[u8]) -> Head
+    ensures { λ r. ⌜ r ≡ headIn (wordsIn (now (said .entry))) ⌝ }
+{
+    let w = next_word(said, 0);
+    if is_empty(w) {
+        return Head::Silent;
+    }
+    let from = w.from;
+    let to = w.to;
+    if check::same(&said[from..to], b"edition") {
+        return edition_at(said, to);
+    }
+    Head::Other
+}
+
+// The same as the first line of a show.
+pub(crate) fn head_line(line: &[u8]) -> Head
+    ensures { λ r. ⌜ r ≡ headSays (now (line .entry)) ⌝ }
+{
+    let end = said_end(line);
+    head_of(&line[..end])
 }

@@ -1,15 +1,16 @@
 // Calls, refusals and reports as lines. The private functions lay them over a buffer as far as that goes, and so count them on one byte;
 // the public ones answer 15 and leave the buffer as it is where the whole does not go in.
 ghost use mathlib.Core.Path.{_≡_};
-ghost use mathlib.Core.List.{_++_};
-ghost use Prim.Native.Nat.{_≤_};
+ghost use mathlib.Core.List.{[], _∷_, _++_};
 ghost use lib.Dec.{leb};
 ghost use lib.ListN.{length};
-ghost use Rattle.numerals.specs.Digits.{column};
 ghost use Rattle.numerals.specs.Laid.{lentOut, Put};
-ghost use Rattle.load.specs.Reading.{walk, openNumber};
-ghost use Rattle.load_text.specs.Lines.{glyphOf, hexUpTo, setOf, lineOf, stopLine, restOf, textOf, reasonText, reportOf, printed};
+ghost use Rattle.load.specs.Format.{fieldsOf};
+ghost use Rattle.load.specs.Reading.{editionOf, walk, openNumber};
+ghost use Rattle.load_text.specs.Lines.{glyphOf, hexUpTo, wordOf, fieldsText, lineOf, stopLine, restOf, headerOf, textOf, reportOf, printed};
 use crate::reasons;
+use crate::texts::put_name;
+use crate::texts::put_reason;
 use load::Call;
 use load::Item;
 
@@ -44,60 +45,53 @@ fn put_digits(out: &mut [u8], at: usize, value: u64, k: usize) -> usize
     numerals::put_byte(out, m, glyph(value))
 }
 
-// A set of groups in hex, and the byte behind it.
-fn put_set(out: &mut [u8], at: usize, groups: u64, b: u8) -> usize
-    ensures { λ r. ⌜ Put (now (out .entry)) at (setOf groups b) r (now (out .exit)) ⌝ }
+// A value as a word after a space: a set of groups in hex, any other in decimal.
+fn put_word(out: &mut [u8], at: usize, field: u8, value: u64) -> usize
+    ensures { λ r. ⌜ Put (now (out .entry)) at ((32 ∷ []) ++ wordOf field value) r (now (out .exit)) ⌝ }
 {
-    let m = put_digits(out, at, groups, 15);
-    numerals::put_byte(out, m, b)
-}
-
-fn put_claim(out: &mut [u8], at: usize, clock: u64, groups: u64, length: u32) -> usize
-    ensures { λ r. ⌜ Put (now (out .entry)) at (column clock 32 ++ (setOf groups 32 ++ column length 10)) r (now (out .exit)) ⌝ }
-{
-    let a = numerals::put_column(out, at, clock, 32);
-    let b = put_set(out, a, groups, 32);
-    numerals::put_column(out, b, length as u64, 10)
-}
-
-// A call as a line.
-fn put_call(out: &mut [u8], at: usize, call: Call) -> usize
-    ensures { λ r. ⌜ Put (now (out .entry)) at (lineOf call) r (now (out .exit)) ⌝ }
-{
-    match call {
-        Call::Rig(g) => {
-            let m = numerals::put_bytes(out, at, b"rig ");
-            put_set(out, m, g, 10)
-        }
-        Call::Claim(c, g, l) => {
-            let m = numerals::put_bytes(out, at, b"claim ");
-            put_claim(out, m, c, g, l)
-        }
-        Call::Release(c, t) => {
-            let m = numerals::put_bytes(out, at, b"release ");
-            numerals::put_pair(out, m, c, t as u64, 10)
-        }
-        Call::Withdraw(c, t) => {
-            let m = numerals::put_bytes(out, at, b"withdraw ");
-            numerals::put_pair(out, m, c, t as u64, 10)
-        }
-        Call::Clock(c) => {
-            let m = numerals::put_bytes(out, at, b"clock ");
-            numerals::put_column(out, m, c, 10)
-        }
+    let m = numerals::put_byte(out, at, b' ');
+    if field == 2 {
+        return put_digits(out, m, value, 15);
     }
+    numerals::put_decimal(out, m, value)
+}
+
+// The fields that a call has in an edition, and a line feed.
+fn put_fields(out: &mut [u8], at: usize, edition: u8, call: Call) -> usize
+    ensures { λ r. ⌜ Put (now (out .entry)) at (fieldsText (fieldsOf edition (call .kind)) call) r (now (out .exit)) ⌝ }
+{
+    let kind = call.kind;
+    let mut n = at;
+    let mut i: usize = 0;
+    loop {
+        let f = load::field_at(edition, kind, i);
+        if f == 0 {
+            return numerals::put_byte(out, n, 10);
+        }
+        let v = load::value_of(call, f);
+        n = put_word(out, n, f, v);
+        i += 1;
+    }
+}
+
+// A call as a line of a show of an edition.
+fn put_call(out: &mut [u8], at: usize, edition: u8, call: Call) -> usize
+    ensures { λ r. ⌜ Put (now (out .entry)) at (lineOf edition call) r (now (out .exit)) ⌝ }
+{
+    let m = put_name(out, at, edition, call.kind);
+    put_fields(out, m, edition, call)
 }
 
 // The same at the start of a lent buffer. Cost: the line is counted first.
-pub fn put_line(call: Call, out: &mut [u8]) -> Printed
-    ensures answer { λ r. ⌜ r ≡ printed (lineOf call) (now (out .entry)) ⌝ }
-    ensures buffer { λ _. ⌜ now (out .exit) ≡ lentOut (lineOf call) (now (out .entry)) ⌝ }
+pub fn put_line(edition: u8, call: Call, out: &mut [u8]) -> Printed
+    ensures answer { λ r. ⌜ r ≡ printed (lineOf edition call) (now (out .entry)) ⌝ }
+    ensures buffer { λ _. ⌜ now (out .exit) ≡ lentOut (lineOf edition call) (now (out .entry)) ⌝ }
 {
     let mut scrap = [0u8; 1];
-    if out.len() < put_call(&mut scrap, 0, call) {
+    if out.len() < put_call(&mut scrap, 0, edition, call) {
         return Printed::Refusal(reasons::NO_SPACE);
     }
-    let n = put_call(out, 0, call);
+    let n = put_call(out, 0, edition, call);
     Printed::Length(n)
 }
 
@@ -111,15 +105,16 @@ fn put_stop(out: &mut [u8], at: usize, number: u8, k: u64) -> usize
 // The records that a reader gives of a load that opens, to its end or to the first that is refused.
 fn put_records(out: &mut [u8], from: usize, load: &[u8]) -> usize
     requires { ⌜ openNumber (now load) ≡ 0 ⌝ }
-    ensures { λ r. ⌜ Put (now (out .entry)) from (restOf 1 (walk (now (load .entry)) 1)) r (now (out .exit)) ⌝ }
+    ensures { λ r. ⌜ Put (now (out .entry)) from (restOf (editionOf (now (load .entry))) 1 (walk (now (load .entry)) 1)) r (now (out .exit)) ⌝ }
 {
+    let edition = load[0];
     let mut at: usize = 1;
     let mut k: u64 = 1;
     let mut n = from;
     loop {
         match reader::item_at(load, at) {
             Item::Record(call, next) => {
-                n = put_call(out, n, call);
+                n = put_call(out, n, edition, call);
                 at = next;
                 k += 1;
             }
@@ -133,6 +128,17 @@ fn put_records(out: &mut [u8], from: usize, load: &[u8]) -> usize
     }
 }
 
+// The first line of a show of an edition.
+fn put_header(out: &mut [u8], edition: u8) -> usize
+    ensures { λ r. ⌜ Put (now (out .entry)) 0 (headerOf edition) r (now (out .exit)) ⌝ }
+{
+    if edition == 1 {
+        return numerals::put_bytes(out, 0, b"# edition 1\n");
+    }
+    let m = numerals::put_bytes(out, 0, b"edition ");
+    numerals::put_column(out, m, edition as u64, 10)
+}
+
 // A load as text.
 fn put_text(out: &mut [u8], load: &[u8]) -> usize
     ensures { λ r. ⌜ Put (now (out .entry)) 0 (textOf (now (load .entry))) r (now (out .exit)) ⌝ }
@@ -141,7 +147,7 @@ fn put_text(out: &mut [u8], load: &[u8]) -> usize
     if number != 0 {
         return put_stop(out, 0, number, 0);
     }
-    let n = numerals::put_bytes(out, 0, b"# edition 1\n");
+    let n = put_header(out, load[0]);
     put_records(out, n, load)
 }
 
@@ -166,27 +172,6 @@ pub fn show(load: &[u8], out: &mut [u8]) -> Printed
         return Printed::Length(n);
     }
     Printed::Refusal(reasons::NO_SPACE)
-}
-
-// What is wrong, by number.
-fn put_reason(out: &mut [u8], at: usize, reason: u8) -> usize
-    ensures { λ r. ⌜ Put (now (out .entry)) at (reasonText reason) r (now (out .exit)) ⌝ }
-{
-    match reason {
-        reasons::UNKNOWN => numerals::put_bytes(out, at, b"unknown call\n"),
-        reasons::MISSING => numerals::put_bytes(out, at, b"a number is missing\n"),
-        reasons::TOO_MANY => numerals::put_bytes(out, at, b"too many words\n"),
-        reasons::NO_CLOCK => numerals::put_bytes(out, at, b"clock is not a number\n"),
-        reasons::NO_TICKET => numerals::put_bytes(out, at, b"ticket is not a number\n"),
-        reasons::NO_LENGTH => numerals::put_bytes(out, at, b"length is not a number\n"),
-        reasons::NO_GROUPS => numerals::put_bytes(out, at, b"groups are not hex or a list\n"),
-        reasons::TOO_LARGE => numerals::put_bytes(out, at, b"number too large\n"),
-        reasons::OVER_63 => numerals::put_bytes(out, at, b"group over 63\n"),
-        reasons::BACKWARD => numerals::put_bytes(out, at, b"range runs backward\n"),
-        reasons::MISFIT => numerals::put_bytes(out, at, b"rig must be first\n"),
-        reasons::OVERLONG => numerals::put_bytes(out, at, b"load over 65,536 bytes\n"),
-        _ => numerals::put_bytes(out, at, b"not written\n"),
-    }
 }
 
 // A line that says what is wrong with a line of text.

@@ -1,5 +1,5 @@
 // Why a text makes no load, by number, as in specs/Reasons.antt: from 101 on for a line that says no call, so that no reason can be taken
-// for a number of document 01; 13, 14 and 15 are document 01's own.
+// for a number of document 01; 11, 13, 14 and 15 are document 01's own.
 pub const UNKNOWN: u8 = 101;
 
 pub const MISSING: u8 = 102;
@@ -20,8 +20,6 @@ pub const OVER_63: u8 = 109;
 
 pub const BACKWARD: u8 = 110;
 
-pub const MISFIT: u8 = 13;
-
-pub const OVERLONG: u8 = 14;
+pub const NO_EDITION: u8 = 11;
 
 pub const NO_SPACE: u8 = 15;

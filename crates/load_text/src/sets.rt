@@ -2,28 +2,13 @@
 ghost use mathlib.Core.Path.{_≡_};
 ghost use Prim.Native.Nat.{_≤_};
 ghost use Rattle.load_text.specs.declared.words.Field.the-variants.{Value};
-ghost use Rattle.load_text.specs.Parsing.{groupIn, groupsIn, isList, itemIn, itemsIn, span, upTo, withItems};
+ghost use Rattle.load_text.specs.Parsing.{groupIn, groupsIn, itemIn, itemsIn, span, upTo, withItems};
 use crate::reasons;
 use crate::words::Field;
+use crate::words::Mark;
+use crate::words::lacks;
 use crate::words::number;
 use crate::words::place;
-
-// Whether a word has a comma or a dash.
-fn is_list(word: &[u8]) -> bool
-    ensures { λ r. ⌜ r ≡ isList (now (word .entry)) ⌝ }
-{
-    let mut i: usize = 0;
-    while i < word.len() {
-        if word[i] == b',' {
-            return true;
-        }
-        if word[i] == b'-' {
-            return true;
-        }
-        i += 1;
-    }
-    false
-}
 
 // The groups from one to another: the bits below 2^(high + 1) without those below 2^low.
 fn span(low: u64, high: u64) -> u64
@@ -59,7 +44,7 @@ fn range(low: u64, word: &[u8]) -> Field
 fn item(word: &[u8]) -> Field
     ensures { λ r. ⌜ r ≡ itemIn (now (word .entry)) ⌝ }
 {
-    let end = place(word, b'-', 0);
+    let end = place(word, Mark::Byte(b'-'), 0);
     match group(&word[..end]) {
         Field::Value(low) => {
             if word.len() <= end {
@@ -77,7 +62,7 @@ fn list(word: &[u8]) -> Field
     let mut set: u64 = 0;
     let mut at: usize = 0;
     while at < word.len() {
-        let end = place(word, b',', at);
+        let end = place(word, Mark::Byte(b','), at);
         match item(&word[at..end]) {
             Field::Value(g) => {
                 set = groups::union(set, g);
@@ -95,8 +80,8 @@ fn list(word: &[u8]) -> Field
 pub(crate) fn groups_of(word: &[u8]) -> Field
     ensures { λ r. ⌜ r ≡ groupsIn (now (word .entry)) ⌝ }
 {
-    if is_list(word) {
-        return list(word);
+    if lacks(word, Mark::Joint) {
+        return number(word, 16, u64::MAX, reasons::NO_GROUPS, reasons::TOO_LARGE);
     }
-    number(word, 16, u64::MAX, reasons::NO_GROUPS, reasons::TOO_LARGE)
+    list(word)
 }

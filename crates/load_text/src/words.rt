@@ -1,12 +1,12 @@
 // The words of a line: where they stand, and the numbers that they say.
 // Every function takes any slice and any place. What they answer is defined in specs/Parsing.antt.
 ghost use mathlib.Core.Path.{_≡_};
-ghost use mathlib.Core.Bool.{true};
+ghost use mathlib.Core.Bool.{true, _||_};
 ghost use Prim.Native.Nat.{_<_};
 ghost use lib.Dec.{leb};
-ghost use Rattle.load_text.specs.Parsing.{FirstWord, digitOf, digitsIn, is, isBlank, isFull, isNumber, numberIn, placeOf, upToMost, valueIn};
+ghost use Rattle.load_text.specs.Parsing.{FirstWord, digitOf, digitsIn, is, isNumber, none, numberIn, passes, placeOf, upToMost, valueIn};
 
-// A word of a line, from its first byte to behind its last. Both are equal where there is no word.
+// A word of a line, from its first byte to after its last. Both are equal where there is no word.
 pub struct Word {
     pub from: usize,
     pub to: usize,
@@ -24,69 +24,6 @@ fn wide(b: u8) -> u64
     b as u64
 }
 
-fn is_blank(b: u8) -> bool
-    ensures { λ r. ⌜ r ≡ isBlank b ⌝ }
-{
-    b == b' ' || b == b'\t'
-}
-
-// The first place from `at` on that is neither space nor tab.
-fn skip(line: &[u8], at: usize) -> usize
-    ensures { λ r. ⌜ r ≡ placeOf isFull (now (line .entry)) at ⌝ }
-{
-    let mut i = at;
-    while i < line.len() {
-        if !is_blank(line[i]) {
-            return i;
-        }
-        i += 1;
-    }
-    i
-}
-
-// The first place from `at` on that is a space or a tab, or the end.
-fn word_end(line: &[u8], at: usize) -> usize
-    ensures { λ r. ⌜ r ≡ placeOf isBlank (now (line .entry)) at ⌝ }
-{
-    let mut i = at;
-    while i < line.len() {
-        if is_blank(line[i]) {
-            return i;
-        }
-        i += 1;
-    }
-    i
-}
-
-// The first place from `at` on of a byte, or the end.
-pub(crate) fn place(text: &[u8], byte: u8, at: usize) -> usize
-    ensures { λ r. ⌜ r ≡ placeOf (is byte) (now (text .entry)) at ⌝ }
-{
-    let mut i = at;
-    while i < text.len() {
-        if text[i] == byte {
-            return i;
-        }
-        i += 1;
-    }
-    i
-}
-
-// The next word from a place on.
-pub(crate) fn next_word(line: &[u8], at: usize) -> Word
-    ensures { λ r. ⌜ FirstWord (now (line .entry)) at (r .from) (r .to) ⌝ }
-{
-    let from = skip(line, at);
-    let to = word_end(line, from);
-    Word { from: from, to: to }
-}
-
-pub(crate) fn is_empty(w: Word) -> bool
-    ensures { λ r. ⌜ r ≡ leb (w .to) (w .from) ⌝ }
-{
-    w.to <= w.from
-}
-
 // The value of a digit up to F in either case, 16 for any other byte.
 fn digit(b: u8) -> u64
     ensures { λ r. ⌜ (r ≡ digitOf b) × (r < 17) ⌝ }
@@ -99,6 +36,69 @@ fn digit(b: u8) -> u64
     }
 }
 
+// What is looked for: a byte; a space or a tab; any other byte than these; a comma or a dash; a byte that is no digit of a base.
+pub enum Mark {
+    Byte(u8),
+    Blank,
+    Full,
+    Joint,
+    NoDigit(u64),
+}
+
+fn is_either(b: u8, c: u8, d: u8) -> bool
+    ensures { λ r. ⌜ r ≡ (is c b || is d b) ⌝ }
+{
+    b == c || b == d
+}
+
+fn passes(mark: Mark, b: u8) -> bool
+    ensures { λ r. ⌜ r ≡ passes mark b ⌝ }
+{
+    match mark {
+        Mark::Byte(a) => b == a,
+        Mark::Blank => is_either(b, b' ', b'\t'),
+        Mark::Full => !is_either(b, b' ', b'\t'),
+        Mark::Joint => is_either(b, b',', b'-'),
+        Mark::NoDigit(base) => base <= digit(b),
+    }
+}
+
+// The first place from `at` on of such a byte, or the end.
+pub(crate) fn place(text: &[u8], mark: Mark, at: usize) -> usize
+    ensures { λ r. ⌜ r ≡ placeOf (passes mark) (now (text .entry)) at ⌝ }
+{
+    let mut i = at;
+    while i < text.len() {
+        if passes(mark, text[i]) {
+            return i;
+        }
+        i += 1;
+    }
+    i
+}
+
+// Whether there is none.
+pub(crate) fn lacks(text: &[u8], mark: Mark) -> bool
+    ensures { λ r. ⌜ r ≡ none (passes mark) (now (text .entry)) ⌝ }
+{
+    text.len() <= place(text, mark, 0)
+}
+
+// The next word from a place on.
+pub(crate) fn next_word(line: &[u8], at: usize) -> Word
+    ensures { λ r. ⌜ FirstWord (now (line .entry)) at (r .from) (r .to) ⌝ }
+{
+    let from = place(line, Mark::Full, at);
+    let to = place(line, Mark::Blank, from);
+    Word { from: from, to: to }
+}
+
+pub(crate) fn is_empty(w: Word) -> bool
+    ensures { λ r. ⌜ r ≡ leb (w .to) (w .from) ⌝ }
+{
+    w.to <= w.from
+}
+
 // Whether a word has only digits of a base, and at least one.
 fn is_number(word: &[u8], base: u64) -> bool
     ensures { λ r. ⌜ r ≡ isNumber base (now (word .entry)) ⌝ }
@@ -106,14 +106,7 @@ fn is_number(word: &[u8], base: u64) -> bool
     if word.len() == 0 {
         return false;
     }
-    let mut i: usize = 0;
-    while i < word.len() {
-        if base <= digit(word[i]) {
-            return false;
-        }
-        i += 1;
-    }
-    true
+    lacks(word, Mark::NoDigit(base))
 }
 
 // The number that digits say, if it is at most `most`, else the reason `large`.

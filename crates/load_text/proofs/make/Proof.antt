@@ -43,15 +43,5 @@ pub make-spec : {M : Type 1} → statement M
 make-spec =
     tie.close
     (tie.spec
-    (λ c κs. search needs)
-    (λ c. search needs)
-    (λ c κs. search needs)
-    (λ c. search needs)
-    returns
-    array-share-prefix-load
-    slice-aggregate-put-bytes
-    (λ c κs. search needs)
-    (λ c. search needs)
-    (λ c. search needs)
-    returns-2
-    returns-3)
+    (λ c κs. search needs) (λ c. search needs) (λ c κs. search needs) (λ c. search needs) returns array-share-prefix-load
+    slice-aggregate-put-bytes (λ c κs. search needs) (λ c. search needs) (λ c. search needs) returns-2 returns-3)

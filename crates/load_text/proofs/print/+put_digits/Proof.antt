@@ -28,26 +28,8 @@ put-digits-below t =
 abbrev claims : ℕ → put-digits-lts.Claims
 claims t = (glyph-reads.Asked, glyph-reads.Learnt, put-byte-reads.Asked, put-byte-reads.Learnt, put-digits-below t, put-digits.Post)
 
-put-digits-glyph-requires : (t : ℕ) → put-digits-lts.Need-glyph-requires (claims t) (put-digits-at t) put-digits.Post
-put-digits-glyph-requires t c κs = search needs
-
-put-digits-put-byte-requires : (t : ℕ) → put-digits-lts.Need-put-byte-requires (claims t) (put-digits-at t) put-digits.Post
-put-digits-put-byte-requires t c κs = search needs
-
-put-digits-same-length : (t : ℕ) → put-digits-lts.Need-same-length (claims t) (put-digits-at t) put-digits.Post
-put-digits-same-length t c = search needs
-
 put-digits-returns : (t : ℕ) → put-digits-lts.Need-returns (claims t) (put-digits-at t) put-digits.Post
 put-digits-returns t c = put-as _ _ (hex-one _ _ _ (c .before .before .before .glyph .ensures) (c .before .before .before .before .before .if1 .taken)) (put (c .before .before .put-byte .ensures))
-
-put-digits-glyph-requires-2 : (t : ℕ) → put-digits-lts.Need-glyph-requires-2 (claims t) (put-digits-at t) put-digits.Post
-put-digits-glyph-requires-2 t c κs = search needs
-
-put-digits-put-byte-requires-2 : (t : ℕ) → put-digits-lts.Need-put-byte-requires-2 (claims t) (put-digits-at t) put-digits.Post
-put-digits-put-byte-requires-2 t c κs = search needs
-
-put-digits-same-length-2 : (t : ℕ) → put-digits-lts.Need-same-length-2 (claims t) (put-digits-at t) put-digits.Post
-put-digits-same-length-2 t c = search needs
 
 put-digits-returns-2 : (t : ℕ) → put-digits-lts.Need-returns-2 (claims t) (put-digits-at t) put-digits.Post
 put-digits-returns-2 t c = put-as _ _ (hex-last _ _ _ (c .before .before .before .glyph2 .ensures) (c .before .before .before .before .before .if2 .taken)) (put (c .before .before .put-byte2 .ensures))
@@ -58,31 +40,22 @@ put-digits-sub-put-digits t c = omega (arith, c .before .before .if1 .left)
 put-digits-put-digits-requires : (t : ℕ) → put-digits-lts.Need-put-digits-requires (claims t) (put-digits-at t) put-digits.Post
 put-digits-put-digits-requires t c κs = (omega (arith, c .before .before .before .before .pre .0, c .before .before .if1 .left), tt)
 
-put-digits-glyph-requires-3 : (t : ℕ) → put-digits-lts.Need-glyph-requires-3 (claims t) (put-digits-at t) put-digits.Post
-put-digits-glyph-requires-3 t c κs = search needs
-
-put-digits-put-byte-requires-3 : (t : ℕ) → put-digits-lts.Need-put-byte-requires-3 (claims t) (put-digits-at t) put-digits.Post
-put-digits-put-byte-requires-3 t c κs = search needs
-
-put-digits-same-length-3 : (t : ℕ) → put-digits-lts.Need-same-length-3 (claims t) (put-digits-at t) put-digits.Post
-put-digits-same-length-3 t c = search needs
-
 put-digits-returns-3 : (t : ℕ) → put-digits-lts.Need-returns-3 (claims t) (put-digits-at t) put-digits.Post
 put-digits-returns-3 t c = put-as _ _ (hex-more _ _ _ (c .before .before .before .glyph3 .ensures) (c .before .before .before .before .before .before .before .before .before .before .if1 .left) (c .before .before .before .before .before .before .before .before .before .if2 .left)) (put-then _ _ _ _ _ _ _ _ (omega arith) (c .before .before .before .before .before .before .before .put-digits .ensures) (put (c .before .before .put-byte3 .ensures)))
 
 pub +put-digits-spec : {M : Type 1} → statement M
 +put-digits-spec = close μ-put-digits λ t. put-digits-lts.spec (claims t) (put-digits-at t) put-digits.Post
-    (put-digits-glyph-requires t)
-    (put-digits-put-byte-requires t)
-    (put-digits-same-length t)
+    (λ c κs. search needs)
+    (λ c κs. search needs)
+    (λ c. search needs)
     (put-digits-returns t)
-    (put-digits-glyph-requires-2 t)
-    (put-digits-put-byte-requires-2 t)
-    (put-digits-same-length-2 t)
+    (λ c κs. search needs)
+    (λ c κs. search needs)
+    (λ c. search needs)
     (put-digits-returns-2 t)
     (put-digits-sub-put-digits t)
     (put-digits-put-digits-requires t)
-    (put-digits-glyph-requires-3 t)
-    (put-digits-put-byte-requires-3 t)
-    (put-digits-same-length-3 t)
+    (λ c κs. search needs)
+    (λ c κs. search needs)
+    (λ c. search needs)
     (put-digits-returns-3 t)

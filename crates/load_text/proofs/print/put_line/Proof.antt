@@ -7,22 +7,17 @@ use Rattle.load_text.proofs.print.put_line.Statement.{statement}
 use Rattle.load_text.proofs.print.put_line.Tie as tie
 
 returns : tie.Need-returns
-returns c = print-none _ _ (omega (arith, c .if1 .taken, put-short (line-short _) (c .before .before .put-call .ensures) .0))
+returns c = print-none _ _ (omega (arith, c .if1 .taken, put-short (line-short _ _) (c .before .before .put-call .ensures) .0))
 
 returns-2 : tie.Need-returns-2
 returns-2 c =
     let p = c .before .before in
     let i = p .before .before in
-    let n = put-short (line-short _) (i .before .before .put-call .ensures) .0 in
-    print-all _ _ _ _ (line-short _) (omega (arith, n, i .if1 .left)) (p .put-call2 .ensures)
+    let n = put-short (line-short _ _) (i .before .before .put-call .ensures) .0 in
+    print-all _ _ _ _ (line-short _ _) (omega (arith, n, i .if1 .left)) (p .put-call2 .ensures)
 
 pub put-line-spec : {M : Type 1} → statement M
 put-line-spec =
     tie.close
     (tie.spec
-    (λ c. search needs)
-    (λ c κs. search needs)
-    returns
-    (λ c κs. search needs)
-    (λ c. search needs)
-    returns-2)
+    (λ c. search needs) (λ c κs. search needs) returns (λ c κs. search needs) (λ c. search needs) returns-2)

@@ -1,4 +1,4 @@
--- A report is its pieces laid one behind the other.
+-- A report is its pieces laid one after the other.
 use native.Mathlib.Omega.{arith}
 use Rattle.numerals.proofs.Laying.{put, put-then}
 use Rattle.load_text.specs.Lines.{reportOf}
@@ -23,11 +23,5 @@ pub put-report-spec : {M : Type 1} → statement M
 put-report-spec =
     tie.close
     (tie.spec
-    (λ c. search needs)
-    (λ c κs. search needs)
-    (λ c κs. search needs)
-    (λ c. search needs)
-    (λ c κs. search needs)
-    (λ c κs. search needs)
-    (λ c. search needs)
-    returns)
+    (λ c. search needs) (λ c κs. search needs) (λ c κs. search needs) (λ c. search needs) (λ c κs. search needs) (λ c κs. search needs)
+    (λ c. search needs) returns)

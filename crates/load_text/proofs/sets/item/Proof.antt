@@ -32,17 +32,5 @@ pub item-spec : {M : Type 1} → statement M
 item-spec =
     tie.close
     (tie.spec
-    (λ c κs. search needs)
-    slice-aggregate-group
-    (λ c κs. search needs)
-    (λ c. search needs)
-    span-requires
-    returns
-    (λ c. omega arith)
-    (λ c. search needs)
-    (λ c. search needs)
-    (λ c. search needs)
-    (λ c κs. search needs)
-    (λ c. search needs)
-    returns-2
-    returns-3)
+    (λ c κs. search needs) slice-aggregate-group (λ c κs. search needs) (λ c. search needs) span-requires returns (λ c. omega arith)
+    (λ c. search needs) (λ c. search needs) (λ c. search needs) (λ c κs. search needs) (λ c. search needs) returns-2 returns-3)

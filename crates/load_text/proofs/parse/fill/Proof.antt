@@ -1,0 +1,78 @@
+-- `parse::fill` meets its contract: the fields filled so far, with the words left, give the whole.
+use Prim.Native.Nat.{_-_, _≤_}
+use mathlib.Core.Path.{_≡_, sym, ap, _∙_}
+use native.Mathlib.Omega.{arith}
+use lib.ListN.{length, drop}
+use borrow.Author.Needs.{needs}
+use Rattle.load.specs.Format.{fieldsOf}
+use Rattle.load.specs.Calls.{bare}
+use Rattle.load.proofs.Format.{fields-few}
+use Rattle.load.proofs.Rows.{row-more}
+use Rattle.load_text.specs.declared.parse.Parsed.the-variants.{Said}
+use Rattle.load_text.specs.Parsing.{wordsIn, filledIn}
+use Rattle.load_text.proofs.Fields.{word-in, fill-end, fill-many, fill-missing, fill-on}
+use Rattle.load_text.proofs.parse.fill.Statement.{statement}
+use Rattle.load_text.proofs.parse.fill.Tie as tie
+
+abbrev Inv-loop : tie.InvT-loop
+Inv-loop edition kind said from p₀ at₀ i₀ p at i =
+    (i ≤ length (fieldsOf edition kind))
+    × (filledIn (drop i (fieldsOf edition kind)) (wordsIn (drop at said)) p ≡ filledIn (fieldsOf edition kind) (wordsIn (drop from said)) (Said (bare kind)))
+
+abbrev μ-loop : tie.MeasureT-loop
+μ-loop edition kind said from p₀ at₀ i₀ p at i = length (fieldsOf edition kind) - i
+
+loop-holds : tie.Need-loop-holds Inv-loop μ-loop
+loop-holds c =
+    let a = c .before .before .args in
+    (omega arith, ap (λ x. filledIn (fieldsOf (a .edition) (a .kind)) (wordsIn (drop (a .from) (a .said .now))) (Said x)) (c .bare .ensures))
+
+returns : tie.Need-returns Inv-loop μ-loop
+returns c =
+    let z = c .before .before in
+    let n = z .before in
+    fill-end _ _ _ _ (n .before .field-at .ensures) (n .next-word .ensures) _ (z .if1 .taken) (sym (c .before .is-empty .ensures) ∙ c .if2 .taken) ∙ n .before .before .loop .inv .1
+
+returns-2 : tie.Need-returns-2 Inv-loop μ-loop
+returns-2 c =
+    let z = c .before .before in
+    let n = z .before in
+    fill-many _ _ _ _ (n .before .field-at .ensures) (n .next-word .ensures) _ (z .if1 .taken) (sym (c .before .is-empty .ensures) ∙ c .if2 .left) ∙ n .before .before .loop .inv .1
+
+returns-3 : tie.Need-returns-3 Inv-loop μ-loop
+returns-3 c =
+    let z = c .before .before in
+    let n = z .before in
+    fill-missing _ _ _ _ (n .before .field-at .ensures) (n .next-word .ensures) _ (z .if1 .left) (sym (c .before .is-empty2 .ensures) ∙ c .if3 .taken) ∙ n .before .before .loop .inv .1
+
+add-i : tie.Need-add-i Inv-loop μ-loop
+add-i c =
+    let l = c .before .before .before .before .before .before .before in
+    let a = l .before .before .before .args in
+    omega (arith, l .loop .inv .0, fields-few (a .edition) (a .kind))
+
+loop-less : tie.Need-loop-less Inv-loop μ-loop
+loop-less c =
+    let z = c .before .before .before .before in
+    let n = z .before in
+    omega (arith, row-more _ _ _ _ (n .before .field-at .ensures) (z .if1 .left))
+
+loop-again : tie.Need-loop-again Inv-loop μ-loop
+loop-again c =
+    let t = c .before .before in
+    let z = t .before .before in
+    let n = z .before in
+    let i = n .before .before .loop .inv in (
+      omega (arith, row-more _ _ _ _ (n .before .field-at .ensures) (z .if1 .left)),
+      fill-on _ _ _ _ (n .before .field-at .ensures) (n .next-word .ensures) _ (z .if1 .left) (sym (t .before .is-empty2 .ensures) ∙ t .if3 .left) _ (c .with-word .ensures) ∙ i .1,
+    )
+
+pub fill-spec : {M : Type 1} → statement M
+fill-spec =
+    tie.close
+    (tie.spec
+    Inv-loop μ-loop (λ c κs. search needs) loop-holds (λ c κs. search needs) (λ c κs. search needs) (λ c κs. search needs) returns
+    returns-2 (λ c κs. search needs) returns-3 (λ c. c .before .before .before .next-word .ensures .order)
+    (λ c. c .before .before .before .next-word .ensures .order)
+    (λ c. word-in (c .before .before .before .next-word .ensures) (sym (c .before .is-empty2 .ensures) ∙ c .if3 .left) .1)
+    (λ c κs. search needs) add-i loop-less loop-again)
