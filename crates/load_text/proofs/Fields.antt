@@ -16,7 +16,6 @@ use Rattle.load.proofs.Rows.{row-end}
 use Rattle.load_text.specs.declared.parse.Head.the-variants.{Silent, Edition, Other, Misread}
 use Rattle.load_text.specs.declared.parse.Parsed.{Parsed}
 use Rattle.load_text.specs.declared.parse.Parsed.the-variants.{Nothing, Said, Bad}
-use Rattle.load_text.specs.declared.words.Field.{Field}
 use Rattle.load_text.specs.declared.words.Field.the-variants.{Value, Wrong}
 use Rattle.load_text.specs.Parsing.{FirstWord, wordAt, wordsIn, groupsIn, numberIn, noNumbers, noNumber, fieldIn, withField, filledIn, kindNamed, kindSays, callIn, isWord, editionWord, editionOr, editionIn, headIn}
 use Rattle.load_text.specs.Reasons.{noEdition, unknown, missing, tooMany, tooLarge}
@@ -24,10 +23,10 @@ use Rattle.load_text.proofs.Within.{field-fits}
 
 -- ── the words of a line, by whether each is empty ──
 module _ {l : List ℕ} {at f t : ℕ} (a : FirstWord l at f t) where
-  pub word-none : leb t f ≡ true → wordsIn (drop at l) ≡ []
+  word-none : leb t f ≡ true → wordsIn (drop at l) ≡ []
   word-none e = a .words ∙ ap (λ b. cond b (wordAt l f t ∷ wordsIn (drop t l)) []) (le-ltb f t (leb-true t f e))
 
-  pub word-some : leb t f ≡ false → wordsIn (drop at l) ≡ wordAt l f t ∷ wordsIn (drop t l)
+  word-some : leb t f ≡ false → wordsIn (drop at l) ≡ wordAt l f t ∷ wordsIn (drop t l)
   word-some e = a .words ∙ ap (λ b. cond b (wordAt l f t ∷ wordsIn (drop t l)) []) (lt-ltb f t (leb-false t f e))
 
   pub word-in : leb t f ≡ false → (f ≤ t) × (t ≤ length l)

@@ -140,7 +140,7 @@ reason-length n =
     let i = placeOf (is n) (map (λ r. r .number) reasons) 0 in
     leb-true (length (getD reasonTexts i [])) 29 (below-passes 14 short-test refl i (omega (arith, place-high (is n) (map (λ r. r .number) reasons) 0)))
 
-pub report-length : (line n : ℕ) → length (reportOf line n) ≤ 56
+report-length : (line n : ℕ) → length (reportOf line n) ≤ 56
 unfolding reportOf
 report-length line n = omega (arith, length-append (decimalOf line) (58 ∷ 32 ∷ reasonText n), decimal-length line, width-small line, reason-length n)
 

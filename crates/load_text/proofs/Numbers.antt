@@ -62,20 +62,20 @@ number-digits base w e = and-eq-true-iff (ltb 0 (length w)) (digitsIn base w) .0
 
 module _ (base : ℕ) (w : List ℕ) (i : ℕ) (h : i < length w) where
   -- The first of digits is one, and the others are.
-  pub digit-held : digitsIn base (drop i w) ≡ true → (digitOf (getD w i 0) < base) × (digitsIn base (drop (i + 1) w) ≡ true)
+  digit-held : digitsIn base (drop i w) ≡ true → (digitOf (getD w i 0) < base) × (digitsIn base (drop (i + 1) w) ≡ true)
   digit-held e =
       let q = none-cons (noDigit base) (getD w i 0) (drop (suc i) w) (rw (drop-cons w i 0 h) at e) in
       (leb-false base (digitOf (getD w i 0)) (q .0), rw add-one (q .1))
 
-  pub value-on : (v : ℕ) → valueIn base v (drop i w) ≡ valueIn base (v * base + digitOf (getD w i 0)) (drop (i + 1) w)
+  value-on : (v : ℕ) → valueIn base v (drop i w) ≡ valueIn base (v * base + digitOf (getD w i 0)) (drop (i + 1) w)
   unfolding valueIn
   value-on v = rw (drop-cons w i 0 h, add-one)
 
-pub value-end : (base v : ℕ) (w : List ℕ) (i : ℕ) → length w ≤ i → valueIn base v (drop i w) ≡ v
+value-end : (base v : ℕ) (w : List ℕ) (i : ℕ) → length w ≤ i → valueIn base v (drop i w) ≡ v
 unfolding valueIn
 value-end base v w i h = rw (drop-of-length-le w h)
 
-pub value-grows : (base v : ℕ) (l : List ℕ) → 0 < base → v ≤ valueIn base v l
+value-grows : (base v : ℕ) (l : List ℕ) → 0 < base → v ≤ valueIn base v l
 unfolding valueIn
 value-grows base v [] h = omega arith
 value-grows base v (b ∷ l) h = omega (arith, mul-le-mul-left {m = 1} {n = base} v h, value-grows base (v * base + digitOf b) l h)

@@ -23,7 +23,7 @@ module _ (p : ℕ → Bool) where
       go h true = omega arith
       go h false = omega arith
 
-  pub until-is : (l : List ℕ) → until p l ≡ take (length (until p l)) l
+  until-is : (l : List ℕ) → until p l ≡ take (length (until p l)) l
   unfolding until
   until-is [] = refl
   until-is (b ∷ l) = go (until-is l) (p b)
@@ -32,7 +32,7 @@ module _ (p : ℕ → Bool) where
       go h true = refl
       go h false = ap (λ k. b ∷ k) h
 
-  pub since-is : (l : List ℕ) → since p l ≡ drop (length (until p l)) l
+  since-is : (l : List ℕ) → since p l ≡ drop (length (until p l)) l
   unfolding until since
   since-is [] = refl
   since-is (b ∷ l) = go (since-is l) (p b)

@@ -8,7 +8,7 @@ use native.Mathlib.Nat.{pow-suc, pow-le-pow-right}
 use native.Mathlib.Omega.{arith}
 use lib.Dec.{ltb, leb, eqb}
 use lib.ListN.{length, drop, getD, length-append}
-use borrow.Author.Tests.{eqb-true, eqb-false, ltb-true, ltb-false, lt-ltb, leb-false, leb-true, le-leb, lt-leb, not-true}
+use borrow.Author.Tests.{eqb-true, ltb-true, ltb-false, leb-false, leb-true, lt-leb, not-true}
 use Rattle.numerals.specs.Digits.{digits, widthUpTo, widthOf, decimalOf, column}
 use Rattle.load.specs.declared.Call.{Call}
 use Rattle.load.specs.Format.{theGroups, fieldWidths, fieldWidth, Row, format, known, rowIn, nameOf, fieldsOf, lengthIn, lengthOf}
@@ -18,20 +18,19 @@ use Rattle.load.specs.RoundTrip.{Typed}
 use Rattle.load.proofs.Format.{both, width-is, no-width}
 use Rattle.load.proofs.Calls.{carries-length, call-of-values}
 use Rattle.load.proofs.Reading.{load-parts, load-known}
-use Rattle.load.proofs.Loads.{Sound, Loadable, read-loadable}
-use Rattle.load_text.specs.declared.parse.Head.the-variants.{Silent, Edition, Other}
+use Rattle.load.proofs.Loads.{Loadable, read-loadable}
+use Rattle.load_text.specs.declared.parse.Head.the-variants.{Edition, Other}
 use Rattle.load_text.specs.declared.parse.Parsed.the-variants.{Nothing, Said}
 use Rattle.load_text.specs.declared.words.Field.the-variants.{Value, Wrong}
-use Rattle.load_text.specs.Lines.{glyphOf, hexUpTo, wordOf, fieldsText, lineOf, linesOf, restOf, headerOf, opened, textOf}
+use Rattle.load_text.specs.Lines.{glyphOf, hexUpTo, wordOf, fieldsText, lineOf, linesOf, restOf, headerOf, textOf}
 use Rattle.load_text.specs.Making.{Heading, plain, headingIn, heading, saidIn}
-use Rattle.load_text.specs.Parsing.{none, until, parts, inFront, full, is, isFeed, isBlank, isJoint, linesIn, wordsIn, chomped, said, digitOf, noDigit, digitsIn, valueIn, numberIn, groupsIn, noNumber, fieldIn, withField, filledIn, isWord, kindIn, kindNamed, kindSays, callIn, lineSays, editionWord, editionOr, editionIn, headIn, headSays}
+use Rattle.load_text.specs.Parsing.{none, until, parts, inFront, full, is, isFeed, isBlank, isJoint, linesIn, wordsIn, chomped, said, digitOf, noDigit, digitsIn, valueIn, numberIn, groupsIn, noNumber, fieldIn, filledIn, isWord, kindIn, kindNamed, kindSays, callIn, lineSays, editionWord, editionOr, editionIn, headIn, headSays}
 use Rattle.load_text.specs.ReadBack.{LineReadBack, TextReadBack}
 use Rattle.load_text.specs.Reasons.{noEdition, tooLarge}
 use Rattle.load_text.proofs.Parts.{none-cons, none-at, until-none}
 use Rattle.load_text.proofs.Numbers.{digit-ten, digit-upper, digits-number, number-is, fits}
 use Rattle.load_text.proofs.Reading.{full-cons}
 use Rattle.load_text.proofs.Spans.{groups-hex}
-use Rattle.load_text.proofs.Fields.{field-groups}
 use Rattle.load_text.proofs.Tables.{allRows, row-cases, known-passes}
 
 -- ── parts of a text in front of a byte that ends one ──

@@ -83,7 +83,7 @@ module _ (l : List ℕ) (at from to : ℕ) (e : from ≡ placeOf isFull l at) (f
   }
 
 -- ── a line before its end ──
-pub chomped-is : (l : List ℕ) → take (length (chomped l)) l ≡ chomped l
+chomped-is : (l : List ℕ) → take (length (chomped l)) l ≡ chomped l
 unfolding chomped
 chomped-is l = go (is 13 (getD l (length l - 1) 0))
   where

@@ -23,7 +23,7 @@ unfolding isWord
 word-refl [] = refl
 word-refl (a ∷ k) = rw (eq-eqb a a refl) (word-refl k)
 
-pub word-same : (k n : List ℕ) → isWord k n ≡ true → k ≡ n
+word-same : (k n : List ℕ) → isWord k n ≡ true → k ≡ n
 unfolding isWord
 word-same [] [] e = refl
 word-same [] (b ∷ n) e = absurd (false≢true e)
@@ -91,7 +91,7 @@ codeReasons = 101 ∷ 102 ∷ 103 ∷ 104 ∷ 105 ∷ 106 ∷ 107 ∷ 108 ∷ 10
 row-test : ℕ → Bool
 row-test i = eqb (getD codeEditions i 0) (rowAt i .edition) && (eqb (getD codeKinds i 0) (rowAt i .kind) && isWord (getD texts i []) (rowAt i .name))
 
-pub row-is : (i : ℕ) → i < 5 → (getD codeEditions i 0 ≡ rowAt i .edition) × (getD codeKinds i 0 ≡ rowAt i .kind) × (getD texts i [] ≡ rowAt i .name)
+row-is : (i : ℕ) → i < 5 → (getD codeEditions i 0 ≡ rowAt i .edition) × (getD codeKinds i 0 ≡ rowAt i .kind) × (getD texts i [] ≡ rowAt i .name)
 unfolding row-test allBelow isWord codeEditions codeKinds texts reasonTexts format reasons
 row-is i h =
     let q = both (eqb (getD codeEditions i 0) (rowAt i .edition)) _ (below-passes 5 row-test refl i h) in

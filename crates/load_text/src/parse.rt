@@ -34,7 +34,7 @@ pub enum Head {
 
 // ---- fields
 // The groups among the fields, and for each field from 0 on the greatest number and the reason of a word that is none.
-const GROUPS: u8 = 2;
+pub(crate) const GROUPS: u8 = 2;
 
 const MOST: [u64; 5] = [255, u64::MAX, u64::MAX, 4294967295, 65535];
 

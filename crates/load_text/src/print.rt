@@ -8,6 +8,7 @@ ghost use Rattle.numerals.specs.Laid.{lentOut, Put};
 ghost use Rattle.load.specs.Format.{fieldsOf};
 ghost use Rattle.load.specs.Reading.{editionOf, walk, openNumber};
 ghost use Rattle.load_text.specs.Lines.{glyphOf, hexUpTo, wordOf, fieldsText, lineOf, stopLine, restOf, headerOf, textOf, reportOf, printed};
+use crate::parse;
 use crate::reasons;
 use crate::texts::put_name;
 use crate::texts::put_reason;
@@ -50,7 +51,7 @@ fn put_word(out: &mut [u8], at: usize, field: u8, value: u64) -> usize
     ensures { λ r. ⌜ Put (now (out .entry)) at ((32 ∷ []) ++ wordOf field value) r (now (out .exit)) ⌝ }
 {
     let m = numerals::put_byte(out, at, b' ');
-    if field == 2 {
+    if field == parse::GROUPS {
         return put_digits(out, m, value, 15);
     }
     numerals::put_decimal(out, m, value)

@@ -3,7 +3,6 @@ use Prim.Native.Nat.{_-_}
 use mathlib.Core.Path.{_≡_, refl, sym, _∙_}
 use native.Mathlib.Omega.{arith}
 use lib.ListN.{drop}
-use borrow.Author.Needs.{needs}
 use Rattle.load.specs.Format.{format, rowIn, nameOf}
 use Rattle.load_text.specs.Lines.{reasons, texts}
 use Rattle.load_text.proofs.Tables.{name-end, name-here, name-on}
