@@ -54,6 +54,21 @@ pub with-none : (f w : ℕ) (c : Call) → 5 ≤ f → c ≡ withValue f w c
 unfolding withValue made numbers
 with-none f w c h = ap made (sym (set-out (numbers c) f w h))
 
+-- Or among the numbers that a call is made of.
+numbers-made : (ns : List ℕ) → length ns ≡ 5 → numbers (made ns) ≡ ns
+unfolding numbers made
+numbers-made [] h = absurd (omega arith)
+numbers-made (a ∷ []) h = absurd (omega arith)
+numbers-made (a ∷ b ∷ []) h = absurd (omega arith)
+numbers-made (a ∷ b ∷ c ∷ []) h = absurd (omega arith)
+numbers-made (a ∷ b ∷ c ∷ d ∷ []) h = absurd (omega arith)
+numbers-made (a ∷ b ∷ c ∷ d ∷ e ∷ []) h = refl
+numbers-made (a ∷ b ∷ c ∷ d ∷ e ∷ f ∷ ns) h = absurd (omega arith)
+
+pub with-made : (f v : ℕ) (ns : List ℕ) → length ns ≡ 5 → made (set ns f v) ≡ withValue f v (made ns)
+unfolding withValue
+with-made f v ns h = ap (λ (xs : List ℕ). made (set xs f v)) (sym (numbers-made ns h))
+
 -- Two calls with the same values are one.
 pub by-values : (c d : Call) → ((f : ℕ) → f < 5 → valueOf f c ≡ valueOf f d) → c ≡ d
 unfolding valueOf numbers
@@ -181,6 +196,13 @@ carries-none e c f h n =
     bare-none k (suc (suc (suc (suc f)))) = refl
 
 -- ── types ──
+pub typed-with : (f v : ℕ) (c : Call) → f < 5 → v < 256 ^ fieldWidth f → Typed c → Typed (withValue f v c)
+typed-with f v c l h t g = go (eqb g f) refl
+  where
+    go : (b : Bool) → eqb g f ≡ b → valueOf g (withValue f v c) < 256 ^ fieldWidth g
+    go true p = rw (eqb-true g f p, value-same f v c l) h
+    go false p = rw (value-other g f v c p) (t g)
+
 -- The numbers of a call in the code go into their widths.
 pub typed-call : (c : Call) → c .kind < 2 ^ 8 → c .clock < 2 ^ 64 → c .groups < 2 ^ 64 → c .length < 2 ^ 32 → c .ticket < 2 ^ 16 → Typed c
 unfolding valueOf numbers fieldWidth fieldWidths
@@ -190,3 +212,7 @@ typed-call c k t g l n (suc (suc zero)) = g
 typed-call c k t g l n (suc (suc (suc zero))) = l
 typed-call c k t g l n (suc (suc (suc (suc zero)))) = n
 typed-call c k t g l n (suc (suc (suc (suc (suc f))))) = omega arith
+
+pub typed-bare : (k : ℕ) → k < 2 ^ 8 → Typed (bare k)
+unfolding bare made
+typed-bare k h = typed-call (bare k) h (omega arith) (omega arith) (omega arith) (omega arith)

@@ -1,16 +1,16 @@
 -- What holds of every row of the format, by one test that is computed over the table; and the fields of a row, one after the other.
 use Prim.Native.Nat.{ℕ, zero, suc, _+_, _-_, _*_, _/_, _%_, _^_, _≤_, _<_}
 use mathlib.Core.Bool.{Bool, true, false, not, _&&_, _||_, cond, and-eq-true-iff}
-use mathlib.Core.List.{List, [], _∷_, map}
+use mathlib.Core.List.{List, [], _∷_, _++_, map}
 use mathlib.Core.Logic.{_⊎_, inl, inr, ⊎-elim}
 use mathlib.Core.Path.{_≡_, refl, sym, ap, _∙_}
 use native.Mathlib.Omega.{arith}
 use lib.Dec.{ltb, leb, eqb}
-use borrow.Author.Tests.{lt-ltb, ltb-true, leb-true, eqb-true, eqb-false, not-true}
+use borrow.Author.Tests.{lt-ltb, ltb-true, leb-true, eqb-true, eqb-false, ne-eqb, not-true}
 use native.Mathlib.Numerals.{add-one}
-use lib.ListN.{length, drop, getD, List·getD-eq-default}
+use lib.ListN.{length, drop, getD, replicate, List·getD-eq-default}
 use lib.Seq.{drop-nil}
-use Rattle.load.specs.Format.{Row, fieldWidths, fieldWidth, format, knownIn, known, rowIn, fieldsOf, widths, total, entryOf, lengthIn, lengthOf, leastIn, leastLength}
+use Rattle.load.specs.Format.{Row, fieldWidths, fieldWidth, format, knownIn, known, rowIn, fieldsOf, widths, total, padded, rowOf, lengthIn, lengthOf, leastIn, leastLength}
 use Rattle.load.specs.Reading.{agree}
 
 -- ── computed tests ──
@@ -64,13 +64,13 @@ row-passes f (r ∷ rs) e k h = go (eqb (r .edition) e) (eqb (r .kind) k) refl r
     go true false p q t ih = ih (t .1)
     go false b p q t ih = ih (t .1)
 
--- What is tested. The kinds are those below 6 and the fields no more than three, as the code's table has room for.
+-- What is tested. The kinds are 1 to 5 and the fields no more than three.
 test : ℕ → ℕ → List ℕ → Bool
-test e k fs = known e && (ltb k 6 && (ltb (length fs) 4 && (proper fs && (leb leastLength (2 + lengthIn fs) && ltb (lengthIn fs) 256))))
+test e k fs = known e && ((ltb 0 k && ltb k 6) && (ltb (length fs) 4 && (proper fs && (leb leastLength (2 + lengthIn fs) && ltb (lengthIn fs) 256))))
 
 pub record Lawful (e k : ℕ) (fs : List ℕ) : Type 0 where
   pub edition : known e ≡ true
-  pub kind : k < 6
+  pub kind : (0 < k) × (k < 6)
   pub few : length fs < 4
   pub fields : proper fs ≡ true
   pub least : leastLength ≤ 2 + lengthIn fs
@@ -86,7 +86,7 @@ tested e k fs h =
     let f = both _ _ (d .1) in
     record {
       edition = a .0;
-      kind = ltb-true k 6 (b .0);
+      kind = (ltb-true 0 k (both (ltb 0 k) (ltb k 6) (b .0) .0), ltb-true k 6 (both (ltb 0 k) (ltb k 6) (b .0) .1));
       few = ltb-true (length fs) 4 (c .0);
       fields = d .0;
       least = leb-true leastLength (2 + lengthIn fs) (f .0);
@@ -151,6 +151,12 @@ module _ (f : ℕ) (fs : List ℕ) (p : proper (f ∷ fs) ≡ true) where
   pub proper-rest : proper fs ≡ true
   proper-rest = others .1
 
+-- Whatever stands at a place is the number of a field or 0.
+pub place-under : (fs : List ℕ) (i : ℕ) → proper fs ≡ true → getD fs i 0 < 5
+place-under [] i p = omega arith
+place-under (f ∷ fs) zero p = proper-first f fs p .1
+place-under (f ∷ fs) (suc i) p = place-under fs i (proper-rest f fs p)
+
 -- At place i a field, or none and the row's end.
 pub rest-some : (fs : List ℕ) (i f : ℕ) → f ≡ getD fs i 0 → (f ≡ 0 → ⊥) → (i < length fs) × (drop i fs ≡ f ∷ drop (i + 1) fs)
 rest-some fs i f e h = let r = go fs i e in (r .0, rw add-one (r .1))
@@ -180,65 +186,44 @@ known-none e z = rw z
 pub known-upto : (e : ℕ) → e < 256 → (e ≡ 0 → ⊥) → leb e 1 ≡ known e
 known-upto e h z = sym (known-is e h ∙ rw (lt-ltb 0 e (omega (arith, z))))
 
--- FORMAT: rows edition after edition, six kinds each, four entries each.
-unfoldable pub codeFormat : List (List ℕ)
-codeFormat =
-    (0 ∷ 0 ∷ 0 ∷ 0 ∷ []) ∷ (9 ∷ 2 ∷ 0 ∷ 0 ∷ []) ∷ (21 ∷ 1 ∷ 2 ∷ 3 ∷ []) ∷ (11 ∷ 1 ∷ 4 ∷ 0 ∷ []) ∷ (11 ∷ 1 ∷ 4 ∷ 0 ∷ []) ∷ (9 ∷ 1 ∷ 0 ∷ 0 ∷ []) ∷ []
+-- The places of a row.
+padded-at : (n : ℕ) (fs ys : List ℕ) (i : ℕ) → i < n → getD (padded n fs ++ ys) i 0 ≡ getD fs i 0
+unfolding padded
+padded-at zero fs ys i h = absurd (omega arith)
+padded-at (suc n) fs ys zero h = refl
+padded-at (suc n) [] ys (suc i) h = padded-at n [] ys i (omega arith)
+padded-at (suc n) (f ∷ fs) ys (suc i) h = padded-at n fs ys i (omega arith)
 
-entry-test : ℕ → ℕ → Bool
-entry-test p i = eqb (getD (getD codeFormat p []) i 0) (entryOf (suc (p / 6)) (p % 6) i)
+padded-after : (n : ℕ) (fs : List ℕ) (l : ℕ) → getD (padded n fs ++ (l ∷ [])) n 0 ≡ l
+unfolding padded
+padded-after zero fs l = refl
+padded-after (suc n) fs l = padded-after n (drop 1 fs) l
 
-pub entry-is : (e k i : ℕ) → e < 256 → known e ≡ true → k ≤ 5 → i ≤ 3 → getD (getD codeFormat ((e - 1) * 6 + k) []) i 0 ≡ entryOf e k i
-unfolding codeFormat entryOf fieldsOf format rowIn lengthOf lengthIn total fieldWidth fieldWidths allBelow entry-test
-entry-is e k i b s l m =
-    let r = known-range e b s in
-    let p = (e - 1) * 6 + k in
-    let x : suc (p / 6) ≡ e = omega (arith, r .0, r .1) in
-    let y : p % 6 ≡ k = omega (arith, r .0, r .1) in
-    let row = below-passes 6 (λ p. allBelow 4 (entry-test p)) refl p (omega (arith, r .0, r .1)) in
-    eqb-true (getD (getD codeFormat p []) i 0) (entryOf (suc (p / 6)) (p % 6) i) (below-passes 4 (entry-test p) row i (omega arith))
-    ∙ ap (λ (z : ℕ). entryOf z (p % 6) i) x
-    ∙ ap (λ (z : ℕ). entryOf e z i) y
+module _ (e k : ℕ) (row : List ℕ) (r : row ≡ rowOf e k) where
+  pub row-field : (i : ℕ) → i < 7 → getD row i 0 ≡ getD (fieldsOf e k) i 0
+  unfolding rowOf
+  row-field i h = rw r (padded-at 7 (fieldsOf e k) (lengthOf e k ∷ []) i h)
 
--- Outside the table there is nothing.
-module _ (e k i : ℕ) where
-  outside : (Lawful e k (fieldsOf e k) → length (fieldsOf e k) < i) → 0 ≡ entryOf e k i
-  unfolding entryOf lengthOf lengthIn
-  outside f = ⊎-elim (λ n. sym (ap (λ (x : List ℕ). getD (lengthIn x ∷ x) i 0) n ∙ none i)) (λ l. sym (List·getD-eq-default (lengthOf e k ∷ fieldsOf e k) 0 (f l))) (lawful e k)
-    where
-      none : (i : ℕ) → _≡_ {A = ℕ} (getD (0 ∷ []) i 0) 0
-      none zero = refl
-      none (suc i) = refl
+  pub row-under : (i : ℕ) → i < 7 → getD row i 0 < 5
+  row-under i h = omega (arith, row-field i h, place-under (fieldsOf e k) i (fields-proper e k))
 
-  pub no-edition : known e ≡ false → 0 ≡ entryOf e k i
-  no-edition h = outside (λ l. let z : true ≡ false = sym (l .edition) ∙ h in let y : _≡_ {A = ℕ} 0 1 = cc in absurd (omega arith))
+  pub row-length : getD row 7 0 ≡ lengthOf e k
+  unfolding rowOf
+  row-length = rw r (padded-after 7 (fieldsOf e k) (lengthOf e k))
 
-  pub no-kind : 5 < k → 0 ≡ entryOf e k i
-  no-kind h = outside (λ l. let q = l .kind in absurd (omega arith))
+-- No row.
+pub no-row : (e k : ℕ) → fieldsOf e k ≡ [] → replicate 8 0 ≡ rowOf e k
+unfolding rowOf padded lengthOf lengthIn
+no-row e k n = rw n
 
-  pub no-entry : 3 < i → 0 ≡ entryOf e k i
-  no-entry h = outside (λ l. let q = l .few in omega arith)
+pub no-edition : (e k : ℕ) → e < 256 → (e ≡ 1 → ⊥) → fieldsOf e k ≡ []
+no-edition e k b h = ⊎-elim (λ n. n) (λ l. let r = known-range e b (l .edition) in absurd (h (omega (arith, r .0, r .1)))) (lawful e k)
 
-  pub no-field : 2 < i → 0 ≡ getD (fieldsOf e k) i 0
-  no-field h = sym (List·getD-eq-default (fieldsOf e k) 0 (omega (arith, fields-few e k)))
+pub no-kind : (e k : ℕ) → (0 < k → 5 < k) → fieldsOf e k ≡ []
+no-kind e k h = ⊎-elim (λ n. n) (λ l. let o = h (l .kind .0) in absurd (omega (arith, l .kind .1))) (lawful e k)
 
-  pub field-entry : entryOf e k (i + 1) ≡ getD (fieldsOf e k) i 0
-  unfolding entryOf
-  field-entry = rw add-one
-
--- WIDTHS.
-unfoldable pub codeWidths : List ℕ
-codeWidths = 1 ∷ 8 ∷ 8 ∷ 4 ∷ 2 ∷ []
-
-width-test : ℕ → Bool
-width-test f = eqb (getD codeWidths f 0) (fieldWidth f) && leb (fieldWidth f) 8
-
-pub width-is : (f : ℕ) → f < 5 → (getD codeWidths f 0 ≡ fieldWidth f) × (getD codeWidths f 0 ≤ 8)
-unfolding codeWidths fieldWidth fieldWidths allBelow width-test
-width-is f l =
-    let q = both (eqb (getD codeWidths f 0) (fieldWidth f)) (leb (fieldWidth f) 8) (below-passes 5 width-test refl f l) in
-    let e = eqb-true (getD codeWidths f 0) (fieldWidth f) (q .0) in
-    (e, omega (arith, e, leb-true (fieldWidth f) 8 (q .1)))
+pub no-field : (e k i : ℕ) → 6 < i → 0 ≡ getD (fieldsOf e k) i 0
+no-field e k i h = sym (List·getD-eq-default (fieldsOf e k) 0 (omega (arith, fields-few e k)))
 
 pub no-width : (f : ℕ) → 5 ≤ f → fieldWidth f ≡ 0
 unfolding fieldWidth fieldWidths

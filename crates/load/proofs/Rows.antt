@@ -1,20 +1,22 @@
 -- Loops over the fields of a row, as the code goes through them: what is left from place i on gives the same as the whole.
-use Prim.Native.Nat.{ℕ, _+_, _%_, _^_, _≤_, _<_, min}
+use Prim.Native.Nat.{ℕ, _+_, _*_, _%_, _^_, _≤_, _<_, min}
 use mathlib.Core.List.{List, [], _∷_, _++_, map}
-use mathlib.Core.Path.{_≡_, ap, _∙_}
+use mathlib.Core.Path.{_≡_, refl, _∙_}
 use native.Mathlib.Omega.{arith}
 use native.Mathlib.Nat.{mod-eq-of-lt}
-use lib.ListN.{length, take, drop, getD}
+use lib.ListN.{length, take, drop, getD, set, length-set}
 use lib.Seq.{drop-drop}
 use Rattle.numerals.specs.Digits.{bytesAt}
 use Rattle.numerals.specs.Laid.{behind, laid, Put}
 use Rattle.numerals.proofs.Laying.{put-digits}
 use Rattle.numerals.proofs.Going.{Going, going-step, going-as, going-none}
 use Rattle.load.specs.declared.Call.{Call}
-use Rattle.load.specs.Format.{fieldWidth, fieldsOf}
-use Rattle.load.specs.Calls.{valueOf, withValue, filled, valuesIn}
+use Rattle.load.specs.Format.{fieldWidth, fieldsOf, widths}
+use Rattle.load.specs.Calls.{valueOf, made, withValue, bare, filled, callOf, valuesIn}
 use Rattle.load.specs.Bytes.{big, bigValue, fieldBytes, fieldValues}
-use Rattle.load.proofs.Format.{fields-proper, rest-some, rest-none}
+use Rattle.load.specs.RoundTrip.{Typed}
+use Rattle.load.proofs.Format.{fields-proper, fields-few, place-under, rest-some, rest-none}
+use Rattle.load.proofs.Calls.{with-made, typed-with, typed-bare}
 
 -- The fields from place i on, in bytes.
 abbrev pub left : ℕ → ℕ → ℕ → List ℕ
@@ -26,7 +28,23 @@ readLeft e k i bs c = filled (left e k i) (fieldValues (map fieldWidth (left e k
 abbrev pub bytesLeft : ℕ → ℕ → ℕ → Call → List ℕ
 bytesLeft e k i c = fieldBytes (map fieldWidth (left e k i)) (valuesIn (left e k i) c)
 
--- f is what `field_at` answers at place i.
+-- Reading, at place i and byte at: the numbers of the call have their places, and each goes into its field; those read so far, with the
+-- fields left, give the call.
+pub record Reading (e k : ℕ) (bs ns : List ℕ) (at i : ℕ) : Type 0 where
+  pub place : i ≤ length (fieldsOf e k)
+  pub bytes : at ≤ 8 * i
+  pub five : length ns ≡ 5
+  pub typed : Typed (made ns)
+  pub call : readLeft e k i (drop at bs) (made ns) ≡ callOf e k (fieldValues (widths e k) bs)
+
+pub reading-start : (e k : ℕ) (bs : List ℕ) → k < 2 ^ 8 → Reading e k bs (k ∷ 0 ∷ 0 ∷ 0 ∷ 0 ∷ []) 0 0
+unfolding callOf widths made bare
+reading-start e k bs h = record { place = omega arith; bytes = omega arith; five = refl; typed = typed-bare k h; call = refl }
+
+pub reading-early : {e k : ℕ} {bs ns : List ℕ} {at i : ℕ} → Reading e k bs ns at i → i < 7
+reading-early {e} {k} r = omega (arith, r .place, fields-few e k)
+
+-- f is what the row has at place i.
 module _ (e k i f : ℕ) (s : f ≡ getD (fieldsOf e k) i 0) where
   module _ (z : f ≡ 0) where
     pub row-end : left e k i ≡ []
@@ -48,14 +66,25 @@ module _ (e k i f : ℕ) (s : f ≡ getD (fieldsOf e k) i 0) where
     row-next = rest-some (fieldsOf e k) i f s z .1
 
     module _ (w : ℕ) (u : w ≡ fieldWidth f) where
-      pub reads : (bs : List ℕ) (at v : ℕ) (c d : Call) → w ≤ 8 → v ≡ bigValue (bytesAt bs at w) → v < 256 ^ w → d ≡ withValue f (v % 256 ^ fieldWidth f) c
+      reads : (bs : List ℕ) (at v : ℕ) (c d : Call) → w ≤ 8 → v ≡ bigValue (bytesAt bs at w) → d ≡ withValue f v c
           → readLeft e k (i + 1) (drop (at + w) bs) d ≡ readLeft e k i (drop at bs) c
       unfolding filled fieldValues
-      reads bs at v c d l p q r =
+      reads bs at v c d l p r =
           let m : min w 8 ≡ w = omega arith in
           let x : v ≡ bigValue (take (fieldWidth f) (drop at bs)) = p ∙ rw (m, u) in
-          let y : d ≡ withValue f (bigValue (take (fieldWidth f) (drop at bs))) c = r ∙ rw (← u, mod-eq-of-lt q) (ap (λ (b : ℕ). withValue f b c) (x ∙ rw u)) in
-          rw (row-next, y, ← u, drop-drop w at bs)
+          rw (row-next, r, x, ← u, drop-drop w at bs)
+
+      pub reading-next : (bs ns : List ℕ) (at v : ℕ) → w ≤ 8 → (v ≡ bigValue (bytesAt bs at w)) × (v < 256 ^ w) → Reading e k bs ns at i → Reading e k bs (set ns f v) (at + w) (i + 1)
+      reading-next bs ns at v l p r =
+          let d = with-made f v ns (r .five) in
+          let b : f < 5 = omega (arith, s, place-under (fieldsOf e k) i (fields-proper e k)) in
+          record {
+            place = omega (arith, row-more);
+            bytes = omega (arith, r .bytes, l);
+            five = length-set ns f v ∙ r .five;
+            typed = rw d (typed-with f v (made ns) b (rw (← u) (p .1)) (r .typed));
+            call = reads bs at v (made ns) (made (set ns f v)) l (p .0) d ∙ r .call;
+          }
 
       pub puts : (o₀ : List ℕ) (at : ℕ) (whole o : List ℕ) (n v : ℕ) (c : Call) (p : List ℕ) (m : ℕ) → v ≡ valueOf f c
           → Going o₀ at whole o n (bytesLeft e k i c) → (m ≡ behind n w) × (p ≡ laid o n (big w v)) → Going o₀ at whole p m (bytesLeft e k (i + 1) c)

@@ -1,10 +1,10 @@
 -- The load format as one table: document 01, "The load". Reader, writer and round trip are driven by it. An edition and a kind are rows of
 -- `format`; a field is a name and a width here, and a number of a call (specs/Calls). Quotations are from document 01.
-use Prim.Native.Nat.{ℕ, _+_, min}
+use Prim.Native.Nat.{ℕ, zero, suc, _+_, min}
 use mathlib.Core.Bool.{Bool, false, _&&_, _||_, cond}
-use mathlib.Core.List.{List, [], _∷_, map}
+use mathlib.Core.List.{List, [], _∷_, _++_, map}
 use lib.Dec.{eqb}
-use lib.ListN.{getD}
+use lib.ListN.{drop, getD}
 
 -- ── fields ──
 -- A field is named by a number, its place among the numbers of a call. The first is the kind byte, which every record has.
@@ -90,9 +90,13 @@ lengthIn (f ∷ fs) = total (map fieldWidth (theKind ∷ f ∷ fs))
 unfoldable pub lengthOf : ℕ → ℕ → ℕ
 lengthOf e k = lengthIn (fieldsOf e k)
 
--- A row as the code has it: the length at place 0, then the fields.
-unfoldable pub entryOf : ℕ → ℕ → ℕ → ℕ
-entryOf e k i = getD (lengthOf e k ∷ fieldsOf e k) i 0
+-- A row as the code has it: the fields, 0 in the places after them up to the seventh, and the length.
+unfoldable pub padded : ℕ → List ℕ → List ℕ
+padded zero fs = []
+padded (suc n) fs = getD fs 0 0 ∷ padded n (drop 1 fs)
+
+unfoldable pub rowOf : ℕ → ℕ → List ℕ
+rowOf e k = padded 7 (fieldsOf e k) ++ (lengthOf e k ∷ [])
 
 -- The least length of a whole record, its two length bytes included. (Two bytes say 65,535 at most.)
 unfoldable pub leastIn : List Row → ℕ

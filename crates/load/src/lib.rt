@@ -4,11 +4,12 @@ ghost use Prim.Native.Nat.{_%_, _^_, _≤_, _<_};
 ghost use mathlib.Core.Path.{_≡_};
 ghost use lib.ListN.{length, getD};
 ghost use Rattle.numerals.specs.Laid.{behind, laid, Put};
-ghost use Rattle.load.specs.Format.{known, fieldsOf, entryOf, fieldWidth, widths, lengthOf, leastLength};
-ghost use Rattle.load.specs.Calls.{valueOf, withValue, bare, callOf, valuesOf, kept, same, carries};
+ghost use Rattle.load.specs.Format.{known, fieldsOf, rowOf, fieldWidth, widths, lengthOf, leastLength};
+ghost use Rattle.load.specs.Calls.{valueOf, made, withValue, bare, callOf, valuesOf, kept, same, carries};
 ghost use Rattle.load.specs.Answers.{itemValues, writtenValues};
 ghost use Rattle.load.specs.Bytes.{recordBytes, fieldBytes, fieldValues};
 ghost use Rattle.load.specs.Reading.{inPlace, openNumber, misfit, itemAt, recordNumber, loadNumber};
+ghost use Rattle.load.specs.RoundTrip.{Typed};
 ghost use Rattle.load.specs.Writing.{growNumber, appendNumber, appendAnswer, appendValues, appendOut};
 ghost use Rattle.load.specs.Writing.{heldNumber, growAnswer, growValues, growOut};
 
@@ -35,24 +36,7 @@ pub enum Written {
 }
 
 // ---- the format
-// A field is named by a number: kind 0, clock 1, groups 2, length 3, ticket 4. Their widths in bytes:
-const WIDTHS: [u8; 5] = [1, 8, 8, 4, 2];
-
-// The kinds from 0 on, edition after edition: the length of a record, its kind byte and its fields, then the fields in their order; 0 is none.
-const FORMAT: [[u8; 4]; 6] = [
-    // edition 1
-    [0, 0, 0, 0],
-    // rig: groups
-    [9, 2, 0, 0],
-    // claim: clock, groups, length
-    [21, 1, 2, 3],
-    // release: clock, ticket
-    [11, 1, 4, 0],
-    // withdraw: clock, ticket
-    [11, 1, 4, 0],
-    // clock: clock
-    [9, 1, 0, 0],
-];
+// A field is named by a number: kind 0, clock 1, groups 2, length 3, ticket 4.
 
 // The editions are 1 alone.
 fn known(edition: u8) -> bool
@@ -64,49 +48,66 @@ fn known(edition: u8) -> bool
     edition <= 1
 }
 
-// An entry of the row of a kind of an edition: the record's length at 0, the fields from 1 on; 0 where there is none.
-fn entry(edition: u8, kind: u8, i: usize) -> u8
-    ensures { λ r. ⌜ r ≡ entryOf edition kind i ⌝ }
+// A row of the format: the fields of a kind in their order, 0 after the last; at place 7 the length of a record, its kind byte and its
+// fields. All 0 for a kind that the edition lacks.
+fn edition_1(kind: u8) -> [u8; 8]
+    ensures { λ r. ⌜ r ≡ rowOf 1 kind ⌝ }
 {
-    if 5 < kind {
-        return 0;
+    match kind {
+        // rig: groups
+        1 => [2, 0, 0, 0, 0, 0, 0, 9],
+        // claim: clock, groups, length
+        2 => [1, 2, 3, 0, 0, 0, 0, 21],
+        // release: clock, ticket
+        3 => [1, 4, 0, 0, 0, 0, 0, 11],
+        // withdraw: clock, ticket
+        4 => [1, 4, 0, 0, 0, 0, 0, 11],
+        // clock: clock
+        5 => [1, 0, 0, 0, 0, 0, 0, 9],
+        _ => [0; 8],
     }
-    if 3 < i {
-        return 0;
+}
+
+fn row_of(edition: u8, kind: u8) -> [u8; 8]
+    ensures { λ r. ⌜ r ≡ rowOf edition kind ⌝ }
+{
+    match edition {
+        1 => edition_1(kind),
+        _ => [0; 8],
     }
-    if known(edition) {
-        let row = (edition as usize - 1) * 6 + kind as usize;
-        let entries = FORMAT[row];
-        return entries[i];
-    }
-    0
 }
 
 // The field at place i, from 0, of a kind of an edition; 0 after the last, and for a kind that the edition lacks.
 pub fn field_at(edition: u8, kind: u8, i: usize) -> u8
     ensures { λ r. ⌜ r ≡ getD (fieldsOf edition kind) i 0 ⌝ }
 {
-    if 2 < i {
+    if 6 < i {
         return 0;
     }
-    entry(edition, kind, i + 1)
+    let row = row_of(edition, kind);
+    row[i]
 }
 
 // The length of a record: its kind byte and its fields. 0 for a kind that the edition lacks.
 pub fn length_of(edition: u8, kind: u8) -> usize
     ensures { λ r. ⌜ r ≡ lengthOf edition kind ⌝ }
 {
-    entry(edition, kind, 0) as usize
+    let row = row_of(edition, kind);
+    row[7] as usize
 }
 
 // The width of a field in bytes; 0 where there is no such field.
 pub fn width_of(field: u8) -> usize
     ensures { λ r. ⌜ (r ≡ fieldWidth field) × (r ≤ 8) ⌝ }
 {
-    if field < 5 {
-        return WIDTHS[field as usize] as usize;
+    match field {
+        0 => 1,
+        1 => 8,
+        2 => 8,
+        3 => 4,
+        4 => 2,
+        _ => 0,
     }
-    0
 }
 
 // The value of a field; 0 where there is no such field.
@@ -255,21 +256,35 @@ fn misfits(edition: u8, at: usize, n: usize, kind: u8) -> bool
     !placed(kind, at)
 }
 
-// The call that the fields of a record say. Bytes after the fields are not looked at.
+// The call of five numbers, each of which goes into its field.
+fn made(numbers: [u64; 5]) -> Call
+    requires { ⌜ Typed (made numbers) ⌝ }
+    ensures { λ r. ⌜ r ≡ made numbers ⌝ }
+{
+    Call {
+        kind: numbers[0] as u8,
+        clock: numbers[1],
+        groups: numbers[2],
+        length: numbers[3] as u32,
+        ticket: numbers[4] as u16,
+    }
+}
+
+// The call that the fields of a record say. Bytes after the fields are not looked at. Cost: a few instructions for each field.
 fn call_of(edition: u8, kind: u8, fields: &[u8]) -> Call
     ensures { λ r. ⌜ r ≡ callOf edition kind (fieldValues (widths edition kind) (now (fields .entry))) ⌝ }
 {
-    let mut c = bare(kind);
+    let row = row_of(edition, kind);
+    let mut numbers: [u64; 5] = [kind as u64, 0, 0, 0, 0];
     let mut at: usize = 0;
     let mut i: usize = 0;
     loop {
-        let f = field_at(edition, kind, i);
+        let f = row[i];
         if f == 0 {
-            return c;
+            return made(numbers);
         }
         let w = width_of(f);
-        let v = numerals::number(fields, at, w);
-        c = with_value(c, f, v);
+        numbers[f as usize] = numerals::number(fields, at, w);
         at += w;
         i += 1;
     }

@@ -70,13 +70,24 @@ fn eight(s: &[u8], at: usize) -> u64
 pub fn number(s: &[u8], at: usize, n: usize) -> u64
     ensures { λ r. ⌜ (r ≡ numeral 0 (bytesAt (now (s .entry)) at n)) × (r < 256 ^ n) ⌝ }
 {
-    let m = readable(s.len(), at, n);
-    if m == 8 {
-        return eight(s, at);
+    let size = s.len();
+    if at <= size {
+        if n <= size - at {
+            match n {
+                8 => {
+                    return eight(s, at);
+                }
+                4 => {
+                    return four(s, at);
+                }
+                2 => {
+                    return two(s, at);
+                }
+                _ => {}
+            }
+        }
     }
-    if m == 4 {
-        return four(s, at);
-    }
+    let m = readable(size, at, n);
     each(s, at, m)
 }
 

@@ -1,7 +1,7 @@
--- `load::field_at` meets its contract: the fields stand after the length.
-use mathlib.Core.Path.{_∙_}
+-- `load::field_at` meets its contract: the fields are the first places of the row.
+use native.Mathlib.Omega.{arith}
 use borrow.Author.Needs.{needs}
-use Rattle.load.proofs.Format.{no-field, field-entry}
+use Rattle.load.proofs.Format.{no-field, row-field}
 use Rattle.load.proofs.field_at.Statement.{statement}
 use Rattle.load.proofs.field_at.Tie as tie
 
@@ -9,7 +9,7 @@ returns : tie.Need-returns
 returns c = no-field _ _ _ (c .if1 .taken)
 
 returns-2 : tie.Need-returns-2
-returns-2 c = c .entry .ensures ∙ field-entry _ _ _
+returns-2 c = row-field _ _ _ (c .row-of .ensures) _ (omega arith)
 
 pub field-at-spec : {M : Type 1} → statement M
-field-at-spec = tie.close (tie.spec returns (λ c. search needs) (λ c κs. search needs) returns-2)
+field-at-spec = tie.close (tie.spec returns (λ c κs. search needs) (λ c. search needs) returns-2)

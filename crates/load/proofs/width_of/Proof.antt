@@ -1,21 +1,22 @@
--- `load::width_of` meets its contract: the code's widths are the format's (`width-is`).
+-- `load::width_of` meets its contract: each width is the format's.
 use mathlib.Core.Path.{sym}
 use native.Mathlib.Omega.{arith}
-use borrow.Author.Needs.{needs}
-use Rattle.load.proofs.Format.{codeWidths, width-is, no-width}
+use Rattle.load.specs.Format.{fieldWidths, fieldWidth}
+use Rattle.load.proofs.Format.{no-width}
 use Rattle.load.proofs.width_of.Statement.{statement}
 use Rattle.load.proofs.width_of.Tie as tie
 
-cast-result : tie.Need-cast-result
-unfolding codeWidths
-cast-result c = let q = width-is (c .before .args .field) (c .if1 .taken) .1 in omega arith
-
-returns : tie.Need-returns
-unfolding codeWidths
-returns c = width-is _ (c .if1 .taken)
-
-returns-2 : tie.Need-returns-2
-returns-2 c = (sym (no-width _ (omega arith)), omega arith)
+returns-6 : tie.Need-returns-6
+returns-6 c = let r = c .match .rest in (sym (no-width _ (omega (arith, r .0 .0 .0 .0 .1, r .0 .0 .0 .1, r .0 .0 .1, r .0 .1, r .1))), omega arith)
 
 pub width-of-spec : {M : Type 1} → statement M
-width-of-spec = tie.close (tie.spec (λ c. search needs) cast-result returns returns-2)
+unfolding fieldWidth fieldWidths
+width-of-spec =
+    tie.close
+    (tie.spec
+    (λ c. (rw (c .match .keys1), omega arith))
+    (λ c. (rw (c .match .keys2), omega arith))
+    (λ c. (rw (c .match .keys3), omega arith))
+    (λ c. (rw (c .match .keys4), omega arith))
+    (λ c. (rw (c .match .keys5), omega arith))
+    returns-6)

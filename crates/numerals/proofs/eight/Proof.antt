@@ -1,17 +1,12 @@
 -- `numerals::eight` meets its contract: four bytes, and four more.
 use Prim.Native.Nat.{_+_}
-use mathlib.Core.Path.{sym, _∙_}
 use native.Mathlib.Omega.{arith}
-use Rattle.numerals.proofs.BigEndian.{numeral-joined}
+use Rattle.numerals.proofs.BigEndian.{joined}
 use Rattle.numerals.proofs.eight.Statement.{statement}
 use Rattle.numerals.proofs.eight.Tie as tie
 
 returns : tie.Need-returns
-returns c =
-    let w = c .before in
-    let o = w .before .before in
-    let j = numeral-joined (o .args .s .now) (o .args .at) 4 4 (omega (arith, o .pre)) in
-    (sym (j ∙ omega (arith, w .four .ensures .0, c .four2 .ensures .0)), omega (arith, w .four .ensures .1, c .four2 .ensures .1))
+returns c = let w = c .before in let o = w .before .before in joined 4 (o .args .s .now) (o .args .at) _ _ (omega (arith, o .pre)) (w .four .ensures) (c .four2 .ensures)
 
 pub eight-spec : {M : Type 1} → statement M
 eight-spec =

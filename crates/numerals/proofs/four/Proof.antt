@@ -1,17 +1,12 @@
 -- `numerals::four` meets its contract: two bytes, and two more.
 use Prim.Native.Nat.{_+_}
-use mathlib.Core.Path.{sym, _∙_}
 use native.Mathlib.Omega.{arith}
-use Rattle.numerals.proofs.BigEndian.{numeral-joined}
+use Rattle.numerals.proofs.BigEndian.{joined}
 use Rattle.numerals.proofs.four.Statement.{statement}
 use Rattle.numerals.proofs.four.Tie as tie
 
 returns : tie.Need-returns
-returns c =
-    let w = c .before in
-    let o = w .before .before in
-    let j = numeral-joined (o .args .s .now) (o .args .at) 2 2 (omega (arith, o .pre)) in
-    (sym (j ∙ omega (arith, w .two .ensures .0, c .two2 .ensures .0)), omega (arith, w .two .ensures .1, c .two2 .ensures .1))
+returns c = let w = c .before in let o = w .before .before in joined 2 (o .args .s .now) (o .args .at) _ _ (omega (arith, o .pre)) (w .two .ensures) (c .two2 .ensures)
 
 pub four-spec : {M : Type 1} → statement M
 four-spec =

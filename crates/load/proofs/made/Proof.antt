@@ -1,0 +1,23 @@
+-- `load::made` meets its contract: each number goes into its field.
+use native.Mathlib.Omega.{arith}
+use mathlib.Core.Path.{refl}
+use borrow.Author.Needs.{needs}
+use Rattle.load.specs.Format.{fieldWidths, fieldWidth}
+use Rattle.load.specs.Calls.{made, numbers, valueOf}
+use Rattle.load.proofs.made.Statement.{statement}
+use Rattle.load.proofs.made.Tie as tie
+
+pub made-spec : {M : Type 1} → statement M
+unfolding valueOf numbers made fieldWidth fieldWidths
+made-spec =
+    tie.close
+    (tie.spec
+    (λ c. search needs)
+    (λ c. let h = c .pre 0 in omega arith)
+    (λ c. search needs)
+    (λ c. search needs)
+    (λ c. search needs)
+    (λ c. let h = c .pre 3 in omega arith)
+    (λ c. search needs)
+    (λ c. let h = c .pre 4 in omega arith)
+    (λ c. refl))
