@@ -260,11 +260,12 @@ remaining-is P v c e r = go (on c) (e .held) refl (r .held)
     go true false o q = clash refl q
     go false true o q = clash q refl
 
-bound-is : (P : Type 0) (v : Setting) (ps : List Claim) (l : List Entry) (w : Claim) → Match (Tracks P) ps l → startBound v ps w ≡ boundOn v l (record { groups = w .groups; length = w .length })
+bound-is : (P : Type 0) (v : Setting) (ps : List Claim) (l : List Entry) (w : Claim) (ask : Request) → w .groups ≡ ask .groups → w .length ≡ ask .length → Match (Tracks P) ps l
+    → startBound v ps w ≡ boundOn v l ask
 unfolding startBound contention boundOn
-bound-is P v ps l w m =
-    let rs : Match (Tracks P) (rivals ps w) (rivalsOf l (record { groups = w .groups; length = w .length })) = match-keep (λ c. conflicts c w) (λ e. shares (e .asked .groups) (w .groups)) (λ c e r. ap (λ (g : ℕ). shares g (w .groups)) (r .groups)) m in
-    cc (match-sum (remaining v) (remainingOf v) (remaining-is P v) rs, match-length rs)
+bound-is P v ps l w ask g n m =
+    let rs : Match (Tracks P) (rivals ps w) (rivalsOf l ask) = match-keep (λ c. conflicts c w) (λ e. shares (e .asked .groups) (ask .groups)) (λ c e r. rw (r .groups, g)) m in
+    cc (match-sum (remaining v) (remainingOf v) (remaining-is P v) rs, match-length rs, n)
 
 -- ── one call ──
 abbrev Told : Type 0 → Ledger → Model → Call → Step → Type 0
@@ -329,7 +330,7 @@ module _ (P : Type 0) (l : Ledger) (m : Model) (s : Story P l m) where
           ticket-next = λ t′ ask′ e _. omega (arith, s .issued);
           start-bounded = λ t′ ask′ e _.
               let same : boundOn (ruledBy l t) (l .claims) ask ≡ boundOn (ruledBy l t′) (l .claims) ask′ = cc in
-              omega (arith, place-bound v ps w, bound-is (P × T) v ps (l .claims) w first);
+              omega (arith, place-bound v ps w, bound-is (P × T) v ps (l .claims) w ask refl refl first);
           never-raised = λ _. r .0;
         },
         r .1,
