@@ -1,45 +1,54 @@
 -- Calls and their values, there and back: by one induction over the fields of a row, given that they differ (`proper`).
-use Prim.Native.Nat.{ℕ, zero, suc, _%_, _^_, _≤_, _<_}
+use Prim.Native.Nat.{ℕ, zero, suc, _-_, _%_, _^_, _≤_, _<_}
 use mathlib.Core.Bool.{Bool, true, false, _||_}
 use mathlib.Core.List.{List, [], _∷_}
-use mathlib.Core.Path.{_≡_, refl, sym, ap, _∙_}
+use mathlib.Core.Path.{_≡_, refl, sym, ap, subst, _∙_}
 use native.Mathlib.Omega.{arith}
 use native.Mathlib.Nat.{one-le-pow, mod-eq-of-lt}
 use lib.Dec.{ltb, eqb}
 use borrow.Author.Tests.{ltb-true, lt-ltb, le-ltb, eqb-true, eqb-false, eq-eqb, ne-eqb}
-use lib.ListN.{length, drop, getD, set, length-set, List·getD-eq-default}
+use lib.ListN.{length, drop, getD, set, length-set, replicate, List·getD-eq-default}
 use lib.Seq.{getD-set-same, getD-set-other, set-out}
 use Rattle.load.specs.declared.Call.{Call}
-use Rattle.load.specs.Format.{fieldWidths, fieldWidth, fieldsOf, lengthOf}
+use Rattle.load.specs.Format.{fieldWidths, fieldCount, fieldWidth, fieldsOf, lengthOf}
 use Rattle.load.specs.Calls.{numbers, made, valueOf, withValue, bare, filled, callOf, valuesIn, valuesOf, sameBelow, same, kept, carries}
 use Rattle.load.specs.RoundTrip.{Typed}
 use Rattle.load.proofs.Format.{both, has, proper, proper-first, proper-once, proper-rest, fields-proper}
 
 -- ── one field ──
--- The call of five numbers has them at their places. (One line for each field.)
-made-has : (ns : List ℕ) → length ns ≡ 5 → (f : ℕ) → valueOf f (made ns) ≡ getD ns f 0
-unfolding valueOf numbers made
-made-has ns h zero = refl
-made-has ns h (suc zero) = refl
-made-has ns h (suc (suc zero)) = refl
-made-has ns h (suc (suc (suc zero))) = refl
-made-has ns h (suc (suc (suc (suc zero)))) = refl
-made-has ns h (suc (suc (suc (suc (suc f))))) = sym (List·getD-eq-default ns 0 (omega arith))
+-- A list is made of what stands at its places.
+listed : (ℕ → ℕ) → ℕ → List ℕ
+listed f zero = []
+listed f (suc n) = f 0 ∷ listed (λ i. f (suc i)) n
 
-set-length : (f v : ℕ) (c : Call) → length (set (numbers c) f v) ≡ 5
-unfolding numbers
+listed-is : (xs : List ℕ) (f : ℕ → ℕ) → ((i : ℕ) → i < length xs → f i ≡ getD xs i 0) → listed f (length xs) ≡ xs
+unfolding listed
+listed-is [] f h = refl
+listed-is (x ∷ xs) f h = rw (h 0 (omega arith), listed-is xs (λ i. f (suc i)) (λ i l. h (suc i) (omega arith)))
+
+-- A call made of as many numbers as there are fields has them at their places.
+numbers-made : (ns : List ℕ) → length ns ≡ fieldCount → numbers (made ns) ≡ ns
+unfolding numbers made listed fieldWidths
+numbers-made ns h = subst (λ (n : ℕ). listed (λ i. getD ns i 0) n ≡ ns) h (listed-is ns (λ i. getD ns i 0) (λ i l. refl))
+
+made-has : (ns : List ℕ) → length ns ≡ fieldCount → (f : ℕ) → valueOf f (made ns) ≡ getD ns f 0
+unfolding valueOf
+made-has ns h f = ap (λ (xs : List ℕ). getD xs f 0) (numbers-made ns h)
+
+set-length : (f v : ℕ) (c : Call) → length (set (numbers c) f v) ≡ fieldCount
+unfolding numbers fieldWidths
 set-length f v c = length-set (numbers c) f v
 
-pub value-same : (f v : ℕ) (c : Call) → f < 5 → valueOf f (withValue f v c) ≡ v
-unfolding withValue numbers
+pub value-same : (f v : ℕ) (c : Call) → f < fieldCount → valueOf f (withValue f v c) ≡ v
+unfolding withValue numbers fieldWidths
 value-same f v c h = made-has (set (numbers c) f v) (set-length f v c) f ∙ getD-set-same (numbers c) f v 0 h
 
 pub value-other : (f g v : ℕ) (c : Call) → eqb f g ≡ false → valueOf f (withValue g v c) ≡ valueOf f c
 unfolding withValue valueOf
 value-other f g v c h = made-has (set (numbers c) g v) (set-length g v c) f ∙ getD-set-other (numbers c) g f v 0 (eqb-false f g h)
 
-pub no-value : (f : ℕ) (c : Call) → 5 ≤ f → (0 ≡ valueOf f c) × (0 < 256 ^ fieldWidth f)
-unfolding valueOf numbers
+pub no-value : (f : ℕ) (c : Call) → fieldCount ≤ f → (0 ≡ valueOf f c) × (0 < 256 ^ fieldWidth f)
+unfolding valueOf numbers fieldWidths
 no-value f c h = (sym (List·getD-eq-default (numbers c) 0 h), one-le-pow (fieldWidth f) 256 (omega arith))
 
 -- A value put into a field, as the code does: what goes into the width of field k, the whole where it is within it, and no field.
@@ -50,37 +59,19 @@ module _ (f v : ℕ) (c : Call) where
   pub with-whole : (k : ℕ) (d : Call) → f ≡ k → v < 256 ^ fieldWidth k → d ≡ withValue k v c → d ≡ withValue f (v % 256 ^ fieldWidth f) c
   with-whole k d e l h = rw (e, mod-eq-of-lt l) h
 
-pub with-none : (f w : ℕ) (c : Call) → 5 ≤ f → c ≡ withValue f w c
-unfolding withValue made numbers
+pub with-none : (f w : ℕ) (c : Call) → fieldCount ≤ f → c ≡ withValue f w c
+unfolding withValue made numbers fieldWidths
 with-none f w c h = ap made (sym (set-out (numbers c) f w h))
 
 -- Or among the numbers that a call is made of.
-numbers-made : (ns : List ℕ) → length ns ≡ 5 → numbers (made ns) ≡ ns
-unfolding numbers made
-numbers-made [] h = absurd (omega arith)
-numbers-made (a ∷ []) h = absurd (omega arith)
-numbers-made (a ∷ b ∷ []) h = absurd (omega arith)
-numbers-made (a ∷ b ∷ c ∷ []) h = absurd (omega arith)
-numbers-made (a ∷ b ∷ c ∷ d ∷ []) h = absurd (omega arith)
-numbers-made (a ∷ b ∷ c ∷ d ∷ e ∷ []) h = refl
-numbers-made (a ∷ b ∷ c ∷ d ∷ e ∷ f ∷ ns) h = absurd (omega arith)
-
-pub with-made : (f v : ℕ) (ns : List ℕ) → length ns ≡ 5 → made (set ns f v) ≡ withValue f v (made ns)
+pub with-made : (f v : ℕ) (ns : List ℕ) → length ns ≡ fieldCount → made (set ns f v) ≡ withValue f v (made ns)
 unfolding withValue
 with-made f v ns h = ap (λ (xs : List ℕ). made (set xs f v)) (sym (numbers-made ns h))
 
 -- Two calls with the same values are one.
-pub by-values : (c d : Call) → ((f : ℕ) → f < 5 → valueOf f c ≡ valueOf f d) → c ≡ d
-unfolding valueOf numbers
-by-values c d h =
-    let k : c .kind ≡ d .kind = h 0 (omega arith) in
-    let t : c .clock ≡ d .clock = h 1 (omega arith) in
-    let g : c .groups ≡ d .groups = h 2 (omega arith) in
-    let l : c .length ≡ d .length = h 3 (omega arith) in
-    let n : c .ticket ≡ d .ticket = h 4 (omega arith) in
-    let p : _≡_ {A = Call} (record { kind = c .kind; clock = c .clock; groups = c .groups; length = c .length; ticket = c .ticket })
-    (record { kind = d .kind; clock = d .clock; groups = d .groups; length = d .length; ticket = d .ticket }) = rw (k, t, g, l, n) in
-    p
+pub by-values : (c d : Call) → ((f : ℕ) → f < fieldCount → valueOf f c ≡ valueOf f d) → c ≡ d
+unfolding valueOf made numbers listed fieldWidths
+by-values c d h = ap made (sym (listed-is (numbers c) (λ f. valueOf f c) (λ f l. refl)) ∙ listed-is (numbers d) (λ f. valueOf f c) h)
 
 same-below : (n : ℕ) (c d : Call) → sameBelow n c d ≡ true → (f : ℕ) → f < n → valueOf f c ≡ valueOf f d
 unfolding sameBelow
@@ -107,8 +98,7 @@ same-none zero c d h = refl
 same-none (suc n) c d h = absurd (omega arith)
 
 pub same-call : (c d : Call) → same c d ≡ true → c ≡ d
-unfolding fieldWidths
-same-call c d h = by-values c d (same-below 5 c d h)
+same-call c d h = by-values c d (same-below fieldCount c d h)
 
 same-self : (n : ℕ) (c d : Call) → c ≡ d → sameBelow n c d ≡ true
 unfolding sameBelow
@@ -162,7 +152,7 @@ module _ (e k : ℕ) (vs : List ℕ) where
     unfolding carries
     call-carried h =
         let l : ltb 0 (lengthOf e (callOf e k vs .kind)) ≡ true = ap (λ (j : ℕ). ltb 0 (lengthOf e j)) kind-of-call ∙ lt-ltb 0 (lengthOf e k) h in
-        rw (l, same-self (length fieldWidths) (kept e (callOf e k vs)) (callOf e k vs) kept-call)
+        rw (l, same-self fieldCount (kept e (callOf e k vs)) (callOf e k vs) kept-call)
 
 -- What an edition can carry: the code's tests.
 module _ (e : ℕ) (c : Call) (n : ℕ) (l : n ≡ lengthOf e (c .kind)) where
@@ -184,19 +174,20 @@ call-of-values e c h = same-call (kept e c) c (both (ltb 0 (lengthOf e (c .kind)
 
 -- The fields that its kind lacks are 0.
 pub carries-none : (e : ℕ) (c : Call) (f : ℕ) → carries e c ≡ true → has (suc f) (fieldsOf e (c .kind)) ≡ false → valueOf (suc f) c ≡ 0
-unfolding callOf valueOf numbers bare made
+unfolding callOf valueOf numbers bare made fieldWidths
 carries-none e c f h n =
     ap (valueOf (suc f)) (sym (call-of-values e c h)) ∙ filled-other (fieldsOf e (c .kind)) (valuesOf e c) (bare (c .kind)) (suc f) n ∙ bare-none (c .kind) f
   where
+    none : (n i : ℕ) → getD (replicate {A = ℕ} n 0) i 0 ≡ 0
+    none zero i = refl
+    none (suc n) zero = refl
+    none (suc n) (suc i) = none n i
+
     bare-none : (k f : ℕ) → valueOf (suc f) (bare k) ≡ 0
-    bare-none k zero = refl
-    bare-none k (suc zero) = refl
-    bare-none k (suc (suc zero)) = refl
-    bare-none k (suc (suc (suc zero))) = refl
-    bare-none k (suc (suc (suc (suc f)))) = refl
+    bare-none k f = none (fieldCount - 1) f
 
 -- ── types ──
-pub typed-with : (f v : ℕ) (c : Call) → f < 5 → v < 256 ^ fieldWidth f → Typed c → Typed (withValue f v c)
+pub typed-with : (f v : ℕ) (c : Call) → f < fieldCount → v < 256 ^ fieldWidth f → Typed c → Typed (withValue f v c)
 typed-with f v c l h t g = go (eqb g f) refl
   where
     go : (b : Bool) → eqb g f ≡ b → valueOf g (withValue f v c) < 256 ^ fieldWidth g

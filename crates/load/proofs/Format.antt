@@ -1,16 +1,16 @@
 -- What holds of every row of the format, by one test that is computed over the table; and the fields of a row, one after the other.
 use Prim.Native.Nat.{ℕ, zero, suc, _+_, _-_, _*_, _/_, _%_, _^_, _≤_, _<_}
-use mathlib.Core.Bool.{Bool, true, false, not, _&&_, _||_, cond, and-eq-true-iff}
+use mathlib.Core.Bool.{Bool, true, false, not, _&&_, _||_, cond, false≢true, and-eq-true-iff}
 use mathlib.Core.List.{List, [], _∷_, _++_, map}
 use mathlib.Core.Logic.{_⊎_, inl, inr, ⊎-elim}
 use mathlib.Core.Path.{_≡_, refl, sym, ap, _∙_}
 use native.Mathlib.Omega.{arith}
 use lib.Dec.{ltb, leb, eqb}
-use borrow.Author.Tests.{lt-ltb, ltb-true, leb-true, eqb-true, eqb-false, ne-eqb, not-true}
+use borrow.Author.Tests.{ltb-true, ltb-false, leb-true, eqb-true, eqb-false, eq-eqb, ne-eqb, not-true}
 use native.Mathlib.Numerals.{add-one}
 use lib.ListN.{length, drop, getD, replicate, List·getD-eq-default}
 use lib.Seq.{drop-nil}
-use Rattle.load.specs.Format.{Row, fieldWidths, fieldWidth, format, knownIn, known, rowIn, fieldsOf, widths, total, padded, rowOf, lengthIn, lengthOf, leastIn, leastLength}
+use Rattle.load.specs.Format.{Row, fieldWidths, fieldCount, fieldWidth, format, knownIn, known, rowIn, fieldsOf, widths, total, padded, rowOf, lengthIn, lengthOf, leastIn, leastLength}
 use Rattle.load.specs.Reading.{agree}
 
 -- ── computed tests ──
@@ -31,6 +31,14 @@ below-passes (suc n) f h i l = go (eqb i n) refl (both (f n) (allBelow n f) h) (
     go true p q ih = rw (eqb-true i n p) (q .0)
     go false p q ih = let z = eqb-false i n p in ih (q .1) i (omega (arith, z))
 
+-- A number that is none of those below n.
+pub beyond : (n f : ℕ) → allBelow n (λ i. not (eqb f i)) ≡ true → n ≤ f
+beyond n f h = go (ltb f n) refl
+  where
+    go : (b : Bool) → ltb f n ≡ b → n ≤ f
+    go true p = absurd (false≢true (sym (rw (eq-eqb f f refl)) ∙ below-passes n (λ i. not (eqb f i)) h f (ltb-true f n p)))
+    go false p = ltb-false f n p
+
 agree-same : (a b : Bool) → agree a b ≡ true → a ≡ b
 agree-same true true h = refl
 agree-same true false h = sym h
@@ -45,7 +53,7 @@ has f (g ∷ gs) = eqb f g || has f gs
 -- Each is a field, none is the kind byte, and no two are the same.
 unfoldable pub proper : List ℕ → Bool
 proper [] = true
-proper (f ∷ fs) = (ltb 0 f && ltb f (length fieldWidths)) && (not (has f fs) && proper fs)
+proper (f ∷ fs) = (ltb 0 f && ltb f fieldCount) && (not (has f fs) && proper fs)
 
 allRows : (ℕ → ℕ → List ℕ → Bool) → List Row → Bool
 allRows f [] = true
@@ -64,14 +72,17 @@ row-passes f (r ∷ rs) e k h = go (eqb (r .edition) e) (eqb (r .kind) k) refl r
     go true false p q t ih = ih (t .1)
     go false b p q t ih = ih (t .1)
 
--- What is tested. The kinds are 1 to 5 and the fields no more than three.
+-- What is tested: the edition is one of these, the kind from 1 to 5, the fields no more than six.
+abbrev pub editions : List ℕ
+editions = 1 ∷ []
+
 test : ℕ → ℕ → List ℕ → Bool
-test e k fs = known e && ((ltb 0 k && ltb k 6) && (ltb (length fs) 4 && (proper fs && (leb leastLength (2 + lengthIn fs) && ltb (lengthIn fs) 256))))
+test e k fs = has e editions && ((ltb 0 k && ltb k 6) && (ltb (length fs) 7 && (proper fs && (leb leastLength (2 + lengthIn fs) && ltb (lengthIn fs) 256))))
 
 pub record Lawful (e k : ℕ) (fs : List ℕ) : Type 0 where
-  pub edition : known e ≡ true
+  pub edition : has e editions ≡ true
   pub kind : (0 < k) × (k < 6)
-  pub few : length fs < 4
+  pub few : length fs < 7
   pub fields : proper fs ≡ true
   pub least : leastLength ≤ 2 + lengthIn fs
   pub short : lengthIn fs < 256
@@ -87,14 +98,14 @@ tested e k fs h =
     record {
       edition = a .0;
       kind = (ltb-true 0 k (both (ltb 0 k) (ltb k 6) (b .0) .0), ltb-true k 6 (both (ltb 0 k) (ltb k 6) (b .0) .1));
-      few = ltb-true (length fs) 4 (c .0);
+      few = ltb-true (length fs) 7 (c .0);
       fields = d .0;
       least = leb-true leastLength (2 + lengthIn fs) (f .0);
       short = ltb-true (lengthIn fs) 256 (f .1);
     }
 
 pub lawful : (e k : ℕ) → (fieldsOf e k ≡ []) ⊎ Lawful e k (fieldsOf e k)
-unfolding fieldsOf format known knownIn proper has lengthIn total fieldWidths fieldWidth leastLength leastIn test allRows
+unfolding fieldsOf format proper has lengthIn total fieldWidths fieldWidth leastLength leastIn test allRows
 lawful e k = ⊎-elim (λ n. inl n) (λ t. inr (tested e k (fieldsOf e k) t)) (row-passes test format e k refl)
 
 -- ── lengths ──
@@ -102,7 +113,7 @@ pub fields-proper : (e k : ℕ) → proper (fieldsOf e k) ≡ true
 unfolding proper
 fields-proper e k = ⊎-elim (λ n. rw n) (λ l. l .fields) (lawful e k)
 
-pub fields-few : (e k : ℕ) → length (fieldsOf e k) < 4
+pub fields-few : (e k : ℕ) → length (fieldsOf e k) < 7
 fields-few e k = ⊎-elim (λ n. rw n (omega arith)) (λ l. l .few) (lawful e k)
 
 -- No record is long, so its length goes into two bytes.
@@ -135,15 +146,15 @@ length-total e k h = go (fieldsOf e k) h
 -- ── the fields of a row, one after the other ──
 -- The parts of `proper`.
 module _ (f : ℕ) (fs : List ℕ) (p : proper (f ∷ fs) ≡ true) where
-  pub proper-first : (0 < f) × (f < 5)
-  unfolding proper fieldWidths
+  pub proper-first : (0 < f) × (f < fieldCount)
+  unfolding proper
   proper-first =
-      let q = both (ltb 0 f) (ltb f 5) (both (ltb 0 f && ltb f 5) (not (has f fs) && proper fs) p .0) in
-      (ltb-true 0 f (q .0), ltb-true f 5 (q .1))
+      let q = both (ltb 0 f) (ltb f fieldCount) (both (ltb 0 f && ltb f fieldCount) (not (has f fs) && proper fs) p .0) in
+      (ltb-true 0 f (q .0), ltb-true f fieldCount (q .1))
 
   others : (not (has f fs) ≡ true) × (proper fs ≡ true)
   unfolding proper
-  others = both (not (has f fs)) (proper fs) (both (ltb 0 f && ltb f (length fieldWidths)) (not (has f fs) && proper fs) p .1)
+  others = both (not (has f fs)) (proper fs) (both (ltb 0 f && ltb f fieldCount) (not (has f fs) && proper fs) p .1)
 
   pub proper-once : has f fs ≡ false
   proper-once = not-true (has f fs) (others .0)
@@ -152,7 +163,8 @@ module _ (f : ℕ) (fs : List ℕ) (p : proper (f ∷ fs) ≡ true) where
   proper-rest = others .1
 
 -- Whatever stands at a place is the number of a field or 0.
-pub place-under : (fs : List ℕ) (i : ℕ) → proper fs ≡ true → getD fs i 0 < 5
+pub place-under : (fs : List ℕ) (i : ℕ) → proper fs ≡ true → getD fs i 0 < fieldCount
+unfolding fieldWidths
 place-under [] i p = omega arith
 place-under (f ∷ fs) zero p = proper-first f fs p .1
 place-under (f ∷ fs) (suc i) p = place-under fs i (proper-rest f fs p)
@@ -172,19 +184,10 @@ rest-none (g ∷ fs) zero f p e z = absurd (omega (arith, e, proper-first g fs p
 rest-none (g ∷ fs) (suc i) f p e z = rest-none fs i f (proper-rest g fs p) e z
 
 -- ── the code's tables ──
-pub known-is : (e : ℕ) → e < 256 → known e ≡ (ltb 0 e && leb e 1)
-unfolding known knownIn format allBelow
-known-is e h = agree-same (known e) (ltb 0 e && leb e 1) (below-passes 256 (λ i. agree (known i) (ltb 0 i && leb i 1)) refl e h)
-
-pub known-range : (e : ℕ) → e < 256 → known e ≡ true → (0 < e) × (e ≤ 1)
-known-range e h k = let q = both (ltb 0 e) (leb e 1) (sym (known-is e h) ∙ k) in (ltb-true 0 e (q .0), leb-true e 1 (q .1))
-
-pub known-none : (e : ℕ) → e ≡ 0 → false ≡ known e
-unfolding known knownIn format
-known-none e z = rw z
-
-pub known-upto : (e : ℕ) → e < 256 → (e ≡ 0 → ⊥) → leb e 1 ≡ known e
-known-upto e h z = sym (known-is e h ∙ rw (lt-ltb 0 e (omega (arith, z))))
+-- An edition has a rig.
+pub known-is : (e : ℕ) → e < 256 → known e ≡ ltb 0 (lengthOf e 1)
+unfolding known knownIn format lengthOf lengthIn fieldsOf rowIn total fieldWidth fieldWidths allBelow
+known-is e h = agree-same (known e) (ltb 0 (lengthOf e 1)) (below-passes 256 (λ i. agree (known i) (ltb 0 (lengthOf i 1))) refl e h)
 
 -- The places of a row.
 padded-at : (n : ℕ) (fs ys : List ℕ) (i : ℕ) → i < n → getD (padded n fs ++ ys) i 0 ≡ getD fs i 0
@@ -204,7 +207,7 @@ module _ (e k : ℕ) (row : List ℕ) (r : row ≡ rowOf e k) where
   unfolding rowOf
   row-field i h = rw r (padded-at 7 (fieldsOf e k) (lengthOf e k ∷ []) i h)
 
-  pub row-under : (i : ℕ) → i < 7 → getD row i 0 < 5
+  pub row-under : (i : ℕ) → i < 7 → getD row i 0 < fieldCount
   row-under i h = omega (arith, row-field i h, place-under (fieldsOf e k) i (fields-proper e k))
 
   pub row-length : getD row 7 0 ≡ lengthOf e k
@@ -216,8 +219,9 @@ pub no-row : (e k : ℕ) → fieldsOf e k ≡ [] → replicate 8 0 ≡ rowOf e k
 unfolding rowOf padded lengthOf lengthIn
 no-row e k n = rw n
 
-pub no-edition : (e k : ℕ) → e < 256 → (e ≡ 1 → ⊥) → fieldsOf e k ≡ []
-no-edition e k b h = ⊎-elim (λ n. n) (λ l. let r = known-range e b (l .edition) in absurd (h (omega (arith, r .0, r .1)))) (lawful e k)
+pub no-edition : (e k : ℕ) → (e ≡ 1 → ⊥) → fieldsOf e k ≡ []
+unfolding has
+no-edition e k h = ⊎-elim (λ n. n) (λ l. absurd (false≢true (sym (rw (ne-eqb e 1 h)) ∙ l .edition))) (lawful e k)
 
 pub no-kind : (e k : ℕ) → (0 < k → 5 < k) → fieldsOf e k ≡ []
 no-kind e k h = ⊎-elim (λ n. n) (λ l. let o = h (l .kind .0) in absurd (omega (arith, l .kind .1))) (lawful e k)
@@ -225,6 +229,6 @@ no-kind e k h = ⊎-elim (λ n. n) (λ l. let o = h (l .kind .0) in absurd (omeg
 pub no-field : (e k i : ℕ) → 6 < i → 0 ≡ getD (fieldsOf e k) i 0
 no-field e k i h = sym (List·getD-eq-default (fieldsOf e k) 0 (omega (arith, fields-few e k)))
 
-pub no-width : (f : ℕ) → 5 ≤ f → fieldWidth f ≡ 0
-unfolding fieldWidth fieldWidths
+pub no-width : (f : ℕ) → fieldCount ≤ f → fieldWidth f ≡ 0
+unfolding fieldWidth
 no-width f h = List·getD-eq-default fieldWidths 0 h

@@ -11,7 +11,7 @@ use Rattle.numerals.specs.Laid.{behind, laid, Put}
 use Rattle.numerals.proofs.Laying.{put-digits}
 use Rattle.numerals.proofs.Going.{Going, going-step, going-as, going-none}
 use Rattle.load.specs.declared.Call.{Call}
-use Rattle.load.specs.Format.{fieldWidth, fieldsOf, widths}
+use Rattle.load.specs.Format.{fieldWidths, fieldCount, fieldWidth, fieldsOf, widths}
 use Rattle.load.specs.Calls.{valueOf, made, withValue, bare, filled, callOf, valuesIn}
 use Rattle.load.specs.Bytes.{big, bigValue, fieldBytes, fieldValues}
 use Rattle.load.specs.RoundTrip.{Typed}
@@ -33,13 +33,13 @@ bytesLeft e k i c = fieldBytes (map fieldWidth (left e k i)) (valuesIn (left e k
 pub record Reading (e k : ℕ) (bs ns : List ℕ) (at i : ℕ) : Type 0 where
   pub place : i ≤ length (fieldsOf e k)
   pub bytes : at ≤ 8 * i
-  pub five : length ns ≡ 5
+  pub full : length ns ≡ fieldCount
   pub typed : Typed (made ns)
   pub call : readLeft e k i (drop at bs) (made ns) ≡ callOf e k (fieldValues (widths e k) bs)
 
 pub reading-start : (e k : ℕ) (bs : List ℕ) → k < 2 ^ 8 → Reading e k bs (k ∷ 0 ∷ 0 ∷ 0 ∷ 0 ∷ []) 0 0
-unfolding callOf widths made bare
-reading-start e k bs h = record { place = omega arith; bytes = omega arith; five = refl; typed = typed-bare k h; call = refl }
+unfolding callOf widths made bare fieldWidths
+reading-start e k bs h = record { place = omega arith; bytes = omega arith; full = refl; typed = typed-bare k h; call = refl }
 
 pub reading-early : {e k : ℕ} {bs ns : List ℕ} {at i : ℕ} → Reading e k bs ns at i → i < 7
 reading-early {e} {k} r = omega (arith, r .place, fields-few e k)
@@ -76,12 +76,12 @@ module _ (e k i f : ℕ) (s : f ≡ getD (fieldsOf e k) i 0) where
 
       pub reading-next : (bs ns : List ℕ) (at v : ℕ) → w ≤ 8 → (v ≡ bigValue (bytesAt bs at w)) × (v < 256 ^ w) → Reading e k bs ns at i → Reading e k bs (set ns f v) (at + w) (i + 1)
       reading-next bs ns at v l p r =
-          let d = with-made f v ns (r .five) in
-          let b : f < 5 = omega (arith, s, place-under (fieldsOf e k) i (fields-proper e k)) in
+          let d = with-made f v ns (r .full) in
+          let b : f < fieldCount = omega (arith, s, place-under (fieldsOf e k) i (fields-proper e k)) in
           record {
             place = omega (arith, row-more);
             bytes = omega (arith, r .bytes, l);
-            five = length-set ns f v ∙ r .five;
+            full = length-set ns f v ∙ r .full;
             typed = rw d (typed-with f v (made ns) b (rw (← u) (p .1)) (r .typed));
             call = reads bs at v (made ns) (made (set ns f v)) l (p .0) d ∙ r .call;
           }

@@ -3,9 +3,9 @@ use Prim.Native.Nat.{ℕ, zero, suc}
 use mathlib.Core.Bool.{Bool, true, _&&_}
 use mathlib.Core.List.{List, [], _∷_, map}
 use lib.Dec.{ltb, eqb}
-use lib.ListN.{length, drop, getD, set}
+use lib.ListN.{drop, getD, set}
 use Rattle.load.specs.declared.Call.{Call}
-use Rattle.load.specs.Format.{fieldWidths, fieldsOf, lengthOf}
+use Rattle.load.specs.Format.{fieldCount, fieldsOf, lengthOf}
 
 -- Each number stands at the place that names its field.
 unfoldable pub numbers : Call → List ℕ
@@ -47,7 +47,7 @@ sameBelow zero c d = true
 sameBelow (suc n) c d = eqb (valueOf n c) (valueOf n d) && sameBelow n c d
 
 abbrev pub same : Call → Call → Bool
-same c d = sameBelow (length fieldWidths) c d
+same c d = sameBelow fieldCount c d
 
 -- What an edition keeps of a call: the fields that it lacks become 0.
 unfoldable pub kept : ℕ → Call → Call

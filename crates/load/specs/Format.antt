@@ -4,7 +4,7 @@ use Prim.Native.Nat.{ℕ, zero, suc, _+_, min}
 use mathlib.Core.Bool.{Bool, false, _&&_, _||_, cond}
 use mathlib.Core.List.{List, [], _∷_, _++_, map}
 use lib.Dec.{eqb}
-use lib.ListN.{drop, getD}
+use lib.ListN.{length, drop, getD}
 
 -- ── fields ──
 -- A field is named by a number, its place among the numbers of a call. The first is the kind byte, which every record has.
@@ -26,6 +26,9 @@ theTicket = 4
 -- Their widths in bytes, in that order: kind 1, clock 8, groups 8, length 4, ticket 2.
 unfoldable pub fieldWidths : List ℕ
 fieldWidths = 1 ∷ 8 ∷ 8 ∷ 4 ∷ 2 ∷ []
+
+abbrev pub fieldCount : ℕ
+fieldCount = length fieldWidths
 
 unfoldable pub fieldWidth : ℕ → ℕ
 fieldWidth f = getD fieldWidths f 0

@@ -38,16 +38,6 @@ pub enum Written {
 // ---- the format
 // A field is named by a number: kind 0, clock 1, groups 2, length 3, ticket 4.
 
-// The editions are 1 alone.
-fn known(edition: u8) -> bool
-    ensures { λ r. ⌜ r ≡ known edition ⌝ }
-{
-    if edition == 0 {
-        return false;
-    }
-    edition <= 1
-}
-
 // A row of the format: the fields of a kind in their order, 0 after the last; at place 7 the length of a record, its kind byte and its
 // fields. All 0 for a kind that the edition lacks.
 fn edition_1(kind: u8) -> [u8; 8]
@@ -216,6 +206,13 @@ pub fn carries(edition: u8, call: Call) -> bool
 }
 
 // ---- reading
+// The editions that there are have a rig, which every load begins with.
+fn known(edition: u8) -> bool
+    ensures { λ r. ⌜ r ≡ known edition ⌝ }
+{
+    0 < length_of(edition, 1)
+}
+
 // 0 for a load that opens; else 14, 12 for an empty one, or 11. Looks at the length and the first byte alone.
 pub fn open_number(load: &[u8]) -> u8
     ensures { λ r. ⌜ r ≡ openNumber (now (load .entry)) ⌝ }

@@ -4,7 +4,7 @@ use native.Mathlib.Omega.{arith}
 use mathlib.Core.Path.{sym, _∙_}
 use Prim.Native.Nat.{_-_}
 use lib.ListN.{length}
-use Rattle.load.specs.Format.{fieldsOf}
+use Rattle.load.specs.Format.{fieldWidths, fieldsOf}
 use Rattle.load.proofs.Format.{row-field, row-under}
 use Rattle.load.proofs.Rows.{Reading, reading-start, reading-early, reading-next, filled-end, row-more}
 use Rattle.load.proofs.call_of.Statement.{statement}
@@ -29,12 +29,15 @@ returns c =
     c .made .ensures ∙ sym (filled-end _ _ _ _ f (c .before .if1 .taken) _ _) ∙ l .loop .inv .call
 
 cast-numbers : tie.Need-cast-numbers Inv-loop μ-loop
+unfolding fieldWidths
 cast-numbers c = let l = c .before .before .before in omega (arith, row-under _ _ _ (l .before .row-of .ensures) _ (reading-early (l .loop .inv)))
 
 mul-numbers : tie.Need-mul-numbers Inv-loop μ-loop
+unfolding fieldWidths
 mul-numbers c = let l = c .before .before .before in omega (arith, row-under _ _ _ (l .before .row-of .ensures) _ (reading-early (l .loop .inv)))
 
 array-write-numbers : tie.Need-array-write-numbers Inv-loop μ-loop
+unfolding fieldWidths
 array-write-numbers c = let l = c .before .before .before in row-under _ _ _ (l .before .row-of .ensures) _ (reading-early (l .loop .inv))
 
 add-at : tie.Need-add-at Inv-loop μ-loop

@@ -1,5 +1,4 @@
 -- `load::row_of` meets its contract: an edition has its rows, and there is no other.
-use mathlib.Core.Path.{_∙_}
 use borrow.Author.Needs.{needs}
 use Rattle.load.proofs.Format.{no-row, no-edition}
 use Rattle.load.proofs.row_of.Statement.{statement}
@@ -9,7 +8,7 @@ returns : tie.Need-returns
 returns c = rw (c .before .match .keys1) (c .edition-1 .ensures)
 
 returns-2 : tie.Need-returns-2
-returns-2 c = no-row _ _ (no-edition _ _ (search needs) (c .match .rest .1))
+returns-2 c = no-row _ _ (no-edition _ _ (c .match .rest .1))
 
 pub row-of-spec : {M : Type 1} → statement M
 row-of-spec = tie.close (tie.spec (λ c κs. search needs) returns returns-2)

@@ -2,6 +2,7 @@
 use native.Mathlib.Omega.{arith}
 use mathlib.Core.Path.{refl}
 use borrow.Author.Needs.{needs}
+use Rattle.load.specs.Format.{fieldWidths}
 use Rattle.load.specs.Calls.{valueOf, numbers}
 use Rattle.load.proofs.Calls.{no-value, typed-call}
 use Rattle.load.proofs.value_of.Statement.{statement}
@@ -14,6 +15,7 @@ returns c =
     (refl, typed-call (a .call) (search needs) (search needs) (search needs) (search needs) (search needs) (a .field))
 
 returns-2 : tie.Need-returns-2
+unfolding fieldWidths
 returns-2 c = no-value _ _ (omega arith)
 
 pub value-of-spec : {M : Type 1} → statement M
