@@ -1,10 +1,10 @@
 -- Loops over the fields of a row, as the code goes through them: what is left from place i on gives the same as the whole.
-use Prim.Native.Nat.{ℕ, _+_, _*_, _%_, _^_, _≤_, _<_, min}
+use Prim.Native.Nat.{ℕ, _+_, _-_, _*_, _%_, _^_, _≤_, _<_, min}
 use mathlib.Core.List.{List, [], _∷_, _++_, map}
 use mathlib.Core.Path.{_≡_, refl, _∙_}
 use native.Mathlib.Omega.{arith}
 use native.Mathlib.Nat.{mod-eq-of-lt}
-use lib.ListN.{length, take, drop, getD, set, length-set}
+use lib.ListN.{length, take, drop, getD, set, replicate, length-set}
 use lib.Seq.{drop-drop}
 use Rattle.numerals.specs.Digits.{bytesAt}
 use Rattle.numerals.specs.Laid.{behind, laid, Put}
@@ -37,7 +37,7 @@ pub record Reading (e k : ℕ) (bs ns : List ℕ) (at i : ℕ) : Type 0 where
   pub typed : Typed (made ns)
   pub call : readLeft e k i (drop at bs) (made ns) ≡ callOf e k (fieldValues (widths e k) bs)
 
-pub reading-start : (e k : ℕ) (bs : List ℕ) → k < 2 ^ 8 → Reading e k bs (k ∷ 0 ∷ 0 ∷ 0 ∷ 0 ∷ []) 0 0
+pub reading-start : (e k : ℕ) (bs : List ℕ) → k < 2 ^ 8 → Reading e k bs (k ∷ replicate (fieldCount - 1) 0) 0 0
 unfolding callOf widths made bare fieldWidths
 reading-start e k bs h = record { place = omega arith; bytes = omega arith; full = refl; typed = typed-bare k h; call = refl }
 

@@ -17,6 +17,7 @@ abbrev μ-loop : tie.MeasureT-loop
 μ-loop edition kind fields row ns₀ at₀ i₀ ns at i = length (fieldsOf edition kind) - i
 
 loop-holds : tie.Need-loop-holds Inv-loop μ-loop
+unfolding fieldWidths
 loop-holds c = reading-start _ _ _ (search needs)
 
 array-read-f : tie.Need-array-read-f Inv-loop μ-loop

@@ -2,7 +2,6 @@
 use borrow.Author.Needs.{needs}
 use native.Mathlib.Omega.{arith}
 use mathlib.Core.Path.{_≡_, refl, _∙_}
-use Prim.Native.Nat.{_≤_}
 use Rattle.load.specs.Calls.{same, sameBelow}
 use Rattle.load.specs.Format.{fieldWidths}
 use Rattle.load.proofs.Calls.{same-not, same-more, same-none}
@@ -10,29 +9,29 @@ use Rattle.load.proofs.same.Statement.{statement}
 use Rattle.load.proofs.same.Tie as tie
 
 abbrev Inv-loop : tie.InvT-loop
-Inv-loop a b f₀ f = (f ≤ 5) × (sameBelow f a b ≡ same a b)
+Inv-loop a b f₀ f = sameBelow f a b ≡ same a b
 
 abbrev μ-loop : tie.MeasureT-loop
 μ-loop a b f₀ f = f
 
 loop-holds : tie.Need-loop-holds Inv-loop μ-loop
 unfolding fieldWidths
-loop-holds c = (omega arith, refl)
+loop-holds c = refl
 
 returns : tie.Need-returns Inv-loop μ-loop
 returns c =
     let b = c .before in
     let a = b .before in
-    same-not _ _ _ _ (omega arith) _ _ (a .value-of .ensures .0) (b .value-of2 .ensures .0) (c .if1 .taken) ∙ a .before .before .loop .inv .1
+    same-not _ _ _ _ (omega arith) _ _ (a .value-of .ensures .0) (b .value-of2 .ensures .0) (c .if1 .taken) ∙ a .before .before .loop .inv
 
 loop-again : tie.Need-loop-again Inv-loop μ-loop
 loop-again c =
     let b = c .before in
     let a = b .before in
-    (omega arith, same-more _ _ _ _ (omega arith) _ _ (a .value-of .ensures .0) (b .value-of2 .ensures .0) (c .if1 .left) ∙ a .before .before .loop .inv .1)
+    same-more _ _ _ _ (omega arith) _ _ (a .value-of .ensures .0) (b .value-of2 .ensures .0) (c .if1 .left) ∙ a .before .before .loop .inv
 
 returns-2 : tie.Need-returns-2 Inv-loop μ-loop
-returns-2 c = same-none _ _ _ (c .loop-test .left) ∙ c .before .loop .inv .1
+returns-2 c = same-none _ _ _ (c .loop-test .left) ∙ c .before .loop .inv
 
 pub same-spec : {M : Type 1} → statement M
 same-spec =
