@@ -36,7 +36,7 @@ samples =
     ∷ sample (0x01 ∷ 0x00 ∷ 0x00 ∷ []) (Refused 13) [] 13
     -- no edition, with records after it
     ∷ sample (0xFF ∷ recordBytes 1 (rig 0xF)) (Refused 11) [] 11
-    ∷ sample (0x02 ∷ recordBytes 1 (rig 0xF) ++ recordBytes 1 (clock 1)) (Refused 11) [] 11
+    ∷ sample (0xFE ∷ recordBytes 1 (rig 0xF) ++ recordBytes 1 (clock 1)) (Refused 11) [] 11
     -- "Reader and writer pass fields on without judging them": a dark rig
     ∷ sample (loadBytes 1 (rig 0 ∷ clock 1 ∷ [])) (Record (rig 0) 12) (rig 0 ∷ clock 1 ∷ []) 0
     -- "The first record is the rig and no other is"
