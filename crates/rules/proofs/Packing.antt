@@ -328,7 +328,11 @@ module _ (v : Setting) (ps : List Claim) where
     },
   ))
 
-  -- ── packing what is packed ──
+  -- ── packing what is packed, or where nobody waits ──
+  pub pack-holders : Each (λ c. on c ≡ true) ps → pack v ps ≡ ps
+  unfolding pack
+  pack-holders h = map-id (moved (packedStart v ps)) ps (λ c m. moved-on (packedStart v ps) c (h c m))
+
   pub pack-idle : Separated v ps → StartsFrom (v .clock) ps → Earliest v ps → pack v ps ≡ ps
   unfolding pack ahead
   pack-idle f low early = map-id (moved (packedStart v ps)) ps (λ c m. moved-same (packedStart v ps) c (same c m))

@@ -11,7 +11,7 @@ use lib.ListN.{length, take, drop, getD, set, replicate, length-drop}
 use lib.Seq.{drop-cons, take-all, length-take-le, set-at, drop-append-seam}
 use borrow.Author.Tests.{eq-eqb, ne-eqb}
 use Rattle.rules.specs.declared.Claim.{Claim}
-use Rattle.rules.specs.Lists.{_∈_, any, keep}
+use Rattle.rules.specs.Lists.{_∈_, keep}
 use Rattle.rules.specs.Plans.{Ascending}
 use Rattle.rules.specs.Claims.{on, at}
 use Rattle.rules.specs.declared.Standing.{Standing}
@@ -164,8 +164,3 @@ module _ (k : ℕ) (l : List Claim) (n : ℕ) (few : n ≤ 64) (places : length 
 -- ── overruns ──
 pub past-end-on : (t : ℕ) (c : Claim) (a n : ℕ) → a ≡ at c → n ≡ c .length → on c ≡ true → ltb (a + n) t ≡ pastEnd t c
 past-end-on t c a n p q o = rw o (cc (p, q))
-
-module _ (t : ℕ) (c : Claim) (l : List Claim) where
-  pub overrun-not : pastEnd t c ≡ false → any (pastEnd t) (c ∷ l) ≡ any (pastEnd t) l
-  unfolding any
-  overrun-not e = rw e

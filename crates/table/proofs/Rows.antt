@@ -1,7 +1,7 @@
 -- Rows of 64 places: what is read from them, and what writing them gives.
 use mathlib.Core.Path.{_≡_, refl, sym, _∙_, ap}
 use mathlib.Core.Logic.{_⊎_, inl, inr}
-use mathlib.Core.Bool.{true, false}
+use mathlib.Core.Bool.{Bool, true, false}
 use mathlib.Core.List.{List, [], _∷_, _++_, append-nil}
 use Prim.Native.Nat.{ℕ, zero, suc, _+_, _-_, _≤_, _<_}
 use native.Mathlib.Omega.{arith}
@@ -11,7 +11,7 @@ use lib.Seq.{take-append-seam, drop-append-seam, drop-cons, getD-take, set-appen
 use Rattle.numbers.specs.Numbers.{mostClock}
 use Rattle.rules.specs.declared.Claim.{Claim}
 use Rattle.rules.specs.declared.Table.{Table}
-use Rattle.rules.specs.Lists.{_∈_}
+use Rattle.rules.specs.Lists.{_∈_, any}
 use Rattle.rules.specs.Claims.{on, at}
 use Rattle.rules.specs.Tables.{pad, vacant}
 use Rattle.rules.proofs.Bools.{split}
@@ -29,6 +29,18 @@ module _ {A : Type 0} where
 
   pub prefix-end : (l : List A) (n i : ℕ) → n ≤ i → drop i (take n l) ≡ []
   prefix-end l n i h = drop-of-length-le (take n l) {i = i} (simp (length-take) (omega arith))
+
+  -- None of the first i elements has p: whether one of the first n has it is told by those that are left.
+  abbrev pub NoneYet : (A → Bool) → List A → ℕ → ℕ → Type 0
+  NoneYet p l n i = (i ≤ n) × (any p (drop i (take n l)) ≡ any p (take n l))
+
+  pub none-next : (p : A → Bool) (d : A) (l : List A) (n i : ℕ) → i < n → n ≤ length l → p (getD l i d) ≡ false → NoneYet p l n i → NoneYet p l n (i + 1)
+  unfolding any
+  none-next p d l n i h k e w = (omega arith, rw (prefix-step d l n i h k, e) at (w .1))
+
+  pub none-all : (p : A → Bool) (l : List A) (n i : ℕ) → n ≤ i → NoneYet p l n i → any p (take n l) ≡ false
+  unfolding any
+  none-all p l n i h w = sym (rw (prefix-end l n i h) at (w .1))
 
   -- The element at place i is one of the first n.
   pub in-prefix : (d : A) (l : List A) (n i : ℕ) → i < n → i < length l → getD l i d ∈ take n l

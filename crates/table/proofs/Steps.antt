@@ -1,14 +1,14 @@
 -- From the parts of a call to its outcome by the rules.
 use mathlib.Core.Path.{_≡_, refl, sym, _∙_, ap, subst}
 use mathlib.Core.Logic.{_≢_}
-use mathlib.Core.Bool.{Bool, true, false, _&&_}
+use mathlib.Core.Bool.{Bool, true, false, not, _&&_}
 use mathlib.Core.List.{List, [], _∷_, _++_}
 use Prim.Native.Nat.{ℕ, suc, _+_, _^_, _≤_, _<_}
 use native.Mathlib.Omega.{arith}
 use native.Mathlib.Numerals.{add-one}
 use lib.ListN.{length, take, drop, set, replicate, length-map, length-append}
 use lib.Dec.{ltb}
-use borrow.Author.Tests.{ltb-false, eqb-true}
+use borrow.Author.Tests.{ltb-false, eqb-true, not-false}
 use Rattle.numbers.specs.Numbers.{mostClock, mostLength, mostPending, mostTickets}
 use Rattle.groups.specs.Groups.{empty}
 use Rattle.groups.proofs.Words.{empty-word}
@@ -31,6 +31,7 @@ use Rattle.rules.proofs.Bools.{clash}
 use Rattle.rules.proofs.Lists.{any-none}
 use Rattle.rules.proofs.Calls.{placed, new-cases, blank-invariant, step-invariant}
 use Rattle.rules.proofs.NoOverrun.{NoOverrunAt, no-overrun-still}
+use Rattle.rules.proofs.Packing.{pack-holders}
 use Rattle.rules.proofs.OnePacking.{advance-still, join-still, leave-once, finish-still}
 use Rattle.table.specs.Rows.{Sized, Row, rewritten}
 use Rattle.table.proofs.Rows.{pad-over, pad-more}
@@ -115,12 +116,16 @@ advanced-is t u v a b r q = (
         ∙ ap (λ (n : ℕ). record { rig = t .rig; clock = u; issued = t .issued; count = n; claims = pad vacant (pack (ruledIn t u) (model t .pending)) })
         (sym (formed-count t v) ∙ sym (pack-length (ruledIn t u) (model t .pending)))
 
--- While nobody overruns, setting the clock is all there is to do.
-pub no-overrun-is : (t : Table) (u : ℕ) → Valid t → t .clock ≤ u → u ≤ mostClock → any (pastEnd u) (take (t .count) (t .claims)) ≡ false
+-- Where packing would change nothing, setting the clock is all there is to do.
+pub idle-is : (t : Table) (u : ℕ) → Formed t → t .clock ≤ u → u ≤ mostClock → pack (ruledIn t u) (model t .pending) ≡ model t .pending
     → (r : Table) → r ≡ atClock u t → (r ≡ encode (advance (model t) u)) × Formed r × Still (model r)
-no-overrun-is t u v a b none r q =
-    advanced-is t u (v .formed) a b r
-    (q ∙ ap (withClaims (atClock u t)) (sym (rewritten-is t (v .formed) (pack (ruledIn t u)) (pack-length (ruledIn t u) (model t .pending)) ∙ ap (pad vacant) still ∙ formed-claims t (v .formed))))
+idle-is t u v a b idle r q =
+    advanced-is t u v a b r
+    (q ∙ ap (withClaims (atClock u t)) (sym (rewritten-is t v (pack (ruledIn t u)) (pack-length (ruledIn t u) (model t .pending)) ∙ ap (pad vacant) idle ∙ formed-claims t v)))
+
+-- It would not while nobody overruns, nor where nobody waits.
+pub no-overrun-idle : (t : Table) (u : ℕ) → Valid t → t .clock ≤ u → any (pastEnd u) (model t .pending) ≡ false → pack (ruledIn t u) (model t .pending) ≡ model t .pending
+no-overrun-idle t u v a none = no-overrun-still (t .issued) (settingOf (model t)) (ruledIn t u) (model t .pending) (v .settled) (record { later = a }) prompt
   where
     prompt : NoOverrunAt u (model t .pending)
     prompt c m o = ltb-false (at c + c .length) u (after-on c o (any-none (pastEnd u) none m))
@@ -128,8 +133,11 @@ no-overrun-is t u v a b none r q =
         after-on : (c : Claim) → on c ≡ true → (on c && ltb (at c + c .length) u) ≡ false → ltb (at c + c .length) u ≡ false
         after-on c o e = rw o at e
 
-    still : pack (ruledIn t u) (model t .pending) ≡ model t .pending
-    still = no-overrun-still (t .issued) (settingOf (model t)) (ruledIn t u) (model t .pending) (v .settled) (record { later = a }) prompt
+abbrev pub waits : Claim → Bool
+waits c = not (on c)
+
+pub none-waits-idle : (v : Setting) (ps : List Claim) → any waits ps ≡ false → pack v ps ≡ ps
+none-waits-idle v ps none = pack-holders v ps (λ c m. not-false (on c) (any-none waits none m))
 
 -- As many claims, and as many tickets.
 pub advanced-counts : (t : Table) (u : ℕ) (r : Table) → Formed t → r ≡ encode (advance (model t) u) → (r .count ≡ t .count) × (r .issued ≡ t .issued)

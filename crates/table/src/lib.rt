@@ -1,6 +1,7 @@
 // The claims table: new, claim, release, withdraw, clock, lookup. Each call takes a table by value and hands one back with its answer;
-// each packs once at most: a claim and a clock call only where a holder overruns. Packing n claims costs at most n² / 2 tests of two
-// words and two steps for each group of each claim, the search for a claim's start n² tests of two sets, everything else a few passes.
+// each packs once at most: a claim and a clock call only where a holder overruns, a release and a withdrawal only where somebody waits.
+// Packing n claims costs at most n² / 2 tests of two words and two steps for each group of each claim, the search for a claim's start n²
+// tests of two sets, everything else a few passes.
 ghost use mathlib.Core.Path.{_≡_};
 ghost use Prim.Native.Nat.{_+_, _≤_, _<_};
 ghost use Rattle.numbers.specs.Numbers.{mostClock, mostLength, mostPending, mostTickets};
@@ -161,6 +162,24 @@ fn at_clock(mut t: Table, clock: u64) -> Table
     t
 }
 
+// Sets the clock of a table from which a claim was taken. Where nobody waits, packing would change nothing. Cost: one pass where nobody does.
+fn pulled(mut t: Table, clock: u64) -> Table
+    requires { ⌜ Formed t × (t .clock ≤ clock) × (clock ≤ mostClock) ⌝ }
+    ensures { λ r. ⌜ (r ≡ encode (advance (model t) clock)) × Formed r × Still (model r) ⌝ }
+{
+    let count = t.count;
+    let mut i: usize = 0;
+    while i < count {
+        let c = t.claims[i];
+        if !claims::is_on(c) {
+            return advanced(t, clock);
+        }
+        i += 1;
+    }
+    t.clock = clock;
+    t
+}
+
 // Grants in a table where packing again would change nothing, and answers.
 fn finished(t: Table, r: Reply) -> Outcome
     requires { ⌜ Formed t × Still (model t) ⌝ }
@@ -271,7 +290,7 @@ pub fn leave(t: Table, releasing: bool, clock: u64, ticket: u16) -> Outcome
         return unchanged(t, wrong);
     }
     let rest = k.table;
-    let u = advanced(rest, clock);
+    let u = pulled(rest, clock);
     let r = Reply {
         ticket: ticket,
         start: clock,

@@ -1,20 +1,17 @@
 -- The loop's invariant: whether any claim overruns is told by those that are left.
-use mathlib.Core.Path.{_≡_, refl, sym, _∙_}
-use Prim.Native.Nat.{_-_, _≤_}
+use mathlib.Core.Path.{refl, sym, _∙_}
+use Prim.Native.Nat.{_-_}
 use native.Mathlib.Omega.{arith}
-use lib.ListN.{take, drop, getD}
-use Rattle.rules.specs.Lists.{any}
 use Rattle.rules.specs.Tables.{vacant}
 use Rattle.table.specs.Outcomes.{pastEnd}
-use Rattle.table.proofs.Rows.{prefix-step, prefix-end, row-small}
+use Rattle.table.proofs.Rows.{NoneYet, none-next, none-all, row-small}
 use Rattle.table.proofs.Ranges.{formed-few, formed-length, formed-row}
-use Rattle.table.proofs.RemovalLoop.{overrun-not}
-use Rattle.table.proofs.Steps.{no-overrun-is}
+use Rattle.table.proofs.Steps.{idle-is, no-overrun-idle}
 use Rattle.table.proofs.at_clock.Statement.{statement}
 use Rattle.table.proofs.at_clock.Tie as tie
 
 abbrev Inv-loop : tie.InvT-loop
-Inv-loop clock t count i₀ i = (i ≤ count) × (any (pastEnd clock) (drop i (take count (t .claims))) ≡ any (pastEnd clock) (take count (t .claims)))
+Inv-loop clock t count i₀ i = NoneYet (pastEnd clock) (t .claims) count i
 
 abbrev μ-loop : tie.MeasureT-loop
 μ-loop clock t count i₀ i = count - i
@@ -50,20 +47,16 @@ loop-again c =
     let o = c .before in
     let z = o .before .before .before in
     let b = z .before in
-    let t = b .args .t1 in
     let v = b .pre .0 .formed in
-    let e = prefix-step vacant (t .claims) (t .count) (z .loop .i) (omega arith) (omega (arith, formed-length t v, formed-few t v)) in
-    let h = rw e at (z .loop .inv .1) in
-    (omega arith, sym (overrun-not (b .args .clock) (getD (t .claims) (z .loop .i) vacant) _ (sym (o .overruns .ensures) ∙ c .if1 .left)) ∙ h)
+    none-next (pastEnd (b .args .clock)) vacant _ _ _ (omega arith) (omega (arith, formed-length (b .args .t1) v, formed-few (b .args .t1) v)) (sym (o .overruns .ensures) ∙ c .if1 .left) (z .loop .inv)
 
 returns-2 : tie.Need-returns-2 Inv-loop μ-loop
-unfolding any
 returns-2 c =
     let z = c .before in
     let b = z .before in
     let t = b .args .t1 in
-    let none = rw (prefix-end (t .claims) (t .count) (z .loop .i) (c .loop-test .left)) at (z .loop .inv .1) in
-    no-overrun-is t (b .args .clock) (b .pre .0) (b .pre .1) (b .pre .2) (sym none) _ refl
+    let u = b .args .clock in
+    idle-is t u (b .pre .0 .formed) (b .pre .1) (b .pre .2) (no-overrun-idle t u (b .pre .0) (b .pre .1) (none-all (pastEnd u) _ _ _ (c .loop-test .left) (z .loop .inv))) _ refl
 
 pub at-clock-spec : {M : Type 1} → statement M
 at-clock-spec =

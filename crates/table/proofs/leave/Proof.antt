@@ -29,8 +29,8 @@ returns-2 c =
     (leave-tests (model (a .t)) (a .releasing) (a .clock) (a .ticket) _ (b .pre .formed .ranged .ascending) (n .time-number .ensures) (l .before .if1 .left)
     ∙ sym (p .phase-number .ensures ∙ ap (phaseNumber (a .releasing)) (l .removed .ensures .0))) (c .before .if2 .taken)
 
-advanced-requires : tie.Need-advanced-requires
-advanced-requires c κs =
+pulled-requires : tie.Need-pulled-requires
+pulled-requires c κs =
     let l = c .before .before .before in
     let n = l .before .before in
     let b = n .before in
@@ -38,7 +38,7 @@ advanced-requires c κs =
     (l .removed .ensures .2, removed-clock (b .args .t) (b .args .ticket) (b .args .clock) _ (l .removed .ensures .1) (o .0), o .1)
 
 finished-requires : tie.Need-finished-requires
-finished-requires c κs = (c .advanced .ensures .1, c .advanced .ensures .2)
+finished-requires c κs = (c .pulled .ensures .1, c .pulled .ensures .2)
 
 returns-3 : tie.Need-returns-3
 returns-3 c =
@@ -53,7 +53,7 @@ returns-3 c =
     leave-is (a .t) (a .releasing) (a .clock) (a .ticket) _ _ _ (b .pre .formed)
     (leave-tests (model (a .t)) (a .releasing) (a .clock) (a .ticket) _ (b .pre .formed .ranged .ascending) (n .time-number .ensures) (l .before .if1 .left)
     ∙ sym (p .phase-number .ensures ∙ ap (phaseNumber (a .releasing)) (l .removed .ensures .0)) ∙ r .before .if2 .left)
-    (l .removed .ensures .1) (u .advanced .ensures .0) (c .finished .ensures .0) in
+    (l .removed .ensures .1) (u .pulled .ensures .0) (c .finished .ensures .0) in
     (e, kept-valid (a .t) (leaving (a .releasing) (a .clock) (a .ticket)) _ (b .pre) e (c .finished .ensures .1))
 
 pub leave-spec : {M : Type 1} → statement M
@@ -67,6 +67,6 @@ leave-spec =
     (λ c κs. search needs)
     (λ c κs. search needs)
     returns-2
-    advanced-requires
+    pulled-requires
     finished-requires
     returns-3)
