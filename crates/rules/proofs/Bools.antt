@@ -10,6 +10,11 @@ pub split : (b : Bool) → (b ≡ true) ⊎ (b ≡ false)
 split true = inl refl
 split false = inr refl
 
+-- To show something by a test, show it in both cases.
+pub by-test : {A : Type 0} (b : Bool) → (b ≡ true → A) → (b ≡ false → A) → A
+by-test true h k = h refl
+by-test false h k = k refl
+
 pub clash : {A : Type 0} {b : Bool} → b ≡ true → b ≡ false → A
 clash p q = absurd (true≢false (sym p ∙ q))
 
@@ -51,16 +56,12 @@ both-ways true b f g = sym (f refl)
 both-ways false true f g = g refl
 both-ways false false f g = refl
 
+-- Which of two numbers is the smaller.
+pub by-order : {A : Type 0} (m n : ℕ) → (m ≤ n → A) → (n < m → A) → A
+by-order m n h k = by-test (leb m n) (λ e. h (leb-true m n e)) (λ e. k (leb-false m n e))
+
 pub compare : (m n : ℕ) → (m ≤ n) ⊎ (n < m)
-compare m n = go (split (leb m n))
-  where
-    go : (leb m n ≡ true) ⊎ (leb m n ≡ false) → (m ≤ n) ⊎ (n < m)
-    go (inl e) = inl (leb-true m n e)
-    go (inr e) = inr (leb-false m n e)
+compare m n = by-order m n inl inr
 
 pub same? : (m n : ℕ) → (m ≡ n) ⊎ (m ≢ n)
-same? m n = go (split (eqb m n))
-  where
-    go : (eqb m n ≡ true) ⊎ (eqb m n ≡ false) → (m ≡ n) ⊎ (m ≢ n)
-    go (inl e) = inl (eqb-true m n e)
-    go (inr e) = inr (eqb-false m n e)
+same? m n = by-test (eqb m n) (λ e. inl (eqb-true m n e)) (λ e. inr (eqb-false m n e))

@@ -7,9 +7,7 @@ pub mod SortLoop
 pub mod LastEnds
 pub mod PackingOrder
 pub mod PackingLoop
-pub mod Clearing
 pub mod PlacingLoop
-pub mod ContentionLoop
 pub mod Holders
 pub mod GrantingLoop
 pub mod Ranges

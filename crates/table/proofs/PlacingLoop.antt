@@ -1,33 +1,41 @@
--- The search for the planned start: a pass over the claims of a row decides whether a candidate fits; no candidate is after the planned
--- start (`jump`), so one that fits is it (`found`). Rests on the rules' laws of `place`.
-use mathlib.Core.Path.{_≡_}
-use mathlib.Core.Logic.{inl, inr}
-use mathlib.Core.Bool.{true, false}
-use mathlib.Core.List.{List}
-use Prim.Native.Nat.{ℕ, _+_, _≤_, _<_}
+-- Placing a new claim: whether a claim leaves room for it, the search for its start, and the count of those that conflict with it.
+-- No candidate is after the planned start (`jump`), so one that fits is it (`found`). Rests on the rules' laws of `place`.
+use mathlib.Core.Path.{_≡_, ap}
+use mathlib.Core.Logic.{⊎-elim}
+use mathlib.Core.Bool.{true, false, or-true}
+use mathlib.Core.List.{List, [], _∷_}
+use Prim.Native.Nat.{ℕ, _+_, _-_, _*_, _≤_, _<_}
 use native.Mathlib.Omega.{arith}
-use lib.ListN.{length, take, drop, getD}
+use lib.Dec.{leb}
+use borrow.Author.Tests.{le-leb, lt-leb}
 use Rattle.rules.specs.declared.Claim.{Claim}
-use Rattle.rules.specs.Lists.{_∈_, all}
+use Rattle.rules.specs.Lists.{_∈_, sum, keep}
 use Rattle.rules.specs.declared.Setting.{Setting}
-use Rattle.rules.specs.Claims.{on, at, endOf}
-use Rattle.rules.specs.Placing.{clear, fits, place}
-use Rattle.rules.specs.Plans.{Room}
-use Rattle.rules.specs.Tables.{vacant}
+use Rattle.rules.specs.Claims.{on, at, conflicts, endOf, remaining}
+use Rattle.rules.specs.Order.{rivals}
+use Rattle.rules.specs.Placing.{clear, fits, place, contention, startBound}
 use Rattle.rules.proofs.Placing.{barred, fits-e, place-fits, place-least}
-use Rattle.table.proofs.Rows.{prefix-step, prefix-end}
 
 module _ (v : Setting) (w : Claim) (s : ℕ) where
-  -- ── a pass over the first n claims of a row ──
-  -- A claim that leaves room is done with.
-  pub pass : (l : List Claim) (n j : ℕ) → j < n → n ≤ length l → clear v w s (getD l j vacant) ≡ true
-      → fits v (drop j (take n l)) w s ≡ fits v (drop (j + 1) (take n l)) w s
-  unfolding fits all
-  pass l n j h k e = rw (prefix-step vacant l n j h k, e)
+  -- ── whether the claim c leaves room for w at s: the answer at each return of the code ──
+  module _ (c : Claim) where
+    pub clear-apart : conflicts c w ≡ false → true ≡ clear v w s c
+    unfolding clear
+    clear-apart h = rw h
 
-  pub passed : (l : List Claim) (n j : ℕ) → n ≤ j → fits v (drop j (take n l)) w s ≡ true
-  unfolding fits all
-  passed l n j h = rw (prefix-end l n j h)
+    pub clear-ended : endOf v c ≤ s → true ≡ clear v w s c
+    unfolding clear
+    clear-ended l = rw (le-leb (endOf v c) s l, or-true)
+
+    -- With neither, the phase decides.
+    module _ (h : conflicts c w ≡ true) (l : s < endOf v c) where
+      pub clear-held : on c ≡ true → false ≡ clear v w s c
+      unfolding clear
+      clear-held o = rw (h, lt-leb (endOf v c) s l, o)
+
+      pub clear-waiting : on c ≡ false → leb (s + w .length) (at c) ≡ clear v w s c
+      unfolding clear
+      clear-waiting o = rw (h, lt-leb (endOf v c) s l, o)
 
   -- ── from candidate to candidate ──
   module _ (ps : List Claim) (h : s ≤ place v ps w) where
@@ -35,11 +43,35 @@ module _ (v : Setting) (w : Claim) (s : ℕ) where
     pub jump : (c : Claim) → c ∈ ps → clear v w s c ≡ false → (s < endOf v c) × (endOf v c ≤ place v ps w)
     jump c m e =
         let b = barred v w s c e in
-        (b .1, go (b .2) (place-fits v ps w .room c m (b .0)))
-      where
-        go : (on c ≡ false → at c < s + w .length) → Room v w (place v ps w) c → endOf v c ≤ place v ps w
-        go close (inl r) = r
-        go close (inr r) = absurd (omega (arith, close (r .0), r .1))
+        (b .1, ⊎-elim (λ r. r) (λ r. absurd (omega (arith, b .2 (r .0), r .1))) (place-fits v ps w .room c m (b .0)))
 
     pub found : v .clock ≤ s → fits v ps w s ≡ true → s ≡ place v ps w
     found l f = omega (arith, place-least v ps w s l (fits-e v ps w s f))
+
+-- ── the count ──
+-- Of the claims ps but for those in rest, so many conflict with w, and they have so much time left.
+pub record Counted (v : Setting) (w : Claim) (ps rest : List Claim) (count time : ℕ) : Type 0 where
+  pub number : count + contention rest w ≡ contention ps w
+  pub total : time + sum (remaining v) (rivals rest w) ≡ sum (remaining v) (rivals ps w)
+
+module _ {v : Setting} {w : Claim} {ps : List Claim} where
+  pub count-none : Counted v w ps ps 0 0
+  count-none = record { number = omega arith; total = omega arith }
+
+  module _ {c : Claim} {rest : List Claim} {count time : ℕ} (k : Counted v w ps (c ∷ rest) count time) where
+    pub count-rival : conflicts c w ≡ true → Counted v w ps rest (count + 1) (time + remaining v c)
+    unfolding contention keep sum
+    count-rival e =
+        let p = rw e at (k .number) in
+        let q = rw e at (k .total) in
+        record { number = omega arith; total = omega arith }
+
+    pub count-other : conflicts c w ≡ false → Counted v w ps rest count time
+    unfolding contention keep
+    count-other e = record { number = rw e at (k .number); total = rw e at (k .total) }
+
+  pub count-all : {count time : ℕ} → Counted v w ps [] count time → (count ≡ contention ps w) × (v .clock + time + count * (w .length - 1) ≡ startBound v ps w)
+  unfolding contention startBound keep sum
+  count-all {count} {time} k =
+      let e : count ≡ contention ps w = omega (arith, k .number) in
+      (e, omega (arith, k .total, ap (λ (x : ℕ). x * (w .length - 1)) e))

@@ -66,6 +66,9 @@ formed-row t u v l k = record {
   sized = λ c m. sized-later (t .clock) u c l (v .ranged .sized c m);
 }
 
+pub formed-now : (t : Table) → Formed t → Row (t .clock) (t .claims) (t .count)
+formed-now t v = formed-row t (t .clock) v (omega arith) (v .ranged .timely)
+
 -- ── new ──
 pub blank-ranged : (g : ℕ) → Ranged (blank g)
 blank-ranged g = record { few = omega arith; timely = omega arith; numbered = omega arith; ascending = tt; sized = λ c m. none m; issued = λ c m. none m }

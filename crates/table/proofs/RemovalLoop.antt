@@ -1,7 +1,7 @@
 -- Loops over a table's claims: looking for a ticket, and leaving one out.
 use mathlib.Core.Path.{_≡_, refl, sym, _∙_, ap, subst}
 use mathlib.Core.Logic.{_⊎_, inl, inr, ⊎-elim, _≢_}
-use mathlib.Core.Bool.{true, false}
+use mathlib.Core.Bool.{true}
 use mathlib.Core.List.{List, [], _∷_, _++_}
 use Prim.Native.Nat.{ℕ, zero, suc, _+_, _-_, _≤_, _<_}
 use native.Mathlib.Omega.{arith}
@@ -11,7 +11,7 @@ use lib.ListN.{length, take, drop, getD, set, replicate, length-drop}
 use lib.Seq.{drop-cons, take-all, length-take-le, set-at, drop-append-seam}
 use borrow.Author.Tests.{eq-eqb, ne-eqb}
 use Rattle.rules.specs.declared.Claim.{Claim}
-use Rattle.rules.specs.Lists.{_∈_, keep}
+use Rattle.rules.specs.Lists.{keep}
 use Rattle.rules.specs.Plans.{Ascending}
 use Rattle.rules.specs.Claims.{on, at}
 use Rattle.rules.specs.declared.Standing.{Standing}
@@ -19,6 +19,7 @@ use Rattle.rules.specs.declared.Standing.the-variants.{NotPending}
 use Rattle.rules.specs.Calls.{standing, standingOf}
 use Rattle.rules.specs.Tables.{vacant, pad}
 use Rattle.rules.proofs.Lists.{Each, here, there}
+use Rattle.table.specs.Rows.{Row}
 use Rattle.table.proofs.Rows.{prefix-step, prefix-end, pad-over, over, over-step, over-rest}
 use Rattle.table.specs.Outcomes.{pastEnd, without}
 
@@ -37,17 +38,22 @@ module _ (k : ℕ) (c : Claim) (l : List Claim) where
   passed-by e = rw (ne-eqb (c .ticket) k e)
 
 -- ── a claim taken out ──
--- Of the claims l, n of them, the first i are done, and m of these stay: they are the first m of `row`, in which all else is as it was.
+-- Of the claims l, n of them, the first i are done, and m of these stay: they are the first m of `new`, in which all else is as it was.
 -- The ticket k is still to come, or s is how it stands, and it does not come again.
-pub record Taking (k : ℕ) (l : List Claim) (n i : ℕ) (s : Standing) (m : ℕ) (row : List Claim) : Type 0 where
+pub record Taking (k t : ℕ) (l : List Claim) (n i : ℕ) (s : Standing) (m : ℕ) (new : List Claim) : Type 0 where
+  pub row : Row t l n
   pub within : i ≤ n
+  pub fewer : m ≤ i
   pub few : m ≤ length (without k (take n l))
-  pub over-row : row ≡ over (without k (take n l)) l m
+  pub is : new ≡ over (without k (take n l)) l m
   pub left : drop m (without k (take n l)) ≡ without k (drop i (take n l))
   pub told : ((m ≡ i) × (s ≡ NotPending) × (standingOf k (drop i (take n l)) ≡ standingOf k (take n l)))
       ⊎ ((m + 1 ≡ i) × (s ≡ standingOf k (take n l)) × Each (λ d. d .ticket ≢ k) (drop i (take n l)))
 
-module _ (k : ℕ) (l : List Claim) (n : ℕ) (few : n ≤ 64) (places : length l ≡ 64) where
+pub taking-start : {k t : ℕ} {l : List Claim} {n : ℕ} → Row t l n → Taking k t l n 0 NotPending 0 l
+taking-start r = record { row = r; within = omega arith; fewer = omega arith; few = omega arith; is = refl; left = refl; told = inl (refl, refl, refl) }
+
+module _ {k t : ℕ} {l : List Claim} {n i : ℕ} {s : Standing} {m : ℕ} {new : List Claim} (w : Taking k t l n i s m new) where
   -- The claims, and those that stay.
   abbrev pending : List Claim
   pending = take n l
@@ -55,111 +61,110 @@ module _ (k : ℕ) (l : List Claim) (n : ℕ) (few : n ≤ 64) (places : length 
   abbrev staying : List Claim
   staying = without k (take n l)
 
-  pub taking-start : Taking k l n 0 NotPending 0 l
-  taking-start = record { within = omega arith; few = omega arith; over-row = refl; left = refl; told = inl (refl, refl, refl) }
+  -- A place that is not done yet is as it was.
+  pub taking-rest : getD new i vacant ≡ getD l i vacant
+  taking-rest = ap (λ (r : List Claim). getD r i vacant) (w .is) ∙ over-rest vacant staying l m i (w .few) (w .fewer)
 
-  module _ (i : ℕ) (s : Standing) (m : ℕ) (row : List Claim) (w : Taking k l n i s m row) where
-    pub taking-few : m ≤ i
-    taking-few = ⊎-elim (λ a. omega (arith, a .0)) (λ a. omega (arith, a .0)) (w .told)
+  module _ (h : i < n) where
+    abbrev next : Claim
+    next = getD l i vacant
 
-    -- A place that is not done yet is as it was.
-    pub taking-rest : getD row i vacant ≡ getD l i vacant
-    taking-rest = ap (λ (r : List Claim). getD r i vacant) (w .over-row) ∙ over-rest vacant staying l m i (w .few) taking-few
+    abbrev behind : List Claim
+    behind = drop (i + 1) pending
 
-    module _ (h : i < n) where
-      abbrev next : Claim
-      next = getD l i vacant
+    here-next : drop i pending ≡ next ∷ behind
+    here-next = prefix-step vacant l n i h (omega (arith, w .row .few, w .row .places))
 
-      abbrev behind : List Claim
-      behind = drop (i + 1) pending
+    -- The next claim has another ticket: it stays.
+    taking-keep : (next .ticket ≡ k → ⊥) → Taking k t l n (i + 1) s (m + 1) (set new m next)
+    unfolding keep
+    taking-keep e =
+        let f : drop m staying ≡ next ∷ without k behind = rw (here-next, ne-eqb (next .ticket) k e) at (w .left) in
+        let a : m < length staying = omega (arith, ap length f, length-drop m staying) in
+        let g : getD staying m vacant ∷ drop (suc m) staying ≡ next ∷ without k behind = sym (drop-cons staying m vacant a) ∙ f in
+        let x : getD staying m vacant ≡ next = cc in
+        let y : drop (suc m) staying ≡ without k behind = cc in
+        record {
+          row = w .row;
+          within = omega arith;
+          fewer = omega (arith, w .fewer);
+          few = omega arith;
+          is =
+              ap (λ (r : List Claim). set r m next) (w .is) ∙ ap (λ (c : Claim). set (over staying l m) m c) (sym x)
+              ∙ over-step vacant staying l m a (omega (arith, w .fewer, w .row .few, w .row .places));
+          left = rw (add-one m) y;
+          told =
+              ⊎-elim
+              (λ b. inl (omega (arith, b .0), b .1, passed-by k next behind e ∙ ap (standingOf k) (sym here-next) ∙ b .2))
+              (λ b. inr (omega (arith, b .0), b .1, λ d j. b .2 d (rw here-next (there j))))
+              (w .told);
+        }
 
-      here-next : drop i pending ≡ next ∷ behind
-      here-next = prefix-step vacant l n i h (omega arith)
+    -- The next claim is that of the ticket: it goes, and no other has its ticket.
+    taking-out : next .ticket ≡ k → (x : Standing) → x ≡ standing next → Taking k t l n (i + 1) x m new
+    unfolding keep
+    taking-out e x q = record {
+      row = w .row;
+      within = omega arith;
+      fewer = omega (arith, w .fewer);
+      few = w .few;
+      is = w .is;
+      left = rw (here-next, eq-eqb (next .ticket) k e) at (w .left);
+      told =
+          ⊎-elim
+          (λ b. inr (
+            omega (arith, b .0),
+            q ∙ (found k next behind e ∙ ap (standingOf k) (sym here-next) ∙ b .2),
+            λ d j z. omega (arith, subst Ascending here-next (ascending-drop i pending (w .row .ascending)) .0 d j, e, z),
+          ))
+          (λ b. absurd (b .2 next (rw here-next here) e))
+          (w .told);
+    }
 
-      -- The next claim has another ticket: it stays.
-      taking-keep : (next .ticket ≡ k → ⊥) → Taking k l n (i + 1) s (m + 1) (set row m next)
-      unfolding keep
-      taking-keep e =
-          let f : drop m staying ≡ next ∷ without k behind = rw (here-next, ne-eqb (next .ticket) k e) at (w .left) in
-          let a : m < length staying = omega (arith, ap length f, length-drop m staying) in
-          let g : getD staying m vacant ∷ drop (suc m) staying ≡ next ∷ without k behind = sym (drop-cons staying m vacant a) ∙ f in
-          let x : getD staying m vacant ≡ next = cc in
-          let y : drop (suc m) staying ≡ without k behind = cc in
-          record {
-            within = omega arith;
-            few = omega arith;
-            over-row =
-                ap (λ (r : List Claim). set r m next) (w .over-row) ∙ ap (λ (c : Claim). set (over staying l m) m c) (sym x)
-                ∙ over-step vacant staying l m a (omega (arith, taking-few));
-            left = ap (λ (j : ℕ). drop j staying) (add-one m) ∙ y;
-            told =
-                ⊎-elim
-                (λ b. inl (omega (arith, b .0), b .1, passed-by k next behind e ∙ ap (standingOf k) (sym here-next) ∙ b .2))
-                (λ b. inr (omega (arith, b .0), b .1, λ d j. b .2 d (subst (λ (r : List Claim). d ∈ r) (sym here-next) (there j))))
-                (w .told);
-          }
+    -- Both, for the claim as it is read from the row.
+    pub taking-kept : (getD new i vacant .ticket ≡ k → ⊥) → Taking k t l n (i + 1) s (m + 1) (set new m (getD new i vacant))
+    taking-kept e = rw taking-rest (taking-keep (λ q. e (ap (λ (c : Claim). c .ticket) taking-rest ∙ q)))
 
-      -- The next claim is that of the ticket: it goes, and no other has its ticket.
-      taking-out : next .ticket ≡ k → (x : Standing) → x ≡ standing next → Ascending pending → Taking k l n (i + 1) x m row
-      unfolding keep
-      taking-out e x q a = record {
-        within = omega arith;
-        few = w .few;
-        over-row = w .over-row;
-        left = rw (here-next, eq-eqb (next .ticket) k e) at (w .left);
-        told =
-            ⊎-elim
-            (λ b. inr (
-              omega (arith, b .0),
-              q ∙ (found k next behind e ∙ ap (standingOf k) (sym here-next) ∙ b .2),
-              λ d j z. omega (arith, subst Ascending here-next (ascending-drop i pending a) .0 d j, e, z),
-            ))
-            (λ b. absurd (b .2 next (subst (λ (r : List Claim). next ∈ r) (sym here-next) here) e))
-            (w .told);
-      }
+    pub taking-gone : getD new i vacant .ticket ≡ k → (x : Standing) → x ≡ standing (getD new i vacant) → Taking k t l n (i + 1) x m new
+    taking-gone e x q = taking-out (ap (λ (c : Claim). c .ticket) (sym taking-rest) ∙ e) x (q ∙ ap standing taking-rest)
 
-      -- Both, for the claim as it is read from the row.
-      pub taking-kept : (getD row i vacant .ticket ≡ k → ⊥) → Taking k l n (i + 1) s (m + 1) (set row m (getD row i vacant))
-      taking-kept e = subst (λ (c : Claim). Taking k l n (i + 1) s (m + 1) (set row m c)) (sym taking-rest) (taking-keep (λ q. e (ap (λ (c : Claim). c .ticket) taking-rest ∙ q)))
+  -- All claims are done: m claims stay, and s is how the claim of the ticket stood.
+  module _ (h : n ≤ i) where
+    done : drop i pending ≡ []
+    done = prefix-end l n i h
 
-      pub taking-gone : getD row i vacant .ticket ≡ k → (x : Standing) → x ≡ standing (getD row i vacant) → Ascending pending → Taking k l n (i + 1) x m row
-      taking-gone e x q a =
-          taking-out (ap (λ (c : Claim). c .ticket) (sym taking-rest) ∙ e) x (q ∙ ap standing taking-rest) a
+    pub taking-count : m ≡ length staying
+    unfolding keep
+    taking-count = let e : drop m staying ≡ [] = rw done at (w .left) in omega (arith, ap length e, length-drop m staying, w .few)
 
-    -- All claims are done: m claims stay, and s is how the claim of the ticket stood.
-    module _ (h : n ≤ i) where
-      done : drop i pending ≡ []
-      done = prefix-end l n i h
+    pub taking-told : s ≡ standingOf k pending
+    unfolding standingOf
+    taking-told = ⊎-elim (λ b. b .1 ∙ (rw done at (b .2))) (λ b. b .1) (w .told)
 
-      pub taking-count : m ≡ length staying
-      unfolding keep
-      taking-count = let e : drop m staying ≡ [] = rw done at (w .left) in omega (arith, ap length e, length-drop m staying, w .few)
+    whole : new ≡ staying ++ drop m l
+    whole = w .is ∙ ap (λ (r : List Claim). r ++ drop m l) (take-all m staying (omega (arith, taking-count)))
 
-      pub taking-told : s ≡ standingOf k pending
-      unfolding standingOf
-      taking-told = ⊎-elim (λ b. b .1 ∙ (rw done at (b .2))) (λ b. b .1) (w .told)
+    count-is : length pending ≡ n
+    count-is = length-take-le n l (omega (arith, w .row .few, w .row .places))
 
-      whole : row ≡ staying ++ drop m l
-      whole = w .over-row ∙ ap (λ (r : List Claim). r ++ drop m l) (take-all m staying (omega (arith, taking-count)))
+    module _ (full : l ≡ pad vacant pending) where
+      -- None went, or one did, and the place after those that stay becomes vacant.
+      pub taking-none : n ≤ m → new ≡ pad vacant staying
+      taking-none a =
+          let e : m ≡ length pending = omega (arith, w .fewer, w .within, count-is) in
+          whole ∙ ap (λ (r : List Claim). staying ++ drop m r) full ∙ ap (λ (j : ℕ). staying ++ drop j (pad vacant pending)) e
+          ∙ pad-over vacant pending staying (sym taking-count ∙ e)
 
-      module _ (full : l ≡ pad vacant pending) where
-        -- None went, or one did, and the place after those that stay becomes vacant.
-        pub taking-none : n ≤ m → row ≡ pad vacant staying
-        taking-none a =
-            let e : m ≡ length pending = omega (arith, taking-few, w .within, length-take-le n l (omega arith)) in
-            whole ∙ ap (λ (r : List Claim). staying ++ drop m r) full ∙ ap (λ (j : ℕ). staying ++ drop j (pad vacant pending)) e
-            ∙ pad-over vacant pending staying (sym taking-count ∙ e)
-
-        pub taking-one : m < n → set row m vacant ≡ pad vacant staying
-        unfolding pad
-        taking-one a =
-            let b : suc m ≡ length pending = ⊎-elim (λ b. omega (arith, b .0, w .within)) (λ b. omega (arith, b .0, w .within, length-take-le n l (omega arith))) (w .told) in
-            let size : 64 - length staying ≡ suc (64 - length pending) = omega (arith, taking-count, b, length-take-le n l (omega arith)) in
-            let tail : drop (suc m) l ≡ replicate (64 - length pending) vacant =
-            ap (drop (suc m)) full ∙ ap (λ (j : ℕ). drop j (pad vacant pending)) b ∙ drop-append-seam pending (replicate (64 - length pending) vacant) in
-            ap (λ (r : List Claim). set r m vacant) (whole ∙ ap (λ (r : List Claim). staying ++ r) (drop-cons l m vacant (omega arith)))
-            ∙ set-at staying (getD l m vacant) (drop (suc m) l) vacant m (sym taking-count)
-            ∙ ap (λ (r : List Claim). staying ++ (vacant ∷ r)) tail ∙ ap (λ (j : ℕ). staying ++ replicate j vacant) (sym size)
+      pub taking-one : m < n → set new m vacant ≡ pad vacant staying
+      unfolding pad
+      taking-one a =
+          let b : suc m ≡ length pending = ⊎-elim (λ b. omega (arith, b .0, w .within)) (λ b. omega (arith, b .0, w .within, count-is)) (w .told) in
+          let size : 64 - length staying ≡ suc (64 - length pending) = omega (arith, taking-count, b, count-is, w .row .few) in
+          let tail : drop (suc m) l ≡ replicate (64 - length pending) vacant =
+          ap (drop (suc m)) full ∙ ap (λ (j : ℕ). drop j (pad vacant pending)) b ∙ drop-append-seam pending (replicate (64 - length pending) vacant) in
+          ap (λ (r : List Claim). set r m vacant) (whole ∙ ap (λ (r : List Claim). staying ++ r) (drop-cons l m vacant (omega (arith, w .row .few, w .row .places))))
+          ∙ set-at staying (getD l m vacant) (drop (suc m) l) vacant m (sym taking-count)
+          ∙ ap (λ (r : List Claim). staying ++ (vacant ∷ r)) tail ∙ ap (λ (j : ℕ). staying ++ replicate j vacant) (sym size)
 
 -- ── overruns ──
 pub past-end-on : (t : ℕ) (c : Claim) (a n : ℕ) → a ≡ at c → n ≡ c .length → on c ≡ true → ltb (a + n) t ≡ pastEnd t c

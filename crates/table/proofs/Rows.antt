@@ -1,7 +1,5 @@
 -- Rows of 64 places: what is read from them, and what writing them gives.
 use mathlib.Core.Path.{_≡_, refl, sym, _∙_, ap}
-use mathlib.Core.Logic.{_⊎_, inl, inr}
-use mathlib.Core.Bool.{Bool, true, false}
 use mathlib.Core.List.{List, [], _∷_, _++_, append-nil}
 use Prim.Native.Nat.{ℕ, zero, suc, _+_, _-_, _≤_, _<_}
 use native.Mathlib.Omega.{arith}
@@ -11,10 +9,10 @@ use lib.Seq.{take-append-seam, drop-append-seam, drop-cons, getD-take, set-appen
 use Rattle.numbers.specs.Numbers.{mostClock}
 use Rattle.rules.specs.declared.Claim.{Claim}
 use Rattle.rules.specs.declared.Table.{Table}
-use Rattle.rules.specs.Lists.{_∈_, any}
+use Rattle.rules.specs.Lists.{_∈_}
 use Rattle.rules.specs.Claims.{on, at}
 use Rattle.rules.specs.Tables.{pad, vacant}
-use Rattle.rules.proofs.Bools.{split}
+use Rattle.rules.proofs.Bools.{by-test}
 use Rattle.rules.proofs.Lists.{here, there}
 use Rattle.table.specs.Rows.{Sized, Row}
 use Rattle.table.specs.Parts.{withClaims}
@@ -29,18 +27,6 @@ module _ {A : Type 0} where
 
   pub prefix-end : (l : List A) (n i : ℕ) → n ≤ i → drop i (take n l) ≡ []
   prefix-end l n i h = drop-of-length-le (take n l) {i = i} (simp (length-take) (omega arith))
-
-  -- None of the first i elements has p: whether one of the first n has it is told by those that are left.
-  abbrev pub NoneYet : (A → Bool) → List A → ℕ → ℕ → Type 0
-  NoneYet p l n i = (i ≤ n) × (any p (drop i (take n l)) ≡ any p (take n l))
-
-  pub none-next : (p : A → Bool) (d : A) (l : List A) (n i : ℕ) → i < n → n ≤ length l → p (getD l i d) ≡ false → NoneYet p l n i → NoneYet p l n (i + 1)
-  unfolding any
-  none-next p d l n i h k e w = (omega arith, rw (prefix-step d l n i h k, e) at (w .1))
-
-  pub none-all : (p : A → Bool) (l : List A) (n i : ℕ) → n ≤ i → NoneYet p l n i → any p (take n l) ≡ false
-  unfolding any
-  none-all p l n i h w = sym (rw (prefix-end l n i h) at (w .1))
 
   -- The element at place i is one of the first n.
   pub in-prefix : (d : A) (l : List A) (n i : ℕ) → i < n → i < length l → getD l i d ∈ take n l
@@ -121,17 +107,33 @@ module _ {A : Type 0} (d : A) (total : List A) where
 
 -- ── a row's claims are in range ──
 pub sized-small : (t : ℕ) (c : Claim) → t ≤ mostClock → Sized t c → at c ≤ 1000000000000000000
-sized-small t c h s = go (split (on c))
-  where
-    go : (on c ≡ true) ⊎ (on c ≡ false) → at c ≤ 1000000000000000000
-    go (inl o) = omega (arith, s .aged o)
-    go (inr o) = omega (arith, s .planned o)
+sized-small t c h s = by-test (on c) (λ o. omega (arith, s .aged o)) (λ o. omega (arith, s .planned o))
 
-pub row-sized : (t : ℕ) (l : List Claim) (n i : ℕ) → Row t l n → length l ≡ 64 → i < n → Sized t (getD l i vacant)
-row-sized t l n i r e h = r .sized (getD l i vacant) (in-prefix vacant l n i h (omega (arith, r .few)))
+module _ {t : ℕ} {l : List Claim} {n : ℕ} (r : Row t l n) where
+  pub row-sized : (i : ℕ) → i < n → Sized t (getD l i vacant)
+  row-sized i h = r .sized _ (in-prefix vacant l n i h (omega (arith, r .few, r .places)))
 
-pub row-small : (t : ℕ) (l : List Claim) (n i : ℕ) → Row t l n → length l ≡ 64 → i < n → at (getD l i vacant) ≤ 1000000000000000000
-row-small t l n i r e h = sized-small t (getD l i vacant) (r .timely) (row-sized t l n i r e h)
+  pub row-small : (i : ℕ) → i < n → at (getD l i vacant) ≤ 1000000000000000000
+  row-small i h = sized-small t _ (r .timely) (row-sized i h)
+
+-- ── reading a row front to back: P holds of the claims that are left at place i ──
+pub record Left (P : List Claim → Type 0) (t : ℕ) (l : List Claim) (n i : ℕ) : Type 0 where
+  pub row : Row t l n
+  pub within : i ≤ n
+  pub holds : P (drop i (take n l))
+
+pub left-start : {P : List Claim → Type 0} {t : ℕ} {l : List Claim} {n : ℕ} → Row t l n → P (take n l) → Left P t l n 0
+left-start r p = record { row = r; within = omega arith; holds = p }
+
+module _ {P : List Claim → Type 0} {t : ℕ} {l : List Claim} {n i : ℕ} (w : Left P t l n i) where
+  pub left-here : i < n → P (getD l i vacant ∷ drop (i + 1) (take n l))
+  left-here h = rw (prefix-step vacant l n i h (omega (arith, w .row .few, w .row .places))) at (w .holds)
+
+  pub left-next : {Q : List Claim → Type 0} → i < n → (P (getD l i vacant ∷ drop (i + 1) (take n l)) → Q (drop (i + 1) (take n l))) → Left Q t l n (i + 1)
+  left-next h f = record { row = w .row; within = omega arith; holds = f (left-here h) }
+
+  pub left-end : n ≤ i → P []
+  left-end h = rw (prefix-end l n i h) at (w .holds)
 
 -- ── a table whose claims alone have changed ──
 pub other-claims : (t t₀ : Table) (l : List Claim) → t ≡ withClaims t₀ (t .claims) → withClaims t l ≡ withClaims t₀ l

@@ -4,7 +4,7 @@ use mathlib.Core.List.{List, _∷_}
 use Prim.Native.Nat.{ℕ}
 use Rattle.rules.specs.declared.Table.{Table}
 use Rattle.rules.specs.declared.Standing.{Standing}
-use Rattle.rules.specs.Calls.{Model, Call, lookup, Answer, Step, step, unchanged, standingOf, standingValues, new}
+use Rattle.rules.specs.Calls.{Model, Call, lookup, Answer, Step, step, unchanged, standingOf, new}
 use Rattle.rules.specs.Tables.{model}
 use Rattle.promises.specs.Ledger.{Turn, turns, tableAfter, ledgerOf, NoOverrunIn}
 use Rattle.promises.specs.Demand3.{Now, Next, tells}
@@ -15,7 +15,7 @@ use Rattle.table.specs.declared.Outcome.{Outcome}
 use Rattle.table.specs.Outcomes.{outcome}
 use Rattle.table.specs.Runs.{answered, looked, Made, by-timed, by-lookup, Run, done, then, Looks, CodeDemand3, CodeWholeCalls}
 use Rattle.table.proofs.Promised.{outcome-model, outcome-grants}
-use Rattle.table.proofs.Tests.{lookup-number, lookup-answer, lookup-idle}
+use Rattle.table.proofs.Tests.{lookup-told, lookup-answer, lookup-idle}
 
 -- ── one answer ──
 answer-of : (r : Outcome) (s : Step) → r ≡ outcome s → answered r ≡ s .answer
@@ -26,7 +26,7 @@ answer-of r s e =
     (outcome-grants (outcome s) s refl)
 
 looked-is : (m : Model) (k : ℕ) (s : Standing) → s ≡ (standingOf k (m .pending)) → looked s ≡ step m (lookup k) .answer
-looked-is m k s e = ap (λ (n : ℕ). unchanged m n .answer) (ap (λ (s : Standing). standingValues s .number) e ∙ lookup-number m k) ∙ lookup-answer m k
+looked-is m k s e = ap (λ (n : ℕ). unchanged m n .answer) (lookup-told m k s e .1) ∙ lookup-answer m k
 
 -- ── a run is the rules' run ──
 made-is : {t u : Table} {c : Call} {a : Answer} → Made t c a u → (a ≡ step (model t) c .answer) × (model u ≡ step (model t) c .model)

@@ -1,23 +1,23 @@
 -- The tests of a call: from what the code found to the number that the rules give.
 use mathlib.Core.Path.{_≡_, refl, sym, _∙_, ap}
-use mathlib.Core.Logic.{_⊎_, inl, inr, _≢_}
+use mathlib.Core.Logic.{_≢_}
 use mathlib.Core.Bool.{Bool, true, false, not, _&&_, _||_, cond}
 use mathlib.Core.List.{List, [], _∷_}
 use Prim.Native.Nat.{ℕ, zero, suc, _+_, _≤_}
 use native.Mathlib.Omega.{arith}
 use lib.Dec.{ltb}
 use lib.ListN.{length}
-use borrow.Author.Tests.{ltb-false, eqb-true}
+use borrow.Author.Tests.{ltb-false, eqb-true, ne-eqb}
 use Rattle.numbers.specs.Numbers.{lateNumber, backwardNumber, mostClock}
 use Rattle.rules.specs.declared.Claim.{Claim}
 use Rattle.rules.specs.declared.Phase.the-variants.{Waiting, On}
 use Rattle.rules.specs.Lists.{any}
 use Rattle.rules.specs.Claims.{on, at}
+use Rattle.rules.specs.declared.Standing.{Standing}
 use Rattle.rules.specs.declared.Standing.the-variants.{Waits, Holds}
 use Rattle.rules.specs.Tests.{Test, test, firstOf, named, late, backward}
 use Rattle.rules.specs.Calls.{Model, Call, clock, lookup, tests, unchanged, act, step, unless, standing, standingOf, standingValues}
 use Rattle.rules.specs.Plans.{Ascending}
-use Rattle.rules.proofs.Bools.{split}
 use Rattle.rules.proofs.Lists.{Each, any-false}
 use Rattle.rules.proofs.Calls.{passes}
 use Rattle.table.specs.Outcomes.{timeNumber, phaseNumber, orElse, leaving}
@@ -91,15 +91,8 @@ unfolding firstOf any standingOf
 phase-first b k [] a = refl
 phase-first b k (c ∷ ps) a = go (named k c) refl (phase-first b k ps (a .1))
   where
-    rest : Claim → Bool
-    rest d = named k d && cond b (not (on d)) (on d)
-
     later : named k c ≡ true → Each (λ d. named k d ≡ false) ps
-    later e d m = other (split (named k d))
-      where
-        other : (named k d ≡ true) ⊎ (named k d ≡ false) → named k d ≡ false
-        other (inr q) = q
-        other (inl q) = absurd (omega (arith, a .0 d m, eqb-true (d .ticket) k q, eqb-true (c .ticket) k e))
+    later e d m = ne-eqb (d .ticket) k (λ q. omega (arith, a .0 d m, eqb-true (c .ticket) k e))
 
     none : named k c ≡ true → any (λ d. named k d && cond b (not (on d)) (on d)) ps ≡ false
     none e = any-false (λ d. named k d && cond b (not (on d)) (on d)) ps (λ d m. ap (λ (x : Bool). x && cond b (not (on d)) (on d)) (later e d m))
@@ -144,9 +137,10 @@ number-first k (c ∷ ps) = go (named k c) (number-first k ps)
     go true ih = found (on c)
     go false ih = ih
 
-pub lookup-number : (m : Model) (k : ℕ) → standingValues (standingOf k (m .pending)) .number ≡ step m (lookup k) .answer .number
+pub lookup-told : (m : Model) (k : ℕ) (s : Standing) → s ≡ standingOf k (m .pending)
+    → (s ≡ standingOf k (m .pending)) × (standingValues s .number ≡ step m (lookup k) .answer .number)
 unfolding step tests act firstOf
-lookup-number m k = number-first k (m .pending) ∙ go (cond (not (any (named k) (m .pending))) 8 0)
+lookup-told m k s e = (e, ap (λ (x : Standing). standingValues x .number) e ∙ number-first k (m .pending) ∙ go (cond (not (any (named k) (m .pending))) 8 0))
   where
     go : (n : ℕ) → n ≡ unless m n (unchanged m 0) .answer .number
     go zero = refl

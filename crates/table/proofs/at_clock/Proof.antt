@@ -1,62 +1,38 @@
 -- The loop's invariant: whether any claim overruns is told by those that are left.
-use mathlib.Core.Path.{refl, sym, _∙_}
+use mathlib.Core.Path.{_≡_, refl, sym, _∙_}
 use Prim.Native.Nat.{_-_}
 use native.Mathlib.Omega.{arith}
-use Rattle.rules.specs.Tables.{vacant}
+use lib.ListN.{take}
+use Rattle.rules.specs.Lists.{any}
 use Rattle.table.specs.Outcomes.{pastEnd}
-use Rattle.table.proofs.Rows.{NoneYet, none-next, none-all, row-small}
-use Rattle.table.proofs.Ranges.{formed-few, formed-length, formed-row}
+use Rattle.table.proofs.Rows.{row-small, Left, left-start, left-next, left-end}
+use Rattle.table.proofs.Ranges.{formed-row}
 use Rattle.table.proofs.Steps.{idle-is, no-overrun-idle}
 use Rattle.table.proofs.at_clock.Statement.{statement}
 use Rattle.table.proofs.at_clock.Tie as tie
 
 abbrev Inv-loop : tie.InvT-loop
-Inv-loop clock t count i₀ i = NoneYet (pastEnd clock) (t .claims) count i
+Inv-loop clock t count i₀ i = Left (λ r. any (pastEnd clock) r ≡ any (pastEnd clock) (take count (t .claims))) clock (t .claims) count i
 
 abbrev μ-loop : tie.MeasureT-loop
 μ-loop clock t count i₀ i = count - i
 
-loop-holds : tie.Need-loop-holds Inv-loop μ-loop
-loop-holds c = (omega arith, refl)
-
-mul-c : tie.Need-mul-c Inv-loop μ-loop
-mul-c c = let b = c .before .before in omega (arith, formed-few (b .args .t1) (b .pre .0 .formed))
-
-element-copy-out-c : tie.Need-element-copy-out-c Inv-loop μ-loop
-element-copy-out-c c = let b = c .before .before in omega (arith, formed-few (b .args .t1) (b .pre .0 .formed))
-
-overruns-requires : tie.Need-overruns-requires Inv-loop μ-loop
-overruns-requires c κs =
-    let z = c .before .before in
-    let b = z .before in
-    let t = b .args .t1 in
-    let v = b .pre .0 .formed in
-    row-small (b .args .clock) (t .claims) (t .count) (z .loop .i) (formed-row t (b .args .clock) v (b .pre .1) (b .pre .2)) (formed-length t v) (omega arith)
-
 advanced-requires : tie.Need-advanced-requires Inv-loop μ-loop
 advanced-requires c κs = let b = c .before .before .before .before .before in (b .pre .0 .formed, b .pre .1, b .pre .2)
 
-returns : tie.Need-returns Inv-loop μ-loop
-returns c = c .advanced .ensures
-
-add-i : tie.Need-add-i Inv-loop μ-loop
-add-i c = let b = c .before .before .before .before .before in omega (arith, formed-few (b .args .t1) (b .pre .0 .formed))
-
 loop-again : tie.Need-loop-again Inv-loop μ-loop
+unfolding any
 loop-again c =
     let o = c .before in
-    let z = o .before .before .before in
-    let b = z .before in
-    let v = b .pre .0 .formed in
-    none-next (pastEnd (b .args .clock)) vacant _ _ _ (omega arith) (omega (arith, formed-length (b .args .t1) v, formed-few (b .args .t1) v)) (sym (o .overruns .ensures) ∙ c .if1 .left) (z .loop .inv)
+    left-next (o .before .before .before .loop .inv) (omega arith) (λ h. rw (sym (o .overruns .ensures) ∙ c .if1 .left) at h)
 
 returns-2 : tie.Need-returns-2 Inv-loop μ-loop
+unfolding any
 returns-2 c =
     let z = c .before in
     let b = z .before in
-    let t = b .args .t1 in
-    let u = b .args .clock in
-    idle-is t u (b .pre .0 .formed) (b .pre .1) (b .pre .2) (no-overrun-idle t u (b .pre .0) (b .pre .1) (none-all (pastEnd u) _ _ _ (c .loop-test .left) (z .loop .inv))) _ refl
+    let h = b .pre in
+    idle-is (b .args .t1) (b .args .clock) (h .0 .formed) (h .1) (h .2) (no-overrun-idle _ _ (h .0) (h .1) (sym (left-end (z .loop .inv) (c .loop-test .left)))) _ refl
 
 pub at-clock-spec : {M : Type 1} → statement M
 at-clock-spec =
@@ -64,13 +40,13 @@ at-clock-spec =
     (tie.spec
     Inv-loop
     μ-loop
-    loop-holds
-    mul-c
-    element-copy-out-c
-    overruns-requires
+    (λ c. left-start (formed-row (c .args .t1) _ (c .pre .0 .formed) (c .pre .1) (c .pre .2)) refl)
+    (λ c. omega arith)
+    (λ c. omega arith)
+    (λ c κs. row-small (c .before .before .loop .inv .row) _ (omega arith))
     advanced-requires
-    returns
-    add-i
+    (λ c. c .advanced .ensures)
+    (λ c. omega arith)
     (λ c. omega arith)
     loop-again
     returns-2)

@@ -1,4 +1,4 @@
--- `placing::clears` meets its contract: each return is a law of proofs/Clearing.
+-- `placing::clears` meets its contract: each return is a law of proofs/PlacingLoop.
 use mathlib.Core.Path.{_≡_, sym, _∙_}
 use mathlib.Core.Bool.{true}
 use Prim.Native.Nat.{_<_}
@@ -6,7 +6,7 @@ use native.Mathlib.Omega.{arith}
 use borrow.Author.Needs.{needs}
 use borrow.Author.Tests.{not-true, not-false}
 use Rattle.rules.specs.Claims.{conflicts, endOf}
-use Rattle.table.proofs.Clearing.{clear-apart, clear-ended, clear-held, clear-waiting}
+use Rattle.table.proofs.PlacingLoop.{clear-apart, clear-ended, clear-held, clear-waiting}
 use Rattle.table.proofs.placing.clears.Statement.{statement}
 use Rattle.table.proofs.placing.clears.Tie as tie
 

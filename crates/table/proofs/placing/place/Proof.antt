@@ -1,6 +1,6 @@
 -- `placing::place` meets its contract. No candidate is below the clock or after the planned start, and each is nearer to it; in a pass
--- the claims left decide whether the candidate fits. Then what is counted is `Counted`, of proofs/ContentionLoop; that nothing wraps follows
--- from the size of the whole, of proofs/Sizes.
+-- the claims left decide whether the candidate fits. Then what is counted is `Counted`; that nothing wraps follows from the size of the
+-- whole, of proofs/Sizes.
 use mathlib.Core.Path.{_≡_, refl, sym, _∙_}
 use mathlib.Core.Logic.{⊎-elim}
 use Prim.Native.Nat.{_+_, _-_, _*_, _≤_, _<_}
@@ -8,23 +8,21 @@ use native.Mathlib.Omega.{arith}
 use lib.ListN.{take, drop, getD}
 use borrow.Author.Needs.{needs}
 use borrow.Author.Tests.{not-true, not-false}
-use Rattle.rules.specs.Claims.{at, remaining}
+use Rattle.rules.specs.Lists.{all}
+use Rattle.rules.specs.Claims.{remaining}
 use Rattle.rules.specs.Placing.{fits, place, contention, startBound}
 use Rattle.rules.specs.Tables.{vacant}
 use Rattle.rules.proofs.Placing.{place-low}
 use Rattle.table.specs.Parts.{ruledIn}
-use Rattle.table.proofs.Rows.{in-prefix, row-small}
-use Rattle.table.proofs.PlacingLoop.{pass, passed, jump, found}
+use Rattle.table.proofs.Rows.{in-prefix, row-small, Left, left-start, left-here, left-next, left-end}
+use Rattle.table.proofs.PlacingLoop.{jump, found, Counted, count-none, count-rival, count-other, count-all}
 use Rattle.table.proofs.Sizes.{place-small, rivals-few, time-short, bound-small}
-use Rattle.table.proofs.ContentionLoop.{Counted, count-none, count-rival, count-other, count-all}
 use Rattle.table.proofs.placing.place.Statement.{statement}
 use Rattle.table.proofs.placing.place.Tie as tie
 
 abbrev Inv-loop : tie.InvT-loop
 Inv-loop w t clock v count s₀ j₀ s j =
-    (s ≡ s₀)
-    × (j ≤ count)
-    × (fits v (drop j (take count (t .claims))) w s ≡ fits v (take count (t .claims)) w s)
+    (s ≡ s₀) × Left (λ r. fits v r w s ≡ fits v (take count (t .claims)) w s) clock (t .claims) count j
 
 abbrev μ-loop : tie.MeasureT-loop
 μ-loop w t clock v count s₀ j₀ s j = count - j
@@ -36,19 +34,13 @@ abbrev μ-candidates : tie.MeasureT-candidates
 μ-candidates w t clock v count s₀ s = place v (take count (t .claims)) w - s
 
 abbrev Inv-loop2 : tie.InvT-loop2
-Inv-loop2 w t clock v count s start rivals₀ time₀ i₀ rivals time i = (i ≤ count) × Counted v (t .claims) count w i rivals time
+Inv-loop2 w t clock v count s start rivals₀ time₀ i₀ rivals time i =
+    Left (λ r. Counted v w (take count (t .claims)) r rivals time) clock (t .claims) count i
 
 abbrev μ-loop2 : tie.MeasureT-loop2
 μ-loop2 w t clock v count s start rivals₀ time₀ i₀ rivals time i = count - i
 
 -- ── the search ──
--- The start or grant of the claim at hand is small.
-small : (c : tie.In-loop Inv-loop μ-loop Inv-candidates μ-candidates Inv-loop2 μ-loop2) →
-    at (getD (c .before .before .before .args .t1 .claims) (c .before .loop .j) vacant) ≤ 1000000000000000000
-small c =
-    let b = c .before .before .before in
-    row-small _ _ _ (c .before .loop .j) (b .pre .0) (omega arith) (omega arith)
-
 -- The end to which the search jumps is after the candidate, and not after the planned start.
 nearer : (c : tie.After-end-of Inv-loop μ-loop Inv-candidates μ-candidates Inv-loop2 μ-loop2) →
     let y = c .before .before .before .before .before .before in
@@ -59,7 +51,7 @@ nearer c =
     let y = z .before .before .before in
     let b = y .before .before in
     let t = b .args .t1 in
-    let m = in-prefix vacant (t .claims) (t .count) (y .loop .j) (omega arith) (omega (arith, b .pre .0 .places, b .pre .0 .few)) in
+    let m = in-prefix vacant (t .claims) (t .count) (y .loop .j) (omega arith) (omega arith) in
     let e = sym (z .clears .ensures) ∙ not-true _ (c .before .if1 .taken) in
     let k = jump (ruledIn t (t .clock)) (b .args .w) (y .loop .s) _ (omega arith) _ m e in
     (omega (arith, c .end-of .ensures), omega (arith, c .end-of .ensures))
@@ -68,19 +60,18 @@ candidates-again : tie.Need-candidates-again Inv-loop μ-loop Inv-candidates μ-
 candidates-again c = (omega (arith, nearer c), nearer c .1)
 
 loop-again : tie.Need-loop-again Inv-loop μ-loop Inv-candidates μ-candidates Inv-loop2 μ-loop2
+unfolding fits all
 loop-again c =
     let y = c .before .before .before .before in
-    let b = y .before .before in
-    let t = b .args .t1 in
-    let e = sym (c .before .clears .ensures) ∙ not-false _ (c .if1 .left) in
-    (y .loop .inv .0, omega arith, sym (pass _ _ _ (t .claims) (t .count) (y .loop .j) (omega arith) (omega (arith, b .pre .0 .places, b .pre .0 .few)) e) ∙ y .loop .inv .2)
+    (y .loop .inv .0, left-next (y .loop .inv .1) (omega arith) (λ h. rw (sym (c .before .clears .ensures) ∙ not-false _ (c .if1 .left)) at h))
 
 -- The candidate that no claim bars is the planned start.
 start-is : (c : tie.After-loop Inv-loop μ-loop Inv-candidates μ-candidates Inv-loop2 μ-loop2) →
     let b = c .before .before .before in
     let t = b .args .t1 in
     c .before .loop .s ≡ place (ruledIn t (t .clock)) (take (t .count) (t .claims)) (b .args .w)
-start-is c = found _ _ _ _ (omega arith) (omega arith) (sym (c .before .loop .inv .2) ∙ passed _ _ _ _ _ _ (c .loop-test .left))
+unfolding fits all
+start-is c = found _ _ _ _ (omega arith) (omega arith) (sym (left-end (c .before .loop .inv .1) (c .loop-test .left)))
 
 -- ── the count ──
 -- A claim that conflicts is counted.
@@ -88,12 +79,10 @@ rival : (c : tie.Then2 Inv-loop μ-loop Inv-candidates μ-candidates Inv-loop2 �
     let y = c .before .before .before .before in
     let a = y .before .before .before .before .args in
     let t = a .t1 in
-    Counted (ruledIn t (t .clock)) (t .claims) (t .count) (a .w) (y .loop2 .i + 1) (y .loop2 .rivals + 1)
-    (y .loop2 .time + remaining (ruledIn t (t .clock)) (getD (t .claims) (y .loop2 .i) vacant))
-rival c =
-    let y = c .before .before .before .before in
-    let p = y .before .before .before .before .pre .0 in
-    count-rival _ _ _ _ _ _ _ (y .loop2 .inv .1) (omega arith) (omega (arith, p .places, p .few)) (sym (c .before .shares .ensures) ∙ c .if2 .taken)
+    let ps = take (t .count) (t .claims) in
+    let v = ruledIn t (t .clock) in
+    Counted v (a .w) ps (drop (y .loop2 .i + 1) ps) (y .loop2 .rivals + 1) (y .loop2 .time + remaining v (getD (t .claims) (y .loop2 .i) vacant))
+rival c = count-rival (left-here (c .before .before .before .before .loop2 .inv) (omega arith)) (sym (c .before .shares .ensures) ∙ c .if2 .taken)
 
 -- After the loop all are counted.
 whole : (c : tie.After-wide Inv-loop μ-loop Inv-candidates μ-candidates Inv-loop2 μ-loop2) →
@@ -103,7 +92,7 @@ whole : (c : tie.After-wide Inv-loop μ-loop Inv-candidates μ-candidates Inv-lo
     let ps = take (t .count) (t .claims) in
     (y .loop2 .rivals ≡ contention ps (a .w))
     × (t .clock + y .loop2 .time + y .loop2 .rivals * (c .wide .result - 1) ≡ startBound (ruledIn t (t .clock)) ps (a .w))
-whole c = rw (c .wide .ensures .0) (count-all _ _ _ _ _ _ _ (c .before .before .loop2 .inv .1) (c .before .loop2-test .left))
+whole c = rw (c .wide .ensures .0) (count-all (left-end (c .before .before .loop2 .inv) (c .before .loop2-test .left)))
 
 -- The bound is small.
 bounded : (c : tie.After-wide Inv-loop μ-loop Inv-candidates μ-candidates Inv-loop2 μ-loop2) →
@@ -118,11 +107,6 @@ add-rivals c =
     let b = c .before .before .before .before .before .before .before .before in
     omega (arith, rival c .number, rivals-few _ _ _ (b .args .w) (b .pre .0))
 
-time-left-requires : tie.Need-time-left-requires Inv-loop μ-loop Inv-candidates μ-candidates Inv-loop2 μ-loop2
-time-left-requires c κs =
-    let y = c .before .before .before .before in
-    row-small _ _ _ (y .loop2 .i) (y .before .before .before .before .pre .0) (omega arith) (omega arith)
-
 add-time : tie.Need-add-time Inv-loop μ-loop Inv-candidates μ-candidates Inv-loop2 μ-loop2
 add-time c =
     let b = c .before .before .before .before .before .before .before .before .before in
@@ -131,15 +115,10 @@ add-time c =
 loop2-again : tie.Need-loop2-again Inv-loop μ-loop Inv-candidates μ-candidates Inv-loop2 μ-loop2
 loop2-again c =
     let y = c .before .before .before .before in
-    let p = y .before .before .before .before .pre .0 in (
-      omega arith,
-      ⊎-elim
-          (λ k. rw (k .2, k .3, k .1 .ensures) (rival (record { before = c .before; if2 = k .0 })))
-          (λ k.
-          rw (k .1, k .2)
-          (count-other _ _ _ _ _ _ _ (y .loop2 .inv .1) (omega arith) (omega (arith, p .places, p .few)) (sym (c .before .shares .ensures) ∙ k .0 .left)))
-          (c .if2 .came),
-    )
+    ⊎-elim
+    (λ k. rw (k .2, k .3, k .1 .ensures) (left-next (y .loop2 .inv) (omega arith) (λ h. rival (record { before = c .before; if2 = k .0 }))))
+    (λ k. rw (k .1, k .2) (left-next (y .loop2 .inv) (omega arith) (λ h. count-other h (sym (c .before .shares .ensures) ∙ k .0 .left))))
+    (c .if2 .came)
 
 returns : tie.Need-returns Inv-loop μ-loop Inv-candidates μ-candidates Inv-loop2 μ-loop2
 returns c =
@@ -158,13 +137,15 @@ place-spec =
     μ-loop2
     -- candidates-holds, loop-holds
     (λ c. (omega arith, place-low _ _ _))
-    (λ c. (refl, omega arith, refl))
+    (λ c. (refl, left-start (c .before .pre .0) refl))
     -- mul-c, element-copy-out-c
     (λ c. omega arith)
     (λ c. omega arith)
     -- clears-requires, end-of-requires
-    (λ c κs. let b = c .before .before .before .before in (small (c .before), omega (arith, place-small _ _ _ _ (b .pre .0) (b .pre .1))))
-    (λ c κs. small (c .before .before .before))
+    (λ c κs.
+    let b = c .before .before .before .before in
+    (row-small (b .pre .0) _ (omega arith), omega (arith, place-small _ _ _ _ (b .pre .0) (b .pre .1))))
+    (λ c κs. row-small (c .before .before .before .before .loop .inv .1 .row) _ (omega arith))
     -- candidates-less
     (λ c. omega (arith, nearer c))
     candidates-again
@@ -173,13 +154,13 @@ place-spec =
     (λ c. omega arith)
     loop-again
     -- loop2-holds
-    (λ c. (omega arith, count-none _ _ _ _))
+    (λ c. left-start (c .before .before .before .pre .0) count-none)
     -- mul-c-2, element-copy-out-c-2, shares-requires
     (λ c. omega arith)
     (λ c. omega arith)
     (λ c κs. search needs)
     add-rivals
-    time-left-requires
+    (λ c κs. row-small (c .before .before .before .before .loop2 .inv .row) _ (omega arith))
     add-time
     -- add-i, loop2-less
     (λ c. omega arith)
