@@ -5,6 +5,7 @@ use mathlib.Core.Bool.{true, false, not, _&&_}
 use mathlib.Core.List.{List, [], _∷_, _++_, map, map-append, Memᴰ·append-left}
 use Prim.Native.Nat.{_≤_, _<_}
 use native.Mathlib.Omega.{arith}
+use lib.ListN.{length, length-map}
 use lib.Dec.{eqb}
 use borrow.Author.Tests.{eqb-true, eq-eqb, not-true, not-false}
 use Rattle.rules.specs.declared.Claim.{Claim}
@@ -15,7 +16,7 @@ use Rattle.rules.specs.Claims.{on, at, withPhase, conflicts, endOf}
 use Rattle.rules.specs.Order.{before, precedes}
 use Rattle.rules.specs.Granting.{goes, granted, grant}
 use Rattle.rules.specs.Plans.{Ascending, Sane, Apart, Separated, StartsFrom, HeldUp, Tight, Blocked}
-use Rattle.rules.proofs.Bools.{split, clash, and-l, and-r, and-i, both-ways, same?}
+use Rattle.rules.proofs.Bools.{split, by-test, clash, and-l, and-r, and-i, both-ways, same?}
 use Rattle.rules.proofs.Lists.{Each, any-none, any-false, any-some, snoc-each, map-i, map-each, map-each2, map-cong}
 use Rattle.rules.proofs.Claims.{conflicts-sym, end-wait, end-clock, end-no-overrun}
 use Rattle.rules.proofs.Order.{either-before, before-precedes, precedes-conflicts, precedes-e, precedes-on, precedes-before, ends-precedes, ascending-same}
@@ -47,14 +48,14 @@ unfolding granted
 granted-stay v ps c e = rw (e, granted)
 
 pub granted-cases : (P : Claim → Type 0) (v : Setting) (ps : List Claim) (c : Claim) → (goes ps c ≡ true → P (withPhase c (On (v .clock)))) → (goes ps c ≡ false → P c) → P (granted v ps c)
-granted-cases P v ps c f g = go (split (goes ps c))
-  where
-    go : (goes ps c ≡ true) ⊎ (goes ps c ≡ false) → P (granted v ps c)
-    go (inl e) = rw (granted-go v ps c e) (f e)
-    go (inr e) = rw (granted-stay v ps c e) (g e)
+granted-cases P v ps c f g = by-test (goes ps c) (λ e. rw (granted-go v ps c e) (f e)) (λ e. rw (granted-stay v ps c e) (g e))
 
 pub granted-ticket : (v : Setting) (ps : List Claim) (c : Claim) → granted v ps c .ticket ≡ c .ticket
 granted-ticket v ps c = granted-cases (λ (x : Claim). x .ticket ≡ c .ticket) v ps c (λ p. refl) (λ p. refl)
+
+pub grant-length : (v : Setting) (ps : List Claim) → length (grant v ps) ≡ length ps
+unfolding grant
+grant-length v ps = length-map ps (granted v ps)
 
 -- What precedes a waiting claim still does, and the claim still waits.
 pub grant-precedes : (v : Setting) (ps : List Claim) (c w : Claim) → c ∈ ps → precedes c w ≡ true → (granted v ps w ≡ w) × (precedes (granted v ps c) w ≡ true)

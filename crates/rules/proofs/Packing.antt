@@ -6,6 +6,7 @@ use mathlib.Core.Bool.{Bool, true, false, cond}
 use mathlib.Core.List.{List, [], _∷_, map}
 use Prim.Native.Nat.{ℕ, zero, suc, _+_, _≤_, _<_}
 use native.Mathlib.Omega.{arith}
+use lib.ListN.{length, length-map}
 use Rattle.rules.specs.declared.Claim.{Claim}
 use Rattle.rules.specs.declared.Phase.the-variants.{Waiting}
 use Rattle.rules.specs.Lists.{_∈_, greatest, keep}
@@ -237,6 +238,10 @@ module _ (v : Setting) (ps : List Claim) where
             pack-keeps-order c w m (precedes-conflicts c w p) q (precedes-before c w s p),
             s .long,
           ))
+
+  pub pack-length : length (pack v ps) ≡ length ps
+  unfolding pack
+  pack-length = length-map ps (moved (packedStart v ps))
 
   pub pack-starts : StartsFrom (v .clock) (pack v ps)
   unfolding pack

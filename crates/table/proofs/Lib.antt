@@ -8,7 +8,6 @@ pub mod LastEnds
 pub mod PackingOrder
 pub mod PackingLoop
 pub mod PlacingLoop
-pub mod Holders
 pub mod GrantingLoop
 pub mod Ranges
 pub mod Tests

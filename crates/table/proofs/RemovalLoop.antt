@@ -8,7 +8,7 @@ use native.Mathlib.Omega.{arith}
 use native.Mathlib.Numerals.{add-one}
 use lib.Dec.{ltb}
 use lib.ListN.{length, take, drop, getD, set, replicate, length-drop}
-use lib.Seq.{drop-cons, take-all, length-take-le, set-at, drop-append-seam}
+use lib.Seq.{drop-cons, take-all, set-at, drop-append-seam}
 use borrow.Author.Tests.{eq-eqb, ne-eqb}
 use Rattle.rules.specs.declared.Claim.{Claim}
 use Rattle.rules.specs.Lists.{keep}
@@ -20,7 +20,7 @@ use Rattle.rules.specs.Calls.{standing, standingOf}
 use Rattle.rules.specs.Tables.{vacant, pad}
 use Rattle.rules.proofs.Lists.{Each, here, there}
 use Rattle.table.specs.Rows.{Row}
-use Rattle.table.proofs.Rows.{prefix-step, prefix-end, pad-over, over, over-step, over-rest}
+use Rattle.table.proofs.Rows.{row-count, row-step, prefix-end, pad-over, over, over-step, over-rest}
 use Rattle.table.specs.Outcomes.{pastEnd, without}
 
 ascending-drop : (i : ℕ) (l : List Claim) → Ascending l → Ascending (drop i l)
@@ -73,7 +73,7 @@ module _ {k t : ℕ} {l : List Claim} {n i : ℕ} {s : Standing} {m : ℕ} {new 
     behind = drop (i + 1) pending
 
     here-next : drop i pending ≡ next ∷ behind
-    here-next = prefix-step vacant l n i h (omega (arith, w .row .few, w .row .places))
+    here-next = row-step (w .row) i h
 
     -- The next claim has another ticket: it stays.
     taking-keep : (next .ticket ≡ k → ⊥) → Taking k t l n (i + 1) s (m + 1) (set new m next)
@@ -144,22 +144,19 @@ module _ {k t : ℕ} {l : List Claim} {n i : ℕ} {s : Standing} {m : ℕ} {new 
     whole : new ≡ staying ++ drop m l
     whole = w .is ∙ ap (λ (r : List Claim). r ++ drop m l) (take-all m staying (omega (arith, taking-count)))
 
-    count-is : length pending ≡ n
-    count-is = length-take-le n l (omega (arith, w .row .few, w .row .places))
-
     module _ (full : l ≡ pad vacant pending) where
       -- None went, or one did, and the place after those that stay becomes vacant.
       pub taking-none : n ≤ m → new ≡ pad vacant staying
       taking-none a =
-          let e : m ≡ length pending = omega (arith, w .fewer, w .within, count-is) in
+          let e : m ≡ length pending = omega (arith, w .fewer, w .within, row-count (w .row)) in
           whole ∙ ap (λ (r : List Claim). staying ++ drop m r) full ∙ ap (λ (j : ℕ). staying ++ drop j (pad vacant pending)) e
           ∙ pad-over vacant pending staying (sym taking-count ∙ e)
 
       pub taking-one : m < n → set new m vacant ≡ pad vacant staying
       unfolding pad
       taking-one a =
-          let b : suc m ≡ length pending = ⊎-elim (λ b. omega (arith, b .0, w .within)) (λ b. omega (arith, b .0, w .within, count-is)) (w .told) in
-          let size : 64 - length staying ≡ suc (64 - length pending) = omega (arith, taking-count, b, count-is, w .row .few) in
+          let b : suc m ≡ length pending = ⊎-elim (λ b. omega (arith, b .0, w .within)) (λ b. omega (arith, b .0, w .within, row-count (w .row))) (w .told) in
+          let size : 64 - length staying ≡ suc (64 - length pending) = omega (arith, taking-count, b, row-count (w .row), w .row .few) in
           let tail : drop (suc m) l ≡ replicate (64 - length pending) vacant =
           ap (drop (suc m)) full ∙ ap (λ (j : ℕ). drop j (pad vacant pending)) b ∙ drop-append-seam pending (replicate (64 - length pending) vacant) in
           ap (λ (r : List Claim). set r m vacant) (whole ∙ ap (λ (r : List Claim). staying ++ r) (drop-cons l m vacant (omega (arith, w .row .few, w .row .places))))

@@ -69,6 +69,11 @@ module _ {A : Type 0} where
       let l : length (take i new) ≡ i = length-take-le i new (omega arith) in
       rw (add-one, take-suc new i d, drop-cons old i d) (set-at (take i new) (getD old i d) (drop (suc i) old) (getD new i d) i l ∙ sym (append-snoc (take i new) (getD new i d) (drop (suc i) old)))
 
+  -- Where both have the same element at place i, nothing has to be written there.
+  pub over-same : (d e : A) (new old : List A) (i : ℕ) → i < length new → i < length old → getD new i d ≡ getD old i e → over new old i ≡ over new old (i + 1)
+  over-same d e new old i h k q =
+      rw (add-one, take-suc new i d, drop-cons old i e, q) (sym (append-snoc (take i new) (getD old i e) (drop (suc i) old)))
+
   -- From place i on the elements are those of old.
   pub over-rest : (d : A) (new old : List A) (i j : ℕ) → i ≤ length new → i ≤ j → getD (over new old i) j d ≡ getD old j d
   over-rest d new old i j h k =
@@ -110,8 +115,18 @@ pub sized-small : (t : ℕ) (c : Claim) → t ≤ mostClock → Sized t c → at
 sized-small t c h s = by-test (on c) (λ o. omega (arith, s .aged o)) (λ o. omega (arith, s .planned o))
 
 module _ {t : ℕ} {l : List Claim} {n : ℕ} (r : Row t l n) where
+  pub row-count : length (take n l) ≡ n
+  row-count = length-take-le n l (omega (arith, r .few, r .places))
+
+  -- What is left at place i: the claim there, and what is left after it.
+  pub row-step : (i : ℕ) → i < n → drop i (take n l) ≡ getD l i vacant ∷ drop (i + 1) (take n l)
+  row-step i h = prefix-step vacant l n i h (omega (arith, r .few, r .places))
+
+  pub row-member : (i : ℕ) → i < n → getD l i vacant ∈ take n l
+  row-member i h = in-prefix vacant l n i h (omega (arith, r .few, r .places))
+
   pub row-sized : (i : ℕ) → i < n → Sized t (getD l i vacant)
-  row-sized i h = r .sized _ (in-prefix vacant l n i h (omega (arith, r .few, r .places)))
+  row-sized i h = r .sized _ (row-member i h)
 
   pub row-small : (i : ℕ) → i < n → at (getD l i vacant) ≤ 1000000000000000000
   row-small i h = sized-small t _ (r .timely) (row-sized i h)
@@ -127,7 +142,7 @@ left-start r p = record { row = r; within = omega arith; holds = p }
 
 module _ {P : List Claim → Type 0} {t : ℕ} {l : List Claim} {n i : ℕ} (w : Left P t l n i) where
   pub left-here : i < n → P (getD l i vacant ∷ drop (i + 1) (take n l))
-  left-here h = rw (prefix-step vacant l n i h (omega (arith, w .row .few, w .row .places))) at (w .holds)
+  left-here h = rw (row-step (w .row) i h) at (w .holds)
 
   pub left-next : {Q : List Claim → Type 0} → i < n → (P (getD l i vacant ∷ drop (i + 1) (take n l)) → Q (drop (i + 1) (take n l))) → Left Q t l n (i + 1)
   left-next h f = record { row = w .row; within = omega arith; holds = f (left-here h) }

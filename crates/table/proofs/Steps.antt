@@ -6,7 +6,7 @@ use mathlib.Core.List.{List, [], _∷_, _++_}
 use Prim.Native.Nat.{ℕ, suc, _+_, _^_, _≤_, _<_}
 use native.Mathlib.Omega.{arith}
 use native.Mathlib.Numerals.{add-one}
-use lib.ListN.{length, drop, set, replicate, length-map, length-append}
+use lib.ListN.{length, drop, set, replicate, length-append}
 use lib.Dec.{ltb}
 use borrow.Author.Tests.{ltb-false, eqb-true, not-false}
 use Rattle.numbers.specs.Numbers.{mostClock, mostLength, mostPending, mostTickets}
@@ -18,9 +18,9 @@ use Rattle.rules.specs.declared.Phase.the-variants.{Waiting}
 use Rattle.rules.specs.Lists.{any}
 use Rattle.rules.specs.declared.Setting.{Setting}
 use Rattle.rules.specs.Claims.{on, at, withPhase}
-use Rattle.rules.specs.Packing.{moved, packedStart, pack}
+use Rattle.rules.specs.Packing.{pack}
 use Rattle.rules.specs.Placing.{place}
-use Rattle.rules.specs.Granting.{granted, grant, grants}
+use Rattle.rules.specs.Granting.{grant, grants}
 use Rattle.rules.specs.Tests.{firstOf}
 use Rattle.rules.specs.declared.Reply.{Reply}
 use Rattle.rules.specs.declared.Request.{Request}
@@ -31,7 +31,8 @@ use Rattle.rules.proofs.Bools.{clash}
 use Rattle.rules.proofs.Lists.{any-none}
 use Rattle.rules.proofs.Calls.{placed, new-cases, blank-invariant, step-invariant}
 use Rattle.rules.proofs.NoOverrun.{NoOverrunAt, no-overrun-still}
-use Rattle.rules.proofs.Packing.{pack-holders}
+use Rattle.rules.proofs.Packing.{pack-length, pack-holders}
+use Rattle.rules.proofs.Granting.{grant-length}
 use Rattle.rules.proofs.OnePacking.{advance-still, join-still, leave-once, finish-still}
 use Rattle.table.specs.Rows.{Sized, Row, rewritten}
 use Rattle.table.proofs.Rows.{pad-over, pad-more}
@@ -87,10 +88,6 @@ pub new-lit : (g : ℕ) (r : Outcome) → false ≡ empty g → r ≡ unchangedI
 new-lit g r d e = new-cases (λ (s : Step). (r ≡ outcome s) × Valid (r .table)) g (λ q. clash q (sym d)) (λ q. opened g 0 r e)
 
 -- ── the clock set, and packed ──
-pack-length : (v : Setting) (ps : List Claim) → length (pack v ps) ≡ length ps
-unfolding pack
-pack-length v ps = length-map ps (moved (packedStart v ps))
-
 -- A table with other claims in its row, as many as before.
 rewritten-is : (t : Table) → Formed t → (f : List Claim → List Claim) → length (f (model t .pending)) ≡ length (model t .pending) → rewritten f (t .claims) (t .count) ≡ pad vacant (f (model t .pending))
 rewritten-is t v f e =
@@ -146,10 +143,6 @@ advanced-counts t u r v e =
     (ap (λ (x : Table). x .count) e ∙ pack-length (ruledIn t u) (model t .pending) ∙ formed-count t v, ap (λ (x : Table). x .issued) e)
 
 -- ── granting ──
-grant-length : (v : Setting) (ps : List Claim) → length (grant v ps) ≡ length ps
-unfolding grant
-grant-length v ps = length-map ps (granted v ps)
-
 -- What a finished call hands back, made of what granting gave.
 abbrev pub finishedWith : Granted → Reply → Outcome
 finishedWith g rep =

@@ -3,7 +3,7 @@
 use mathlib.Core.Path.{sym, ap, _∙_}
 use mathlib.Core.Bool.{not}
 use borrow.Author.Needs.{needs}
-use Rattle.table.proofs.Holders.{not-yet, at-clock}
+use Rattle.table.proofs.GrantingLoop.{not-yet, at-clock}
 use Rattle.table.proofs.granting.goes.Statement.{statement}
 use Rattle.table.proofs.granting.goes.Tie as tie
 

@@ -2,7 +2,7 @@
 -- Assumes nothing.
 use mathlib.Core.Path.{sym, _∙_}
 use borrow.Author.Needs.{needs}
-use Rattle.table.proofs.Holders.{with-holder, with-waiting}
+use Rattle.table.proofs.GrantingLoop.{with-holder, with-waiting}
 use Rattle.table.proofs.granting.held_with.Statement.{statement}
 use Rattle.table.proofs.granting.held_with.Tie as tie
 

@@ -14,7 +14,7 @@ use Rattle.rules.specs.Placing.{fits, place, contention, startBound}
 use Rattle.rules.specs.Tables.{vacant}
 use Rattle.rules.proofs.Placing.{place-low}
 use Rattle.table.specs.Parts.{ruledIn}
-use Rattle.table.proofs.Rows.{in-prefix, row-small, Left, left-start, left-here, left-next, left-end}
+use Rattle.table.proofs.Rows.{row-member, row-small, Left, left-start, left-here, left-next, left-end}
 use Rattle.table.proofs.PlacingLoop.{jump, found, Counted, count-none, count-rival, count-other, count-all}
 use Rattle.table.proofs.Sizes.{place-small, rivals-few, time-short, bound-small}
 use Rattle.table.proofs.placing.place.Statement.{statement}
@@ -51,7 +51,7 @@ nearer c =
     let y = z .before .before .before in
     let b = y .before .before in
     let t = b .args .t1 in
-    let m = in-prefix vacant (t .claims) (t .count) (y .loop .j) (omega arith) (omega arith) in
+    let m = row-member (b .pre .0) (y .loop .j) (omega arith) in
     let e = sym (z .clears .ensures) ∙ not-true _ (c .before .if1 .taken) in
     let k = jump (ruledIn t (t .clock)) (b .args .w) (y .loop .s) _ (omega arith) _ m e in
     (omega (arith, c .end-of .ensures), omega (arith, c .end-of .ensures))
