@@ -1,22 +1,20 @@
 -- Numbers stay in range through every part of a call; and what a valid table gives to the code that works on its row.
 use mathlib.Core.Path.{_≡_, refl, sym, _∙_, ap, subst}
-use mathlib.Core.Bool.{Bool, false, not}
-use mathlib.Core.List.{List, [], _∷_}
+use mathlib.Core.Bool.{Bool, not}
+use mathlib.Core.List.{List, [], _∷_, map}
 use Prim.Native.Nat.{ℕ, suc, _≤_, _<_}
 use native.Mathlib.Omega.{arith}
 use lib.ListN.{length, length-map, length-append}
 use Rattle.numbers.specs.Numbers.{mostClock, mostTickets, mostPending}
 use Rattle.rules.specs.declared.Claim.{Claim}
-use Rattle.rules.specs.declared.Phase.the-variants.{Waiting, On}
+use Rattle.rules.specs.declared.Phase.the-variants.{On}
 use Rattle.rules.specs.declared.Table.{Table}
-use Rattle.rules.specs.Lists.{_∈_}
-use Rattle.rules.specs.declared.Setting.{Setting}
 use Rattle.rules.specs.Claims.{on, withPhase}
 use Rattle.rules.specs.Packing.{packedStart, moved, pack}
 use Rattle.rules.specs.Granting.{granted, grant}
 use Rattle.rules.specs.Tests.{named}
 use Rattle.rules.specs.declared.Reply.{Reply}
-use Rattle.rules.specs.Calls.{ruled, granting, Model, settingOf, advance, join, remove, blank}
+use Rattle.rules.specs.Calls.{ruled, granting, Model, withPending, withClock, settingOf, advance, join, remove, blank}
 use Rattle.rules.specs.Plans.{Sane}
 use Rattle.rules.specs.Tables.{encode, model, pad, vacant}
 use Rattle.rules.proofs.Bools.{clash}
@@ -25,7 +23,7 @@ use Rattle.rules.proofs.Order.{ascending-map, ascending-keep, ascending-snoc}
 use Rattle.rules.proofs.Packing.{moved-cases, moved-ticket}
 use Rattle.rules.proofs.Granting.{granted-cases, granted-ticket}
 use Rattle.table.specs.Rows.{Sized, Row}
-use Rattle.table.proofs.Sizes.{sized-later, start-small}
+use Rattle.table.proofs.Sizes.{sized-later, sized-waiting, start-small}
 use Rattle.table.proofs.Rows.{pad-length, pad-take}
 use Rattle.table.specs.Valid.{Ranged, Formed}
 
@@ -73,46 +71,49 @@ formed-now t v = formed-row t (t .clock) v (omega arith) (v .ranged .timely)
 pub blank-ranged : (g : ℕ) → Ranged (blank g)
 blank-ranged g = record { few = omega arith; timely = omega arith; numbered = omega arith; ascending = tt; sized = λ c m. none m; issued = λ c m. none m }
 
--- ── packing ──
-pub advance-ranged : (m : Model) (t : ℕ) → Ranged m → m .clock ≤ t → t ≤ mostClock → Ranged (advance m t)
-unfolding advance pack
-advance-ranged m t r l k = record {
-  few = omega (arith, length-map (m .pending) (moved f), r .few);
+-- ── packing and granting: claims that change one by one, and keep their tickets ──
+map-ranged : (m : Model) (t : ℕ) (f : Claim → Claim) → Ranged m → t ≤ mostClock → ((c : Claim) → f c .ticket ≡ c .ticket) → Each (λ c. Sized t (f c)) (m .pending)
+    → Ranged (withPending (withClock m t) (map f (m .pending)))
+map-ranged m t f r k e h = record {
+  few = omega (arith, length-map (m .pending) f, r .few);
   timely = k;
   numbered = r .numbered;
-  ascending = ascending-map (moved f) (m .pending) (moved-ticket f) (r .ascending);
-  sized = map-each (Sized t) (moved f) (m .pending) (λ c i. moved-cases (Sized t) f c (λ o. sized-later (m .clock) t c l (r .sized c i)) (λ o. at-start c i o));
-  issued = map-each (λ (c : Claim). c .ticket ≤ m .issued) (moved f) (m .pending) (λ c i. omega (arith, moved-ticket f c, r .issued c i));
+  ascending = ascending-map f (m .pending) e (r .ascending);
+  sized = map-each (Sized t) f (m .pending) h;
+  issued = map-each (λ (c : Claim). c .ticket ≤ m .issued) f (m .pending) (λ c i. omega (arith, e c, r .issued c i));
 }
+
+pub advance-ranged : (m : Model) (t : ℕ) → Ranged m → m .clock ≤ t → t ≤ mostClock → Ranged (advance m t)
+unfolding advance pack
+advance-ranged m t r l k =
+    let f = packedStart (ruled m t) (m .pending) in
+    let later : Each (Sized t) (m .pending) = λ c i. sized-later (m .clock) t c l (r .sized c i) in
+    map-ranged m t (moved f) r k (moved-ticket f)
+    (λ c i. moved-cases (Sized t) f c (λ o. later c i) (λ o. sized-waiting (later c i) (omega (arith, start-small (ruled m t) (m .pending) k (r .few) later c i o))))
+
+pub grant-ranged : (m : Model) (r : Reply) → Ranged m → Ranged (granting m r (m .pending) .model)
+unfolding grant
+grant-ranged m rep r =
+    let v = settingOf m in
+    map-ranged m (m .clock) (granted v (m .pending)) r (r .timely) (granted-ticket v (m .pending))
+    (λ c i. granted-cases (Sized (m .clock)) v (m .pending) c (λ g. held c (r .sized c i)) (λ g. r .sized c i))
   where
-    v : Setting
-    v = ruled m t
+    held : (c : Claim) → Sized (m .clock) c → Sized (m .clock) (withPhase c (On (m .clock)))
+    held c s = record { sane = record { long = s .sane .long; small = s .sane .small }; short = s .short; aged = λ o. omega arith; planned = λ o. clash refl o }
 
-    f : Claim → ℕ
-    f = packedStart (ruled m t) (m .pending)
-
-    at-start : (c : Claim) → c ∈ m .pending → on c ≡ false → Sized t (withPhase c (Waiting (packedStart (ruled m t) (m .pending) c)))
-    at-start c i o = record {
-      sane = record { long = r .sized c i .sane .long; small = r .sized c i .sane .small };
-      short = r .sized c i .short;
-      aged = λ q. clash q refl;
-      planned = λ q. omega (arith, start-small v (m .pending) k (r .few) (λ d j. sized-later (m .clock) t d l (r .sized d j)) c i o);
-    }
-
--- ── fewer claims, one more, and granting ──
+-- ── fewer claims, and one more ──
 pub remove-ranged : (m : Model) (k : ℕ) → Ranged m → Ranged (remove m k)
 unfolding remove
-remove-ranged m k r = record {
-  few = omega (arith, keep-length p (m .pending), r .few);
-  timely = r .timely;
-  numbered = r .numbered;
-  ascending = ascending-keep p (m .pending) (r .ascending);
-  sized = λ c i. r .sized c (keep-e p (m .pending) i .0);
-  issued = λ c i. r .issued c (keep-e p (m .pending) i .0);
-}
-  where
-    p : Claim → Bool
-    p c = not (named k c)
+remove-ranged m k r =
+    let p : Claim → Bool = λ c. not (named k c) in
+    record {
+      few = omega (arith, keep-length p (m .pending), r .few);
+      timely = r .timely;
+      numbered = r .numbered;
+      ascending = ascending-keep p (m .pending) (r .ascending);
+      sized = λ c i. r .sized c (keep-e p (m .pending) i .0);
+      issued = λ c i. r .issued c (keep-e p (m .pending) i .0);
+    }
 
 pub join-ranged : (m : Model) (w : Claim) → Ranged m → length (m .pending) < mostPending → m .issued < mostTickets → Sized (m .clock) w → w .ticket ≡ suc (m .issued) → Ranged (join m w)
 unfolding join
@@ -124,20 +125,3 @@ join-ranged m w r few spare s e = record {
   sized = snoc-each (Sized (m .clock)) (m .pending) w (r .sized) s;
   issued = snoc-each (λ (c : Claim). c .ticket ≤ suc (m .issued)) (m .pending) w (λ c i. omega (arith, r .issued c i)) (omega arith);
 }
-
-pub grant-ranged : (m : Model) (r : Reply) → Ranged m → Ranged (granting m r (m .pending) .model)
-unfolding grant
-grant-ranged m rep r = record {
-  few = omega (arith, length-map (m .pending) (granted v (m .pending)), r .few);
-  timely = r .timely;
-  numbered = r .numbered;
-  ascending = ascending-map (granted v (m .pending)) (m .pending) (granted-ticket v (m .pending)) (r .ascending);
-  sized = map-each (Sized (m .clock)) (granted v (m .pending)) (m .pending) (λ c i. granted-cases (Sized (m .clock)) v (m .pending) c (λ g. held c (r .sized c i)) (λ g. r .sized c i));
-  issued = map-each (λ (c : Claim). c .ticket ≤ m .issued) (granted v (m .pending)) (m .pending) (λ c i. omega (arith, granted-ticket v (m .pending) c, r .issued c i));
-}
-  where
-    v : Setting
-    v = settingOf m
-
-    held : (c : Claim) → Sized (m .clock) c → Sized (m .clock) (withPhase c (On (m .clock)))
-    held c s = record { sane = record { long = s .sane .long; small = s .sane .small }; short = s .short; aged = λ o. omega arith; planned = λ o. clash refl o }

@@ -3,10 +3,10 @@ use mathlib.Core.Path.{_≡_, refl, sym, _∙_, ap, subst}
 use mathlib.Core.Logic.{_≢_}
 use mathlib.Core.Bool.{Bool, true, false, not, _&&_}
 use mathlib.Core.List.{List, [], _∷_, _++_}
-use Prim.Native.Nat.{ℕ, suc, _+_, _^_, _≤_, _<_}
+use Prim.Native.Nat.{ℕ, _+_, _^_, _≤_, _<_}
 use native.Mathlib.Omega.{arith}
 use native.Mathlib.Numerals.{add-one}
-use lib.ListN.{length, drop, set, replicate, length-append}
+use lib.ListN.{length, set, replicate, length-append}
 use lib.Dec.{ltb}
 use borrow.Author.Tests.{ltb-false, eqb-true, not-false}
 use Rattle.numbers.specs.Numbers.{mostClock, mostLength, mostPending, mostTickets}
@@ -24,7 +24,7 @@ use Rattle.rules.specs.Granting.{grant, grants}
 use Rattle.rules.specs.Tests.{firstOf}
 use Rattle.rules.specs.declared.Reply.{Reply}
 use Rattle.rules.specs.declared.Request.{Request}
-use Rattle.rules.specs.Calls.{plain, granting, Model, settingOf, Call, claim, clock, Step, unchanged, advance, finish, join, remove, fresh, admit, act, step, tests, blank, new}
+use Rattle.rules.specs.Calls.{plain, granting, Model, withPending, withClock, ruled, settingOf, Call, claim, clock, Step, unchanged, advance, finish, join, remove, fresh, admit, act, step, tests, blank, new}
 use Rattle.rules.specs.Tables.{encode, model, pad, vacant}
 use Rattle.rules.specs.Invariants.{Still, Invariant}
 use Rattle.rules.proofs.Bools.{clash}
@@ -34,16 +34,16 @@ use Rattle.rules.proofs.NoOverrun.{NoOverrunAt, no-overrun-still}
 use Rattle.rules.proofs.Packing.{pack-length, pack-holders}
 use Rattle.rules.proofs.Granting.{grant-length}
 use Rattle.rules.proofs.OnePacking.{advance-still, join-still, leave-once, finish-still}
-use Rattle.table.specs.Rows.{Sized, Row, rewritten}
-use Rattle.table.proofs.Rows.{pad-over, pad-more}
-use Rattle.table.proofs.Sizes.{place-small}
+use Rattle.table.specs.Rows.{Sized, Row}
+use Rattle.table.proofs.Rows.{pad-take, pad-over, pad-more}
+use Rattle.table.proofs.Sizes.{sized-waiting, place-small}
 use Rattle.table.specs.declared.granting.Granted.{Granted}
 use Rattle.table.specs.declared.placing.Placed.{Placed}
 use Rattle.table.specs.Parts.{withClaims, ruledIn, atClock, packedTable, grantedIn, placedIn}
 use Rattle.table.specs.declared.Outcome.{Outcome}
 use Rattle.table.specs.Valid.{Formed, Valid}
 use Rattle.table.specs.Outcomes.{outcome, unchangedIn, timeNumber, pastEnd, leaving, without}
-use Rattle.table.proofs.Ranges.{model-is, formed-row, formed-is, formed-count, formed-claims, formed-sane, blank-ranged, advance-ranged, remove-ranged, join-ranged, grant-ranged}
+use Rattle.table.proofs.Ranges.{model-is, formed-now, formed-is, formed-count, formed-sane, blank-ranged, advance-ranged, remove-ranged, join-ranged, grant-ranged}
 use Rattle.table.proofs.Tests.{timed-passes, step-refused, step-accepted}
 
 -- ── refusals ──
@@ -88,37 +88,28 @@ pub new-lit : (g : ℕ) (r : Outcome) → false ≡ empty g → r ≡ unchangedI
 new-lit g r d e = new-cases (λ (s : Step). (r ≡ outcome s) × Valid (r .table)) g (λ q. clash q (sym d)) (λ q. opened g 0 r e)
 
 -- ── the clock set, and packed ──
--- A table with other claims in its row, as many as before.
-rewritten-is : (t : Table) → Formed t → (f : List Claim → List Claim) → length (f (model t .pending)) ≡ length (model t .pending) → rewritten f (t .claims) (t .count) ≡ pad vacant (f (model t .pending))
-rewritten-is t v f e =
-    ap (λ (l : List Claim). f (model t .pending) ++ drop (t .count) l) (sym (formed-claims t v))
-    ∙ ap (λ (n : ℕ). f (model t .pending) ++ drop n (pad vacant (model t .pending))) (sym (formed-count t v))
-    ∙ pad-over vacant (model t .pending) (f (model t .pending)) e
+-- What packing makes of a table that encodes m.
+packed-is : (m : Model) (u : ℕ) → packedTable (ruled m u) (encode m) ≡ encode (advance m u)
+unfolding advance
+packed-is m u =
+    let ps = pack (ruled m u) (m .pending) in
+    let n = pack-length (ruled m u) (m .pending) in
+    cc (pad-take vacant (m .pending), pad-over vacant (m .pending) ps n)
+
+advanced-to : (t : Table) (u : ℕ) → Formed t → t .clock ≤ u → u ≤ mostClock → (r : Table) → r ≡ encode (advance (model t) u)
+    → (r ≡ encode (advance (model t) u)) × Formed r × Still (model r)
+advanced-to t u v a b r e =
+    (e, formed-is r _ e (advance-ranged (model t) u (v .ranged) a b), subst Still (sym (model-is r _ e)) (advance-still (model t) u (formed-sane t v) (v .ranged .ascending)))
 
 pub advanced-is : (t : Table) (u : ℕ) → Formed t → t .clock ≤ u → u ≤ mostClock → (r : Table) → r ≡ packedTable (ruledIn t u) t
     → (r ≡ encode (advance (model t) u)) × Formed r × Still (model r)
-unfolding advance
-advanced-is t u v a b r q = (
-  is,
-  formed-is r (advance (model t) u) is (advance-ranged (model t) u (v .ranged) a b),
-  subst Still (sym (model-is r (advance (model t) u) is)) (advance-still (model t) u (formed-sane t v) (v .ranged .ascending)),
-)
-  where
-    ps : List Claim
-    ps = pack (ruledIn t u) (model t .pending)
-
-    is : r ≡ encode (advance (model t) u)
-    is =
-        q ∙ ap (withClaims (atClock u t)) (rewritten-is t v (pack (ruledIn t u)) (pack-length (ruledIn t u) (model t .pending)))
-        ∙ ap (λ (n : ℕ). record { rig = t .rig; clock = u; issued = t .issued; count = n; claims = pad vacant (pack (ruledIn t u) (model t .pending)) })
-        (sym (formed-count t v) ∙ sym (pack-length (ruledIn t u) (model t .pending)))
+advanced-is t u v a b r q = advanced-to t u v a b r (q ∙ ap (packedTable (ruledIn t u)) (sym (v .whole)) ∙ packed-is (model t) u)
 
 -- Where packing would change nothing, setting the clock is all there is to do.
 pub idle-is : (t : Table) (u : ℕ) → Formed t → t .clock ≤ u → u ≤ mostClock → pack (ruledIn t u) (model t .pending) ≡ model t .pending
     → (r : Table) → r ≡ atClock u t → (r ≡ encode (advance (model t) u)) × Formed r × Still (model r)
-idle-is t u v a b idle r q =
-    advanced-is t u v a b r
-    (q ∙ ap (withClaims (atClock u t)) (sym (rewritten-is t v (pack (ruledIn t u)) (pack-length (ruledIn t u) (model t .pending)) ∙ ap (pad vacant) idle ∙ formed-claims t v)))
+unfolding advance
+idle-is t u v a b idle r q = advanced-to t u v a b r (q ∙ ap (atClock u) (sym (v .whole)) ∙ ap (λ (ps : List Claim). encode (withPending (withClock (model t) u) ps)) (sym idle))
 
 -- It would not while nobody overruns, nor where nobody waits.
 pub no-overrun-idle : (t : Table) (u : ℕ) → Valid t → t .clock ≤ u → any (pastEnd u) (model t .pending) ≡ false → pack (ruledIn t u) (model t .pending) ≡ model t .pending
@@ -157,34 +148,20 @@ finishedWith g rep =
       grants = g .tickets;
     }
 
+granted-is : (m : Model) (rep : Reply) → finishedWith (grantedIn (encode m)) rep ≡ outcome (granting m rep (m .pending))
+granted-is m rep =
+    let ps = grant (settingOf m) (m .pending) in
+    let n = grant-length (settingOf m) (m .pending) in
+    cc (pad-take vacant (m .pending), pad-over vacant (m .pending) ps n)
+
 pub finished-is : (t : Table) (g : Granted) (rep : Reply) (r : Outcome) → Formed t → Still (model t) → g ≡ grantedIn t → r ≡ finishedWith g rep
     → (r ≡ outcome (finish (model t) rep)) × Formed (r .table)
-finished-is t g rep r v st e q = (is, formed-is (r .table) (granting (model t) rep (model t .pending) .model) (ap (λ (x : Outcome). x .table) is′) (grant-ranged (model t) rep (v .ranged)))
-  where
-    ps : List Claim
-    ps = grant (settingOf (model t)) (model t .pending)
-
-    put : (l : List Claim) (c : ℕ) → Outcome
-    put l c =
-        record {
-          table = record { rig = t .rig; clock = t .clock; issued = t .issued; count = c; claims = l };
-          number = 0;
-          ticket = rep .ticket;
-          start = rep .start;
-          contention = rep .contention;
-          bound = rep .bound;
-          granted = length (grants (model t .pending));
-          grants = pad 0 (grants (model t .pending));
-        }
-
-    is′ : r ≡ outcome (granting (model t) rep (model t .pending))
-    is′ =
-        q ∙ ap (λ (x : Granted). finishedWith x rep) e
-        ∙ ap (λ (l : List Claim). put l (t .count)) (rewritten-is t v (grant (settingOf (model t))) (grant-length (settingOf (model t)) (model t .pending)))
-        ∙ ap (λ (c : ℕ). put (pad vacant (grant (settingOf (model t)) (model t .pending))) c) (sym (formed-count t v) ∙ sym (grant-length (settingOf (model t)) (model t .pending)))
-
-    is : r ≡ outcome (finish (model t) rep)
-    is = is′ ∙ ap outcome (sym (finish-still (model t) rep st))
+finished-is t g rep r v st e q =
+    let is : r ≡ outcome (granting (model t) rep (model t .pending)) =
+    q ∙ ap (λ (x : Granted). finishedWith x rep) e ∙ ap (λ (x : Table). finishedWith (grantedIn x) rep) (sym (v .whole)) ∙ granted-is (model t) rep in (
+      is ∙ ap outcome (sym (finish-still (model t) rep st)),
+      formed-is (r .table) _ (ap (λ (x : Outcome). x .table) is) (grant-ranged (model t) rep (v .ranged)),
+    )
 
 -- ── fewer claims, and one more ──
 -- A table with other claims, and as many of them.
@@ -195,36 +172,30 @@ counted t n l = record { rig = t .rig; clock = t .clock; issued = t .issued; cou
 pub removed-is : (t₀ t : Table) (k m : ℕ) (l : List Claim) → Formed t₀ → t ≡ withClaims t₀ (t .claims) → m ≡ length (without k (model t₀ .pending)) → l ≡ pad vacant (without k (model t₀ .pending))
     → (r : Table) → r ≡ counted t m l → (r ≡ encode (remove (model t₀) k)) × Formed r
 unfolding remove
-removed-is t₀ t k m l v e f g r q = (is, formed-is r (remove (model t₀) k) is (remove-ranged (model t₀) k (v .ranged)))
-  where
-    is : r ≡ encode (remove (model t₀) k)
-    is =
-        q ∙ ap (λ (x : Table). counted x m l) e ∙ ap (λ (n : ℕ). counted t₀ n l) f
-        ∙ ap (counted t₀ (length (without k (model t₀ .pending)))) g
+removed-is t₀ t k m l v e f g r q =
+    let is : r ≡ encode (remove (model t₀) k) = q ∙ ap (λ (x : Table). counted x m l) e ∙ cc in
+    (is, formed-is r (remove (model t₀) k) is (remove-ranged (model t₀) k (v .ranged)))
 
 pub removed-clock : (t : Table) (k u : ℕ) (r : Table) → r ≡ encode (remove (model t) k) → t .clock ≤ u → r .clock ≤ u
 unfolding remove
 removed-clock t k u r e h = omega (arith, ap (λ (x : Table). x .clock) e)
 
-joined-is : (t : Table) (w : Claim) (r : Table) → Formed t → t .count < mostPending → t .issued < mostTickets → Sized (t .clock) w → w .ticket ≡ t .issued + 1
-    → r ≡ record { rig = t .rig; clock = t .clock; issued = t .issued + 1; count = t .count + 1; claims = set (t .claims) (t .count) w }
-    → (r ≡ encode (join (model t) w)) × Formed r
+-- A table with the claim w after the others.
+abbrev extended : Table → Claim → Table
+extended t w = record { rig = t .rig; clock = t .clock; issued = t .issued + 1; count = t .count + 1; claims = set (t .claims) (t .count) w }
+
+extended-is : (m : Model) (w : Claim) → length (m .pending) < 64 → extended (encode m) w ≡ encode (join m w)
 unfolding join
-joined-is t w r v c i s e q = (is, formed-is r (join (model t) w) is (join-ranged (model t) w (v .ranged) (omega (arith, formed-count t v)) i s (e ∙ add-one (t .issued))))
-  where
-    put : ℕ → ℕ → List Claim → Table
-    put i c l = record { rig = t .rig; clock = t .clock; issued = i; count = c; claims = l }
+extended-is m w h =
+    let n : length (m .pending ++ (w ∷ [])) ≡ length (m .pending) + 1 = length-append (m .pending) (w ∷ []) in
+    cc (pad-more vacant (m .pending) w h, add-one (m .issued))
 
-    more : set (t .claims) (t .count) w ≡ pad vacant (model t .pending ++ (w ∷ []))
-    more =
-        ap (λ (l : List Claim). set l (t .count) w) (sym (formed-claims t v)) ∙ ap (λ (n : ℕ). set (pad vacant (model t .pending)) n w) (sym (formed-count t v))
-        ∙ pad-more vacant (model t .pending) w (omega (arith, formed-count t v))
-
-    is : r ≡ encode (join (model t) w)
-    is =
-        q ∙ ap (put (t .issued + 1) (t .count + 1)) more
-        ∙ ap (λ (n : ℕ). put n (t .count + 1) (pad vacant (model t .pending ++ (w ∷ [])))) (add-one (t .issued))
-        ∙ ap (λ (n : ℕ). put (suc (t .issued)) n (pad vacant (model t .pending ++ (w ∷ [])))) (omega (arith, formed-count t v, length-append (model t .pending) (w ∷ [])))
+joined-is : (t : Table) (w : Claim) (r : Table) → Formed t → t .count < mostPending → t .issued < mostTickets → Sized (t .clock) w → w .ticket ≡ t .issued + 1
+    → r ≡ extended t w → (r ≡ encode (join (model t) w)) × Formed r
+joined-is t w r v c i s e q =
+    let h : length (model t .pending) < mostPending = omega (arith, formed-count t v) in
+    let is : r ≡ encode (join (model t) w) = q ∙ ap (λ (x : Table). extended x w) (sym (v .whole)) ∙ extended-is (model t) w h in
+    (is, formed-is r _ is (join-ranged (model t) w (v .ranged) h i s (e ∙ add-one (t .issued))))
 
 -- ── the calls, accepted ──
 claim-act : (m : Model) (t : ℕ) (ask : Request) → admit (advance m t) ask ≡ act m (claim t ask)
@@ -265,16 +236,7 @@ asked-sized t ask i l h k = record { sane = record { long = l; small = omega ari
 -- A claim placed in a table.
 module _ (t : Table) (ask : Request) (v : Formed t) (few : t .count < mostPending) (i : t .issued < mostTickets) (l : 1 ≤ ask .length) (h : ask .length ≤ mostLength) where
   pub asked-row : Row (t .clock) (t .claims) (t .count) × Sized (t .clock) (asked t ask) × (t .count < mostPending) × (t .issued < mostTickets)
-  asked-row = (formed-row t (t .clock) v (omega arith) (v .ranged .timely), asked-sized t ask i l h (v .ranged .timely), few, i)
-
-  -- At its planned start it is in range still.
-  placed-sized : (s : ℕ) → s ≡ place (settingOf (model t)) (model t .pending) (asked t ask) → Sized (t .clock) (withPhase (asked t ask) (Waiting s))
-  placed-sized s e = record {
-    sane = record { long = l; small = omega arith };
-    short = h;
-    aged = λ o. clash o refl;
-    planned = λ o. omega (arith, place-small (ruledIn t (t .clock)) (t .claims) (t .count) (asked t ask) (asked-row .0) (asked-row .1));
-  }
+  asked-row = (formed-now t v, asked-sized t ask i l h (v .ranged .timely), few, i)
 
   placed-is : withPhase (asked t ask) (Waiting (place (settingOf (model t)) (model t .pending) (asked t ask))) ≡ placed (model t) ask
   placed-is = cc (asked-is t ask)
@@ -282,7 +244,9 @@ module _ (t : Table) (ask : Request) (v : Formed t) (few : t .count < mostPendin
   module _ (p : Placed) (q : p ≡ placedIn t (asked t ask)) where
     pub placed-table : (p .table ≡ encode (join (model t) (placed (model t) ask))) × Formed (p .table)
     placed-table =
-        let j = joined-is t _ (p .table) v few i (placed-sized _ refl) refl (ap (λ (x : Placed). x .table) q) in
+        let a = asked-row in
+        let s = sized-waiting (a .1) (place-small (ruledIn t (t .clock)) (t .claims) (t .count) (asked t ask) (a .0) (a .1)) in
+        let j = joined-is t _ (p .table) v few i s refl (ap (λ (x : Placed). x .table) q) in
         (j .0 ∙ ap (λ (w : Claim). encode (join (model t) w)) placed-is, j .1)
 
     pub placed-still : Still (model t) → Still (model (p .table))

@@ -1,8 +1,7 @@
 use mathlib.Core.Path.{refl}
-use native.Mathlib.Omega.{arith}
 use Rattle.rules.specs.Tables.{model}
 use Rattle.rules.proofs.OnePacking.{still-starts, still-tight}
-use Rattle.table.proofs.Ranges.{formed-row}
+use Rattle.table.proofs.Ranges.{formed-now}
 use Rattle.table.proofs.Steps.{finished-is}
 use Rattle.table.proofs.finished.Statement.{statement}
 use Rattle.table.proofs.finished.Tie as tie
@@ -10,8 +9,7 @@ use Rattle.table.proofs.finished.Tie as tie
 grant-requires : tie.Need-grant-requires
 grant-requires c κs =
     let t = c .args .t in
-    let v = c .pre .0 in
-    (formed-row t (t .clock) v (omega arith) (v .ranged .timely), record { low = still-starts (model t) (c .pre .1); tight = still-tight (model t) (c .pre .1) })
+    (formed-now t (c .pre .0), record { low = still-starts (model t) (c .pre .1); tight = still-tight (model t) (c .pre .1) })
 
 returns : tie.Need-returns
 returns c =
