@@ -56,12 +56,12 @@ pub refused : (t : Table) (c : Call) (n : ℕ) (r : Outcome) → Valid t → r �
 refused t c n r v e f z =
     (e ∙ unchanged-is t n (v .formed) ∙ ap outcome (sym (step-refused (model t) c n f z)), subst Valid (sym (ap (λ (x : Outcome). x .table) e)) v)
 
--- A call keeps tables valid.
-pub kept-valid : (t : Table) (c : Call) (r : Outcome) → Valid t → r ≡ outcome (step (model t) c) → Formed (r .table) → Valid (r .table)
-kept-valid t c r v e f = record {
+-- A call that the rules accept keeps tables valid.
+pub accepted : (t : Table) (c : Call) (r : Outcome) → Valid t → r ≡ outcome (step (model t) c) → Formed (r .table) → (r ≡ outcome (step (model t) c)) × Valid (r .table)
+accepted t c r v e f = (e, record {
   formed = f;
   settled = subst Invariant (sym (model-is (r .table) (step (model t) c .model) (ap (λ (x : Outcome). x .table) e))) (step-invariant (model t) c (v .settled));
-}
+})
 
 -- ── new ──
 -- The table that the code makes for a rig.

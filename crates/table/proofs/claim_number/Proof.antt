@@ -5,7 +5,7 @@ use Prim.Native.Nat.{ℕ}
 use borrow.Author.Needs.{needs}
 use lib.ListN.{length, drop}
 use Rattle.rules.specs.Calls.{Call, tests}
-use Rattle.rules.specs.Tests.{Test, firstOf, dark, offRig, badLength, full, ticketless}
+use Rattle.rules.specs.Tests.{Test, firstOf, dark, full, ticketless}
 use Rattle.rules.specs.Tables.{model}
 use Rattle.table.proofs.Ranges.{formed-count}
 use Rattle.table.proofs.Tests.{fails-here, past, timed-fails, timed-passes}
@@ -27,21 +27,15 @@ behind1 c n h =
 
 behind2 : (c : tie.Else2) → Behind 3 (c .before .before .before .before)
 unfolding tests
-behind2 c n h =
-    let a = c .before .before .before .before .args in
-    behind1 (c .before .before) n (past (dark (a .ask .groups)) _ (sym (c .before .dark .ensures) ∙ c .if2 .left) h)
+behind2 c n h = behind1 (c .before .before) n (past _ _ (sym (c .before .dark .ensures) ∙ c .if2 .left) h)
 
 behind3 : (c : tie.Else3) → Behind 4 (c .before .before .before .before .before .before)
 unfolding tests
-behind3 c n h =
-    let a = c .before .before .before .before .before .before .args in
-    behind2 (c .before .before) n (past (offRig (a .t .rig) (a .ask .groups)) _ (sym (c .before .off-rig .ensures) ∙ c .if3 .left) h)
+behind3 c n h = behind2 (c .before .before) n (past _ _ (sym (c .before .off-rig .ensures) ∙ c .if3 .left) h)
 
 behind4 : (c : tie.Else4) → Behind 5 (c .before .before .before .before .before .before .before .before)
 unfolding tests
-behind4 c n h =
-    let a = c .before .before .before .before .before .before .before .before .args in
-    behind3 (c .before .before) n (past (badLength (a .ask .length)) _ (sym (c .before .bad-length .ensures) ∙ c .if4 .left) h)
+behind4 c n h = behind3 (c .before .before) n (past _ _ (sym (c .before .bad-length .ensures) ∙ c .if4 .left) h)
 
 -- The count of pending claims is the table's.
 counted : (c : tie.Start) → full (length (model (c .args .t) .pending)) .fails ≡ full (c .args .t .count) .fails
@@ -49,9 +43,7 @@ counted c = ap (λ (n : ℕ). full n .fails) (formed-count (c .args .t) (c .pre)
 
 behind5 : (c : tie.Else5) → Behind 6 (c .before .before .before .before .before .before .before .before .before .before)
 unfolding tests
-behind5 c n h =
-    let a = c .before .before .before .before .before .before .before .before .before .before .args in
-    behind4 (c .before .before) n (past (full (length (model (a .t) .pending))) _ (counted (c .before .before .before .before .before .before .before .before .before .before) ∙ sym (c .before .full .ensures) ∙ c .if5 .left) h)
+behind5 c n h = behind4 (c .before .before) n (past _ _ (counted (c .before .before .before .before .before .before .before .before .before .before) ∙ sym (c .before .full .ensures) ∙ c .if5 .left) h)
 
 returns : tie.Need-returns
 unfolding tests
@@ -61,39 +53,27 @@ returns c =
 
 returns-2 : tie.Need-returns-2
 unfolding tests
-returns-2 c =
-    let a = c .before .before .before .before .args in
-    behind1 (c .before .before) _ (fails-here (dark (a .ask .groups)) _ refl (sym (c .before .dark .ensures) ∙ c .if2 .taken))
+returns-2 c = behind1 (c .before .before) _ (fails-here _ _ refl (sym (c .before .dark .ensures) ∙ c .if2 .taken))
 
 returns-3 : tie.Need-returns-3
 unfolding tests
-returns-3 c =
-    let a = c .before .before .before .before .before .before .args in
-    behind2 (c .before .before) _ (fails-here (offRig (a .t .rig) (a .ask .groups)) _ refl (sym (c .before .off-rig .ensures) ∙ c .if3 .taken))
+returns-3 c = behind2 (c .before .before) _ (fails-here _ _ refl (sym (c .before .off-rig .ensures) ∙ c .if3 .taken))
 
 returns-4 : tie.Need-returns-4
 unfolding tests
-returns-4 c =
-    let a = c .before .before .before .before .before .before .before .before .args in
-    behind3 (c .before .before) _ (fails-here (badLength (a .ask .length)) _ refl (sym (c .before .bad-length .ensures) ∙ c .if4 .taken))
+returns-4 c = behind3 (c .before .before) _ (fails-here _ _ refl (sym (c .before .bad-length .ensures) ∙ c .if4 .taken))
 
 returns-5 : tie.Need-returns-5
 unfolding tests
-returns-5 c =
-    let a = c .before .before .before .before .before .before .before .before .before .before .args in
-    behind4 (c .before .before) _ (fails-here (full (length (model (a .t) .pending))) _ refl (counted (c .before .before .before .before .before .before .before .before .before .before) ∙ sym (c .before .full .ensures) ∙ c .if5 .taken))
+returns-5 c = behind4 (c .before .before) _ (fails-here _ _ refl (counted (c .before .before .before .before .before .before .before .before .before .before) ∙ sym (c .before .full .ensures) ∙ c .if5 .taken))
 
 returns-6 : tie.Need-returns-6
 unfolding tests
-returns-6 c =
-    let a = c .before .before .before .before .before .before .before .before .before .before .before .before .args in
-    behind5 (c .before .before) _ (fails-here (ticketless (a .t .issued)) _ refl (sym (c .before .ticketless .ensures) ∙ c .if6 .taken))
+returns-6 c = behind5 (c .before .before) _ (fails-here _ _ refl (sym (c .before .ticketless .ensures) ∙ c .if6 .taken))
 
 returns-7 : tie.Need-returns-7
 unfolding tests firstOf
-returns-7 c =
-    let a = c .before .before .before .before .before .before .before .before .before .before .before .before .args in
-    behind5 (c .before .before) _ (past (ticketless (a .t .issued)) [] (sym (c .before .ticketless .ensures) ∙ c .if6 .left) refl)
+returns-7 c = behind5 (c .before .before) _ (past _ [] (sym (c .before .ticketless .ensures) ∙ c .if6 .left) refl)
 
 pub claim-number-spec : {M : Type 1} → statement M
 claim-number-spec =

@@ -9,21 +9,20 @@ use Rattle.table.proofs.time_number.Tie as tie
 
 returns : tie.Need-returns
 unfolding timeNumber
-returns c = fails-here (late (c .before .before .args .clock)) _ refl (sym (c .before .late .ensures) ∙ c .if1 .taken)
+returns c = fails-here _ _ refl (sym (c .before .late .ensures) ∙ c .if1 .taken)
 
 returns-2 : tie.Need-returns-2
 unfolding timeNumber
 returns-2 c =
     let l = c .before .before in
-    let a = l .before .before .args in
-    past (late (a .clock)) _ (sym (l .before .late .ensures) ∙ l .if1 .left) (fails-here (backward (a .now) (a .clock)) _ refl (sym (c .before .backward .ensures) ∙ c .if2 .taken))
+    past _ _ (sym (l .before .late .ensures) ∙ l .if1 .left) (fails-here _ _ refl (sym (c .before .backward .ensures) ∙ c .if2 .taken))
 
 returns-3 : tie.Need-returns-3
 unfolding timeNumber firstOf
 returns-3 c =
     let l = c .before .before in
     let a = l .before .before .args in
-    past (late (a .clock)) (backward (a .now) (a .clock) ∷ []) (sym (l .before .late .ensures) ∙ l .if1 .left) (past (backward (a .now) (a .clock)) [] (sym (c .before .backward .ensures) ∙ c .if2 .left) refl)
+    past _ (backward (a .now) (a .clock) ∷ []) (sym (l .before .late .ensures) ∙ l .if1 .left) (past _ [] (sym (c .before .backward .ensures) ∙ c .if2 .left) refl)
 
 pub time-number-spec : {M : Type 1} → statement M
 time-number-spec = tie.close (tie.spec (λ c κs. search needs) returns (λ c κs. search needs) returns-2 returns-3)
