@@ -1,13 +1,12 @@
 -- Granting: the groups that are held, collected claim by claim, tell who goes on in a packed row. The grants are written front to back,
 -- the claims over those of the row, the tickets into a row of their own. Rests on `union-shares` of groups and on `goes-quick` of rules.
 use mathlib.Core.Path.{_≡_, refl, sym, _∙_, ap}
-use mathlib.Core.Bool.{true, false, not, _||_, and-false, or-assoc, or-false}
+use mathlib.Core.Bool.{true, false, not, _||_, or-assoc, or-false}
 use mathlib.Core.List.{List, [], _∷_, map}
 use Prim.Native.Nat.{ℕ, _+_, _≤_, _<_}
 use native.Mathlib.Omega.{arith}
 use lib.ListN.{length, take, drop, getD, set, replicate, List·getD-map}
 use lib.Seq.{take-all, getD-take}
-use borrow.Author.Tests.{eq-eqb, ne-eqb}
 use Rattle.groups.specs.Groups.{shares, union}
 use Rattle.groups.proofs.Groups.{union-shares}
 use Rattle.groups.proofs.Words.{zero-shares}
@@ -32,13 +31,6 @@ module _ (h : ℕ) (c : Claim) where
 
   pub with-waiting : on c ≡ false → HeldWith h c h
   with-waiting o = record { by-either = λ x. rw o (sym (or-false (shares h x))) }
-
-  -- The test, from the answers of its three questions.
-  pub not-yet : (t s : ℕ) → s ≡ at c → (s ≡ t → ⊥) → false ≡ goesAt t h c
-  not-yet t s e n = rw (ne-eqb (at c) t (λ q. n (e ∙ q))) (sym (and-false (not (on c))))
-
-  pub at-clock : (t s : ℕ) → on c ≡ false → s ≡ at c → s ≡ t → not (shares h (c .groups)) ≡ goesAt t h c
-  at-clock t s o e q = rw (o, eq-eqb (at c) t (sym e ∙ q))
 
 -- ── all claims: h has the groups of the holders but for those of the claims in rest ──
 pub record Holding (ps rest : List Claim) (h : ℕ) : Type 0 where

@@ -1,6 +1,5 @@
 pub mod Rows
 pub mod Sizes
-pub mod Phases
 pub mod AscendingNumbers
 pub mod SortKeys
 pub mod SortLoop

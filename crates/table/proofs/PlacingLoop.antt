@@ -1,13 +1,11 @@
--- Placing a new claim: whether a claim leaves room for it, the search for its start, and the count of those that conflict with it.
+-- Placing a new claim: the search for its start, and the count of those that conflict with it.
 -- No candidate is after the planned start (`jump`), so one that fits is it (`found`). Rests on the rules' laws of `place`.
 use mathlib.Core.Path.{_≡_, ap}
 use mathlib.Core.Logic.{⊎-elim}
-use mathlib.Core.Bool.{true, false, or-true}
+use mathlib.Core.Bool.{true, false}
 use mathlib.Core.List.{List, [], _∷_}
 use Prim.Native.Nat.{ℕ, _+_, _-_, _*_, _≤_, _<_}
 use native.Mathlib.Omega.{arith}
-use lib.Dec.{leb}
-use borrow.Author.Tests.{le-leb, lt-leb}
 use Rattle.rules.specs.declared.Claim.{Claim}
 use Rattle.rules.specs.Lists.{_∈_, sum, keep}
 use Rattle.rules.specs.declared.Setting.{Setting}
@@ -16,37 +14,16 @@ use Rattle.rules.specs.Order.{rivals}
 use Rattle.rules.specs.Placing.{clear, fits, place, contention, startBound}
 use Rattle.rules.proofs.Placing.{barred, fits-e, place-fits, place-least}
 
-module _ (v : Setting) (w : Claim) (s : ℕ) where
-  -- ── whether the claim c leaves room for w at s: the answer at each return of the code ──
-  module _ (c : Claim) where
-    pub clear-apart : conflicts c w ≡ false → true ≡ clear v w s c
-    unfolding clear
-    clear-apart h = rw h
+-- ── from candidate to candidate ──
+module _ (v : Setting) (w : Claim) (s : ℕ) (ps : List Claim) (h : s ≤ place v ps w) where
+  -- A claim that bars a candidate ends after it, and not after the planned start.
+  pub jump : (c : Claim) → c ∈ ps → clear v w s c ≡ false → (s < endOf v c) × (endOf v c ≤ place v ps w)
+  jump c m e =
+      let b = barred v w s c e in
+      (b .1, ⊎-elim (λ r. r) (λ r. absurd (omega (arith, b .2 (r .0), r .1))) (place-fits v ps w .room c m (b .0)))
 
-    pub clear-ended : endOf v c ≤ s → true ≡ clear v w s c
-    unfolding clear
-    clear-ended l = rw (le-leb (endOf v c) s l, or-true)
-
-    -- With neither, the phase decides.
-    module _ (h : conflicts c w ≡ true) (l : s < endOf v c) where
-      pub clear-held : on c ≡ true → false ≡ clear v w s c
-      unfolding clear
-      clear-held o = rw (h, lt-leb (endOf v c) s l, o)
-
-      pub clear-waiting : on c ≡ false → leb (s + w .length) (at c) ≡ clear v w s c
-      unfolding clear
-      clear-waiting o = rw (h, lt-leb (endOf v c) s l, o)
-
-  -- ── from candidate to candidate ──
-  module _ (ps : List Claim) (h : s ≤ place v ps w) where
-    -- A claim that bars a candidate ends after it, and not after the planned start.
-    pub jump : (c : Claim) → c ∈ ps → clear v w s c ≡ false → (s < endOf v c) × (endOf v c ≤ place v ps w)
-    jump c m e =
-        let b = barred v w s c e in
-        (b .1, ⊎-elim (λ r. r) (λ r. absurd (omega (arith, b .2 (r .0), r .1))) (place-fits v ps w .room c m (b .0)))
-
-    pub found : v .clock ≤ s → fits v ps w s ≡ true → s ≡ place v ps w
-    found l f = omega (arith, place-least v ps w s l (fits-e v ps w s f))
+  pub found : v .clock ≤ s → fits v ps w s ≡ true → s ≡ place v ps w
+  found l f = omega (arith, place-least v ps w s l (fits-e v ps w s f))
 
 -- ── the count ──
 -- Of the claims ps but for those in rest, so many conflict with w, and they have so much time left.

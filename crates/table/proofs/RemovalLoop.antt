@@ -1,19 +1,17 @@
 -- Loops over a table's claims: looking for a ticket, and leaving one out.
 use mathlib.Core.Path.{_≡_, refl, sym, _∙_, ap, subst}
 use mathlib.Core.Logic.{_⊎_, inl, inr, ⊎-elim, _≢_}
-use mathlib.Core.Bool.{true}
 use mathlib.Core.List.{List, [], _∷_, _++_}
 use Prim.Native.Nat.{ℕ, zero, suc, _+_, _-_, _≤_, _<_}
 use native.Mathlib.Omega.{arith}
 use native.Mathlib.Numerals.{add-one}
-use lib.Dec.{ltb}
 use lib.ListN.{length, take, drop, getD, set, replicate, length-drop}
 use lib.Seq.{drop-cons, take-all, set-at, drop-append-seam}
 use borrow.Author.Tests.{eq-eqb, ne-eqb}
 use Rattle.rules.specs.declared.Claim.{Claim}
 use Rattle.rules.specs.Lists.{keep}
 use Rattle.rules.specs.Plans.{Ascending}
-use Rattle.rules.specs.Claims.{on, at}
+use Rattle.rules.specs.Claims.{at}
 use Rattle.rules.specs.declared.Standing.{Standing}
 use Rattle.rules.specs.declared.Standing.the-variants.{NotPending}
 use Rattle.rules.specs.Calls.{standing, standingOf}
@@ -21,7 +19,7 @@ use Rattle.rules.specs.Tables.{vacant, pad}
 use Rattle.rules.proofs.Lists.{Each, here, there}
 use Rattle.table.specs.Rows.{Row}
 use Rattle.table.proofs.Rows.{row-count, row-step, prefix-end, pad-over, over, over-step, over-rest}
-use Rattle.table.specs.Outcomes.{pastEnd, without}
+use Rattle.table.specs.Outcomes.{without}
 
 ascending-drop : (i : ℕ) (l : List Claim) → Ascending l → Ascending (drop i l)
 ascending-drop zero l a = a
@@ -162,7 +160,3 @@ module _ {k t : ℕ} {l : List Claim} {n i : ℕ} {s : Standing} {m : ℕ} {new 
           ap (λ (r : List Claim). set r m vacant) (whole ∙ ap (λ (r : List Claim). staying ++ r) (drop-cons l m vacant (omega (arith, w .row .few, w .row .places))))
           ∙ set-at staying (getD l m vacant) (drop (suc m) l) vacant m (sym taking-count)
           ∙ ap (λ (r : List Claim). staying ++ (vacant ∷ r)) tail ∙ ap (λ (j : ℕ). staying ++ replicate j vacant) (sym size)
-
--- ── overruns ──
-pub past-end-on : (t : ℕ) (c : Claim) (a n : ℕ) → a ≡ at c → n ≡ c .length → on c ≡ true → ltb (a + n) t ≡ pastEnd t c
-past-end-on t c a n p q o = rw o (cc (p, q))

@@ -6,8 +6,8 @@ use Rattle.rules.specs.declared.Table.{Table}
 use Rattle.rules.specs.declared.Standing.{Standing}
 use Rattle.rules.specs.Calls.{Model, Call, lookup, Answer, Step, step, unchanged, standingOf, new}
 use Rattle.rules.specs.Tables.{model}
-use Rattle.promises.specs.Ledger.{Turn, turns, tableAfter, ledgerOf, NoOverrunIn}
-use Rattle.promises.specs.Demand3.{Now, Next, tells}
+use Rattle.promises.specs.Ledger.{Turn, turns, tableAfter}
+use Rattle.promises.specs.Demand3.{tells}
 use Rattle.promises.proofs.Demand3.{table-after, demand-3}
 use Rattle.promises.specs.WholeCalls.{WholeCalls}
 use Rattle.promises.proofs.WholeCalls.{whole-calls-after}
@@ -51,17 +51,6 @@ shows-is t m shows e h = λ i k. each k i
     each : (k : ℕ) → shows k ≡ standingOf k (m .pending)
     each k = h k ∙ ap (λ (x : Model). standingOf k (x .pending)) e
 
--- What holds of the rules' turns and standings holds of the code's.
-now-is : {ts us : List Turn} {f g : ℕ → Standing} → ts ≡ us → f ≡ g → Now (NoOverrunIn us) (ledgerOf us) g → Now (NoOverrunIn ts) (ledgerOf ts) f
-now-is {us = us} {f = f} p q n = subst (λ (x : List Turn). Now (NoOverrunIn x) (ledgerOf x) f) (sym p) (subst (Now (NoOverrunIn us) (ledgerOf us)) (sym q) n)
-
-next-is : {ts us : List Turn} {c d : Turn} {f g f′ g′ : ℕ → Standing} → ts ≡ us → c ≡ d → f ≡ f′ → g ≡ g′
-    → Next (NoOverrunIn us) (ledgerOf us) d f′ g′ → Next (NoOverrunIn ts) (ledgerOf ts) c f g
-next-is {us = us} {c = c} {d = d} {f = f} {g = g} {f′ = f′} {g′ = g′} p q r s n =
-    subst (λ (x : List Turn). Next (NoOverrunIn x) (ledgerOf x) c f g) (sym p)
-    (subst (λ (x : Turn). Next (NoOverrunIn us) (ledgerOf us) x f g) (sym q)
-    (subst (λ (x : ℕ → Standing). Next (NoOverrunIn us) (ledgerOf us) d x g) (sym r) (subst (Next (NoOverrunIn us) (ledgerOf us) d f′) (sym s) n)))
-
 -- The turns and the table of a run from a new table.
 module _ (rig : ℕ) (before : List Call) (first : Outcome) (q : first ≡ outcome (new rig)) (ts : List Turn) (t : Table) (p : Run (first .table) before ts t) where
   turns-are : ts ≡ turns step (new rig .model) before
@@ -73,15 +62,13 @@ module _ (rig : ℕ) (before : List Call) (first : Outcome) (q : first ≡ outco
 pub code-demand-3 : (rig : ℕ) (calls : List Call) → CodeDemand3 rig calls
 code-demand-3 rig calls = record {
   at-any-time = λ before rest e first q ts t p shows h.
-      now-is (turns-are rig before first q ts t p) (shows-is t _ shows (table-is rig before first q ts t p) h) (demand-3 rig calls .at-any-time before rest e);
+      rw (turns-are rig before first q ts t p, shows-is t _ shows (table-is rig before first q ts t p) h) (demand-3 rig calls .at-any-time before rest e);
   at-any-call = λ before c rest e first q ts t p a u one old new h k.
       let m = table-is rig before first q ts t p in
       let r = made-is one in
-      next-is (turns-are rig before first q ts t p)
-      (ap (λ (x : Answer). record { call = c; answer = x }) (r .0 ∙ ap (λ (x : Model). step x c .answer) m))
-      (shows-is t _ old m h)
-      (shows-is u _ new (r .1 ∙ ap (λ (x : Model). step x c .model) m) k)
-      (demand-3 rig calls .at-any-call before c rest e);
+      let answer = r .0 ∙ ap (λ (x : Model). step x c .answer) m in
+      let shown = shows-is u _ new (r .1 ∙ ap (λ (x : Model). step x c .model) m) k in
+      rw (turns-are rig before first q ts t p, answer, shows-is t _ old m h, shown) (demand-3 rig calls .at-any-call before c rest e);
 }
 
 pub code-whole-calls : (rig : ℕ) (calls : List Call) → CodeWholeCalls rig calls

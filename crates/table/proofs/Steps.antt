@@ -58,10 +58,13 @@ refused t c n r v e f z =
 
 -- A call that the rules accept keeps tables valid.
 pub accepted : (t : Table) (c : Call) (r : Outcome) → Valid t → r ≡ outcome (step (model t) c) → Formed (r .table) → (r ≡ outcome (step (model t) c)) × Valid (r .table)
-accepted t c r v e f = (e, record {
-  formed = f;
-  settled = subst Invariant (sym (model-is (r .table) (step (model t) c .model) (ap (λ (x : Outcome). x .table) e))) (step-invariant (model t) c (v .settled));
-})
+accepted t c r v e f = (
+  e,
+  record {
+    formed = f;
+    settled = subst Invariant (sym (model-is (r .table) (step (model t) c .model) (ap (λ (x : Outcome). x .table) e))) (step-invariant (model t) c (v .settled));
+  },
+)
 
 -- ── new ──
 -- The table that the code makes for a rig.

@@ -10,13 +10,12 @@ use lib.ListN.{length}
 use borrow.Author.Tests.{ltb-false, eqb-true, ne-eqb}
 use Rattle.numbers.specs.Numbers.{lateNumber, backwardNumber, mostClock}
 use Rattle.rules.specs.declared.Claim.{Claim}
-use Rattle.rules.specs.declared.Phase.the-variants.{Waiting, On}
 use Rattle.rules.specs.Lists.{any}
 use Rattle.rules.specs.Claims.{on, at}
 use Rattle.rules.specs.declared.Standing.{Standing}
 use Rattle.rules.specs.declared.Standing.the-variants.{Waits, Holds}
 use Rattle.rules.specs.Tests.{Test, test, firstOf, named, late, backward}
-use Rattle.rules.specs.Calls.{Model, Call, clock, lookup, tests, unchanged, act, step, unless, standing, standingOf, standingValues}
+use Rattle.rules.specs.Calls.{Model, Call, Step, clock, lookup, tests, unchanged, act, step, unless, standing, standingOf, standingValues}
 use Rattle.rules.specs.Plans.{Ascending}
 use Rattle.rules.proofs.Lists.{Each, any-false}
 use Rattle.rules.proofs.Calls.{passes}
@@ -78,12 +77,6 @@ unfolding step
 step-accepted m c e = ap (λ (k : ℕ). unless m k (act m c)) e
 
 -- ── lookup, and the tests 8, 9 and 10 ──
-pub shown-waiting : (s : ℕ) (c : Claim) → c .phase ≡ Waiting s → Waits s ≡ standing c
-shown-waiting s c e = rw e
-
-pub shown-held : (g n : ℕ) (c : Claim) → c .phase ≡ On g → n ≡ c .length → Holds (g + n) ≡ standing c
-shown-held g n c e q = rw e (ap (λ (x : ℕ). Holds (g + x)) q)
-
 -- The tests 8, then 9 or 10, of the first claim with the ticket; no later one has it.
 phase-first : (b : Bool) (k : ℕ) (ps : List Claim) → Ascending ps
     → firstOf (test (not (any (named k) ps)) 8 ∷ test (any (λ c. named k c && cond b (not (on c)) (on c)) ps) (cond b 9 10) ∷ []) ≡ phaseNumber b (standingOf k ps)
@@ -137,29 +130,22 @@ number-first k (c ∷ ps) = go (named k c) (number-first k ps)
     go true ih = found (on c)
     go false ih = ih
 
+-- A lookup changes nothing, and its answer has nothing but the number.
+lookup-step : (m : Model) (k : ℕ) → step m (lookup k) ≡ unchanged m (firstOf (tests m (lookup k)))
+unfolding step act
+lookup-step m k = go (firstOf (tests m (lookup k)))
+  where
+    go : (n : ℕ) → unless m n (unchanged m 0) ≡ unchanged m n
+    go zero = refl
+    go (suc n) = refl
+
+pub lookup-idle : (m : Model) (k : ℕ) → step m (lookup k) .model ≡ m
+lookup-idle m k = ap (λ (s : Step). s .model) (lookup-step m k)
+
+pub lookup-answer : (m : Model) (k : ℕ) → unchanged m (step m (lookup k) .answer .number) .answer ≡ step m (lookup k) .answer
+lookup-answer m k = rw (lookup-step m k)
+
 pub lookup-told : (m : Model) (k : ℕ) (s : Standing) → s ≡ standingOf k (m .pending)
     → (s ≡ standingOf k (m .pending)) × (standingValues s .number ≡ step m (lookup k) .answer .number)
-unfolding step tests act firstOf
-lookup-told m k s e = (e, ap (λ (x : Standing). standingValues x .number) e ∙ number-first k (m .pending) ∙ go (cond (not (any (named k) (m .pending))) 8 0))
-  where
-    go : (n : ℕ) → n ≡ unless m n (unchanged m 0) .answer .number
-    go zero = refl
-    go (suc n) = refl
-
--- Its answer has nothing but the number.
-pub lookup-answer : (m : Model) (k : ℕ) → unchanged m (step m (lookup k) .answer .number) .answer ≡ step m (lookup k) .answer
-unfolding step act
-lookup-answer m k = go (firstOf (tests m (lookup k)))
-  where
-    go : (n : ℕ) → unchanged m (unless m n (unchanged m 0) .answer .number) .answer ≡ unless m n (unchanged m 0) .answer
-    go zero = refl
-    go (suc n) = refl
-
--- A lookup changes nothing.
-pub lookup-idle : (m : Model) (k : ℕ) → step m (lookup k) .model ≡ m
-unfolding step act
-lookup-idle m k = go (firstOf (tests m (lookup k)))
-  where
-    go : (n : ℕ) → unless m n (unchanged m 0) .model ≡ m
-    go zero = refl
-    go (suc n) = refl
+unfolding tests firstOf
+lookup-told m k s e = (e, ap (λ (x : Standing). standingValues x .number) e ∙ number-first k (m .pending) ∙ sym (ap (λ (x : Step). x .answer .number) (lookup-step m k)))

@@ -1,31 +1,31 @@
-use mathlib.Core.Path.{ap}
+-- `claims::end_of` meets its contract: the phase that the match found tells the end.
+use mathlib.Core.Path.{_≡_, ap}
+use Prim.Native.Nat.{_+_, max}
 use native.Mathlib.Omega.{arith}
-use Rattle.rules.specs.Claims.{mark}
-use Rattle.table.proofs.Phases.{end-waiting, end-held}
+use Rattle.rules.specs.Claims.{isOn, mark, heldUntil, endOf}
+use Rattle.rules.proofs.Claims.{end-wait, end-on}
 use borrow.Author.Needs.{needs}
 use Rattle.table.proofs.claims.end_of.Statement.{statement}
 use Rattle.table.proofs.claims.end_of.Tie as tie
 
-add-result : tie.Need-add-result
-add-result c = omega (arith, ap mark (c .before .p .given .1))
-
-add-e : tie.Need-add-e
-add-e c = omega (arith, ap mark (c .before .p2 .given .1))
-
 returns : tie.Need-returns
-returns c = end-waiting _ _ _ _ (c .before .p .given .1) (c .before .before .before .wide .ensures .0)
+returns c =
+    let b = c .before .before .before in
+    let a = b .before .args in
+    let p = c .before .p .given .1 in
+    omega (arith, end-wait (a .v) (a .c) (ap isOn p), ap mark p, b .wide .ensures .0)
 
-returns-2 : tie.Need-returns-2
-returns-2 c =
-    let a = c .before .before .before .before .before .before .args in
-    let q = end-held (a .v) _ _ (a .c) (c .before .before .before .p2 .given .1) (c .before .before .before .before .before .wide .ensures .0) in
-    omega arith
-
-returns-3 : tie.Need-returns-3
-returns-3 c =
-    let a = c .before .before .before .before .before .before .args in
-    let q = end-held (a .v) _ _ (a .c) (c .before .before .before .p2 .given .1) (c .before .before .before .before .before .wide .ensures .0) in
-    omega arith
+-- The end of a holder.
+held : (c : tie.After-p2) →
+    let b = c .before .before in
+    let a = b .before .args in
+    max (c .p2 .given .0 .0 + b .wide .result) (a .v .clock) ≡ endOf (a .v) (a .c)
+unfolding heldUntil
+held c =
+    let b = c .before .before in
+    let a = b .before .args in
+    let p = c .p2 .given .1 in
+    omega (arith, end-on (a .v) (a .c) (ap isOn p), ap mark p, b .wide .ensures .0)
 
 pub end-of-spec : {M : Type 1} → statement M
 end-of-spec =
@@ -33,9 +33,9 @@ end-of-spec =
     (tie.spec
     (λ c κs. search needs)
     (λ c. search needs)
-    add-result
+    (λ c. omega (arith, ap mark (c .before .p .given .1)))
     (λ c. search needs)
-    add-e
+    (λ c. omega (arith, ap mark (c .before .p2 .given .1)))
     returns
-    returns-2
-    returns-3)
+    (λ c. omega (arith, held (c .before .before .before)))
+    (λ c. omega (arith, held (c .before .before .before))))

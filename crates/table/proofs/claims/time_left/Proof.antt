@@ -1,8 +1,7 @@
 use mathlib.Core.Path.{ap}
 use native.Mathlib.Omega.{arith}
-use Rattle.rules.specs.Claims.{isOn}
+use Rattle.rules.specs.Claims.{isOn, remaining}
 use Rattle.rules.proofs.Claims.{end-clock}
-use Rattle.table.proofs.Phases.{left-waiting, left-held}
 use borrow.Author.Needs.{needs}
 use Rattle.table.proofs.claims.time_left.Statement.{statement}
 use Rattle.table.proofs.claims.time_left.Tie as tie
@@ -13,12 +12,12 @@ sub-result c =
     omega (arith, c .before .end-of .ensures, end-clock (a .v) (a .c) (ap isOn (c .before .before .before .p2 .given .1)))
 
 returns : tie.Need-returns
-returns c = left-waiting _ _ _ _ (c .before .before .p .given .1) (c .wide .ensures .0)
+unfolding remaining
+returns c = rw (ap isOn (c .before .before .p .given .1)) (c .wide .ensures .0)
 
 returns-2 : tie.Need-returns-2
-returns-2 c =
-    let a = c .before .before .before .before .before .args in
-    left-held (a .v) _ _ (a .c) (c .before .before .before .p2 .given .1) (c .before .end-of .ensures)
+unfolding remaining
+returns-2 c = rw (ap isOn (c .before .before .before .p2 .given .1), ← c .before .end-of .ensures)
 
 pub time-left-spec : {M : Type 1} → statement M
 time-left-spec =

@@ -1,25 +1,23 @@
--- `granting::goes` meets its contract: another start gives the test by `not-yet`, the clock by `at-clock`.
--- Assumes nothing.
-use mathlib.Core.Path.{sym, ap, _∙_}
-use mathlib.Core.Bool.{not}
+-- `granting::goes` meets its contract: at each return the tests so far decide.
+use mathlib.Core.Path.{_≡_, sym, _∙_}
+use mathlib.Core.Bool.{false}
 use borrow.Author.Needs.{needs}
-use Rattle.table.proofs.GrantingLoop.{not-yet, at-clock}
+use Rattle.rules.specs.Claims.{on}
+use borrow.Author.Tests.{eq-eqb, ne-eqb}
 use Rattle.table.proofs.granting.goes.Statement.{statement}
 use Rattle.table.proofs.granting.goes.Tie as tie
 
+-- Behind the first test, the claim waits.
+waits : (c : tie.After-start-or-grant) → on (c .before .before .before .args .c) ≡ false
+waits c = sym (c .before .before .is-on .ensures) ∙ c .before .if1 .left
+
 returns-2 : tie.Need-returns-2
-returns-2 c =
-    let p = c .before in
-    let a = p .before .before .before .args in
-    not-yet (a .held) (a .c) (a .clock) _ (p .start-or-grant .ensures) (c .if2 .taken)
+returns-2 c = rw (← c .before .start-or-grant .ensures, waits (c .before), ne-eqb _ _ (c .if2 .taken))
 
 returns-3 : tie.Need-returns-3
 returns-3 c =
     let p = c .before .before in
-    let q = p .before .before in
-    let a = q .before .args in
-    let waits = sym (q .is-on .ensures) ∙ p .before .if1 .left in
-    ap not (c .shares .ensures) ∙ at-clock (a .held) (a .c) (a .clock) _ waits (p .start-or-grant .ensures) (c .before .if2 .left)
+    rw (c .shares .ensures, ← p .start-or-grant .ensures, waits p, eq-eqb _ _ (c .before .if2 .left))
 
 pub goes-spec : {M : Type 1} → statement M
 goes-spec =
