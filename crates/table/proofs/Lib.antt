@@ -1,14 +1,11 @@
 pub mod Rows
-pub mod Sizes
-pub mod AscendingNumbers
-pub mod SortKeys
-pub mod SortLoop
+pub mod Ranges
+pub mod Sorting
 pub mod LastEnds
 pub mod PackingOrder
 pub mod PackingLoop
 pub mod PlacingLoop
 pub mod GrantingLoop
-pub mod Ranges
 pub mod Tests
 pub mod RemovalLoop
 pub mod Steps

@@ -36,14 +36,13 @@ use Rattle.rules.proofs.Granting.{grant-length}
 use Rattle.rules.proofs.OnePacking.{advance-still, join-still, leave-once, finish-still}
 use Rattle.table.specs.Rows.{Sized, Row}
 use Rattle.table.proofs.Rows.{pad-take, pad-over, pad-more}
-use Rattle.table.proofs.Sizes.{sized-waiting, place-small}
 use Rattle.table.specs.declared.granting.Granted.{Granted}
 use Rattle.table.specs.declared.placing.Placed.{Placed}
 use Rattle.table.specs.Parts.{withClaims, ruledIn, atClock, packedTable, grantedIn, placedIn}
 use Rattle.table.specs.declared.Outcome.{Outcome}
 use Rattle.table.specs.Valid.{Formed, Valid}
 use Rattle.table.specs.Outcomes.{outcome, unchangedIn, timeNumber, pastEnd, leaving, without}
-use Rattle.table.proofs.Ranges.{model-is, formed-now, formed-is, formed-count, formed-sane, blank-ranged, advance-ranged, remove-ranged, join-ranged, grant-ranged}
+use Rattle.table.proofs.Ranges.{sized-waiting, place-small, model-is, formed-now, formed-is, formed-count, formed-sane, blank-ranged, advance-ranged, remove-ranged, join-ranged, grant-ranged}
 use Rattle.table.proofs.Tests.{timed-passes, step-refused, step-accepted}
 
 -- ── refusals ──

@@ -1,6 +1,6 @@
 -- `placing::place` meets its contract. No candidate is below the clock or after the planned start, and each is nearer to it; in a pass
 -- the claims left decide whether the candidate fits. Then what is counted is `Counted`; that nothing wraps follows from the size of the
--- whole, of proofs/Sizes.
+-- whole, of proofs/Ranges.
 use mathlib.Core.Path.{_≡_, refl, sym, _∙_}
 use mathlib.Core.Logic.{⊎-elim}
 use Prim.Native.Nat.{_+_, _-_, _*_, _≤_, _<_}
@@ -16,7 +16,7 @@ use Rattle.rules.proofs.Placing.{place-low}
 use Rattle.table.specs.Parts.{ruledIn}
 use Rattle.table.proofs.Rows.{row-member, row-small, Left, left-start, left-here, left-next, left-end}
 use Rattle.table.proofs.PlacingLoop.{jump, found, Counted, count-none, count-rival, count-other, count-all}
-use Rattle.table.proofs.Sizes.{place-small, rivals-few, time-short, bound-small}
+use Rattle.table.proofs.Ranges.{place-small, rivals-few, time-short, bound-small}
 use Rattle.table.proofs.placing.place.Statement.{statement}
 use Rattle.table.proofs.placing.place.Tie as tie
 
