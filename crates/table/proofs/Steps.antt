@@ -33,7 +33,7 @@ use Rattle.rules.proofs.Calls.{placed, new-cases, blank-invariant, step-invaria
 use Rattle.rules.proofs.NoOverrun.{NoOverrunAt, no-overrun-still}
 use Rattle.rules.proofs.Packing.{pack-length, pack-holders}
 use Rattle.rules.proofs.Granting.{grant-length}
-use Rattle.rules.proofs.OnePacking.{advance-still, join-still, leave-once, finish-still}
+use Rattle.rules.proofs.OnePacking.{advance-still, join-still, leave-once}
 use Rattle.table.specs.Rows.{Sized, Row}
 use Rattle.table.proofs.Rows.{pad-take, pad-over, pad-more}
 use Rattle.table.specs.declared.granting.Granted.{Granted}
@@ -118,10 +118,7 @@ pub no-overrun-idle : (t : Table) (u : ℕ) → Valid t → t .clock ≤ u → a
 no-overrun-idle t u v a none = no-overrun-still (t .issued) (settingOf (model t)) (ruledIn t u) (model t .pending) (v .settled) (record { later = a }) prompt
   where
     prompt : NoOverrunAt u (model t .pending)
-    prompt c m o = ltb-false (at c + c .length) u (after-on c o (any-none (pastEnd u) none m))
-      where
-        after-on : (c : Claim) → on c ≡ true → (on c && ltb (at c + c .length) u) ≡ false → ltb (at c + c .length) u ≡ false
-        after-on c o e = rw o at e
+    prompt c m o = let e : (on c && ltb (at c + c .length) u) ≡ false = any-none (pastEnd u) none m in ltb-false (at c + c .length) u (rw o at e)
 
 abbrev pub waits : Claim → Bool
 waits c = not (on c)
@@ -136,34 +133,20 @@ advanced-counts t u r v e =
     (ap (λ (x : Table). x .count) e ∙ pack-length (ruledIn t u) (model t .pending) ∙ formed-count t v, ap (λ (x : Table). x .issued) e)
 
 -- ── granting ──
--- What a finished call hands back, made of what granting gave.
-abbrev pub finishedWith : Granted → Reply → Outcome
-finishedWith g rep =
-    record {
-      table = g .table;
-      number = 0;
-      ticket = rep .ticket;
-      start = rep .start;
-      contention = rep .contention;
-      bound = rep .bound;
-      granted = g .count;
-      grants = g .tickets;
-    }
+-- What granting gives, by the rules.
+abbrev grantedTo : Step → Granted
+grantedTo s = record { table = encode (s .model); count = length (s .answer .grants); tickets = pad 0 (s .answer .grants) }
 
-granted-is : (m : Model) (rep : Reply) → finishedWith (grantedIn (encode m)) rep ≡ outcome (granting m rep (m .pending))
-granted-is m rep =
+granted-to : (m : Model) (rep : Reply) → grantedIn (encode m) ≡ grantedTo (granting m rep (m .pending))
+granted-to m rep =
     let ps = grant (settingOf m) (m .pending) in
     let n = grant-length (settingOf m) (m .pending) in
     cc (pad-take vacant (m .pending), pad-over vacant (m .pending) ps n)
 
-pub finished-is : (t : Table) (g : Granted) (rep : Reply) (r : Outcome) → Formed t → Still (model t) → g ≡ grantedIn t → r ≡ finishedWith g rep
-    → (r ≡ outcome (finish (model t) rep)) × Formed (r .table)
-finished-is t g rep r v st e q =
-    let is : r ≡ outcome (granting (model t) rep (model t .pending)) =
-    q ∙ ap (λ (x : Granted). finishedWith x rep) e ∙ ap (λ (x : Table). finishedWith (grantedIn x) rep) (sym (v .whole)) ∙ granted-is (model t) rep in (
-      is ∙ ap outcome (sym (finish-still (model t) rep st)),
-      formed-is (r .table) _ (ap (λ (x : Outcome). x .table) is) (grant-ranged (model t) rep (v .ranged)),
-    )
+pub granted-is : (t : Table) (rep : Reply) (g : Granted) → Formed t → g ≡ grantedIn t → (g ≡ grantedTo (granting (model t) rep (model t .pending))) × Formed (g .table)
+granted-is t rep g v e =
+    let is : g ≡ grantedTo (granting (model t) rep (model t .pending)) = e ∙ ap grantedIn (sym (v .whole)) ∙ granted-to (model t) rep in
+    (is, formed-is (g .table) _ (ap (λ (x : Granted). x .table) is) (grant-ranged (model t) rep (v .ranged)))
 
 -- ── fewer claims, and one more ──
 -- A table with other claims, and as many of them.
@@ -177,10 +160,6 @@ unfolding remove
 removed-is t₀ t k m l v e f g r q =
     let is : r ≡ encode (remove (model t₀) k) = q ∙ ap (λ (x : Table). counted x m l) e ∙ cc in
     (is, formed-is r (remove (model t₀) k) is (remove-ranged (model t₀) k (v .ranged)))
-
-pub removed-clock : (t : Table) (k u : ℕ) (r : Table) → r ≡ encode (remove (model t) k) → t .clock ≤ u → r .clock ≤ u
-unfolding remove
-removed-clock t k u r e h = omega (arith, ap (λ (x : Table). x .clock) e)
 
 -- A table with the claim w after the others.
 abbrev extended : Table → Claim → Table
@@ -200,10 +179,6 @@ joined-is t w r v c i s e q =
     (is, formed-is r _ is (join-ranged (model t) w (v .ranged) h i s (e ∙ add-one (t .issued))))
 
 -- ── the calls, accepted ──
-claim-act : (m : Model) (t : ℕ) (ask : Request) → admit (advance m t) ask ≡ act m (claim t ask)
-unfolding act
-claim-act m t ask = refl
-
 leave-act : (m : Model) (b : Bool) (t k : ℕ) → finish (remove (advance m t) k) (plain k t) ≡ act m (leaving b t k)
 unfolding act
 leave-act m true t k = refl
@@ -232,13 +207,12 @@ asked t ask = record { groups = ask .groups; phase = Waiting (t .clock); length 
 pub asked-is : (t : Table) (ask : Request) → asked t ask ≡ fresh (model t) ask
 asked-is t ask = ap (λ (k : ℕ). record { groups = ask .groups; phase = Waiting (t .clock); length = ask .length; ticket = k }) (add-one (t .issued))
 
-pub asked-sized : (t : Table) (ask : Request) → t .issued < mostTickets → 1 ≤ ask .length → ask .length ≤ mostLength → t .clock ≤ mostClock → Sized (t .clock) (asked t ask)
-asked-sized t ask i l h k = record { sane = record { long = l; small = omega arith }; short = h; aged = λ o. clash o refl; planned = λ o. omega arith }
-
 -- A claim placed in a table.
 module _ (t : Table) (ask : Request) (v : Formed t) (few : t .count < mostPending) (i : t .issued < mostTickets) (l : 1 ≤ ask .length) (h : ask .length ≤ mostLength) where
   pub asked-row : Row (t .clock) (t .claims) (t .count) × Sized (t .clock) (asked t ask) × (t .count < mostPending) × (t .issued < mostTickets)
-  asked-row = (formed-now t v, asked-sized t ask i l h (v .ranged .timely), few, i)
+  asked-row =
+      let k = v .ranged .timely in
+      (formed-now t v, record { sane = record { long = l; small = omega arith }; short = h; aged = λ o. clash o refl; planned = λ o. omega arith }, few, i)
 
   placed-is : withPhase (asked t ask) (Waiting (place (settingOf (model t)) (model t .pending) (asked t ask))) ≡ placed (model t) ask
   placed-is = cc (asked-is t ask)
@@ -262,5 +236,6 @@ module _ (t : Table) (ask : Request) (v : Formed t) (few : t .count < mostPendin
 
 pub claim-is : (t : Table) (x : ℕ) (ask : Request) (n : ℕ) (u : Table) (r : Outcome) → n ≡ firstOf (tests (model t) (claim x ask)) → n ≡ 0 → u ≡ encode (advance (model t) x)
     → r ≡ outcome (admit (model u) ask) → r ≡ outcome (step (model t) (claim x ask))
+unfolding act
 claim-is t x ask n u r e z q f =
-    f ∙ ap (λ (m : Model). outcome (admit m ask)) (model-is u (advance (model t) x) q) ∙ ap outcome (claim-act (model t) x ask ∙ sym (step-accepted (model t) (claim x ask) (sym e ∙ z)))
+    f ∙ ap (λ (m : Model). outcome (admit m ask)) (model-is u (advance (model t) x) q) ∙ ap outcome (sym (step-accepted (model t) (claim x ask) (sym e ∙ z)))

@@ -1,8 +1,7 @@
-use mathlib.Core.Path.{refl}
 use Rattle.rules.specs.Tables.{model}
-use Rattle.rules.proofs.OnePacking.{still-starts, still-tight}
+use Rattle.rules.proofs.OnePacking.{still-starts, still-tight, finish-still}
 use Rattle.table.proofs.Ranges.{formed-now}
-use Rattle.table.proofs.Steps.{finished-is}
+use Rattle.table.proofs.Steps.{granted-is}
 use Rattle.table.proofs.finished.Statement.{statement}
 use Rattle.table.proofs.finished.Tie as tie
 
@@ -13,10 +12,9 @@ grant-requires c κs =
 
 returns : tie.Need-returns
 returns c =
-    let g = c .before .before in
-    let b = g .before in
-    let a = b .args in
-    finished-is (a .t) (g .grant .result) (a .r) _ (b .pre .0) (b .pre .1) (g .grant .ensures) refl
+    let b = c .before .before .before in
+    let g = granted-is (b .args .t) (b .args .r) _ (b .pre .0) (c .before .before .grant .ensures) in
+    (rw (finish-still (model (b .args .t)) (b .args .r) (b .pre .1), g .0), g .1)
 
 pub finished-spec : {M : Type 1} → statement M
 finished-spec = tie.close (tie.spec grant-requires returns)

@@ -1,10 +1,10 @@
 use mathlib.Core.Path.{_≡_, sym, _∙_, ap}
 use Rattle.rules.specs.Tests.{firstOf}
-use Rattle.rules.specs.Calls.{Call, tests}
+use Rattle.rules.specs.Calls.{Call, remove, tests}
 use Rattle.rules.specs.Tables.{model}
 use Rattle.table.specs.Outcomes.{phaseNumber, leaving}
 use Rattle.table.proofs.Tests.{time-ok, leave-tests, leave-timed}
-use Rattle.table.proofs.Steps.{refused, accepted, removed-clock, leave-is}
+use Rattle.table.proofs.Steps.{refused, accepted, leave-is}
 use borrow.Author.Needs.{needs}
 use Rattle.table.proofs.leave.Statement.{statement}
 use Rattle.table.proofs.leave.Tie as tie
@@ -35,11 +35,12 @@ returns-2 c =
     refused _ (call b) _ _ (b .pre) (c .unchanged2 .ensures) (number-is p) (c .before .if2 .taken)
 
 pulled-requires : tie.Need-pulled-requires
+unfolding remove
 pulled-requires c κs =
     let l = c .before .before .before in
     let n = l .before .before in
     let o = time-ok _ _ (sym (n .time-number .ensures) ∙ l .before .if1 .left) in
-    (l .removed .ensures .2, removed-clock (n .before .args .t) _ _ _ (l .removed .ensures .1) (o .0), o .1)
+    (l .removed .ensures .2, rw (l .removed .ensures .1) (o .0), o .1)
 
 returns-3 : tie.Need-returns-3
 returns-3 c =
