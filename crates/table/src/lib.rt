@@ -124,14 +124,6 @@ fn time_number(now: u64, clock: u64) -> u8
     0
 }
 
-// Sets the clock and packs.
-fn advanced(t: Table, clock: u64) -> Table
-    requires { ⌜ Formed t × (t .clock ≤ clock) × (clock ≤ mostClock) ⌝ }
-    ensures { λ r. ⌜ (r ≡ encode (advance (model t) clock)) × Formed r × Still (model r) ⌝ }
-{
-    packing::pack(t, Setting { clock: clock })
-}
-
 // Whether a claim is on with its promised end below the clock.
 fn overruns(clock: u64, c: Claim) -> bool
     requires { ⌜ at c ≤ 1000000000000000000 ⌝ }
@@ -144,7 +136,7 @@ fn overruns(clock: u64, c: Claim) -> bool
     false
 }
 
-// Sets the clock of a table between calls. While nobody overruns, packing would change nothing. Cost: one pass where nobody does.
+// Sets the clock of a table between calls, and packs. While nobody overruns packing would change nothing. Cost: one pass where nobody does.
 fn at_clock(mut t: Table, clock: u64) -> Table
     requires { ⌜ Valid t × (t .clock ≤ clock) × (clock ≤ mostClock) ⌝ }
     ensures { λ r. ⌜ (r ≡ encode (advance (model t) clock)) × Formed r × Still (model r) ⌝ }
@@ -154,7 +146,7 @@ fn at_clock(mut t: Table, clock: u64) -> Table
     while i < count {
         let c = t.claims[i];
         if overruns(clock, c) {
-            return advanced(t, clock);
+            return packing::pack(t, Setting { clock: clock });
         }
         i += 1;
     }
@@ -162,7 +154,8 @@ fn at_clock(mut t: Table, clock: u64) -> Table
     t
 }
 
-// Sets the clock of a table from which a claim was taken. Where nobody waits, packing would change nothing. Cost: one pass where nobody does.
+// Sets the clock of a table from which a claim was taken, and packs. Where nobody waits packing would change nothing.
+// Cost: one pass where nobody does.
 fn pulled(mut t: Table, clock: u64) -> Table
     requires { ⌜ Formed t × (t .clock ≤ clock) × (clock ≤ mostClock) ⌝ }
     ensures { λ r. ⌜ (r ≡ encode (advance (model t) clock)) × Formed r × Still (model r) ⌝ }
@@ -172,7 +165,7 @@ fn pulled(mut t: Table, clock: u64) -> Table
     while i < count {
         let c = t.claims[i];
         if !claims::is_on(c) {
-            return advanced(t, clock);
+            return packing::pack(t, Setting { clock: clock });
         }
         i += 1;
     }

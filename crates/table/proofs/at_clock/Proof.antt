@@ -7,7 +7,7 @@ use Rattle.rules.specs.Lists.{any}
 use Rattle.table.specs.Outcomes.{pastEnd}
 use Rattle.table.proofs.Rows.{row-small, Left, left-start, left-next, left-end}
 use Rattle.table.proofs.Ranges.{formed-row}
-use Rattle.table.proofs.Steps.{idle-is, no-overrun-idle}
+use Rattle.table.proofs.Steps.{advanced-is, idle-is, no-overrun-idle}
 use Rattle.table.proofs.at_clock.Statement.{statement}
 use Rattle.table.proofs.at_clock.Tie as tie
 
@@ -17,8 +17,10 @@ Inv-loop clock t count i₀ i = Left (λ r. any (pastEnd clock) r ≡ any (pastE
 abbrev μ-loop : tie.MeasureT-loop
 μ-loop clock t count i₀ i = count - i
 
-advanced-requires : tie.Need-advanced-requires Inv-loop μ-loop
-advanced-requires c κs = let b = c .before .before .before .before .before in (b .pre .0 .formed, b .pre .1, b .pre .2)
+returns : tie.Need-returns Inv-loop μ-loop
+returns c =
+    let b = c .before .before .before .before .before .before in
+    advanced-is (b .args .t1) (b .args .clock) (b .pre .0 .formed) (b .pre .1) (b .pre .2) _ (c .pack .ensures)
 
 loop-again : tie.Need-loop-again Inv-loop μ-loop
 unfolding any
@@ -44,8 +46,8 @@ at-clock-spec =
     (λ c. omega arith)
     (λ c. omega arith)
     (λ c κs. row-small (c .before .before .loop .inv .row) _ (omega arith))
-    advanced-requires
-    (λ c. c .advanced .ensures)
+    (λ c κs. c .before .before .before .before .loop .inv .row)
+    returns
     (λ c. omega arith)
     (λ c. omega arith)
     loop-again

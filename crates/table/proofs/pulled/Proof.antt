@@ -7,7 +7,7 @@ use lib.ListN.{take}
 use Rattle.rules.specs.Lists.{any}
 use Rattle.table.proofs.Rows.{Left, left-start, left-next, left-end}
 use Rattle.table.proofs.Ranges.{formed-row}
-use Rattle.table.proofs.Steps.{idle-is, waits, none-waits-idle}
+use Rattle.table.proofs.Steps.{advanced-is, idle-is, waits, none-waits-idle}
 use borrow.Author.Needs.{needs}
 use Rattle.table.proofs.pulled.Statement.{statement}
 use Rattle.table.proofs.pulled.Tie as tie
@@ -17,6 +17,11 @@ Inv-loop clock t count i₀ i = Left (λ r. any waits r ≡ any waits (take coun
 
 abbrev μ-loop : tie.MeasureT-loop
 μ-loop clock t count i₀ i = count - i
+
+returns : tie.Need-returns Inv-loop μ-loop
+returns c =
+    let b = c .before .before .before .before .before .before in
+    advanced-is (b .args .t1) (b .args .clock) (b .pre .0) (b .pre .1) (b .pre .2) _ (c .pack .ensures)
 
 loop-again : tie.Need-loop-again Inv-loop μ-loop
 unfolding any
@@ -42,8 +47,8 @@ pulled-spec =
     (λ c. omega arith)
     (λ c. omega arith)
     (λ c κs. search needs)
-    (λ c κs. c .before .before .before .before .before .pre)
-    (λ c. c .advanced .ensures)
+    (λ c κs. c .before .before .before .before .loop .inv .row)
+    returns
     (λ c. omega arith)
     (λ c. omega arith)
     loop-again
