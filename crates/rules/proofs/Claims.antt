@@ -1,8 +1,7 @@
 -- Conflicts and ends: all that the other laws know of them.
 use mathlib.Core.Path.{_≡_, refl, _∙_, ap}
-use mathlib.Core.Logic.{_⊎_, inl, inr}
-use mathlib.Core.Bool.{Bool, true, false, cond}
-use Prim.Native.Nat.{ℕ, _+_, _-_, _≤_}
+use mathlib.Core.Bool.{true, false}
+use Prim.Native.Nat.{ℕ, _+_, _≤_}
 use native.Mathlib.Omega.{arith}
 use Rattle.groups.proofs.Groups.{shares-sym}
 use Rattle.rules.specs.declared.Claim.{Claim}
@@ -10,7 +9,7 @@ use Rattle.rules.specs.declared.Phase.{Phase}
 use Rattle.rules.specs.declared.Phase.the-variants.{Waiting, On}
 use Rattle.rules.specs.declared.Setting.{Setting}
 use Rattle.rules.specs.Claims.{isOn, mark, on, at, withPhase, conflicts, heldUntil, endOf, remaining}
-use Rattle.rules.proofs.Bools.{split, clash}
+use Rattle.rules.proofs.Bools.{by-test, clash}
 
 pub conflicts-sym : (c d : Claim) → conflicts c d ≡ true → conflicts d c ≡ true
 conflicts-sym c d h = shares-sym (d .groups) (c .groups) ∙ h
@@ -59,17 +58,12 @@ end-no-overrun v c o h = end-on v c o ∙ held-prompt v (at c + c .length) h
 
 -- An end is bounded by what bounds the clock and start or grant + length.
 pub end-le : (v : Setting) (c : Claim) (b : ℕ) → at c + c .length ≤ b → v .clock ≤ b → endOf v c ≤ b
-end-le v c b h k = go (split (on c))
-  where
-    go : (on c ≡ true) ⊎ (on c ≡ false) → endOf v c ≤ b
-    go (inl o) = omega (arith, end-on v c o, held-le v (at c + c .length) b h k)
-    go (inr o) = omega (arith, end-wait v c o)
+end-le v c b h k = by-test (on c) (λ o. omega (arith, end-on v c o, held-le v (at c + c .length) b h k)) (λ o. omega (arith, end-wait v c o))
 
 -- A claim has no more time left than its length, if it was not granted in the future.
 pub remaining-le : (v : Setting) (c : Claim) → (on c ≡ true → at c ≤ v .clock) → remaining v c ≤ c .length
 unfolding remaining
-remaining-le v c h = go (on c) refl
-  where
-    go : (b : Bool) → on c ≡ b → cond b (endOf v c - v .clock) (c .length) ≤ c .length
-    go true o = omega (arith, h o, end-le v c (v .clock + c .length) (omega (arith, h o)) (omega arith))
-    go false o = omega arith
+remaining-le v c h =
+    by-test (on c)
+    (λ o. rw o (omega (arith, h o, end-le v c (v .clock + c .length) (omega (arith, h o)) (omega arith))))
+    (λ o. rw o (omega arith))

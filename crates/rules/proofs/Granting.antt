@@ -1,9 +1,9 @@
 -- Granting: holders stay apart, nothing else moves, and whoever still waits is held up by a claim whose end is its start.
 use mathlib.Core.Path.{_≡_, refl, sym, _∙_, ap, subst}
-use mathlib.Core.Logic.{_⊎_, inl, inr, _≢_}
+use mathlib.Core.Logic.{_⊎_, inl, inr, ⊎-elim, _≢_}
 use mathlib.Core.Bool.{true, false, not, _&&_}
 use mathlib.Core.List.{List, [], _∷_, _++_, map, map-append, Memᴰ·append-left}
-use Prim.Native.Nat.{_≤_, _<_}
+use Prim.Native.Nat.{_≤_}
 use native.Mathlib.Omega.{arith}
 use lib.ListN.{length, length-map}
 use lib.Dec.{eqb}
@@ -16,7 +16,7 @@ use Rattle.rules.specs.Claims.{on, at, withPhase, conflicts, endOf}
 use Rattle.rules.specs.Order.{before, precedes}
 use Rattle.rules.specs.Granting.{goes, granted, grant}
 use Rattle.rules.specs.Plans.{Ascending, Sane, Apart, Separated, StartsFrom, HeldUp, Tight, Blocked}
-use Rattle.rules.proofs.Bools.{split, by-test, clash, and-l, and-r, and-i, both-ways, same?}
+use Rattle.rules.proofs.Bools.{by-test, clash, and-l, and-r, and-i, both-ways, same?}
 use Rattle.rules.proofs.Lists.{Each, any-none, any-false, any-some, snoc-each, map-i, map-each, map-each2, map-cong}
 use Rattle.rules.proofs.Claims.{conflicts-sym, end-wait, end-clock, end-no-overrun}
 use Rattle.rules.proofs.Order.{either-before, before-precedes, precedes-conflicts, precedes-e, precedes-on, precedes-before, ends-precedes, ascending-same}
@@ -68,37 +68,25 @@ grant-precedes v ps c w m p = (
 module _ (v : Setting) (ps : List Claim) (low : StartsFrom (v .clock) ps) (tight : Tight v ps) (sane : Each Sane ps) where
   -- What goes on had the clock for its start.
   pub goes-at : (c : Claim) → c ∈ ps → goes ps c ≡ true → at c ≡ v .clock
-  goes-at c m e = go (tight c m (goes-wait ps c e))
-    where
-      go : (at c ≡ v .clock) ⊎ HeldUp v ps c → at c ≡ v .clock
-      go (inl p) = p
-      go (inr h) = clash (ends-precedes v (h .0) c (sane (h .0) (h .1)) (h .2) (omega (arith, h .3))) (goes-free ps c e (h .0) (h .1))
+  goes-at c m e =
+      ⊎-elim (λ p. p)
+      (λ h. clash (ends-precedes v (h .0) c (sane (h .0) (h .1)) (h .2) (omega (arith, h .3))) (goes-free ps c e (h .0) (h .1)))
+      (tight c m (goes-wait ps c e))
 
   -- Who goes on: whose start is the clock, where no holder conflicts. So one pass over the holders tells it of all.
   pub goes-quick : (c : Claim) → c ∈ ps → goes ps c ≡ (not (on c) && (eqb (at c) (v .clock) && not (any (λ d. on d && conflicts d c) ps)))
   goes-quick c m = both-ways _ _ there′ back
     where
       free : goes ps c ≡ true → (d : Claim) → d ∈ ps → (on d && conflicts d c) ≡ false
-      free e d k = go (split (on d && conflicts d c))
-        where
-          go : ((on d && conflicts d c) ≡ true) ⊎ ((on d && conflicts d c) ≡ false) → (on d && conflicts d c) ≡ false
-          go (inr z) = z
-          go (inl z) = clash (precedes-on d c (and-r (on d) _ z) (and-l (on d) _ z)) (goes-free ps c e d k)
+      free e d k = by-test (on d && conflicts d c) (λ z. clash (precedes-on d c (and-r (on d) _ z) (and-l (on d) _ z)) (goes-free ps c e d k)) (λ z. z)
 
       none-precedes : (d : Claim) → d ∈ ps → at c ≡ v .clock → (on d && conflicts d c) ≡ false → precedes d c ≡ false
-      none-precedes d k a n = go (split (precedes d c))
-        where
-          pick : precedes d c ≡ true → (on d ≡ true) ⊎ (on d ≡ false) → precedes d c ≡ false
-          pick p (inl q) = clash (and-i (on d) _ q (precedes-conflicts d c p)) n
-          pick p (inr q) = late (precedes-e d c p)
-            where
-              late : (on d ≡ true) ⊎ (at d < at c) → precedes d c ≡ false
-              late (inl z) = clash z q
-              late (inr z) = absurd (omega (arith, low d k q))
-
-          go : (precedes d c ≡ true) ⊎ (precedes d c ≡ false) → precedes d c ≡ false
-          go (inr z) = z
-          go (inl z) = pick z (split (on d))
+      none-precedes d k a n =
+          by-test (precedes d c)
+          (λ p. by-test (on d)
+          (λ q. clash (and-i (on d) _ q (precedes-conflicts d c p)) n)
+          (λ q. ⊎-elim (λ z. clash z q) (λ z. absurd (omega (arith, low d k q))) (precedes-e d c p)))
+          (λ p. p)
 
       there′ : goes ps c ≡ true → (not (on c) && (eqb (at c) (v .clock) && not (any (λ d. on d && conflicts d c) ps))) ≡ true
       there′ e =
@@ -122,18 +110,14 @@ module _ (v : Setting) (ps : List Claim) (low : StartsFrom (v .clock) ps) (tight
       alike : (c : Claim) → c ∈ ps → goes (ps ++ (w ∷ [])) c ≡ goes ps c
       alike c m = both-ways _ _ (λ e. goes-i ps c (goes-wait (ps ++ (w ∷ [])) c e) (λ d k. goes-free (ps ++ (w ∷ [])) c e d (Memᴰ·append-left (w ∷ []) k))) more
         where
-          behind : goes ps c ≡ true → (precedes w c ≡ true) ⊎ (precedes w c ≡ false) → precedes w c ≡ false
-          behind e (inr q) = q
-          behind e (inl q) = late (precedes-e w c q)
-            where
-              late : (on w ≡ true) ⊎ (at w < at c) → precedes w c ≡ false
-              late (inl z) = clash z o
-              late (inr z) = absurd (omega (arith, goes-at c m e))
+          behind : goes ps c ≡ true → precedes w c ≡ false
+          behind e =
+              by-test (precedes w c) (λ q. ⊎-elim (λ z. clash z o) (λ z. absurd (omega (arith, goes-at c m e))) (precedes-e w c q)) (λ q. q)
 
           more : goes ps c ≡ true → goes (ps ++ (w ∷ [])) c ≡ true
           more e =
               goes-i (ps ++ (w ∷ [])) c (goes-wait ps c e)
-              (snoc-each (λ (d : Claim). precedes d c ≡ false) ps w (goes-free ps c e) (behind e (split (precedes w c))))
+              (snoc-each (λ (d : Claim). precedes d c ≡ false) ps w (goes-free ps c e) (behind e))
 
       same : (c : Claim) → goes (ps ++ (w ∷ [])) c ≡ goes ps c → granted v (ps ++ (w ∷ [])) c ≡ granted v ps c
       same c e =
@@ -146,18 +130,16 @@ module _ (v : Setting) (ps : List Claim) (holders : Apart ps) (fit : Separated v
     (ascending : Ascending ps) where
   -- What does not go on is held up.
   pub stays-held : (w : Claim) → w ∈ ps → goes ps w ≡ false → on w ≡ false → HeldUp v ps w
-  stays-held w m g o = go (tight w m o)
+  stays-held w m g o =
+      ⊎-elim
+      (λ e. let r = stays ps w g o in (r .0, r .1, precedes-conflicts (r .0) w (r .2), at-clock (r .0) (r .1) e (r .2)))
+      (λ h. h)
+      (tight w m o)
     where
-      at-clock : (d : Claim) → d ∈ ps → at w ≡ v .clock → precedes d w ≡ true → (on d ≡ true) ⊎ (on d ≡ false) → endOf v d ≡ at w
-      at-clock d k e p (inl q) = omega (arith, fit .behind d w k m o (precedes-before d w (sane d k) p) (precedes-conflicts d w p), end-clock v d q)
-      at-clock d k e p (inr q) =
-          absurd (omega (arith, fit .behind d w k m o (precedes-before d w (sane d k) p) (precedes-conflicts d w p), end-wait v d q, low d k q, sane d k .long))
-
-      go : (at w ≡ v .clock) ⊎ HeldUp v ps w → HeldUp v ps w
-      go (inl e) =
-          let r = stays ps w g o in
-          (r .0, r .1, precedes-conflicts (r .0) w (r .2), at-clock (r .0) (r .1) e (r .2) (split (on (r .0))))
-      go (inr h) = h
+      at-clock : (d : Claim) → d ∈ ps → at w ≡ v .clock → precedes d w ≡ true → endOf v d ≡ at w
+      at-clock d k e p =
+          let h = fit .behind d w k m o (precedes-before d w (sane d k) p) (precedes-conflicts d w p) in
+          by-test (on d) (λ q. omega (arith, end-clock v d q)) (λ q. absurd (omega (arith, end-wait v d q, low d k q, sane d k .long)))
 
   -- Its end is not changed by going on.
   end-granted : (c : Claim) → c ∈ ps → goes ps c ≡ true → endOf v (withPhase c (On (v .clock))) ≡ endOf v c
@@ -165,11 +147,10 @@ module _ (v : Setting) (ps : List Claim) (holders : Apart ps) (fit : Separated v
 
   -- Of two conflicting waiting claims the one that goes on is before.
   goes-first : (c d : Claim) → c ∈ ps → d ∈ ps → goes ps c ≡ true → on d ≡ false → c .ticket ≢ d .ticket → conflicts c d ≡ true → before c d ≡ true
-  goes-first c d m k g o n h = go (either-before c d (sane c m) (sane d k) n)
-    where
-      go : (before c d ≡ true) ⊎ (before d c ≡ true) → before c d ≡ true
-      go (inl b) = b
-      go (inr b) = clash (before-precedes v ps fit d c (sane d k) k m (goes-wait ps c g) b (conflicts-sym c d h)) (goes-free ps c g d k)
+  goes-first c d m k g o n h =
+      ⊎-elim (λ b. b)
+      (λ b. clash (before-precedes v ps fit d c (sane d k) k m (goes-wait ps c g) b (conflicts-sym c d h)) (goes-free ps c g d k))
+      (either-before c d (sane c m) (sane d k) n)
 
   pub grant-apart : Apart (grant v ps)
   unfolding grant

@@ -1,6 +1,6 @@
 -- Packing, granting, one claim more, fewer claims and a later clock: each keeps its part of the invariant.
 use mathlib.Core.Path.{_≡_, refl, ap, subst}
-use mathlib.Core.Logic.{_⊎_, inl, inr, _≢_}
+use mathlib.Core.Logic.{_⊎_, inl, inr, ⊎-elim, _≢_}
 use mathlib.Core.Bool.{Bool, true, false}
 use mathlib.Core.List.{List, [], _∷_, _++_, List·Memᴰ·append-cases, List·Memᴰ·eq-of-singleton, Memᴰ·append-left}
 use Prim.Native.Nat.{ℕ, suc, _≤_, _<_}
@@ -13,12 +13,12 @@ use Rattle.rules.specs.Claims.{on, at, withPhase, conflicts, endOf}
 use Rattle.rules.specs.Order.{before, precedes}
 use Rattle.rules.specs.Packing.{packedStart, moved, pack}
 use Rattle.rules.specs.Granting.{granted, grant}
-use Rattle.rules.specs.Plans.{Sane, Separated, Behind, Earliest, Room, Fits}
+use Rattle.rules.specs.Plans.{Sane, Separated, Behind, Earliest, Fits}
 use Rattle.rules.specs.Invariants.{Proper, Packable, Spaced, Packed, Settled}
-use Rattle.rules.proofs.Bools.{split, clash, compare}
+use Rattle.rules.proofs.Bools.{by-test, by-order, clash}
 use Rattle.rules.proofs.Lists.{Each, greatest-ge, greatest-le, keep-e, keep-i, map-each, snoc-each, snoc-each2}
 use Rattle.rules.proofs.Claims.{conflicts-sym, end-wait}
-use Rattle.rules.proofs.Order.{before-on, before-key, before-lt, either-before, precedes-conflicts, precedes-before, ends-precedes, ascending-map, ascending-keep, ascending-snoc}
+use Rattle.rules.proofs.Order.{before-on, ends-before, before-lt, either-before, precedes-conflicts, precedes-before, ends-precedes, ascending-map, ascending-keep, ascending-snoc}
 use Rattle.rules.proofs.Packing.{moved-cases, moved-ticket, pack-starts, pack-tight, pack-apart, pack-separates, pack-earliest}
 use Rattle.rules.proofs.Granting.{granted-cases, granted-ticket, grant-apart, grant-separates, grant-starts, grant-blocked}
 
@@ -67,18 +67,15 @@ grant-settles k v ps f =
 -- Of two conflicting claims one waits, and the other ends at its start or sooner.
 pub spaced-clear : (k : ℕ) (v : Setting) (ps : List Claim) → Spaced k v ps → (c w : Claim) → c ∈ ps → w ∈ ps → c .ticket ≢ w .ticket → conflicts c w ≡ true
     → ((on w ≡ false) × (endOf v c ≤ at w)) ⊎ ((on c ≡ false) × (endOf v w ≤ at c))
-spaced-clear k v ps f c w m n d h = go (split (on c)) (split (on w))
+spaced-clear k v ps f c w m n d h =
+    by-test (on w)
+    (λ q. by-test (on c) (λ p. absurd (f .holders .apart c w m n d h p q)) (λ p. inr (p, after p (before-on w c q))))
+    (λ q. by-test (on c)
+    (λ p. inl (q, f .fit .behind c w m n q (before-on c w p) h))
+    (λ p. ⊎-elim (λ b. inl (q, f .fit .behind c w m n q b h)) (λ b. inr (p, after p b)) (either-before c w (f .proper c m .sane) (f .proper w n .sane) d)))
   where
-    either : on c ≡ false → on w ≡ false → (before c w ≡ true) ⊎ (before w c ≡ true)
-        → ((on w ≡ false) × (endOf v c ≤ at w)) ⊎ ((on c ≡ false) × (endOf v w ≤ at c))
-    either p q (inl b) = inl (q, f .fit .behind c w m n q b h)
-    either p q (inr b) = inr (p, f .fit .behind w c n m p b (conflicts-sym c w h))
-
-    go : (on c ≡ true) ⊎ (on c ≡ false) → (on w ≡ true) ⊎ (on w ≡ false) → ((on w ≡ false) × (endOf v c ≤ at w)) ⊎ ((on c ≡ false) × (endOf v w ≤ at c))
-    go (inl p) (inl q) = absurd (f .holders .apart c w m n d h p q)
-    go (inl p) (inr q) = inl (q, f .fit .behind c w m n q (before-on c w p) h)
-    go (inr p) (inl q) = inr (p, f .fit .behind w c n m p (before-on w c q) (conflicts-sym c w h))
-    go (inr p) (inr q) = either p q (either-before c w (f .proper c m .sane) (f .proper w n .sane) d)
+    after : on c ≡ false → before w c ≡ true → endOf v w ≤ at c
+    after p b = f .fit .behind w c n m p b (conflicts-sym c w h)
 
 -- A planned start is the greatest of the clock and the ends of the claims that precede it.
 pub settled-starts : (k : ℕ) (v : Setting) (ps : List Claim) → Settled k v ps → (w : Claim) → w ∈ ps → on w ≡ false
@@ -132,19 +129,15 @@ module _ (k : ℕ) (v : Setting) (ps : List Claim) (w : Claim) (sane : Sane w) (
   separated-snoc sanes p = record {
     behind =
         snoc-each2 (λ (c d : Claim). on d ≡ false → before c d ≡ true → conflicts c d ≡ true → endOf v c ≤ at d) ps w
-        (p .behind) (λ c m q b h. fore c m b (split (on c)) (fit .room c m h)) (λ c m q b h. aft c m q b (fit .room c m (conflicts-sym w c h)))
+        (p .behind)
+        (λ c m q b h. ⊎-elim (λ r. r) (λ r. absurd (omega (arith, before-lt c w b (r .0), r .1, sane .long, sane .small))) (fit .room c m h))
+        (λ c m q b h.
+        ⊎-elim
+        (λ r. absurd (omega (arith, before-lt w c b waits, end-wait v c q, sanes c m .long, sanes c m .small)))
+        (λ r. omega (arith, end-wait v w waits, r .1))
+        (fit .room c m (conflicts-sym w c h)))
         (λ q b h. absurd (omega (arith, before-lt w w b waits)));
   }
-    where
-      -- The room that c leaves, where c is before w and where it is after.
-      fore : (c : Claim) → c ∈ ps → before c w ≡ true → (on c ≡ true) ⊎ (on c ≡ false) → Room v w (at w) c → endOf v c ≤ at w
-      fore c m b q (inl r) = r
-      fore c m b (inl q) (inr r) = clash q (r .0)
-      fore c m b (inr q) (inr r) = absurd (omega (arith, before-lt c w b q, r .1, sane .long, sane .small))
-
-      aft : (c : Claim) → c ∈ ps → on c ≡ false → before w c ≡ true → Room v w (at w) c → endOf v w ≤ at c
-      aft c m q b (inl r) = absurd (omega (arith, before-lt w c b waits, end-wait v c q, sanes c m .long, sanes c m .small))
-      aft c m q b (inr r) = omega (arith, end-wait v w waits, r .1)
 
   pub spaced-snoc : Spaced k v ps → w .ticket ≡ suc k → v .clock ≤ at w → Spaced (suc k) v (ps ++ (w ∷ []))
   spaced-snoc p e low = record {
@@ -164,7 +157,8 @@ module _ (k : ℕ) (v : Setting) (ps : List Claim) (w : Claim) (sane : Sane w) (
 
   -- Where none of the others could start sooner, and w has the least start that fits, none of them all could.
   pub earliest-snoc : Each Sane ps → Earliest v ps → ((s : ℕ) → v .clock ≤ s → Fits v ps w s → at w ≤ s) → Earliest v (ps ++ (w ∷ []))
-  earliest-snoc sanes old least x i o s l b = go (List·Memᴰ·append-cases ps i)
+  earliest-snoc sanes old least x i o s l b =
+      ⊎-elim (λ q. old x q o s l few) (λ q. let e = List·Memᴰ·eq-of-singleton q in by-order (at w) s (λ z. omega (arith, ap at e)) (last e)) (List·Memᴰ·append-cases ps i)
     where
       -- Behind more claims a start is no easier.
       few : Behind v (keep (λ c. before c x) ps) x s
@@ -176,22 +170,15 @@ module _ (k : ℕ) (v : Setting) (ps : List Claim) (w : Claim) (sane : Sane w) (
 
       -- A start sooner than its own, behind those before it, would fit w.
       sooner : s ≤ at w → Behind v (keep (λ c. before c w) ps) w s → Fits v ps w s
-      sooner l k = record { room = λ c m h. room c m h (fit .room c m h) }
-        where
-          first : (c : Claim) → c ∈ ps → endOf v c ≤ at w → (on c ≡ true) ⊎ (on c ≡ false) → before c w ≡ true
-          first c m e (inl o) = before-on c w o
-          first c m e (inr o) = before-key c w (omega (arith, end-wait v c o, sanes c m .long, sanes c m .small))
+      sooner l k = record {
+        room = λ c m h.
+            ⊎-elim
+            (λ r. inl (k .after c (keep-i (λ c. before c w) (ends-before v c w (sanes c m) r) m) h))
+            (λ r. inr (r .0, omega (arith, r .1)))
+            (fit .room c m h);
+      }
 
-          room : (c : Claim) → c ∈ ps → conflicts c w ≡ true → Room v w (at w) c → Room v w s c
-          room c m h (inl r) = inl (k .after c (keep-i (λ c. before c w) (first c m r (split (on c))) m) h)
-          room c m h (inr r) = inr (r .0, omega (arith, r .1))
-
-      last : (at w ≤ s) ⊎ (s < at w) → x ≡ w → at x ≤ s
-      last (inl q) e = omega (arith, ap at e)
-      last (inr q) e =
+      last : x ≡ w → s < at w → at x ≤ s
+      last e q =
           let k = subst (λ (y : Claim). Behind v (keep (λ c. before c y) ps) y s) e few in
           omega (arith, ap at e, least s l (sooner (omega arith) k))
-
-      go : (x ∈ ps) ⊎ (x ∈ (w ∷ [])) → at x ≤ s
-      go (inl q) = old x q o s l few
-      go (inr q) = last (compare (at w) s) (List·Memᴰ·eq-of-singleton q)

@@ -1,14 +1,14 @@
 -- Laws of the functions of specs/Lists, by membership.
 use mathlib.Core.Path.{_≡_, refl, sym, _∙_, ap, subst}
-use mathlib.Core.Logic.{_⊎_, inl, inr}
-use mathlib.Core.Bool.{Bool, true, false, _&&_, cond, true≢false, false≢true}
+use mathlib.Core.Logic.{_⊎_, inl, inr, ⊎-elim}
+use mathlib.Core.Bool.{Bool, true, false, true≢false, false≢true}
 use mathlib.Core.List.{List, [], _∷_, _++_, map, List·Memᴰ·head, List·Memᴰ·tail, List·Memᴰ·not-nil, List·Memᴰ·cases-cons, List·Memᴰ·append-cases, List·Memᴰ·eq-of-singleton}
-use Prim.Native.Nat.{ℕ, suc, _+_, _*_, _≤_, _<_, min, max}
+use Prim.Native.Nat.{ℕ, _+_, _*_, _≤_}
 use native.Mathlib.Omega.{arith}
 use native.Mathlib.Nat.{min-eq-left, min-eq-right, le-of-lt}
 use lib.ListN.{length}
 use Rattle.rules.specs.Lists.{_∈_, greatest, least, sum, all, any, keep}
-use Rattle.rules.proofs.Bools.{and-l, and-r, and-i, or-e, or-fl, or-fr, compare}
+use Rattle.rules.proofs.Bools.{and-l, and-r, and-i, or-e, or-fl, or-fr, by-test, by-order}
 
 -- Every element has P; every two have R.
 abbrev pub Each : {A : Type 0} → (A → Type 0) → List A → Type 0
@@ -46,13 +46,10 @@ module _ {A : Type 0} where
   pub greatest-is : (f : A → ℕ) (b : ℕ) (l : List A) → (greatest f b l ≡ b) ⊎ ((x : A) × x ∈ l × (f x ≡ greatest f b l))
   unfolding greatest
   greatest-is f b [] = inl refl
-  greatest-is f b (x ∷ l) = go (compare (f x) (greatest f b l)) (greatest-is f b l)
-    where
-      go : (f x ≤ greatest f b l) ⊎ (greatest f b l < f x) → (greatest f b l ≡ b) ⊎ ((y : A) × y ∈ l × (f y ≡ greatest f b l))
-          → (max (f x) (greatest f b l) ≡ b) ⊎ ((y : A) × y ∈ (x ∷ l) × (f y ≡ max (f x) (greatest f b l)))
-      go (inl h) (inl e) = inl (omega arith)
-      go (inl h) (inr r) = inr (r .0, there (r .1), omega (arith, r .2))
-      go (inr h) r = inr (x, here, omega arith)
+  greatest-is f b (x ∷ l) =
+      by-order (f x) (greatest f b l)
+      (λ h. ⊎-elim (λ e. inl (omega arith)) (λ r. inr (r .0, there (r .1), omega (arith, r .2))) (greatest-is f b l))
+      (λ h. inr (x, here, omega arith))
 
   -- ── sums ──
   pub sum-le : (f g : A → ℕ) (l : List A) → Each (λ x. f x ≤ g x) l → sum f l ≤ sum g l
@@ -92,12 +89,7 @@ module _ {A : Type 0} where
   pub all-not : (p : A → Bool) (l : List A) → all p l ≡ false → (x : A) × x ∈ l × (p x ≡ false)
   unfolding all
   all-not p [] h = absurd (true≢false h)
-  all-not p (x ∷ l) h = go (p x) refl (all-not p l) h
-    where
-      go : (b : Bool) → p x ≡ b → (all p l ≡ false → (y : A) × y ∈ l × (p y ≡ false)) → b && all p l ≡ false
-          → (y : A) × y ∈ (x ∷ l) × (p y ≡ false)
-      go true e ih k = let r = ih k in (r .0, there (r .1), r .2)
-      go false e ih k = (x, here, e)
+  all-not p (x ∷ l) h = by-test (p x) (λ e. let r = all-not p l (rw e at h) in (r .0, there (r .1), r .2)) (λ e. (x, here, e))
 
   pub any-none : (p : A → Bool) {x : A} {l : List A} → any p l ≡ false → x ∈ l → p x ≡ false
   unfolding any
@@ -112,45 +104,27 @@ module _ {A : Type 0} where
   pub any-some : (p : A → Bool) (l : List A) → any p l ≡ true → (x : A) × x ∈ l × (p x ≡ true)
   unfolding any
   any-some p [] h = absurd (false≢true h)
-  any-some p (x ∷ l) h = go (any-some p l) (or-e (p x) (any p l) h)
-    where
-      go : (any p l ≡ true → (y : A) × y ∈ l × (p y ≡ true)) → (p x ≡ true) ⊎ (any p l ≡ true) → (y : A) × y ∈ (x ∷ l) × (p y ≡ true)
-      go ih (inl e) = (x, here, e)
-      go ih (inr e) = let r = ih e in (r .0, there (r .1), r .2)
+  any-some p (x ∷ l) h = ⊎-elim (λ e. (x, here, e)) (λ e. let r = any-some p l e in (r .0, there (r .1), r .2)) (or-e (p x) (any p l) h)
 
   -- ── keep ──
   pub keep-e : (p : A → Bool) (l : List A) {y : A} → y ∈ keep p l → y ∈ l × (p y ≡ true)
   unfolding keep
   keep-e p [] m = none m
-  keep-e p (x ∷ l) {y} m = go (p x) refl (keep-e p l) m
-    where
-      go : (b : Bool) → p x ≡ b → (y ∈ keep p l → y ∈ l × (p y ≡ true)) → y ∈ cond b (x ∷ keep p l) (keep p l) → y ∈ (x ∷ l) × (p y ≡ true)
-      go true q ih k = more (List·Memᴰ·cases-cons k)
-        where
-          more : (y ≡ x) ⊎ (y ∈ keep p l) → y ∈ (x ∷ l) × (p y ≡ true)
-          more (inl e) = (List·Memᴰ·head e, ap p e ∙ q)
-          more (inr j) = let r = ih j in (there (r .0), r .1)
-      go false q ih k = let r = ih k in (there (r .0), r .1)
+  keep-e p (x ∷ l) {y} m =
+      let later : y ∈ keep p l → y ∈ (x ∷ l) × (p y ≡ true) = λ k. let r = keep-e p l k in (there (r .0), r .1) in
+      by-test (p x) (λ q. ⊎-elim (λ e. (List·Memᴰ·head e, ap p e ∙ q)) later (List·Memᴰ·cases-cons (rw q at m))) (λ q. later (rw q at m))
 
   pub keep-i : (p : A → Bool) {x : A} {l : List A} → p x ≡ true → x ∈ l → x ∈ keep p l
   unfolding keep
   keep-i p {x} h (List·Memᴰ·head {x = y} {xs = l} e) =
       let q : p y ≡ true = sym (ap p e) ∙ h in
       rw q (List·Memᴰ·head e)
-  keep-i p {x} h (List·Memᴰ·tail {x = y} {xs = l} m) = go (p y) (keep-i p h m)
-    where
-      go : (b : Bool) → x ∈ keep p l → x ∈ cond b (y ∷ keep p l) (keep p l)
-      go true k = there k
-      go false k = k
+  keep-i p {x} h (List·Memᴰ·tail {x = y} {xs = l} m) = let k = keep-i p h m in by-test (p y) (λ e. rw e (there k)) (λ e. rw e k)
 
   pub keep-length : (p : A → Bool) (l : List A) → length (keep p l) ≤ length l
   unfolding keep
   keep-length p [] = omega arith
-  keep-length p (x ∷ l) = go (p x) (keep-length p l)
-    where
-      go : (b : Bool) → length (keep p l) ≤ length l → length (cond b (x ∷ keep p l) (keep p l)) ≤ suc (length l)
-      go true h = omega arith
-      go false h = omega arith
+  keep-length p (x ∷ l) = let h = keep-length p l in by-test (p x) (λ e. rw e (omega arith)) (λ e. rw e (omega arith))
 
   -- Tests that agree on the list keep the same.
   pub keep-cong : (p q : A → Bool) (l : List A) → Each (λ x. p x ≡ q x) l → keep p l ≡ keep q l
@@ -160,11 +134,7 @@ module _ {A : Type 0} where
 
   -- ── one element more ──
   pub snoc-each : (P : A → Type 0) (l : List A) (w : A) → Each P l → P w → Each P (l ++ (w ∷ []))
-  snoc-each P l w h k x m = go (List·Memᴰ·append-cases l m)
-    where
-      go : (x ∈ l) ⊎ (x ∈ (w ∷ [])) → P x
-      go (inl i) = h x i
-      go (inr i) = subst P (sym (List·Memᴰ·eq-of-singleton i)) k
+  snoc-each P l w h k x m = ⊎-elim (h x) (λ i. subst P (sym (List·Memᴰ·eq-of-singleton i)) k) (List·Memᴰ·append-cases l m)
 
   pub snoc-each2 : (R : A → A → Type 0) (l : List A) (w : A) → Each2 R l → Each (λ x. R x w) l → Each (λ x. R w x) l → R w w → Each2 R (l ++ (w ∷ []))
   snoc-each2 R l w h f g k x y m n =
@@ -180,11 +150,7 @@ module _ {A : Type 0} where
 module _ {A B : Type 0} where
   pub map-e : (f : A → B) (l : List A) {y : B} → y ∈ map f l → (x : A) × x ∈ l × (y ≡ f x)
   map-e f [] m = none m
-  map-e f (x ∷ l) {y} m = go (map-e f l) (List·Memᴰ·cases-cons m)
-    where
-      go : (y ∈ map f l → (z : A) × z ∈ l × (y ≡ f z)) → (y ≡ f x) ⊎ (y ∈ map f l) → (z : A) × z ∈ (x ∷ l) × (y ≡ f z)
-      go ih (inl e) = (x, here, e)
-      go ih (inr k) = let r = ih k in (r .0, there (r .1), r .2)
+  map-e f (x ∷ l) m = ⊎-elim (λ e. (x, here, e)) (λ k. let r = map-e f l k in (r .0, there (r .1), r .2)) (List·Memᴰ·cases-cons m)
 
   pub map-i : (f : A → B) {x : A} {l : List A} → x ∈ l → f x ∈ map f l
   map-i f (List·Memᴰ·head e) = List·Memᴰ·head (ap f e)
@@ -204,11 +170,9 @@ module _ {A B : Type 0} where
   pub keep-map : (p : B → Bool) (f : A → B) (l : List A) → keep p (map f l) ≡ map f (keep (λ x. p (f x)) l)
   unfolding keep
   keep-map p f [] = refl
-  keep-map p f (x ∷ l) = go (p (f x)) (keep-map p f l)
-    where
-      go : (b : Bool) → keep p (map f l) ≡ map f (keep (λ y. p (f y)) l) → cond b (f x ∷ keep p (map f l)) (keep p (map f l)) ≡ map f (cond b (x ∷ keep (λ y. p (f y)) l) (keep (λ y. p (f y)) l))
-      go true e = ap (λ (k : List B). f x ∷ k) e
-      go false e = e
+  keep-map p f (x ∷ l) =
+      let e = keep-map p f l in
+      by-test (p (f x)) (λ q. rw q (ap (λ (k : List B). f x ∷ k) e)) (λ q. rw q e)
 
   pub greatest-map : (g : B → ℕ) (f : A → B) (b : ℕ) (l : List A) → greatest g b (map f l) ≡ greatest (λ x. g (f x)) b l
   unfolding greatest
@@ -221,27 +185,20 @@ unfolding least
 least-le p d {n} (List·Memᴰ·head {x} {xs = l} e) h =
     let q : p x ≡ true = rw e at h in
     rw (e, q) (omega arith)
-least-le p d {n} (List·Memᴰ·tail {x} {xs = l} m) h = go (p x) (least-le p d m h)
-  where
-    go : (b : Bool) → least p d l ≤ n → cond b (min x (least p d l)) (least p d l) ≤ n
-    go true k = omega arith
-    go false k = k
+least-le p d {n} (List·Memᴰ·tail {x} {xs = l} m) h = let k = least-le p d m h in by-test (p x) (λ e. rw e (omega arith)) (λ e. rw e k)
 
 pub least-passes : (p : ℕ → Bool) (d : ℕ) (l : List ℕ) → p d ≡ true → p (least p d l) ≡ true
 unfolding least
 least-passes p d [] h = h
-least-passes p d (n ∷ l) h = go (p n) refl (compare n (least p d l)) (least-passes p d l h)
-  where
-    go : (b : Bool) → p n ≡ b → (n ≤ least p d l) ⊎ (least p d l < n) → p (least p d l) ≡ true → p (cond b (min n (least p d l)) (least p d l)) ≡ true
-    go true e (inl k) ih = rw (min-eq-left k) e
-    go true e (inr k) ih = rw (min-eq-right (le-of-lt k)) ih
-    go false e k ih = ih
+least-passes p d (n ∷ l) h =
+    let ih = least-passes p d l h in
+    by-test (p n)
+    (λ e. rw e (by-order n (least p d l) (λ k. rw (min-eq-left k) e) (λ k. rw (min-eq-right (le-of-lt k)) ih)))
+    (λ e. rw e ih)
 
 pub least-low : (p : ℕ → Bool) (d b : ℕ) (l : List ℕ) → b ≤ d → Each (λ n. b ≤ n) l → b ≤ least p d l
 unfolding least
 least-low p d b [] h k = h
-least-low p d b (n ∷ l) h k = go (p n) (least-low p d b l h (λ m i. k m (there i))) (k n here)
-  where
-    go : (t : Bool) → b ≤ least p d l → b ≤ n → b ≤ cond t (min n (least p d l)) (least p d l)
-    go true x y = omega arith
-    go false x y = x
+least-low p d b (n ∷ l) h k =
+    let x = least-low p d b l h (λ m i. k m (there i)) in
+    by-test (p n) (λ e. rw e (omega (arith, k n here))) (λ e. rw e x)

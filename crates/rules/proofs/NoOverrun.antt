@@ -1,6 +1,5 @@
 -- While no holder is past its promised end, a later clock raises no planned start.
 use mathlib.Core.Path.{_≡_, sym, _∙_}
-use mathlib.Core.Logic.{_⊎_, inl, inr}
 use mathlib.Core.Bool.{true, false}
 use mathlib.Core.List.{List}
 use Prim.Native.Nat.{ℕ, zero, suc, _+_, _≤_, _<_}
@@ -13,10 +12,10 @@ use Rattle.rules.specs.Order.{before}
 use Rattle.rules.specs.Packing.{packedStart, pack}
 use Rattle.rules.specs.Plans.{Separated, StartsFrom, Earliest}
 use Rattle.rules.specs.Invariants.{Settled}
-use Rattle.rules.proofs.Bools.{split}
+use Rattle.rules.proofs.Bools.{by-test}
 use Rattle.rules.proofs.Lists.{keep-i}
 use Rattle.rules.proofs.Claims.{end-wait, end-ge, end-no-overrun}
-use Rattle.rules.proofs.Order.{before-on, before-key}
+use Rattle.rules.proofs.Order.{ends-before}
 use Rattle.rules.proofs.Packing.{pack-no-later, pack-idle}
 use Rattle.rules.proofs.Invariants.{Later}
 
@@ -26,11 +25,10 @@ NoOverrunAt t ps = (c : Claim) → c ∈ ps → on c ≡ true → t ≤ at c + c
 
 module _ (k : ℕ) (v u : Setting) (ps : List Claim) (settled : Settled k v ps) (later : Later v u) (prompt : NoOverrunAt (u .clock) ps) where
   end-same : (c : Claim) → c ∈ ps → endOf u c ≡ endOf v c
-  end-same c m = go (split (on c))
-    where
-      go : (on c ≡ true) ⊎ (on c ≡ false) → endOf u c ≡ endOf v c
-      go (inl o) = end-no-overrun u c o (prompt c m o) ∙ sym (end-no-overrun v c o (omega (arith, prompt c m o, later .later)))
-      go (inr o) = omega (arith, end-wait u c o, end-wait v c o)
+  end-same c m =
+      by-test (on c)
+      (λ o. end-no-overrun u c o (prompt c m o) ∙ sym (end-no-overrun v c o (omega (arith, prompt c m o, later .later))))
+      (λ o. omega (arith, end-wait u c o, end-wait v c o))
 
   prompt-separated : Separated u ps
   prompt-separated = record {
@@ -42,15 +40,10 @@ module _ (k : ℕ) (v u : Setting) (ps : List Claim) (settled : Settled k v ps) 
   start-ge zero w m o l = absurd (omega arith)
   start-ge (suc j) w m o l =
       let h = settled .blocked w m o in
-      go (h .0) (h .1) (h .3) (split (on (h .0))) (start-ge j (h .0) (h .1))
-    where
-      go : (c : Claim) → c ∈ ps → endOf v c ≡ at w → (on c ≡ true) ⊎ (on c ≡ false) → (on c ≡ false → at c < j → u .clock ≤ at c) → u .clock ≤ at w
-      go c i e (inl q) ih = omega (arith, end-ge v c q, prompt c i q)
-      go c i e (inr q) ih =
-          let z = end-wait v c q in
-          let y = settled .spaced .proper c i .sane .long in
-          let x = ih q (omega arith) in
-          omega arith
+      let y = settled .spaced .proper (h .0) (h .1) .sane .long in
+      by-test (on (h .0))
+      (λ q. omega (arith, h .3, end-ge v (h .0) q, prompt (h .0) (h .1) q))
+      (λ q. let z = end-wait v (h .0) q in let x = start-ge j (h .0) (h .1) q (omega (arith, h .3)) in omega (arith, h .3))
 
   prompt-starts : StartsFrom (u .clock) ps
   prompt-starts w m o = start-ge (suc (at w)) w m o (omega arith)
@@ -59,11 +52,8 @@ module _ (k : ℕ) (v u : Setting) (ps : List Claim) (settled : Settled k v ps) 
   prompt-earliest : Earliest u ps
   prompt-earliest w m o s l k =
       let h = settled .blocked w m o in
-      omega (arith, h .3, end-same (h .0) (h .1), k .after (h .0) (keep-i (λ c. before c w) (first (h .0) (h .1) (h .3) (split (on (h .0)))) (h .1)) (h .2))
-    where
-      first : (c : Claim) → c ∈ ps → endOf v c ≡ at w → (on c ≡ true) ⊎ (on c ≡ false) → before c w ≡ true
-      first c i e (inl q) = before-on c w q
-      first c i e (inr q) = before-key c w (omega (arith, end-wait v c q, settled .spaced .proper c i .sane .long, settled .spaced .proper c i .sane .small))
+      let first = ends-before v (h .0) w (settled .spaced .proper (h .0) (h .1) .sane) (omega (arith, h .3)) in
+      omega (arith, h .3, end-same (h .0) (h .1), k .after (h .0) (keep-i (λ c. before c w) first (h .1)) (h .2))
 
   -- Then packing at the later clock changes nothing.
   pub no-overrun-still : pack u ps ≡ ps

@@ -1,11 +1,10 @@
 -- Which claim comes before which; tickets; induction in the order of packing.
 use mathlib.Core.Path.{_≡_, sym, _∙_, ap}
-use mathlib.Core.Logic.{_⊎_, inl, inr, _≢_}
-use mathlib.Core.Bool.{Bool, true, false, cond}
+use mathlib.Core.Logic.{_⊎_, inl, inr, ⊎-elim, _≢_}
+use mathlib.Core.Bool.{Bool, true, false}
 use mathlib.Core.List.{List, [], _∷_, _++_, map, List·Memᴰ·cases-cons}
 use Prim.Native.Nat.{ℕ, zero, suc, _≤_, _<_}
 use native.Mathlib.Omega.{arith}
-use lib.Dec.{ltb}
 use borrow.Author.Tests.{ltb-true, ltb-false, lt-ltb}
 use Rattle.rules.specs.declared.Claim.{Claim}
 use Rattle.rules.specs.Lists.{_∈_, keep}
@@ -13,7 +12,7 @@ use Rattle.rules.specs.declared.Setting.{Setting}
 use Rattle.rules.specs.Claims.{on, at, conflicts, endOf}
 use Rattle.rules.specs.Order.{key, before, precedes}
 use Rattle.rules.specs.Plans.{Ascending, Sane, Separated}
-use Rattle.rules.proofs.Bools.{and-l, and-r, and-i, or-e, or-l, or-r, or-fl, or-fr, clash, split}
+use Rattle.rules.proofs.Bools.{and-l, and-r, and-i, or-e, or-l, or-r, or-fl, or-fr, clash, by-test}
 use Rattle.rules.proofs.Lists.{Each, here, there, none, map-each, snoc-each, keep-e}
 use Rattle.rules.proofs.Claims.{end-wait}
 
@@ -28,11 +27,7 @@ before-key c w l = or-r (on c) _ (lt-ltb (key c) (key w) l)
 
 pub before-lt : (c w : Claim) → before c w ≡ true → on c ≡ false → key c < key w
 unfolding before
-before-lt c w e o = go (or-e (on c) _ e)
-  where
-    go : (on c ≡ true) ⊎ (ltb (key c) (key w) ≡ true) → key c < key w
-    go (inl p) = clash p o
-    go (inr p) = ltb-true (key c) (key w) p
+before-lt c w e o = ⊎-elim (λ p. clash p o) (ltb-true (key c) (key w)) (or-e (on c) _ e)
 
 pub before-not : (c w : Claim) → before c w ≡ false → (on c ≡ false) × (key w ≤ key c)
 unfolding before
@@ -43,14 +38,7 @@ keys-differ c d s r n = λ e. n (omega (arith, s .small, r .small))
 
 -- Of two claims, the second waiting, one is before the other.
 pub either-before : (c d : Claim) → Sane c → Sane d → c .ticket ≢ d .ticket → (before c d ≡ true) ⊎ (before d c ≡ true)
-either-before c d s r n = go (split (before c d))
-  where
-    go : (before c d ≡ true) ⊎ (before c d ≡ false) → (before c d ≡ true) ⊎ (before d c ≡ true)
-    go (inl b) = inl b
-    go (inr b) =
-        let y = before-not c d b .1 in
-        let z = keys-differ c d s r n in
-        inr (before-key d c (omega arith))
+either-before c d s r n = by-test (before c d) inl (λ b. let z = keys-differ c d s r n in inr (before-key d c (omega (arith, before-not c d b .1))))
 
 -- Strong induction in the order of packing.
 pub by-key : (P : Claim → Type 0) (ps : List Claim)
@@ -69,11 +57,7 @@ precedes-conflicts c w e = and-l (conflicts c w) _ e
 
 pub precedes-e : (c w : Claim) → precedes c w ≡ true → (on c ≡ true) ⊎ (at c < at w)
 unfolding precedes
-precedes-e c w e = go (or-e (on c) _ (and-r (conflicts c w) _ e))
-  where
-    go : (on c ≡ true) ⊎ (ltb (at c) (at w) ≡ true) → (on c ≡ true) ⊎ (at c < at w)
-    go (inl p) = inl p
-    go (inr p) = inr (ltb-true (at c) (at w) p)
+precedes-e c w e = ⊎-elim inl (λ p. inr (ltb-true (at c) (at w) p)) (or-e (on c) _ (and-r (conflicts c w) _ e))
 
 pub precedes-on : (c w : Claim) → conflicts c w ≡ true → on c ≡ true → precedes c w ≡ true
 unfolding precedes
@@ -84,19 +68,14 @@ unfolding precedes
 precedes-lt c w h l = and-i (conflicts c w) _ h (or-r (on c) _ (lt-ltb (at c) (at w) l))
 
 pub precedes-before : (c w : Claim) → Sane c → precedes c w ≡ true → before c w ≡ true
-precedes-before c w s e = go (precedes-e c w e)
-  where
-    go : (on c ≡ true) ⊎ (at c < at w) → before c w ≡ true
-    go (inl o) = before-on c w o
-    go (inr l) = before-key c w (omega (arith, s .small))
+precedes-before c w s e = ⊎-elim (before-on c w) (λ l. before-key c w (omega (arith, s .small))) (precedes-e c w e)
 
--- What ends as w starts, or sooner, precedes it.
+-- What ends as w starts, or sooner, is before it, and precedes it where they conflict.
+pub ends-before : (v : Setting) (c w : Claim) → Sane c → endOf v c ≤ at w → before c w ≡ true
+ends-before v c w s l = by-test (on c) (before-on c w) (λ o. before-key c w (omega (arith, end-wait v c o, s .long, s .small)))
+
 pub ends-precedes : (v : Setting) (c w : Claim) → Sane c → conflicts c w ≡ true → endOf v c ≤ at w → precedes c w ≡ true
-ends-precedes v c w s h l = go (split (on c))
-  where
-    go : (on c ≡ true) ⊎ (on c ≡ false) → precedes c w ≡ true
-    go (inl o) = precedes-on c w h o
-    go (inr o) = precedes-lt c w h (omega (arith, end-wait v c o, s .long))
+ends-precedes v c w s h l = by-test (on c) (precedes-on c w h) (λ o. precedes-lt c w h (omega (arith, end-wait v c o, s .long)))
 
 -- Where nobody overlaps, a conflicting claim before w precedes it.
 pub before-precedes : (v : Setting) (ps : List Claim) → Separated v ps → (c w : Claim) → Sane c → c ∈ ps → w ∈ ps → on w ≡ false → before c w ≡ true
@@ -122,11 +101,9 @@ ascending-map f (c ∷ l) h u =
 pub ascending-keep : (p : Claim → Bool) (l : List Claim) → Ascending l → Ascending (keep p l)
 unfolding keep
 ascending-keep p [] u = tt
-ascending-keep p (c ∷ l) u = go (p c) (ascending-keep p l (u .1))
-  where
-    go : (b : Bool) → Ascending (keep p l) → Ascending (cond b (c ∷ keep p l) (keep p l))
-    go true ih = (λ d m. u .0 d (keep-e p l m .0), ih)
-    go false ih = ih
+ascending-keep p (c ∷ l) u =
+    let ih = ascending-keep p l (u .1) in
+    by-test (p c) (λ e. rw e (λ d m. u .0 d (keep-e p l m .0), ih)) (λ e. rw e ih)
 
 pub ascending-snoc : (l : List Claim) (w : Claim) → Ascending l → Each (λ c. c .ticket < w .ticket) l → Ascending (l ++ (w ∷ []))
 ascending-snoc [] w u h = (λ d m. none m, tt)

@@ -1,8 +1,8 @@
 -- Packing: the equation of a packed start; that packing is what document 01 says; what packing gives, keeps, and leaves alone.
 -- Of an end it uses only proofs/Claims, of a start behind other claims only `for-low`, `for-behind`, `for-least` and `for-is`.
 use mathlib.Core.Path.{_≡_, refl, sym, _∙_, ap, subst}
-use mathlib.Core.Logic.{_⊎_, inl, inr, _≢_}
-use mathlib.Core.Bool.{Bool, true, false, cond}
+use mathlib.Core.Logic.{_⊎_, inl, inr, ⊎-elim, _≢_}
+use mathlib.Core.Bool.{true, false}
 use mathlib.Core.List.{List, [], _∷_, map}
 use Prim.Native.Nat.{ℕ, zero, suc, _+_, _≤_, _<_}
 use native.Mathlib.Omega.{arith}
@@ -15,10 +15,10 @@ use Rattle.rules.specs.Claims.{on, at, withPhase, conflicts, endOf}
 use Rattle.rules.specs.Order.{key, before, precedes, rivals}
 use Rattle.rules.specs.Packing.{startFor, moved, ahead, startWithin, packedStart, pack, Packs}
 use Rattle.rules.specs.Plans.{Ascending, Sane, Apart, Separated, StartsFrom, HeldUp, Tight, Behind, Earliest}
-use Rattle.rules.proofs.Bools.{split, clash, compare, same?}
+use Rattle.rules.proofs.Bools.{by-test, by-order, clash, same?}
 use Rattle.rules.proofs.Lists.{Each, Each2, here, there, greatest-base, greatest-ge, greatest-le, greatest-is, keep-e, keep-i, map-id, map-e, map-i, map-each, map-each2}
 use Rattle.rules.proofs.Claims.{conflicts-sym, waiting-is, end-wait}
-use Rattle.rules.proofs.Order.{before-on, before-key, before-lt, either-before, by-key, precedes-conflicts, precedes-on, precedes-lt, precedes-before, ascending-same}
+use Rattle.rules.proofs.Order.{before-on, before-lt, either-before, by-key, ends-before, precedes-conflicts, precedes-on, precedes-lt, precedes-before, ascending-same}
 
 -- ── the start behind some claims ──
 module _ (v : Setting) (qs : List Claim) (w : Claim) where
@@ -39,13 +39,9 @@ module _ (v : Setting) (qs : List Claim) (w : Claim) where
   -- It is the clock, or the end of a conflicting claim.
   pub for-is : (startFor v qs w ≡ v .clock) ⊎ ((c : Claim) × c ∈ qs × (conflicts c w ≡ true) × (endOf v c ≡ startFor v qs w))
   unfolding startFor
-  for-is = go (greatest-is (endOf v) (v .clock) (rivals qs w))
-    where
-      go : (greatest (endOf v) (v .clock) (rivals qs w) ≡ v .clock) ⊎ ((c : Claim) × c ∈ rivals qs w × (endOf v c ≡ greatest (endOf v) (v .clock) (rivals qs w)))
-          → (greatest (endOf v) (v .clock) (rivals qs w) ≡ v .clock)
-          ⊎ ((c : Claim) × c ∈ qs × (conflicts c w ≡ true) × (endOf v c ≡ greatest (endOf v) (v .clock) (rivals qs w)))
-      go (inl e) = inl e
-      go (inr r) = let k = keep-e (λ c. conflicts c w) qs (r .1) in inr (r .0, k .0, k .1, r .2)
+  for-is =
+      ⊎-elim inl (λ r. let k = keep-e (λ c. conflicts c w) qs (r .1) in inr (r .0, k .0, k .1, r .2))
+      (greatest-is (endOf v) (v .clock) (rivals qs w))
 
 -- ── a claim at a new start ──
 pub moved-on : (f : Claim → ℕ) (c : Claim) → on c ≡ true → moved f c ≡ c
@@ -58,11 +54,7 @@ moved-wait f c e = rw (e, moved)
 
 -- To show something of a claim at its new start, show it of these two.
 pub moved-cases : (P : Claim → Type 0) (f : Claim → ℕ) (c : Claim) → (on c ≡ true → P c) → (on c ≡ false → P (withPhase c (Waiting (f c)))) → P (moved f c)
-moved-cases P f c h k = go (split (on c))
-  where
-    go : (on c ≡ true) ⊎ (on c ≡ false) → P (moved f c)
-    go (inl e) = rw (moved-on f c e) (h e)
-    go (inr e) = rw (moved-wait f c e) (k e)
+moved-cases P f c h k = by-test (on c) (λ e. rw (moved-on f c e) (h e)) (λ e. rw (moved-wait f c e) (k e))
 
 pub moved-ticket : (f : Claim → ℕ) (c : Claim) → moved f c .ticket ≡ c .ticket
 moved-ticket f c = moved-cases (λ (x : Claim). x .ticket ≡ c .ticket) f c (λ p. refl) (λ p. refl)
@@ -110,12 +102,9 @@ ahead-cong : (f g : Claim → ℕ) (ps : List Claim) (w : Claim)
     → ((c : Claim) → c ∈ ps → on c ≡ false → before c w ≡ true → f c ≡ g c) → ahead f ps w ≡ ahead g ps w
 unfolding ahead keep
 ahead-cong f g [] w h = refl
-ahead-cong f g (c ∷ ps) w h = go (before c w) refl (ahead-cong f g ps w (λ d m. h d (there m)))
-  where
-    go : (b : Bool) → before c w ≡ b → ahead f ps w ≡ ahead g ps w
-        → map (moved f) (cond b (c ∷ keep (λ c. before c w) ps) (keep (λ c. before c w) ps)) ≡ map (moved g) (cond b (c ∷ keep (λ c. before c w) ps) (keep (λ c. before c w) ps))
-    go true e ih = cc (moved-cong f g c (λ o. h c here o e))
-    go false e ih = ih
+ahead-cong f g (c ∷ ps) w h =
+    let ih = ahead-cong f g ps w (λ d m. h d (there m)) in
+    by-test (before c w) (λ e. rw e (cc (moved-cong f g c (λ o. h c here o e)))) (λ e. rw e ih)
 
 -- ── the equation ──
 enough : (j k : ℕ) (v : Setting) (ps : List Claim) (w : Claim) → key w < j → key w < k → startWithin j v ps w ≡ startWithin k v ps w
@@ -149,19 +138,14 @@ separated-untied v ps sane f c w m k oc ow n h e = go (either-before c w (sane c
 
 module _ (v : Setting) (ps : List Claim) (sane : Each Sane ps) (ascending : Ascending ps) (untied : Untied ps) where
   first-precedes : (c w : Claim) → c ∈ ps → w ∈ ps → on w ≡ false → before c w ≡ true → conflicts c w ≡ true → precedes c w ≡ true
-  first-precedes c w m k o b h = go (split (on c)) (same? (c .ticket) (w .ticket))
-    where
-      go : (on c ≡ true) ⊎ (on c ≡ false) → (c .ticket ≡ w .ticket) ⊎ (c .ticket ≢ w .ticket) → precedes c w ≡ true
-      go (inl q) z = precedes-on c w h q
-      go (inr q) (inl e) = absurd (omega (arith, before-lt c w b q, ap key (ascending-same ps ascending c w m k e)))
-      go (inr q) (inr n) = precedes-lt c w h (le-or (untied c w m k q o n h) (before-lt c w b q))
-        where
-          le-or : at c ≢ at w → key c < key w → at c < at w
-          le-or d l = go′ (compare (at w) (at c))
-            where
-              go′ : (at w ≤ at c) ⊎ (at c < at w) → at c < at w
-              go′ (inr x) = x
-              go′ (inl x) = absurd (d (omega (arith, sane c m .small, sane w k .small)))
+  first-precedes c w m k o b h =
+      by-test (on c) (precedes-on c w h)
+      (λ q.
+      let l = before-lt c w b q in
+      ⊎-elim
+      (λ e. absurd (omega (arith, ap key (ascending-same ps ascending c w m k e))))
+      (λ n. by-order (at w) (at c) (λ x. absurd (untied c w m k q o n h (omega (arith, sane c m .small, sane w k .small)))) (precedes-lt c w h))
+      (same? (c .ticket) (w .ticket)))
 
   -- At any starts f: the start behind the claims before w is the greatest of the clock and the ends of those that precede w.
   greatest-ends : (f : Claim → ℕ) (w : Claim) → w ∈ ps → on w ≡ false
@@ -219,25 +203,24 @@ module _ (v : Setting) (ps : List Claim) where
   -- What precedes a waiting claim still does.
   pub pack-precedes : (c w : Claim) → Sane c → c ∈ ps → on w ≡ false → precedes c w ≡ true
       → precedes (moved (packedStart v ps) c) (moved (packedStart v ps) w) ≡ true
-  pack-precedes c w s m o p = go (split (on c))
+  pack-precedes c w s m o p =
+      by-test (on c)
+      (λ q. precedes-on _ _ h (moved-phase (packedStart v ps) c ∙ q))
+      (λ q.
+      precedes-lt _ _ h
+      (omega (
+        arith,
+        moved-at (packedStart v ps) c q,
+        moved-at (packedStart v ps) w o,
+        pack-keeps-order c w m (precedes-conflicts c w p) q (precedes-before c w s p),
+        s .long,
+      )))
     where
       h : conflicts (moved (packedStart v ps) c) (moved (packedStart v ps) w) ≡ true
       h =
           moved-conflicts (packedStart v ps) c (moved (packedStart v ps) w)
           ∙ moved-cases (λ (x : Claim). conflicts c x ≡ conflicts c w) (packedStart v ps) w (λ q. refl) (λ q. refl)
           ∙ precedes-conflicts c w p
-
-      go : (on c ≡ true) ⊎ (on c ≡ false) → precedes (moved (packedStart v ps) c) (moved (packedStart v ps) w) ≡ true
-      go (inl q) = precedes-on _ _ h (moved-phase (packedStart v ps) c ∙ q)
-      go (inr q) =
-          precedes-lt _ _ h
-          (omega (
-            arith,
-            moved-at (packedStart v ps) c q,
-            moved-at (packedStart v ps) w o,
-            pack-keeps-order c w m (precedes-conflicts c w p) q (precedes-before c w s p),
-            s .long,
-          ))
 
   pub pack-length : length (pack v ps) ≡ length ps
   unfolding pack
@@ -353,7 +336,8 @@ module _ (v : Setting) (ps : List Claim) where
   unfolding pack new
   pack-earliest sane w m o s h k =
       map-each (λ (x : Claim). on x ≡ false → Behind v (keep (λ c. before c x) (pack v ps)) x s → at x ≤ s) (moved (packedStart v ps)) ps
-      (λ c i. moved-cases (λ (x : Claim). on x ≡ false → Behind v (keep (λ c. before c x) (pack v ps)) x s → at x ≤ s) (packedStart v ps) c (λ p q. clash p q) (λ p q r. go c i r (compare (packedStart v ps c) s)))
+      (λ c i. moved-cases (λ (x : Claim). on x ≡ false → Behind v (keep (λ c. before c x) (pack v ps)) x s → at x ≤ s) (packedStart v ps) c (λ p q. clash p q)
+      (λ p q r. by-order (packedStart v ps c) s (λ l. l) (λ l. rw (start-eq v ps c) (for-least v (ahead (packedStart v ps) ps c) c s h (sooner c (omega arith) r)))))
       w m o k
     where
       sooner : (w : Claim) → s ≤ packedStart v ps w → Behind v (keep (λ c. before c (new w)) (pack v ps)) (new w) s → Behind v (ahead (packedStart v ps) ps w) w s
@@ -363,17 +347,9 @@ module _ (v : Setting) (ps : List Claim) where
           in-pack d i = let a = ahead-e (packedStart v ps) ps w i in subst (λ (x : Claim). x ∈ map (moved (packedStart v ps)) ps) (sym (a .3)) (map-i (moved (packedStart v ps)) (a .1))
 
           first : (d : Claim) → d ∈ ahead (packedStart v ps) ps w → conflicts d w ≡ true → before d (new w) ≡ true
-          first d i p = pick (split (on d))
+          first d i p = ends-before v d (new w) good (start-behind w .after d i p)
             where
               good : Sane d
               good =
                   let a = ahead-e (packedStart v ps) ps w i in
                   subst Sane (sym (a .3)) (moved-cases Sane (packedStart v ps) (a .0) (λ o. sane (a .0) (a .1)) (λ o. record { long = sane (a .0) (a .1) .long; small = sane (a .0) (a .1) .small }))
-
-              pick : (on d ≡ true) ⊎ (on d ≡ false) → before d (new w) ≡ true
-              pick (inl o) = before-on d (new w) o
-              pick (inr o) = before-key d (new w) (omega (arith, start-behind w .after d i p, end-wait v d o, good .long, good .small))
-
-      go : (c : Claim) → c ∈ ps → Behind v (keep (λ d. before d (new c)) (pack v ps)) (new c) s → (packedStart v ps c ≤ s) ⊎ (s < packedStart v ps c) → packedStart v ps c ≤ s
-      go c i r (inl l) = l
-      go c i r (inr l) = rw (start-eq v ps c) (for-least v (ahead (packedStart v ps) ps c) c s h (sooner c (omega arith) r))

@@ -1,6 +1,6 @@
 -- Placing: the start fits, is the least of all numbers that do, and is the clock or the end of a conflicting claim.
 use mathlib.Core.Path.{_≡_, refl, sym, subst}
-use mathlib.Core.Logic.{_⊎_, inl, inr}
+use mathlib.Core.Logic.{_⊎_, inl, inr, ⊎-elim}
 use mathlib.Core.Bool.{Bool, true, false, not, _&&_, _||_, cond}
 use mathlib.Core.List.{List, List·Memᴰ·head, List·Memᴰ·tail}
 use Prim.Native.Nat.{ℕ, _+_, _≤_, _<_, max}
@@ -13,7 +13,7 @@ use Rattle.rules.specs.declared.Setting.{Setting}
 use Rattle.rules.specs.Claims.{on, at, conflicts, endOf}
 use Rattle.rules.specs.Placing.{clear, fits, candidates, seek, place}
 use Rattle.rules.specs.Plans.{Room, Fits}
-use Rattle.rules.proofs.Bools.{split, clash, and-l, and-r, or-e, or-r, or-fl, or-fr}
+use Rattle.rules.proofs.Bools.{by-test, and-l, and-r, or-e, or-r, or-fl, or-fr}
 use Rattle.rules.proofs.Lists.{Each, here, there, greatest-base, greatest-ge, greatest-le, greatest-is, all-e, all-i, map-i, map-each, least-le, least-passes, least-low}
 
 -- A claim that leaves no room at s conflicts with w and ends after s; if it waits, w would still run at its start.
@@ -37,12 +37,8 @@ anchor v matters ps s = greatest (endUpTo v matters s) (v .clock) ps
 
 endUpTo-le : (v : Setting) (matters : Claim → Bool) (s : ℕ) (c : Claim) → endUpTo v matters s c ≤ s
 unfolding endUpTo
-endUpTo-le v matters s c = go (matters c) (leb (endOf v c) s) refl
-  where
-    go : (a b : Bool) → leb (endOf v c) s ≡ b → cond (a && b) (endOf v c) 0 ≤ s
-    go true true e = leb-true _ _ e
-    go true false e = omega arith
-    go false b e = omega arith
+endUpTo-le v matters s c =
+    by-test (matters c && leb (endOf v c) s) (λ e. rw e (leb-true _ _ (and-r (matters c) _ e))) (λ e. rw e (omega arith))
 
 module _ (v : Setting) (matters : Claim → Bool) (ps : List Claim) where
   anchor-le : (s : ℕ) → v .clock ≤ s → anchor v matters ps s ≤ s
@@ -59,18 +55,13 @@ module _ (v : Setting) (matters : Claim → Bool) (ps : List Claim) where
 
   anchor-is : (s : ℕ) → (anchor v matters ps s ≡ v .clock) ⊎ ((c : Claim) × c ∈ ps × (matters c ≡ true) × (endOf v c ≡ anchor v matters ps s))
   unfolding anchor endUpTo
-  anchor-is s = go (greatest-is (endUpTo v matters s) (v .clock) ps)
-    where
-      pick : (c : Claim) → c ∈ ps → (a b : Bool) → matters c ≡ a → cond (a && b) (endOf v c) 0 ≡ greatest (endUpTo v matters s) (v .clock) ps
-          → (greatest (endUpTo v matters s) (v .clock) ps ≡ v .clock) ⊎ ((c : Claim) × c ∈ ps × (matters c ≡ true) × (endOf v c ≡ greatest (endUpTo v matters s) (v .clock) ps))
-      pick c m true true e q = inr (c, m, e, q)
-      pick c m true false e q = inl (omega (arith, greatest-base (endUpTo v matters s) (v .clock) ps))
-      pick c m false b e q = inl (omega (arith, greatest-base (endUpTo v matters s) (v .clock) ps))
-
-      go : (greatest (endUpTo v matters s) (v .clock) ps ≡ v .clock) ⊎ ((c : Claim) × c ∈ ps × (endUpTo v matters s c ≡ greatest (endUpTo v matters s) (v .clock) ps))
-          → (greatest (endUpTo v matters s) (v .clock) ps ≡ v .clock) ⊎ ((c : Claim) × c ∈ ps × (matters c ≡ true) × (endOf v c ≡ greatest (endUpTo v matters s) (v .clock) ps))
-      go (inl e) = inl e
-      go (inr r) = pick (r .0) (r .1) (matters (r .0)) (leb (endOf v (r .0)) s) refl (r .2)
+  anchor-is s =
+      ⊎-elim inl
+      (λ r.
+      by-test (matters (r .0) && leb (endOf v (r .0)) s)
+      (λ e. inr (r .0, r .1, and-l (matters (r .0)) _ e, rw e at (r .2)))
+      (λ e. let q = rw e at (r .2) in inl (omega (arith, greatest-base (endUpTo v matters s) (v .clock) ps))))
+      (greatest-is (endUpTo v matters s) (v .clock) ps)
 
 -- ── seeking, for any test that passes behind all ends, and at the anchor of each start where it passes ──
 module _ (v : Setting) (matters : Claim → Bool) (ps : List Claim) (p : ℕ → Bool) (last : p (greatest (endOf v) (v .clock) ps) ≡ true)
@@ -117,27 +108,22 @@ module _ (v : Setting) (matters : Claim → Bool) (ps : List Claim) (p : ℕ →
 -- ── what fits ──
 clear-e : (v : Setting) (w : Claim) (s : ℕ) (c : Claim) → clear v w s c ≡ true → conflicts c w ≡ true → Room v w s c
 unfolding clear
-clear-e v w s c e h = go (or-e (not (conflicts c w)) _ e)
-  where
-    more : (leb (endOf v c) s ≡ true) ⊎ ((not (on c) && leb (s + w .length) (at c)) ≡ true) → Room v w s c
-    more (inl p) = inl (leb-true _ _ p)
-    more (inr p) = inr (not-true (on c) (and-l (not (on c)) _ p), leb-true _ _ (and-r (not (on c)) _ p))
-
-    go : (not (conflicts c w) ≡ true) ⊎ ((leb (endOf v c) s || (not (on c) && leb (s + w .length) (at c))) ≡ true) → Room v w s c
-    go (inl p) = clash h (not-true (conflicts c w) p)
-    go (inr p) = more (or-e (leb (endOf v c) s) _ p)
+clear-e v w s c e h =
+    let r : (leb (endOf v c) s || (not (on c) && leb (s + w .length) (at c))) ≡ true = rw h at e in
+    ⊎-elim
+    (λ p. inl (leb-true _ _ p))
+    (λ p. inr (not-true (on c) (and-l (not (on c)) _ p), leb-true _ _ (and-r (not (on c)) _ p)))
+    (or-e (leb (endOf v c) s) _ r)
 
 clear-i : (v : Setting) (w : Claim) (s : ℕ) (c : Claim) → (conflicts c w ≡ true → Room v w s c) → clear v w s c ≡ true
 unfolding clear
-clear-i v w s c h = go (split (conflicts c w))
-  where
-    more : Room v w s c → (leb (endOf v c) s || (not (on c) && leb (s + w .length) (at c))) ≡ true
-    more (inl p) = rw (le-leb (endOf v c) s p)
-    more (inr p) = rw (p .0, le-leb (s + w .length) (at c) (p .1)) (or-r (leb (endOf v c) s) true refl)
-
-    go : (conflicts c w ≡ true) ⊎ (conflicts c w ≡ false) → not (conflicts c w) || (leb (endOf v c) s || (not (on c) && leb (s + w .length) (at c))) ≡ true
-    go (inl e) = rw e (more (h e))
-    go (inr e) = rw e
+clear-i v w s c h =
+    by-test (conflicts c w)
+    (λ e. rw e (⊎-elim
+    (λ p. rw (le-leb (endOf v c) s p))
+    (λ p. rw (p .0, le-leb (s + w .length) (at c) (p .1)) (or-r (leb (endOf v c) s) true refl))
+    (h e)))
+    (λ e. rw e)
 
 pub fits-e : (v : Setting) (ps : List Claim) (w : Claim) (s : ℕ) → fits v ps w s ≡ true → Fits v ps w s
 unfolding fits
@@ -157,11 +143,10 @@ module _ (v : Setting) (ps : List Claim) (w : Claim) where
 
   down : (s : ℕ) → v .clock ≤ s → fits v ps w s ≡ true → fits v ps w (anchor v rival ps s) ≡ true
   unfolding rival
-  down s h e = fits-i v ps w _ (record { room = λ c m q. go c m q (fits-e v ps w s e .room c m q) })
-    where
-      go : (c : Claim) → c ∈ ps → conflicts c w ≡ true → Room v w s c → Room v w (anchor v rival ps s) c
-      go c m q (inl r) = inl (anchor-ge v rival ps s c m q r)
-      go c m q (inr r) = inr (r .0, omega (arith, r .1, anchor-le v rival ps s h))
+  down s h e = fits-i v ps w _ (record {
+    room = λ c m q.
+        ⊎-elim (λ r. inl (anchor-ge v rival ps s c m q r)) (λ r. inr (r .0, omega (arith, r .1, anchor-le v rival ps s h))) (fits-e v ps w s e .room c m q);
+  })
 
   pub place-low : v .clock ≤ place v ps w
   unfolding place

@@ -14,7 +14,7 @@ use Rattle.rules.specs.Claims.{on, withPhase, conflicts, endOf}
 use Rattle.rules.specs.Order.{key, before}
 use Rattle.rules.specs.Packing.{startFor, moved, ahead, packedStart, pack}
 use Rattle.rules.specs.Plans.{Ascending, Sane}
-use Rattle.rules.proofs.Bools.{split, clash, both-ways, same?}
+use Rattle.rules.proofs.Bools.{split, by-test, clash, both-ways, same?}
 use Rattle.rules.proofs.Lists.{Each, keep-e, keep-cong, keep-map, map-e, map-i, map-cong}
 use Rattle.rules.proofs.Claims.{conflicts-sym}
 use Rattle.rules.proofs.Order.{before-on, before-key, before-lt, either-before, by-key, ascending-same}
@@ -22,14 +22,13 @@ use Rattle.rules.proofs.Packing.{moved-on, moved-wait, moved-cases, mov
 
 -- Moving a claim twice is moving it to the second start.
 moved-twice : (f g h : Claim → ℕ) (c : Claim) → (on c ≡ false → f (moved g c) ≡ h c) → moved f (moved g c) ≡ moved h c
-moved-twice f g h c e = go (split (on c))
-  where
-    go : (on c ≡ true) ⊎ (on c ≡ false) → moved f (moved g c) ≡ moved h c
-    go (inl o) = moved-on f (moved g c) (moved-phase g c ∙ o) ∙ moved-on g c o ∙ sym (moved-on h c o)
-    go (inr o) =
-        moved-wait f (moved g c) (moved-phase g c ∙ o)
-        ∙ ap (λ (s : ℕ). withPhase (moved g c) (Waiting s)) (e o)
-        ∙ moved-cases (λ (x : Claim). withPhase x (Waiting (h c)) ≡ moved h c) g c (λ q. clash q o) (λ q. sym (moved-wait h c o))
+moved-twice f g h c e =
+    by-test (on c)
+    (λ o. moved-on f (moved g c) (moved-phase g c ∙ o) ∙ moved-on g c o ∙ sym (moved-on h c o))
+    (λ o.
+    moved-wait f (moved g c) (moved-phase g c ∙ o)
+    ∙ ap (λ (s : ℕ). withPhase (moved g c) (Waiting s)) (e o)
+    ∙ moved-cases (λ (x : Claim). withPhase x (Waiting (h c)) ≡ moved h c) g c (λ q. clash q o) (λ q. sym (moved-wait h c o)))
 
 -- At the starts g, conflicting claims stand in the order in which they stood.
 abbrev KeepsOrder : (Claim → ℕ) → List Claim → Type 0
@@ -127,10 +126,7 @@ module _ (v : Setting) (ps : List Claim) (sane : Each Sane ps) (ascending : Asce
 
   -- Packing what is packed changes nothing.
   pub pack-twice : pack v (pack v ps) ≡ pack v ps
-  pack-twice = ap (pack v) is-moved ∙ pack-moved v (packedStart v ps) ps packed-order
-    where
-      is-moved : pack v ps ≡ map (moved (packedStart v ps)) ps
-      is-moved = pack-is v ps
+  pack-twice = ap (pack v) (pack-is v ps) ∙ pack-moved v (packedStart v ps) ps packed-order
 
   -- Claims that leave after a packing may as well leave before it. (Who leaves is told by the ticket.)
   pub pack-keep : (p : ℕ → Bool) → pack v (keep (λ c. p (c .ticket)) (pack v ps)) ≡ pack v (keep (λ c. p (c .ticket)) ps)

@@ -2,7 +2,7 @@
 -- code wraps.
 use mathlib.Core.Path.{_≡_, refl, ap}
 use mathlib.Core.Logic.{_⊎_, inl, inr}
-use mathlib.Core.Bool.{Bool, true, false, cond}
+use mathlib.Core.Bool.{true, false, cond}
 use mathlib.Core.List.{List}
 use Prim.Native.Nat.{ℕ, _+_, _≤_, _<_}
 use native.Mathlib.Omega.{arith}
@@ -15,8 +15,8 @@ use Rattle.rules.specs.declared.Setting.{Setting}
 use Rattle.rules.specs.Claims.{on, withPhase, conflicts, endOf}
 use Rattle.rules.specs.Order.{key, before}
 use Rattle.rules.specs.Packing.{startFor, ahead, packedStart}
-use Rattle.rules.proofs.Bools.{split}
 use Rattle.rules.proofs.Lists.{sum-le, sum-gap}
+use Rattle.rules.proofs.Bools.{by-test}
 use Rattle.rules.proofs.Claims.{end-wait}
 use Rattle.rules.proofs.Order.{before-lt, by-key}
 use Rattle.rules.proofs.Packing.{moved-cases, ahead-e, start-eq, for-is}
@@ -27,19 +27,14 @@ sooner w c = cond (ltb (key c) (key w)) (c .length) 0
 
 sooner-le : (w c : Claim) → sooner w c ≤ c .length
 unfolding sooner
-sooner-le w c = go (ltb (key c) (key w))
-  where
-    go : (b : Bool) → cond b (c .length) 0 ≤ c .length
-    go true = omega arith
-    go false = omega arith
+sooner-le w c = by-test (ltb (key c) (key w)) (λ e. rw e (omega arith)) (λ e. rw e (omega arith))
 
 sooner-mono : (c w d : Claim) → key c < key w → sooner c d ≤ sooner w d
 unfolding sooner
-sooner-mono c w d l = go (split (ltb (key d) (key c)))
-  where
-    go : (ltb (key d) (key c) ≡ true) ⊎ (ltb (key d) (key c) ≡ false) → cond (ltb (key d) (key c)) (d .length) 0 ≤ cond (ltb (key d) (key w)) (d .length) 0
-    go (inl e) = let k = ltb-true (key d) (key c) e in rw (e, lt-ltb (key d) (key w) (omega arith)) (omega arith)
-    go (inr e) = rw e (omega arith)
+sooner-mono c w d l =
+    by-test (ltb (key d) (key c))
+    (λ e. let k = ltb-true (key d) (key c) e in rw (e, lt-ltb (key d) (key w) (omega arith)) (omega arith))
+    (λ e. rw e (omega arith))
 
 sooner-gap : (c w : Claim) → key c < key w → sooner c c + c .length ≤ sooner w c
 unfolding sooner

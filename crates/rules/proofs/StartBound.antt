@@ -1,8 +1,7 @@
 -- The planned start of a new claim is at most its start bound: each number below the start is ruled out by a conflicting claim, and
 -- a claim rules out only so many. Proved once for intervals.
-use mathlib.Core.Path.{_≡_, refl}
-use mathlib.Core.Logic.{_⊎_, inl, inr}
-use mathlib.Core.Bool.{Bool, true, false, cond}
+use mathlib.Core.Path.{_≡_}
+use mathlib.Core.Bool.{true, false, cond}
 use mathlib.Core.List.{List}
 use Prim.Native.Nat.{ℕ, zero, suc, _+_, _-_, _≤_, _<_, min}
 use native.Mathlib.Omega.{arith}
@@ -12,7 +11,7 @@ use Rattle.rules.specs.declared.Setting.{Setting}
 use Rattle.rules.specs.Claims.{on, at, conflicts, endOf, remaining}
 use Rattle.rules.specs.Order.{rivals}
 use Rattle.rules.specs.Placing.{clear, fits, place, contention, startBound}
-use Rattle.rules.proofs.Bools.{split}
+use Rattle.rules.proofs.Bools.{by-test}
 use Rattle.rules.proofs.Lists.{sum-le, sum-gap, sum-add, all-not, keep-i}
 use Rattle.rules.proofs.Claims.{end-wait}
 use Rattle.rules.proofs.Placing.{barred, fits-e, place-least}
@@ -43,11 +42,9 @@ module _ (v : Setting) (ps : List Claim) (w : Claim) where
 
   ruled-by : (x : ℕ) → v .clock ≤ x → (c : Claim) → clear v w x c ≡ false → (conflicts c w ≡ true) × (from c ≤ x) × (x < endOf v c)
   unfolding from
-  ruled-by x h c e = let b = barred v w x c e in (b .0, go (on c) (b .2), b .1)
-    where
-      go : (t : Bool) → (t ≡ false → at c < x + w .length) → cond t (v .clock) (suc (at c) - w .length) ≤ x
-      go true q = h
-      go false q = omega (arith, q refl)
+  ruled-by x h c e =
+      let b = barred v w x c e in
+      (b .0, by-test (on c) (λ o. rw o h) (λ o. rw o (omega (arith, b .2 o))), b .1)
 
   ruled-out : (x : ℕ) → v .clock ≤ x → fits v ps w x ≡ false → (c : Claim) × c ∈ rivals ps w × (from c ≤ x) × (x < endOf v c)
   unfolding fits
@@ -59,11 +56,7 @@ module _ (v : Setting) (ps : List Claim) (w : Claim) where
   -- So many it rules out.
   count : (c : Claim) → endOf v c - from c ≤ remaining v c + (w .length - 1)
   unfolding from remaining
-  count c = go (on c) refl
-    where
-      go : (b : Bool) → on c ≡ b → endOf v c - cond b (v .clock) (suc (at c) - w .length) ≤ cond b (endOf v c - v .clock) (c .length) + (w .length - 1)
-      go true e = omega arith
-      go false e = omega (arith, end-wait v c e)
+  count c = by-test (on c) (λ e. rw e (omega arith)) (λ e. rw e (omega (arith, end-wait v c e)))
 
   pub place-bound : place v ps w ≤ startBound v ps w
   unfolding startBound contention
@@ -76,8 +69,4 @@ module _ (v : Setting) (ps : List Claim) (w : Claim) where
       )
     where
       below : (x : ℕ) → v .clock ≤ x → x < place v ps w → (c : Claim) × c ∈ rivals ps w × (from c ≤ x) × (x < endOf v c)
-      below x h k = go (split (fits v ps w x))
-        where
-          go : (fits v ps w x ≡ true) ⊎ (fits v ps w x ≡ false) → (c : Claim) × c ∈ rivals ps w × (from c ≤ x) × (x < endOf v c)
-          go (inl e) = absurd (omega (arith, place-least v ps w x h (fits-e v ps w x e)))
-          go (inr e) = ruled-out x h e
+      below x h k = by-test (fits v ps w x) (λ e. absurd (omega (arith, place-least v ps w x h (fits-e v ps w x e)))) (ruled-out x h)
