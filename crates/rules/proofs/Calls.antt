@@ -1,7 +1,7 @@
 -- The calls: what accepting one means, its cases, and that every call keeps the invariant.
 use mathlib.Core.Path.{_≡_, refl, sym, _∙_, ap}
-use mathlib.Core.Logic.{_⊎_, inl, inr, _≢_}
-use mathlib.Core.Bool.{Bool, true, false, not, cond}
+use mathlib.Core.Logic.{_⊎_, inl, inr, ⊎-elim, _≢_}
+use mathlib.Core.Bool.{true, false, not}
 use mathlib.Core.List.{List, [], _∷_, List·Memᴰ·append-cases, List·Memᴰ·eq-of-singleton}
 use Prim.Native.Nat.{ℕ, zero, suc, _≤_, _<_}
 use native.Mathlib.Omega.{arith}
@@ -24,7 +24,7 @@ use Rattle.rules.specs.declared.Reply.{Reply}
 use Rattle.rules.specs.Calls.{Model, settingOf, ruled, Call, claim, release, withdraw, clock, lookup, timed, clockOf, Step, tests, unchanged, advance, plain, finish, join, remove, fresh, admit, act, unless, step, blank, new, after}
 use Rattle.rules.specs.Plans.{Fits, Sane}
 use Rattle.rules.specs.Invariants.{IsSpaced, IsPacked, Invariant}
-use Rattle.rules.proofs.Bools.{or-fl, or-fr}
+use Rattle.rules.proofs.Bools.{by-test, or-fl, or-fr}
 use Rattle.rules.proofs.Lists.{Each, none, keep-e, map-e, map-i}
 use Rattle.rules.proofs.Order.{ascending-same}
 use Rattle.rules.proofs.Packing.{moved-ticket, separated-untied, pack-as-documented, pack-unique}
@@ -36,11 +36,7 @@ use Rattle.rules.proofs.Invariants.{packs, grant-settles, spaced-packab
 -- Where no test fails, the first does not, and none of the rest.
 pub passes : (x : Test) (ts : List Test) → 1 ≤ x .number → firstOf (x ∷ ts) ≡ 0 → (x .fails ≡ false) × (firstOf ts ≡ 0)
 unfolding firstOf
-passes x ts h e = go (x .fails) refl e
-  where
-    go : (b : Bool) → x .fails ≡ b → cond b (x .number) (firstOf ts) ≡ 0 → (x .fails ≡ false) × (firstOf ts ≡ 0)
-    go true q e = absurd (omega arith)
-    go false q e = (q, e)
+passes x ts h e = by-test (x .fails) (λ q. let z = rw q at e in absurd (omega arith)) (λ q. (q, rw q at e))
 
 -- The clock of an accepted timed call.
 pub record Clocked (m : Model) (t : ℕ) : Type 0 where
@@ -171,11 +167,8 @@ leaves-old (by-clock t) y i = i
 
 pub join-old : (m : Model) (w : Claim) → w .ticket ≡ suc (m .issued) → (y : Claim) → y ∈ join m w .pending → (y ∈ m .pending) ⊎ (m .issued < y .ticket)
 unfolding join
-join-old m w e y i = go (List·Memᴰ·append-cases (m .pending) i)
-  where
-    go : (y ∈ m .pending) ⊎ (y ∈ (w ∷ [])) → (y ∈ m .pending) ⊎ (m .issued < y .ticket)
-    go (inl j) = inl j
-    go (inr j) = inr (omega (arith, ap (λ (z : Claim). z .ticket) (List·Memᴰ·eq-of-singleton j)))
+join-old m w e y i =
+    ⊎-elim inl (λ j. inr (omega (arith, ap (λ (z : Claim). z .ticket) (List·Memᴰ·eq-of-singleton j)))) (List·Memᴰ·append-cases (m .pending) i)
 
 -- The clock of what is left, and after the call.
 pub leaves-clock : {m : Model} {c : Call} {t k : ℕ} {q : Model} → Leaves m c t k q → (q .clock ≡ t) × (clockOf c ≡ t)
@@ -249,11 +242,7 @@ blank-invariant g = record {
 -- To show something of a new table, show it of a refused one and of the others.
 pub new-cases : (P : Step → Type 0) (g : ℕ) → (empty g ≡ true → P (unchanged (blank 0) 1)) → (empty g ≡ false → P (unchanged (blank g) 0)) → P (new g)
 unfolding new
-new-cases P g h k = go (empty g) refl
-  where
-    go : (b : Bool) → empty g ≡ b → P (cond b (unchanged (blank 0) 1) (unchanged (blank g) 0))
-    go true e = h e
-    go false e = k e
+new-cases P g h k = by-test (empty g) (λ e. rw e (h e)) (λ e. rw e (k e))
 
 pub new-invariant : (g : ℕ) → Invariant (new g .model)
 new-invariant g = new-cases (λ (s : Step). Invariant (s .model)) g (λ e. blank-invariant 0) (λ e. blank-invariant g)

@@ -1,9 +1,9 @@
 -- How many tickets a call names as granted: no more than are then pending, and over calls no more than were issued, since a claim is
 -- granted once.
 use mathlib.Core.Path.{_≡_, refl}
-use mathlib.Core.Bool.{Bool, true, false, not, cond}
+use mathlib.Core.Bool.{Bool, not, cond}
 use mathlib.Core.List.{List, [], _∷_, _++_, map}
-use Prim.Native.Nat.{ℕ, suc, _+_, _-_, _≤_}
+use Prim.Native.Nat.{ℕ, _+_, _-_, _≤_}
 use native.Mathlib.Omega.{arith}
 use lib.ListN.{length, length-map}
 use Rattle.rules.specs.declared.Claim.{Claim}
@@ -16,7 +16,7 @@ use Rattle.rules.specs.Granting.{goes, granted, grant, grants}
 use Rattle.rules.specs.Tests.{named}
 use Rattle.rules.specs.declared.Reply.{Reply}
 use Rattle.rules.specs.Calls.{Model, settingOf, ruled, Call, Step, unchanged, advance, plain, finish, join, remove, admit, step, blank, new}
-use Rattle.rules.proofs.Bools.{clash}
+use Rattle.rules.proofs.Bools.{by-test}
 use Rattle.rules.proofs.Lists.{keep-length}
 use Rattle.rules.proofs.Packing.{moved-phase}
 use Rattle.rules.proofs.Granting.{goes-wait, granted-cases}
@@ -49,31 +49,21 @@ waiting-pack v ps = waiting-map (moved (packedStart v ps)) (moved-phase (packedS
 waiting-keep : (p : Claim → Bool) (ps : List Claim) → waitingIn (keep p ps) ≤ waitingIn ps
 unfolding waitingIn sum keep
 waiting-keep p [] = omega arith
-waiting-keep p (c ∷ ps) = go (p c) (waiting-keep p ps)
-  where
-    go : (b : Bool) → sum waits (keep p ps) ≤ sum waits ps → sum waits (cond b (c ∷ keep p ps) (keep p ps)) ≤ waits c + sum waits ps
-    go true h = omega arith
-    go false h = omega arith
+waiting-keep p (c ∷ ps) = let h = waiting-keep p ps in by-test (p c) (λ e. rw e (omega arith)) (λ e. rw e (omega arith))
 
 waiting-snoc : (ps : List Claim) (w : Claim) → waitingIn (ps ++ (w ∷ [])) ≤ waitingIn ps + 1
 unfolding waitingIn sum
-waiting-snoc [] w = go (on w)
-  where
-    go : (b : Bool) → cond b 0 1 + 0 ≤ 1
-    go true = omega arith
-    go false = omega arith
+waiting-snoc [] w = by-test (on w) (λ e. rw e (omega arith)) (λ e. rw e (omega arith))
 waiting-snoc (c ∷ ps) w = omega (arith, waiting-snoc ps w)
 
 -- What goes on waits no longer.
 waiting-grant : (v : Setting) (qs ps : List Claim) → length (keep (goes qs) ps) + waitingIn (map (granted v qs) ps) ≤ waitingIn ps
 unfolding waitingIn sum keep
 waiting-grant v qs [] = omega arith
-waiting-grant v qs (c ∷ ps) = go (goes qs c) refl (waiting-grant v qs ps)
-  where
-    go : (b : Bool) → goes qs c ≡ b → length (keep (goes qs) ps) + sum waits (map (granted v qs) ps) ≤ sum waits ps
-        → length (cond b (c ∷ keep (goes qs) ps) (keep (goes qs) ps)) + (waits (granted v qs c) + sum waits (map (granted v qs) ps)) ≤ waits c + sum waits ps
-    go true e h = granted-cases (λ (x : Claim). suc (length (keep (goes qs) ps)) + (waits x + sum waits (map (granted v qs) ps)) ≤ waits c + sum waits ps) v qs c (λ g. rw (goes-wait qs c e) (omega arith)) (λ g. clash e g)
-    go false e h = granted-cases (λ (x : Claim). length (keep (goes qs) ps) + (waits x + sum waits (map (granted v qs) ps)) ≤ waits c + sum waits ps) v qs c (λ g. clash g e) (λ g. omega arith)
+waiting-grant v qs (c ∷ ps) =
+    let h = waiting-grant v qs ps in
+    granted-cases (λ (x : Claim). length (keep (goes qs) (c ∷ ps)) + (waits x + sum waits (map (granted v qs) ps)) ≤ waits c + sum waits ps) v qs c
+    (λ g. rw (g, goes-wait qs c g) (omega arith)) (λ g. rw g (omega arith))
 
 -- A step from the table m.
 pub record Counted (m : Model) (s : Step) : Type 0 where
