@@ -3,22 +3,23 @@ use mathlib.Core.Path.{_≡_, refl, sym, _∙_, ap}
 use mathlib.Core.Logic.{_≢_}
 use mathlib.Core.Bool.{Bool, true, false, not, _&&_, _||_, cond}
 use mathlib.Core.List.{List, [], _∷_}
-use Prim.Native.Nat.{ℕ, zero, suc, _+_, _≤_}
+use Prim.Native.Nat.{ℕ, zero, suc, _+_}
 use native.Mathlib.Omega.{arith}
 use lib.Dec.{ltb}
 use lib.ListN.{length}
-use borrow.Author.Tests.{ltb-false, eqb-true, ne-eqb}
-use Rattle.numbers.specs.Numbers.{lateNumber, backwardNumber, mostClock}
+use borrow.Author.Tests.{eqb-true, ne-eqb}
+use Rattle.numbers.specs.Numbers.{mostClock}
 use Rattle.rules.specs.declared.Claim.{Claim}
 use Rattle.rules.specs.Lists.{any}
 use Rattle.rules.specs.Claims.{on, at}
 use Rattle.rules.specs.declared.Standing.{Standing}
 use Rattle.rules.specs.declared.Standing.the-variants.{Waits, Holds}
 use Rattle.rules.specs.Tests.{Test, test, firstOf, named, late, backward}
-use Rattle.rules.specs.Calls.{Model, Call, Step, clock, lookup, tests, unchanged, act, step, unless, standing, standingOf, standingValues}
+use Rattle.rules.specs.Calls.{Model, Call, Step, clock, lookup, tests, unchanged, act, step, unless, standingOf, standingValues}
 use Rattle.rules.specs.Plans.{Ascending}
+use Rattle.rules.proofs.Bools.{by-test}
 use Rattle.rules.proofs.Lists.{Each, any-false}
-use Rattle.rules.proofs.Calls.{passes}
+use Rattle.rules.proofs.Calls.{Clocked, clock-passes}
 use Rattle.table.specs.Outcomes.{timeNumber, phaseNumber, orElse, leaving}
 
 -- ── the first test that fails ──
@@ -34,12 +35,7 @@ past x ts q e = e ∙ sym (rw q)
 -- What the tests 5 and 4 say, and what comes after them.
 pub first-timed : (m : Model) (t : ℕ) (ts : List Test) → firstOf (late t ∷ backward (m .clock) t ∷ ts) ≡ orElse (timeNumber (m .clock) t) (firstOf ts)
 unfolding firstOf timeNumber
-first-timed m t ts = go (ltb mostClock t) (ltb t (m .clock))
-  where
-    go : (a b : Bool) → cond a lateNumber (cond b backwardNumber (firstOf ts)) ≡ orElse (cond a lateNumber (cond b backwardNumber 0)) (firstOf ts)
-    go true b = refl
-    go false true = refl
-    go false false = refl
+first-timed m t ts = by-test (ltb mostClock t) (λ a. rw a) (λ a. by-test (ltb t (m .clock)) (λ b. rw (a, b)) (λ b. rw (a, b)))
 
 pub timed-fails : (m : Model) (t n : ℕ) (ts : List Test) → n ≡ timeNumber (m .clock) t → n ≢ 0 → firstOf (late t ∷ backward (m .clock) t ∷ ts) ≡ n
 timed-fails m t n ts e z = first-timed m t ts ∙ go (timeNumber (m .clock) t) e
@@ -52,12 +48,9 @@ pub timed-passes : (m : Model) (t n : ℕ) (ts : List Test) → n ≡ timeNumber
 timed-passes m t n ts e z = first-timed m t ts ∙ ap (λ (k : ℕ). orElse k (firstOf ts)) (sym e ∙ z)
 
 -- A clock that fails neither test.
-pub time-ok : (now t : ℕ) → timeNumber now t ≡ 0 → (now ≤ t) × (t ≤ mostClock)
+pub time-ok : (m : Model) (t : ℕ) → timeNumber (m .clock) t ≡ 0 → Clocked m t
 unfolding timeNumber
-time-ok now t e =
-    let a = passes (late t) _ (omega arith) e in
-    let b = passes (backward now t) [] (omega arith) (a .1) in
-    (ltb-false t now (b .0), ltb-false mostClock t (a .0))
+time-ok m t e = clock-passes m t [] e .0
 
 pub clock-timed : (m : Model) (t n : ℕ) → n ≡ timeNumber (m .clock) t → n ≢ 0 → firstOf (tests m (clock t)) ≡ n
 unfolding tests
@@ -82,7 +75,7 @@ phase-first : (b : Bool) (k : ℕ) (ps : List Claim) → Ascending ps
     → firstOf (test (not (any (named k) ps)) 8 ∷ test (any (λ c. named k c && cond b (not (on c)) (on c)) ps) (cond b 9 10) ∷ []) ≡ phaseNumber b (standingOf k ps)
 unfolding firstOf any standingOf
 phase-first b k [] a = refl
-phase-first b k (c ∷ ps) a = go (named k c) refl (phase-first b k ps (a .1))
+phase-first b k (c ∷ ps) a = by-test (named k c) (λ e. rw (e, none e) (here-is b (on c))) (λ e. rw e (phase-first b k ps (a .1)))
   where
     later : named k c ≡ true → Each (λ d. named k d ≡ false) ps
     later e d m = ne-eqb (d .ticket) k (λ q. omega (arith, a .0 d m, eqb-true (c .ticket) k e))
@@ -90,19 +83,12 @@ phase-first b k (c ∷ ps) a = go (named k c) refl (phase-first b k ps (a .1))
     none : named k c ≡ true → any (λ d. named k d && cond b (not (on d)) (on d)) ps ≡ false
     none e = any-false (λ d. named k d && cond b (not (on d)) (on d)) ps (λ d m. ap (λ (x : Bool). x && cond b (not (on d)) (on d)) (later e d m))
 
-    here-is : (b o : Bool) → on c ≡ o
+    here-is : (b o : Bool)
         → cond (cond b (not o) o || false) (cond b 9 10) 0 ≡ phaseNumber b (cond o (Holds (at c + c .length)) (Waits (at c)))
-    here-is true true e = refl
-    here-is true false e = refl
-    here-is false true e = refl
-    here-is false false e = refl
-
-    go : (x : Bool) → named k c ≡ x
-        → cond (not (any (named k) ps)) 8 (cond (any (λ d. named k d && cond b (not (on d)) (on d)) ps) (cond b 9 10) 0) ≡ phaseNumber b (standingOf k ps)
-        → cond (not (x || any (named k) ps)) 8 (cond ((x && cond b (not (on c)) (on c)) || any (λ d. named k d && cond b (not (on d)) (on d)) ps) (cond b 9 10) 0)
-        ≡ phaseNumber b (cond x (standing c) (standingOf k ps))
-    go true e ih = rw (none e) (here-is b (on c) refl)
-    go false e ih = ih
+    here-is true true = refl
+    here-is true false = refl
+    here-is false true = refl
+    here-is false false = refl
 
 pub leave-tests : (m : Model) (b : Bool) (t k n : ℕ) → Ascending (m .pending) → n ≡ timeNumber (m .clock) t → n ≡ 0
     → firstOf (tests m (leaving b t k)) ≡ phaseNumber b (standingOf k (m .pending))
@@ -119,16 +105,7 @@ leave-timed m false t k n e z = timed-fails m t n _ e z
 number-first : (k : ℕ) (ps : List Claim) → standingValues (standingOf k ps) .number ≡ cond (not (any (named k) ps)) 8 0
 unfolding any standingOf
 number-first k [] = refl
-number-first k (c ∷ ps) = go (named k c) (number-first k ps)
-  where
-    found : (o : Bool) → standingValues (cond o (Holds (at c + c .length)) (Waits (at c))) .number ≡ 0
-    found true = refl
-    found false = refl
-
-    go : (x : Bool) → standingValues (standingOf k ps) .number ≡ cond (not (any (named k) ps)) 8 0
-        → standingValues (cond x (standing c) (standingOf k ps)) .number ≡ cond (not (x || any (named k) ps)) 8 0
-    go true ih = found (on c)
-    go false ih = ih
+number-first k (c ∷ ps) = by-test (named k c) (λ e. rw e (by-test (on c) (λ o. rw o) (λ o. rw o))) (λ e. rw e (number-first k ps))
 
 -- A lookup changes nothing, and its answer has nothing but the number.
 lookup-step : (m : Model) (k : ℕ) → step m (lookup k) ≡ unchanged m (firstOf (tests m (lookup k)))

@@ -1,5 +1,6 @@
 use mathlib.Core.Path.{sym, _∙_}
 use Rattle.rules.specs.Calls.{Call}
+use Rattle.rules.specs.Tables.{model}
 use Rattle.table.proofs.Tests.{time-ok, clock-timed}
 use Rattle.table.proofs.Steps.{refused, accepted, clock-is}
 use borrow.Author.Needs.{needs}
@@ -14,8 +15,9 @@ returns c =
 
 at-clock-requires : tie.Need-at-clock-requires
 at-clock-requires c κs =
-    let o = time-ok _ _ (sym (c .before .time-number .ensures) ∙ c .if1 .left) in
-    (c .before .before .pre, o .0, o .1)
+    let b = c .before .before in
+    let o = time-ok (model (b .args .t)) _ (sym (c .before .time-number .ensures) ∙ c .if1 .left) in
+    (b .pre, o .later, o .early)
 
 returns-2 : tie.Need-returns-2
 returns-2 c =

@@ -39,8 +39,8 @@ unfolding remove
 pulled-requires c κs =
     let l = c .before .before .before in
     let n = l .before .before in
-    let o = time-ok _ _ (sym (n .time-number .ensures) ∙ l .before .if1 .left) in
-    (l .removed .ensures .2, rw (l .removed .ensures .1) (o .0), o .1)
+    let o = time-ok (model (n .before .args .t)) _ (sym (n .time-number .ensures) ∙ l .before .if1 .left) in
+    (l .removed .ensures .2, rw (l .removed .ensures .1) (o .later), o .early)
 
 returns-3 : tie.Need-returns-3
 returns-3 c =
