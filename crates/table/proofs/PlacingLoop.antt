@@ -6,6 +6,7 @@ use mathlib.Core.Bool.{true, false}
 use mathlib.Core.List.{List, [], _∷_}
 use Prim.Native.Nat.{ℕ, _+_, _-_, _*_, _≤_, _<_}
 use native.Mathlib.Omega.{arith}
+use lib.ListN.{take}
 use Rattle.rules.specs.declared.Claim.{Claim}
 use Rattle.rules.specs.Lists.{_∈_, sum, keep}
 use Rattle.rules.specs.declared.Setting.{Setting}
@@ -13,6 +14,8 @@ use Rattle.rules.specs.Claims.{on, at, conflicts, endOf, remaining}
 use Rattle.rules.specs.Order.{rivals}
 use Rattle.rules.specs.Placing.{clear, fits, place, contention, startBound}
 use Rattle.rules.proofs.Placing.{barred, fits-e, place-fits, place-least}
+use Rattle.table.specs.Rows.{Row}
+use Rattle.table.proofs.Ranges.{rivals-few, time-short}
 
 -- ── from candidate to candidate ──
 module _ (v : Setting) (w : Claim) (s : ℕ) (ps : List Claim) (h : s ≤ place v ps w) where
@@ -30,22 +33,24 @@ module _ (v : Setting) (w : Claim) (s : ℕ) (ps : List Claim) (h : s ≤ place 
 pub record Counted (v : Setting) (w : Claim) (ps rest : List Claim) (count time : ℕ) : Type 0 where
   pub number : count + contention rest w ≡ contention ps w
   pub total : time + sum (remaining v) (rivals rest w) ≡ sum (remaining v) (rivals ps w)
+  pub few : contention ps w ≤ 64
+  pub short : sum (remaining v) (rivals ps w) ≤ 230400000
+
+pub count-none : {v : Setting} {l : List Claim} (n : ℕ) (w : Claim) → Row (v .clock) l n → Counted v w (take n l) (take n l) 0 0
+count-none {v} {l} n w r = record { number = omega arith; total = omega arith; few = rivals-few v l n w r; short = time-short v l n w r }
 
 module _ {v : Setting} {w : Claim} {ps : List Claim} where
-  pub count-none : Counted v w ps ps 0 0
-  count-none = record { number = omega arith; total = omega arith }
-
   module _ {c : Claim} {rest : List Claim} {count time : ℕ} (k : Counted v w ps (c ∷ rest) count time) where
     pub count-rival : conflicts c w ≡ true → Counted v w ps rest (count + 1) (time + remaining v c)
     unfolding contention keep sum
     count-rival e =
         let p = rw e at (k .number) in
         let q = rw e at (k .total) in
-        record { number = omega arith; total = omega arith }
+        record { number = omega arith; total = omega arith; few = k .few; short = k .short }
 
     pub count-other : conflicts c w ≡ false → Counted v w ps rest count time
     unfolding contention keep
-    count-other e = record { number = rw e at (k .number); total = rw e at (k .total) }
+    count-other e = record { number = rw e at (k .number); total = rw e at (k .total); few = k .few; short = k .short }
 
   pub count-all : {count time : ℕ} → Counted v w ps [] count time → (count ≡ contention ps w) × (v .clock + time + count * (w .length - 1) ≡ startBound v ps w)
   unfolding contention startBound keep sum

@@ -60,7 +60,7 @@ packed-small v claims n row c m =
     (λ o. omega (arith, start-small v (take n claims) (row .timely) (omega (arith, row .few, length-take n claims)) (row .sized) c m o))
 
 -- ── the conflicting claims, their remaining time, the start bound and the planned start ──
-remaining-short : (v : Setting) (c : Claim) → Sized (v .clock) c → remaining v c ≤ mostLength
+pub remaining-short : (v : Setting) (c : Claim) → Sized (v .clock) c → remaining v c ≤ mostLength
 remaining-short v c s = omega (arith, remaining-le v c (s .aged), s .short)
 
 module _ (v : Setting) (l : List Claim) (n : ℕ) (w : Claim) (r : Row (v .clock) l n) where

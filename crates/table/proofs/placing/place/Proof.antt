@@ -5,18 +5,16 @@ use mathlib.Core.Path.{_≡_, refl, sym, _∙_}
 use mathlib.Core.Logic.{⊎-elim}
 use Prim.Native.Nat.{_+_, _-_, _*_, _≤_, _<_}
 use native.Mathlib.Omega.{arith}
-use lib.ListN.{take, drop, getD}
+use lib.ListN.{take}
 use borrow.Author.Needs.{needs}
 use borrow.Author.Tests.{not-true, not-false}
 use Rattle.rules.specs.Lists.{all}
-use Rattle.rules.specs.Claims.{remaining}
 use Rattle.rules.specs.Placing.{fits, place, contention, startBound}
-use Rattle.rules.specs.Tables.{vacant}
 use Rattle.rules.proofs.Placing.{place-low}
 use Rattle.table.specs.Parts.{ruledIn}
-use Rattle.table.proofs.Rows.{row-member, row-small, Left, left-start, left-here, left-next, left-end}
+use Rattle.table.proofs.Rows.{row-member, row-sized, row-small, Left, left-start, left-next, left-end}
 use Rattle.table.proofs.PlacingLoop.{jump, found, Counted, count-none, count-rival, count-other, count-all}
-use Rattle.table.proofs.Ranges.{place-small, rivals-few, time-short, bound-small}
+use Rattle.table.proofs.Ranges.{place-small, remaining-short, bound-small}
 use Rattle.table.proofs.placing.place.Statement.{statement}
 use Rattle.table.proofs.placing.place.Tie as tie
 
@@ -74,17 +72,7 @@ unfolding fits all
 start-is c = found _ _ _ _ (omega arith) (omega arith) (sym (left-end (c .before .loop .inv .1) (c .loop-test .left)))
 
 -- ── the count ──
--- A claim that conflicts is counted.
-rival : (c : tie.Then2 Inv-loop μ-loop Inv-candidates μ-candidates Inv-loop2 μ-loop2) →
-    let y = c .before .before .before .before in
-    let a = y .before .before .before .before .args in
-    let t = a .t1 in
-    let ps = take (t .count) (t .claims) in
-    let v = ruledIn t (t .clock) in
-    Counted v (a .w) ps (drop (y .loop2 .i + 1) ps) (y .loop2 .rivals + 1) (y .loop2 .time + remaining v (getD (t .claims) (y .loop2 .i) vacant))
-rival c = count-rival (left-here (c .before .before .before .before .loop2 .inv) (omega arith)) (sym (c .before .shares .ensures) ∙ c .if2 .taken)
-
--- After the loop all are counted.
+-- After the loop all are counted, and the bound is small.
 whole : (c : tie.After-wide Inv-loop μ-loop Inv-candidates μ-candidates Inv-loop2 μ-loop2) →
     let y = c .before .before in
     let a = y .before .before .before .before .args in
@@ -92,31 +80,23 @@ whole : (c : tie.After-wide Inv-loop μ-loop Inv-candidates μ-candidates Inv-lo
     let ps = take (t .count) (t .claims) in
     (y .loop2 .rivals ≡ contention ps (a .w))
     × (t .clock + y .loop2 .time + y .loop2 .rivals * (c .wide .result - 1) ≡ startBound (ruledIn t (t .clock)) ps (a .w))
-whole c = rw (c .wide .ensures .0) (count-all (left-end (c .before .before .loop2 .inv) (c .before .loop2-test .left)))
-
--- The bound is small.
-bounded : (c : tie.After-wide Inv-loop μ-loop Inv-candidates μ-candidates Inv-loop2 μ-loop2) →
-    let y = c .before .before in
-    y .before .before .before .before .args .t1 .clock + y .loop2 .time + y .loop2 .rivals * (c .wide .result - 1) ≤ 2000000000000
-bounded c =
+    × (startBound (ruledIn t (t .clock)) ps (a .w) ≤ 2000000000000)
+whole c =
     let p = c .before .before .before .before .before .before .pre in
-    omega (arith, whole c .1, bound-small _ _ _ _ (p .0) (p .1))
-
-add-rivals : tie.Need-add-rivals Inv-loop μ-loop Inv-candidates μ-candidates Inv-loop2 μ-loop2
-add-rivals c =
-    let b = c .before .before .before .before .before .before .before .before in
-    omega (arith, rival c .number, rivals-few _ _ _ (b .args .w) (b .pre .0))
+    let e = count-all (left-end (c .before .before .loop2 .inv) (c .before .loop2-test .left)) in
+    rw (c .wide .ensures .0) (e .0, e .1, bound-small _ _ _ _ (p .0) (p .1))
 
 add-time : tie.Need-add-time Inv-loop μ-loop Inv-candidates μ-candidates Inv-loop2 μ-loop2
 add-time c =
-    let b = c .before .before .before .before .before .before .before .before .before in
-    omega (arith, rival (c .before) .total, c .time-left .ensures, time-short _ _ _ (b .args .w) (b .pre .0))
+    let y = c .before .before .before .before .before in
+    let t = y .before .before .before .before .args .t1 in
+    omega (arith, y .loop2 .inv .holds, c .time-left .ensures, remaining-short (ruledIn t (t .clock)) _ (row-sized (y .loop2 .inv .row) (y .loop2 .i) (omega arith)))
 
 loop2-again : tie.Need-loop2-again Inv-loop μ-loop Inv-candidates μ-candidates Inv-loop2 μ-loop2
 loop2-again c =
     let y = c .before .before .before .before in
     ⊎-elim
-    (λ k. rw (k .2, k .3, k .1 .ensures) (left-next (y .loop2 .inv) (omega arith) (λ h. rival (record { before = c .before; if2 = k .0 }))))
+    (λ k. rw (k .2, k .3, k .1 .ensures) (left-next (y .loop2 .inv) (omega arith) (λ h. count-rival h (sym (c .before .shares .ensures) ∙ k .0 .taken))))
     (λ k. rw (k .1, k .2) (left-next (y .loop2 .inv) (omega arith) (λ h. count-other h (sym (c .before .shares .ensures) ∙ k .0 .left))))
     (c .if2 .came)
 
@@ -154,12 +134,13 @@ place-spec =
     (λ c. omega arith)
     loop-again
     -- loop2-holds
-    (λ c. left-start (c .before .before .before .pre .0) count-none)
+    (λ c. left-start (c .before .before .before .pre .0) (count-none _ _ (c .before .before .before .pre .0)))
     -- mul-c-2, element-copy-out-c-2, shares-requires
     (λ c. omega arith)
     (λ c. omega arith)
     (λ c κs. search needs)
-    add-rivals
+    -- add-rivals, time-left-requires
+    (λ c. omega arith)
     (λ c κs. row-small (c .before .before .before .before .loop2 .inv .row) _ (omega arith))
     add-time
     -- add-i, loop2-less
@@ -169,10 +150,10 @@ place-spec =
     -- wide-requires
     (λ c κs. search needs)
     -- add-bound, sub-bound, mul-bound, add-bound-2
-    (λ c. omega (arith, bounded c))
+    (λ c. omega (arith, whole c))
     (λ c. omega (arith, c .wide .ensures .0, c .before .before .before .before .before .before .pre .1 .sane .long))
-    (λ c. omega (arith, bounded c))
-    (λ c. omega (arith, bounded c))
+    (λ c. omega (arith, whole c))
+    (λ c. omega (arith, whole c))
     -- waiting-from-requires, mul-t34, element-set-from-t, add-t, add-t-2
     (λ c κs. search needs)
     (λ c. omega arith)
