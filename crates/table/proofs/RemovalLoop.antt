@@ -73,10 +73,11 @@ module _ {k t : ℕ} {l : List Claim} {n i : ℕ} {s : Standing} {m : ℕ} {new 
     here-next : drop i pending ≡ next ∷ behind
     here-next = row-step (w .row) i h
 
-    -- The next claim has another ticket: it stays.
-    taking-keep : (next .ticket ≡ k → ⊥) → Taking k t l n (i + 1) s (m + 1) (set new m next)
+    -- The next claim, as it is read from the row, has another ticket: it stays.
+    pub taking-kept : (getD new i vacant .ticket ≡ k → ⊥) → Taking k t l n (i + 1) s (m + 1) (set new m (getD new i vacant))
     unfolding keep
-    taking-keep e =
+    taking-kept d =
+        let e : next .ticket ≡ k → ⊥ = λ q. d (ap (λ (c : Claim). c .ticket) taking-rest ∙ q) in
         let f : drop m staying ≡ next ∷ without k behind = rw (here-next, ne-eqb (next .ticket) k e) at (w .left) in
         let a : m < length staying = omega (arith, ap length f, length-drop m staying) in
         let g : getD staying m vacant ∷ drop (suc m) staying ≡ next ∷ without k behind = sym (drop-cons staying m vacant a) ∙ f in
@@ -88,7 +89,7 @@ module _ {k t : ℕ} {l : List Claim} {n i : ℕ} {s : Standing} {m : ℕ} {new 
           fewer = omega (arith, w .fewer);
           few = omega arith;
           is =
-              ap (λ (r : List Claim). set r m next) (w .is) ∙ ap (λ (c : Claim). set (over staying l m) m c) (sym x)
+              ap (λ (c : Claim). set new m c) (taking-rest ∙ sym x) ∙ ap (λ (r : List Claim). set r m (getD staying m vacant)) (w .is)
               ∙ over-step vacant staying l m a (omega (arith, w .fewer, w .row .few, w .row .places));
           left = rw (add-one m) y;
           told =
@@ -98,33 +99,28 @@ module _ {k t : ℕ} {l : List Claim} {n i : ℕ} {s : Standing} {m : ℕ} {new 
               (w .told);
         }
 
-    -- The next claim is that of the ticket: it goes, and no other has its ticket.
-    taking-out : next .ticket ≡ k → (x : Standing) → x ≡ standing next → Taking k t l n (i + 1) x m new
-    unfolding keep
-    taking-out e x q = record {
-      row = w .row;
-      within = omega arith;
-      fewer = omega (arith, w .fewer);
-      few = w .few;
-      is = w .is;
-      left = rw (here-next, eq-eqb (next .ticket) k e) at (w .left);
-      told =
-          ⊎-elim
-          (λ b. inr (
-            omega (arith, b .0),
-            q ∙ (found k next behind e ∙ ap (standingOf k) (sym here-next) ∙ b .2),
-            λ d j z. omega (arith, subst Ascending here-next (ascending-drop i pending (w .row .ascending)) .0 d j, e, z),
-          ))
-          (λ b. absurd (b .2 next (rw here-next here) e))
-          (w .told);
-    }
-
-    -- Both, for the claim as it is read from the row.
-    pub taking-kept : (getD new i vacant .ticket ≡ k → ⊥) → Taking k t l n (i + 1) s (m + 1) (set new m (getD new i vacant))
-    taking-kept e = rw taking-rest (taking-keep (λ q. e (ap (λ (c : Claim). c .ticket) taking-rest ∙ q)))
-
+    -- It is that of the ticket: it goes, and no other has its ticket.
     pub taking-gone : getD new i vacant .ticket ≡ k → (x : Standing) → x ≡ standing (getD new i vacant) → Taking k t l n (i + 1) x m new
-    taking-gone e x q = taking-out (ap (λ (c : Claim). c .ticket) (sym taking-rest) ∙ e) x (q ∙ ap standing taking-rest)
+    unfolding keep
+    taking-gone d x q =
+        let e : next .ticket ≡ k = ap (λ (c : Claim). c .ticket) (sym taking-rest) ∙ d in
+        record {
+          row = w .row;
+          within = omega arith;
+          fewer = omega (arith, w .fewer);
+          few = w .few;
+          is = w .is;
+          left = rw (here-next, eq-eqb (next .ticket) k e) at (w .left);
+          told =
+              ⊎-elim
+              (λ b. inr (
+                omega (arith, b .0),
+                q ∙ ap standing taking-rest ∙ (found k next behind e ∙ ap (standingOf k) (sym here-next) ∙ b .2),
+                λ d j z. omega (arith, subst Ascending here-next (ascending-drop i pending (w .row .ascending)) .0 d j, e, z),
+              ))
+              (λ b. absurd (b .2 next (rw here-next here) e))
+              (w .told);
+        }
 
   -- All claims are done: m claims stay, and s is how the claim of the ticket stood.
   module _ (h : n ≤ i) where
