@@ -2,11 +2,11 @@
 -- the claims over those of the row, the tickets into a row of their own. Rests on `union-shares` of groups and on `goes-quick` of rules.
 use mathlib.Core.Path.{_≡_, refl, sym, _∙_, ap}
 use mathlib.Core.Bool.{true, false, not, _||_, or-assoc, or-false}
-use mathlib.Core.List.{List, [], _∷_, map}
+use mathlib.Core.List.{List, [], _∷_, _++_, map}
 use Prim.Native.Nat.{ℕ, _+_, _≤_, _<_}
 use native.Mathlib.Omega.{arith}
-use lib.ListN.{length, take, drop, getD, set, replicate, List·getD-map}
-use lib.Seq.{take-all, getD-take}
+use lib.ListN.{length, take, drop, getD, set, replicate, length-replicate, length-map}
+use lib.Seq.{getD-set-other}
 use Rattle.groups.specs.Groups.{shares, union}
 use Rattle.groups.proofs.Groups.{union-shares}
 use Rattle.groups.proofs.Words.{zero-shares}
@@ -18,11 +18,12 @@ use Rattle.rules.specs.Claims.{on, at, withPhase}
 use Rattle.rules.specs.Granting.{goes, granted, grant, grants}
 use Rattle.rules.specs.Tables.{vacant, pad}
 use Rattle.rules.proofs.Bools.{clash}
+use Rattle.rules.proofs.Lists.{keep-length}
 use Rattle.rules.proofs.Granting.{granted-cases, grant-length, goes-quick}
 use Rattle.table.specs.Rows.{Row, rewritten}
 use Rattle.table.specs.Holders.{holds, Held, HeldWith, goesAt}
 use Rattle.table.specs.Parts.{Planned}
-use Rattle.table.proofs.Rows.{prefix-end, row-count, row-step, row-member, over, over-step, over-same, over-rest, Filled, fill-start, fill-more, fill-end}
+use Rattle.table.proofs.Rows.{prefix-end, row-count, row-step, row-member, Storing, store-start, store-more, store-same, store-end, pad-stored}
 
 -- ── one claim ──
 module _ (h : ℕ) (c : Claim) where
@@ -60,12 +61,13 @@ pub record Written (v : Setting) (l : List Claim) (n i : ℕ) (new : List Claim)
   pub row : Row (v .clock) l n
   pub within : i ≤ n
   pub fewer : m ≤ i
-  pub is : new ≡ over (grant v (take n l)) l i
-  pub filled : Filled 0 (grants (take n l)) (tickets (take n l) (drop i (take n l))) m out
+  pub rest : (j : ℕ) → i ≤ j → getD new j vacant ≡ getD l j vacant
+  pub claims : Storing l (grant v (take n l)) (map (granted v (take n l)) (drop i (take n l))) i new
+  pub filled : Storing (replicate 64 0) (grants (take n l)) (tickets (take n l) (drop i (take n l))) m out
 
 pub written-start : {v : Setting} {l : List Claim} {n : ℕ} → Row (v .clock) l n → Written v l n 0 l 0 (replicate 64 0)
-unfolding grants
-written-start r = record { row = r; within = omega arith; fewer = omega arith; is = refl; filled = fill-start 0 _ _ refl }
+unfolding grants grant
+written-start r = record { row = r; within = omega arith; fewer = omega arith; rest = λ j h. refl; claims = store-start; filled = store-start }
 
 module _ {v : Setting} {l : List Claim} {n i : ℕ} {new : List Claim} {m : ℕ} {out : List ℕ} (w : Written v l n i new m out) where
   abbrev pending : List Claim
@@ -74,19 +76,11 @@ module _ {v : Setting} {l : List Claim} {n i : ℕ} {new : List Claim} {m : ℕ}
   abbrev next : Claim
   next = getD l i vacant
 
-  count-is : length (grant v pending) ≡ n
-  count-is = grant-length v pending ∙ row-count (w .row)
-
   -- A place that is not done yet is as it was.
   written-rest : getD new i vacant ≡ next
-  written-rest = ap (λ (k : List Claim). getD k i vacant) (w .is) ∙ over-rest vacant (grant v pending) l i i (omega (arith, count-is, w .within)) (omega arith)
+  written-rest = w .rest i (omega arith)
 
   module _ (h : i < n) where
-    -- What granting leaves there.
-    grant-at : getD (grant v pending) i (granted v pending vacant) ≡ granted v pending next
-    unfolding grant
-    grant-at = List·getD-map (granted v pending) pending i vacant ∙ ap (granted v pending) (getD-take n l i vacant h)
-
     -- The groups that are held tell whether the next claim goes on, as it is read from the row.
     pub written-goes : {held : ℕ} → Planned v pending → Held pending held → goes pending next ≡ goesAt (v .clock) held (getD new i vacant)
     written-goes p k =
@@ -100,36 +94,35 @@ module _ {v : Setting} {l : List Claim} {n i : ℕ} {new : List Claim} {m : ℕ}
     written-gone x g q =
         let e = granted-cases (λ (y : Claim). goes pending next ≡ true → x ≡ y) v pending next
         (λ z k. q ∙ ap (λ (c : Claim). withPhase c (On (v .clock))) written-rest) (λ z k. clash k z) g in
-        rw written-rest (record {
+        record {
           row = w .row;
           within = omega arith;
           fewer = omega (arith, w .fewer);
-          is =
-              ap (λ (k : List Claim). set k i x) (w .is)
-              ∙ ap (λ (y : Claim). set (over (grant v pending) l i) i y) (e ∙ sym grant-at)
-              ∙ over-step _ (grant v pending) l i (omega (arith, count-is)) (omega (arith, w .row .few, w .row .places));
-          filled =
-              fill-more 0 (grants pending) (next .ticket) _ _ _ (omega (arith, w .fewer, w .row .few))
-              (rw (row-step (w .row) i h, g) at (w .filled));
-        })
+          rest = λ j b. getD-set-other new i j x vacant (λ z. omega arith) ∙ w .rest j (omega arith);
+          claims = rw e (store-more (rw (row-step (w .row) i h) at (w .claims)));
+          filled = rw written-rest (store-more (rw (row-step (w .row) i h, g) at (w .filled)));
+        }
 
     -- It does not go on.
     pub written-stay : goes pending next ≡ false → Written v l n (i + 1) new m out
     unfolding keep
     written-stay g =
-        let e = granted-cases (λ (y : Claim). goes pending next ≡ false → y ≡ next) v pending next (λ z k. clash z k) (λ z k. refl) g in
+        let e = granted-cases (λ (y : Claim). goes pending next ≡ false → y ≡ getD new i vacant) v pending next (λ z k. clash z k) (λ z k. sym written-rest) g in
         record {
           row = w .row;
           within = omega arith;
           fewer = omega (arith, w .fewer);
-          is = w .is ∙ over-same _ vacant (grant v pending) l i (omega (arith, count-is)) (omega (arith, w .row .few, w .row .places)) (grant-at ∙ e);
+          rest = λ j b. w .rest j (omega arith);
+          claims = store-same vacant (rw (row-step (w .row) i h, e) at (w .claims));
           filled = rw (row-step (w .row) i h, g) at (w .filled);
         }
 
   -- All claims are done.
   pub written-end : n ≤ i → (new ≡ rewritten (grant v) l n) × (m ≡ length (grants pending)) × (out ≡ pad 0 (grants pending))
-  unfolding keep
+  unfolding keep grants
   written-end h =
-      let e : i ≡ n = omega (arith, w .within) in
-      let f = fill-end 0 (grants pending) m out (rw (prefix-end l n i h) at (w .filled)) in
-      (w .is ∙ rw (e, take-all n (grant v pending) (omega (arith, count-is))), f .0, f .1)
+      let size : length (grant v pending) ≡ n = grant-length v pending ∙ row-count (w .row) in
+      let few : length (grants pending) ≤ 64 = omega (arith, length-map (keep (goes pending) pending) (λ (c : Claim). c .ticket), keep-length (goes pending) pending, row-count (w .row), w .row .few) in
+      let a = store-end (rw (prefix-end l n i h) at (w .claims)) (omega (arith, w .row .few, w .row .places)) in
+      let b = store-end (rw (prefix-end l n i h) at (w .filled)) (omega (arith, length-replicate {A = ℕ} 64 0)) in
+      (a .1 ∙ ap (λ (k : ℕ). grant v pending ++ drop k l) size, b .0, b .1 ∙ pad-stored 0 (grants pending))

@@ -2,23 +2,23 @@
 use mathlib.Core.Path.{_≡_, refl, sym, _∙_, ap, subst}
 use mathlib.Core.Logic.{_⊎_, inl, inr, ⊎-elim, _≢_}
 use mathlib.Core.List.{List, [], _∷_, _++_}
+use mathlib.Core.Bool.{not}
 use Prim.Native.Nat.{ℕ, zero, suc, _+_, _-_, _≤_, _<_}
 use native.Mathlib.Omega.{arith}
-use native.Mathlib.Numerals.{add-one}
-use lib.ListN.{length, take, drop, getD, set, replicate, length-drop}
-use lib.Seq.{drop-cons, take-all, set-at, drop-append-seam}
+use lib.ListN.{length, take, drop, getD, set, replicate}
+use lib.Seq.{getD-set-other, drop-cons, set-at, drop-append-seam}
 use borrow.Author.Tests.{eq-eqb, ne-eqb}
 use Rattle.rules.specs.declared.Claim.{Claim}
 use Rattle.rules.specs.Lists.{keep}
 use Rattle.rules.specs.Plans.{Ascending}
-use Rattle.rules.specs.Claims.{at}
 use Rattle.rules.specs.declared.Standing.{Standing}
 use Rattle.rules.specs.declared.Standing.the-variants.{NotPending}
+use Rattle.rules.specs.Tests.{named}
 use Rattle.rules.specs.Calls.{standing, standingOf}
 use Rattle.rules.specs.Tables.{vacant, pad}
-use Rattle.rules.proofs.Lists.{Each, here, there}
+use Rattle.rules.proofs.Lists.{Each, here, there, keep-length}
 use Rattle.table.specs.Rows.{Row}
-use Rattle.table.proofs.Rows.{row-count, row-step, prefix-end, pad-over, over, over-step, over-rest}
+use Rattle.table.proofs.Rows.{row-count, row-step, prefix-end, pad-over, Storing, store-start, store-more, store-end}
 use Rattle.table.specs.Outcomes.{without}
 
 ascending-drop : (i : ℕ) (l : List Claim) → Ascending l → Ascending (drop i l)
@@ -42,14 +42,13 @@ pub record Taking (k t : ℕ) (l : List Claim) (n i : ℕ) (s : Standing) (m : �
   pub row : Row t l n
   pub within : i ≤ n
   pub fewer : m ≤ i
-  pub few : m ≤ length (without k (take n l))
-  pub is : new ≡ over (without k (take n l)) l m
-  pub left : drop m (without k (take n l)) ≡ without k (drop i (take n l))
+  pub rest : (j : ℕ) → i ≤ j → getD new j vacant ≡ getD l j vacant
+  pub stays : Storing l (without k (take n l)) (without k (drop i (take n l))) m new
   pub told : ((m ≡ i) × (s ≡ NotPending) × (standingOf k (drop i (take n l)) ≡ standingOf k (take n l)))
       ⊎ ((m + 1 ≡ i) × (s ≡ standingOf k (take n l)) × Each (λ d. d .ticket ≢ k) (drop i (take n l)))
 
 pub taking-start : {k t : ℕ} {l : List Claim} {n : ℕ} → Row t l n → Taking k t l n 0 NotPending 0 l
-taking-start r = record { row = r; within = omega arith; fewer = omega arith; few = omega arith; is = refl; left = refl; told = inl (refl, refl, refl) }
+taking-start r = record { row = r; within = omega arith; fewer = omega arith; rest = λ j h. refl; stays = store-start; told = inl (refl, refl, refl) }
 
 module _ {k t : ℕ} {l : List Claim} {n i : ℕ} {s : Standing} {m : ℕ} {new : List Claim} (w : Taking k t l n i s m new) where
   -- The claims, and those that stay.
@@ -61,7 +60,7 @@ module _ {k t : ℕ} {l : List Claim} {n i : ℕ} {s : Standing} {m : ℕ} {new 
 
   -- A place that is not done yet is as it was.
   pub taking-rest : getD new i vacant ≡ getD l i vacant
-  taking-rest = ap (λ (r : List Claim). getD r i vacant) (w .is) ∙ over-rest vacant staying l m i (w .few) (w .fewer)
+  taking-rest = w .rest i (omega arith)
 
   module _ (h : i < n) where
     abbrev next : Claim
@@ -78,20 +77,12 @@ module _ {k t : ℕ} {l : List Claim} {n i : ℕ} {s : Standing} {m : ℕ} {new 
     unfolding keep
     taking-kept d =
         let e : next .ticket ≡ k → ⊥ = λ q. d (ap (λ (c : Claim). c .ticket) taking-rest ∙ q) in
-        let f : drop m staying ≡ next ∷ without k behind = rw (here-next, ne-eqb (next .ticket) k e) at (w .left) in
-        let a : m < length staying = omega (arith, ap length f, length-drop m staying) in
-        let g : getD staying m vacant ∷ drop (suc m) staying ≡ next ∷ without k behind = sym (drop-cons staying m vacant a) ∙ f in
-        let x : getD staying m vacant ≡ next = cc in
-        let y : drop (suc m) staying ≡ without k behind = cc in
         record {
           row = w .row;
           within = omega arith;
           fewer = omega (arith, w .fewer);
-          few = omega arith;
-          is =
-              ap (λ (c : Claim). set new m c) (taking-rest ∙ sym x) ∙ ap (λ (r : List Claim). set r m (getD staying m vacant)) (w .is)
-              ∙ over-step vacant staying l m a (omega (arith, w .fewer, w .row .few, w .row .places));
-          left = rw (add-one m) y;
+          rest = λ j b. getD-set-other new m j _ vacant (λ z. omega (arith, w .fewer)) ∙ w .rest j (omega arith);
+          stays = rw taking-rest (store-more (rw (here-next, ne-eqb (next .ticket) k e) at (w .stays)));
           told =
               ⊎-elim
               (λ b. inl (omega (arith, b .0), b .1, passed-by k next behind e ∙ ap (standingOf k) (sym here-next) ∙ b .2))
@@ -108,9 +99,8 @@ module _ {k t : ℕ} {l : List Claim} {n i : ℕ} {s : Standing} {m : ℕ} {new 
           row = w .row;
           within = omega arith;
           fewer = omega (arith, w .fewer);
-          few = w .few;
-          is = w .is;
-          left = rw (here-next, eq-eqb (next .ticket) k e) at (w .left);
+          rest = λ j b. w .rest j (omega arith);
+          stays = rw (here-next, eq-eqb (next .ticket) k e) at (w .stays);
           told =
               ⊎-elim
               (λ b. inr (
@@ -127,16 +117,19 @@ module _ {k t : ℕ} {l : List Claim} {n i : ℕ} {s : Standing} {m : ℕ} {new 
     done : drop i pending ≡ []
     done = prefix-end l n i h
 
-    pub taking-count : m ≡ length staying
+    stored : (m ≡ length staying) × (new ≡ staying ++ drop (length staying) l)
     unfolding keep
-    taking-count = let e : drop m staying ≡ [] = rw done at (w .left) in omega (arith, ap length e, length-drop m staying, w .few)
+    stored = store-end (rw done at (w .stays)) (omega (arith, keep-length (λ c. not (named k c)) pending, row-count (w .row), w .row .few, w .row .places))
+
+    pub taking-count : m ≡ length staying
+    taking-count = stored .0
 
     pub taking-told : s ≡ standingOf k pending
     unfolding standingOf
     taking-told = ⊎-elim (λ b. b .1 ∙ (rw done at (b .2))) (λ b. b .1) (w .told)
 
     whole : new ≡ staying ++ drop m l
-    whole = w .is ∙ ap (λ (r : List Claim). r ++ drop m l) (take-all m staying (omega (arith, taking-count)))
+    whole = stored .1 ∙ ap (λ (j : ℕ). staying ++ drop j l) (sym taking-count)
 
     module _ (full : l ≡ pad vacant pending) where
       -- None went, or one did, and the place after those that stay becomes vacant.

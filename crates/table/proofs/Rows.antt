@@ -1,11 +1,11 @@
 -- Rows of 64 places: what is read from them, and what writing them gives.
-use mathlib.Core.Path.{_≡_, refl, sym, _∙_, ap}
-use mathlib.Core.List.{List, [], _∷_, _++_, append-nil}
+use mathlib.Core.Path.{_≡_, refl, sym, _∙_, ap, subst}
+use mathlib.Core.List.{List, [], _∷_, _++_}
 use Prim.Native.Nat.{ℕ, zero, suc, _+_, _-_, _≤_, _<_}
 use native.Mathlib.Omega.{arith}
 use native.Mathlib.Numerals.{add-one}
 use lib.ListN.{length, take, drop, getD, set, replicate, length-append, length-replicate, length-take, drop-of-length-le}
-use lib.Seq.{take-append-seam, drop-append-seam, drop-cons, getD-take, set-append-seam, append-snoc, take-suc, set-at, length-take-le, getD-append-add, getD-drop}
+use lib.Seq.{sets, sets-eq, set-getD, take-append-seam, drop-append-seam, drop-cons, getD-take, set-append-seam, append-snoc, length-take-le}
 use Rattle.numbers.specs.Numbers.{mostClock}
 use Rattle.rules.specs.declared.Claim.{Claim}
 use Rattle.rules.specs.declared.Table.{Table}
@@ -59,56 +59,36 @@ module _ {A : Type 0} (d : A) where
       let q : 64 - (length l + 1) ≡ 63 - length l = omega arith in
       rw (e, p, q) (set-append-seam l d (replicate (63 - length l) d) x ∙ sym (append-snoc l x (replicate (63 - length l) d)))
 
--- ── writing front to back: the first i elements are those of new, the others still those of old ──
-module _ {A : Type 0} where
-  abbrev pub over : List A → List A → ℕ → List A
-  over new old i = take i new ++ drop i old
+-- ── storing front to back: what is left to store, from place n on, gives the whole ──
+pub record Storing {A : Type 0} (old total rest : List A) (n : ℕ) (l : List A) : Type 0 where
+  pub stores : sets l n rest ≡ sets old 0 total
+  pub counts : n + length rest ≡ length total
 
-  pub over-step : (d : A) (new old : List A) (i : ℕ) → i < length new → i < length old → set (over new old i) i (getD new i d) ≡ over new old (i + 1)
-  over-step d new old i h k =
-      let l : length (take i new) ≡ i = length-take-le i new (omega arith) in
-      rw (add-one, take-suc new i d, drop-cons old i d) (set-at (take i new) (getD old i d) (drop (suc i) old) (getD new i d) i l ∙ sym (append-snoc (take i new) (getD new i d) (drop (suc i) old)))
+module _ {A : Type 0} {old total : List A} where
+  pub store-start : Storing old total total 0 old
+  store-start = record { stores = refl; counts = omega arith }
 
-  -- Where both have the same element at place i, nothing has to be written there.
-  pub over-same : (d e : A) (new old : List A) (i : ℕ) → i < length new → i < length old → getD new i d ≡ getD old i e → over new old i ≡ over new old (i + 1)
-  over-same d e new old i h k q =
-      rw (add-one, take-suc new i d, drop-cons old i e, q) (sym (append-snoc (take i new) (getD old i e) (drop (suc i) old)))
+  pub store-more : {x : A} {rest : List A} {n : ℕ} {l : List A} → Storing old total (x ∷ rest) n l → Storing old total rest (n + 1) (set l n x)
+  store-more {n = n} s = record { stores = rw (add-one n) (s .stores); counts = omega (arith, s .counts) }
 
-  -- From place i on the elements are those of old.
-  pub over-rest : (d : A) (new old : List A) (i j : ℕ) → i ≤ length new → i ≤ j → getD (over new old i) j d ≡ getD old j d
-  over-rest d new old i j h k =
-      let e : length (take i new) + (j - i) ≡ j = omega (arith, length-take-le i new h) in
-      let f : i + (j - i) ≡ j = omega arith in
-      ap (λ (m : ℕ). getD (over new old i) m d) (sym e) ∙ getD-append-add (take i new) (drop i old) (j - i) d ∙ getD-drop i old (j - i) d ∙ ap (λ (m : ℕ). getD old m d) f
+  -- Where the element stands already.
+  pub store-same : (d : A) {rest : List A} {n : ℕ} {l : List A} → Storing old total (getD l n d ∷ rest) n l → Storing old total rest (n + 1) l
+  store-same d {rest} {n} {l} s = subst (Storing old total rest (n + 1)) (set-getD l n d) (store-more s)
 
--- ── filling a row: n elements are done, rest is still to come ──
-pub record Filled {A : Type 0} (d : A) (total rest : List A) (n : ℕ) (l : List A) : Type 0 where
-  pub done : List A
-  pub counts : n ≡ length done
-  pub is : l ≡ pad d done
-  pub all : done ++ rest ≡ total
+  pub store-end : {n : ℕ} {l : List A} → Storing old total [] n l → length total ≤ length old → (n ≡ length total) × (l ≡ total ++ drop (length total) old)
+  store-end s h =
+      let e : 0 + length total ≡ length total = omega arith in
+      (omega (arith, s .counts), s .stores ∙ sets-eq total old 0 (omega arith) ∙ ap (λ (k : ℕ). total ++ drop k old) e)
 
-module _ {A : Type 0} (d : A) (total : List A) where
-  pub fill-start : (l : List A) → l ≡ replicate 64 d → Filled d total total 0 l
-  unfolding pad
-  fill-start l e = record { done = []; counts = refl; is = e; all = refl }
+drop-replicate : {A : Type 0} (n k : ℕ) (d : A) → drop n (replicate k d) ≡ replicate (k - n) d
+drop-replicate zero k d = let e : k - 0 ≡ k = omega arith in rw e
+drop-replicate (suc n) zero d = let e : 0 - suc n ≡ 0 = omega arith in rw e
+drop-replicate (suc n) (suc k) d = let e : suc k - suc n ≡ k - n = omega arith in rw e (drop-replicate n k d)
 
-  pub fill-more : (x : A) (rest : List A) (n : ℕ) (l : List A) → n < 64 → Filled d total (x ∷ rest) n l → Filled d total rest (n + 1) (set l n x)
-  fill-more x rest n l h f =
-      record {
-        done = f .done ++ (x ∷ []);
-        counts = omega (arith, f .counts, length-append (f .done) (x ∷ []));
-        is =
-            ap (λ (k : List A). set k n x) (f .is)
-            ∙ ap (λ (m : ℕ). set (pad d (f .done)) m x) (f .counts)
-            ∙ pad-more d (f .done) x (omega (arith, f .counts));
-        all = append-snoc (f .done) x rest ∙ f .all;
-      }
-
-  pub fill-end : (n : ℕ) (l : List A) → Filled d total [] n l → (n ≡ length total) × (l ≡ pad d total)
-  fill-end n l f =
-      let e : f .done ≡ total = sym (append-nil (f .done)) ∙ f .all in
-      (f .counts ∙ ap length e, f .is ∙ ap (pad d) e)
+-- Stored in an empty row.
+pub pad-stored : {A : Type 0} (d : A) (l : List A) → l ++ drop (length l) (replicate 64 d) ≡ pad d l
+unfolding pad
+pad-stored d l = ap (λ (r : List _). l ++ r) (drop-replicate (length l) 64 d)
 
 -- ── a row's claims are in range ──
 pub sized-small : (t : ℕ) (c : Claim) → t ≤ mostClock → Sized t c → at c ≤ 1000000000000000000
