@@ -17,11 +17,12 @@ use Rattle.load.specs.Calls.{valueOf}
 use Rattle.load.proofs.Format.{allBelow, below-passes, rest-some}
 use Rattle.load.proofs.Rows.{row-end}
 use Rattle.load_text.specs.declared.print.Printed.the-variants.{Length, Refusal}
+use Rattle.load_text.specs.declared.texts.Key.the-variants.{Kind}
 use Rattle.load_text.specs.Lines.{glyphOf, hexUpTo, wordOf, fieldsText, lineOf, stopLine, headerOf, reasons, reasonTexts, reasonText, reportOf, printedAs, printed}
 use Rattle.load_text.specs.Parsing.{placeOf, is}
 use Rattle.load_text.specs.Reasons.{noSpace}
 use Rattle.load_text.proofs.Parts.{place-high}
-use Rattle.load_text.proofs.Tables.{allRows, row-cases, known-passes}
+use Rattle.load_text.proofs.Tables.{allRows, row-cases, row-kind, known-passes}
 
 -- ── hex ──
 pub glyph-low : (v : ℕ) → v % 16 < 10 → 48 + v % 16 ≡ glyphOf v
@@ -112,7 +113,7 @@ line-length e c =
     let r = rowIn format e k in
     let l = length-append (r .name) (fieldsText (r .fields) c) in
     let b : length (r .name) + bound (r .fields) ≤ 65 =
-    ⊎-elim (λ n. rw n (omega arith)) (λ t. leb-true (length (r .name) + bound (r .fields)) 65 (t .0)) (row-cases long-test format refl e k) in
+    ⊎-elim (λ n. rw n (omega arith)) (λ t. leb-true (length (r .name) + bound (r .fields)) 65 (t .0)) (rw row-kind at (row-cases long-test e (Kind k) [] format refl)) in
     omega (arith, fields-length (r .fields) c)
 
 pub line-short : (e : ℕ) (c : Call) → length (lineOf e c) < 2 ^ 64

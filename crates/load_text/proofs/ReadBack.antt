@@ -21,17 +21,18 @@ use Rattle.load.proofs.Reading.{load-parts, load-known}
 use Rattle.load.proofs.Loads.{Loadable, read-loadable}
 use Rattle.load_text.specs.declared.parse.Head.the-variants.{Edition, Other}
 use Rattle.load_text.specs.declared.parse.Parsed.the-variants.{Nothing, Said}
+use Rattle.load_text.specs.declared.texts.Key.the-variants.{Kind}
 use Rattle.load_text.specs.declared.words.Field.the-variants.{Value, Wrong}
 use Rattle.load_text.specs.Lines.{glyphOf, hexUpTo, wordOf, fieldsText, lineOf, linesOf, restOf, headerOf, textOf}
 use Rattle.load_text.specs.Making.{Heading, plain, headingIn, heading, saidIn}
-use Rattle.load_text.specs.Parsing.{none, until, parts, inFront, full, is, isFeed, isBlank, isJoint, linesIn, wordsIn, chomped, said, digitOf, noDigit, digitsIn, valueIn, numberIn, groupsIn, noNumber, fieldIn, filledIn, isWord, kindIn, kindNamed, kindSays, callIn, lineSays, editionWord, editionOr, editionIn, headIn, headSays}
+use Rattle.load_text.specs.Parsing.{none, until, parts, inFront, full, is, isFeed, isBlank, isJoint, linesIn, wordsIn, chomped, said, digitOf, noDigit, digitsIn, valueIn, numberIn, groupsIn, noNumber, fieldIn, filledIn, isWord, isRow, rowFor, kindNamed, kindSays, callIn, lineSays, editionWord, editionOr, editionIn, headIn, headSays}
 use Rattle.load_text.specs.ReadBack.{LineReadBack, TextReadBack}
 use Rattle.load_text.specs.Reasons.{noEdition, tooLarge}
 use Rattle.load_text.proofs.Parts.{none-cons, none-at, until-none}
 use Rattle.load_text.proofs.Numbers.{digit-ten, digit-upper, digits-number, number-is, fits}
 use Rattle.load_text.proofs.Reading.{full-cons}
 use Rattle.load_text.proofs.Spans.{groups-hex}
-use Rattle.load_text.proofs.Tables.{allRows, row-cases, known-passes}
+use Rattle.load_text.proofs.Tables.{allRows, row-cases, row-kind, known-passes}
 
 -- ── parts of a text in front of a byte that ends one ──
 module _ (p : ℕ → Bool) where
@@ -303,20 +304,24 @@ record Named (e k : ℕ) : Type 0 where
 
 -- A kind that an edition has is named by its name alone, which is a plain word.
 named : (e : ℕ) (c : Call) → carries e c ≡ true → Named e (c .kind)
-unfolding nameOf lengthOf fieldsOf lengthIn name-test allRows format kindNamed kindIn isWord isPlain none
-named e c h = ⊎-elim (λ n. absurd (omega (arith, carries-length e c h, ap (λ (r : Row). lengthIn (r .fields)) n))) go (row-cases name-test format refl e (c .kind))
+unfolding nameOf lengthOf fieldsOf lengthIn name-test allRows format kindNamed rowFor isRow isWord isPlain none
+named e c h =
+    ⊎-elim (λ n. absurd (omega (arith, carries-length e c h, ap (λ (r : Row). lengthIn (r .fields)) n))) go
+    (rw row-kind at (row-cases name-test e (Kind (c .kind)) [] format refl))
   where
     r : Row
     r = rowIn format e (c .kind)
 
-    go : (name-test r ≡ true) × (r .edition ≡ e) × (r .kind ≡ c .kind) → Named e (c .kind)
+    go : (name-test r ≡ true) × (isRow e (Kind (c .kind)) [] r ≡ true) → Named e (c .kind)
     go t =
+        let x = both (eqb (r .edition) e) (eqb (r .kind) (c .kind)) (t .1) in
+        let k = eqb-true (r .kind) (c .kind) (x .1) in
         let a = both (ltb 0 (r .kind) && eqb (kindNamed (r .edition) (r .name)) (r .kind)) (not (isWord (r .name) editionWord) && isPlain (r .name)) (t .0) in
         let b = both (ltb 0 (r .kind)) (eqb (kindNamed (r .edition) (r .name)) (r .kind)) (a .0) in
         let d = both (not (isWord (r .name) editionWord)) (isPlain (r .name)) (a .1) in
         record {
-          some = omega (arith, ltb-true 0 (r .kind) (b .0), t .2);
-          kind = ap (λ (x : ℕ). kindNamed x (r .name)) (sym (t .1)) ∙ eqb-true _ _ (b .1) ∙ t .2;
+          some = omega (arith, ltb-true 0 (r .kind) (b .0));
+          kind = ap (λ (n : ℕ). kindNamed n (r .name)) (sym (eqb-true (r .edition) e (x .0))) ∙ eqb-true _ _ (b .1) ∙ k;
           other = not-true _ (d .0);
           word = plain-word (r .name) (d .1);
         }

@@ -7,7 +7,7 @@ use lib.ListN.{length, getD}
 use Rattle.numerals.specs.Digits.{decimalOf, column, pair}
 use Rattle.numerals.specs.Laid.{spaceNumber}
 use Rattle.load.specs.declared.Call.{Call}
-use Rattle.load.specs.Format.{theGroups, Row, row, format, nameOf, fieldsOf}
+use Rattle.load.specs.Format.{theGroups, format, nameOf, fieldsOf}
 use Rattle.load.specs.Calls.{valueOf}
 use Rattle.load.specs.Reading.{editionOf, Walk, walk, openNumber}
 use Rattle.load_text.specs.declared.print.Printed.{Printed}
@@ -116,10 +116,6 @@ reasonTexts = map (λ r. r .text) reasons ++ (notWritten ∷ [])
 
 unfoldable pub reasonText : ℕ → List ℕ
 reasonText n = getD reasonTexts (placeOf (is n) (map (λ r. r .number) reasons) 0) []
-
--- a row of the format, from 0 on
-abbrev pub rowAt : ℕ → Row
-rowAt i = getD format i (row 0 0 [] [])
 
 -- the texts of the code's table: the names of the format's rows, none for a kind that there is not, and those of the reasons
 unfoldable pub texts : List (List ℕ)

@@ -7,12 +7,14 @@ use lib.Dec.{eqb, leb, ltb}
 use lib.ListN.{length, take, drop, getD}
 use Rattle.groups.specs.Groups.{setWhere, union}
 use Rattle.load.specs.declared.Call.{Call}
-use Rattle.load.specs.Format.{theGroups, fieldWidth, Row, format, fieldsOf}
+use Rattle.load.specs.Format.{theGroups, fieldWidth, Row, row, format, fieldsOf}
 use Rattle.load.specs.Calls.{withValue, bare}
 use Rattle.load_text.specs.declared.parse.Head.{Head}
 use Rattle.load_text.specs.declared.parse.Head.the-variants.{Silent, Edition, Other, Misread}
 use Rattle.load_text.specs.declared.parse.Parsed.{Parsed}
 use Rattle.load_text.specs.declared.parse.Parsed.the-variants.{Nothing, Said, Bad}
+use Rattle.load_text.specs.declared.texts.Key.{Key}
+use Rattle.load_text.specs.declared.texts.Key.the-variants.{Kind, Name}
 use Rattle.load_text.specs.declared.words.Field.{Field}
 use Rattle.load_text.specs.declared.words.Field.the-variants.{Value, Wrong}
 use Rattle.load_text.specs.declared.words.Mark.{Mark}
@@ -219,13 +221,26 @@ isWord [] (b ∷ l) = false
 isWord (a ∷ k) [] = false
 isWord (a ∷ k) (b ∷ l) = eqb a b && isWord k l
 
--- The kind of an edition's row whose name is a word, 0 for none.
-unfoldable pub kindIn : List Row → ℕ → List ℕ → ℕ
-kindIn [] e w = 0
-kindIn (r ∷ rs) e w = cond (isWord w (r .name) && eqb (r .edition) e) (r .kind) (kindIn rs e w)
+-- A row has an edition, and is of a kind, or its name is a word.
+abbrev pub has : Key → List ℕ → Row → Bool
+has (Kind k) w r = eqb (r .kind) k
+has Name w r = isWord w (r .name)
 
+unfoldable pub isRow : ℕ → Key → List ℕ → Row → Bool
+isRow e x w r = eqb (r .edition) e && has x w r
+
+-- The first such row; one with kind 0 and no name where there is none.
+unfoldable pub rowFor : ℕ → Key → List ℕ → List Row → Row
+rowFor e x w [] = row 0 0 [] []
+rowFor e x w (r ∷ rs) = cond (isRow e x w r) r (rowFor e x w rs)
+
+-- A row of the format, from 0 on.
+abbrev pub rowAt : ℕ → Row
+rowAt i = getD format i (row 0 0 [] [])
+
+-- The kind of an edition that a word names, 0 for none.
 unfoldable pub kindNamed : ℕ → List ℕ → ℕ
-kindNamed e w = kindIn format e w
+kindNamed e w = rowFor e Name w format .kind
 
 -- The call of a kind that words say.
 abbrev pub kindSays : ℕ → ℕ → List (List ℕ) → Parsed

@@ -2,21 +2,25 @@
 // with a line by its number, and what is said of any other number. proofs/Tables holds them against specs/Lines.antt and load's format.
 ghost use mathlib.Core.Path.{_≡_};
 ghost use mathlib.Core.List.{[]};
-ghost use Prim.Native.Nat.{_<_};
-ghost use mathlib.Core.Bool.{_&&_};
-ghost use lib.Dec.{eqb};
+ghost use Prim.Native.Nat.{_≤_, _<_};
 ghost use lib.ListN.{getD};
 ghost use Rattle.numerals.specs.Laid.{Put};
-ghost use Rattle.load.specs.Format.{nameOf};
-ghost use Rattle.load_text.specs.Lines.{rowAt, reasonText, texts};
-ghost use Rattle.load_text.specs.Parsing.{isWord, kindNamed};
+ghost use Rattle.load.specs.Format.{format, nameOf};
+ghost use Rattle.load_text.specs.Lines.{reasonText, texts};
+ghost use Rattle.load_text.specs.Parsing.{isRow, kindNamed, rowAt, rowFor};
 use crate::words::Mark;
 use crate::words::place;
 
-// The edition and the kind of each of the first rows.
+// What a row of the format is looked for by: its kind, or its name.
+pub enum Key {
+    Kind(u8),
+    Name,
+}
+
+// The edition and the kind of each of the first rows, and of none.
 const EDITIONS: [u8; 5] = [1, 1, 1, 1, 1];
 
-const KINDS: [u8; 5] = [1, 2, 3, 4, 5];
+const KINDS: [u8; 6] = [1, 2, 3, 4, 5, 0];
 
 // The number of each row after them.
 const REASONS: [u8; 13] = [101, 102, 103, 104, 105, 106, 107, 108, 109, 110, 11, 13, 14];
@@ -67,55 +71,44 @@ const LENGTHS: [usize; 20] = [
     12,
 ];
 
-// Whether a row of the format has this edition and this name, or this kind.
-fn is_named(i: usize, edition: u8, word: &[u8]) -> bool
+// Whether a row of the format has this edition, and what is asked for.
+fn is_row(i: usize, edition: u8, key: Key, word: &[u8]) -> bool
     requires { ⌜ i < 5 ⌝ }
-    ensures { λ r. ⌜ r ≡ (isWord (now (word .entry)) (rowAt i .name) && eqb (rowAt i .edition) edition) ⌝ }
+    ensures { λ r. ⌜ r ≡ isRow edition key (now (word .entry)) (rowAt i) ⌝ }
 {
     if EDITIONS[i] != edition {
         return false;
     }
-    let row = TEXTS[i];
-    let n = LENGTHS[i];
-    check::same(word, &row[..n])
+    match key {
+        Key::Kind(kind) => KINDS[i] == kind,
+        Key::Name => {
+            let row = TEXTS[i];
+            let n = LENGTHS[i];
+            check::same(word, &row[..n])
+        }
+    }
 }
 
-fn is_kind(i: usize, edition: u8, kind: u8) -> bool
-    requires { ⌜ i < 5 ⌝ }
-    ensures { λ r. ⌜ r ≡ (eqb (rowAt i .edition) edition && eqb (rowAt i .kind) kind) ⌝ }
+// The first such row, 5 for none.
+fn row_of(edition: u8, key: Key, word: &[u8]) -> usize
+    ensures { λ r. ⌜ (r ≤ 5) × (rowAt r ≡ rowFor edition key (now (word .entry)) format) ⌝ }
 {
-    if EDITIONS[i] != edition {
-        return false;
+    let mut i: usize = 0;
+    while i < 5 {
+        if is_row(i, edition, key, word) {
+            return i;
+        }
+        i += 1;
     }
-    KINDS[i] == kind
+    5
 }
 
 // The kind of an edition that a word names, 0 for none.
 pub(crate) fn kind_named(edition: u8, word: &[u8]) -> u8
     ensures { λ r. ⌜ r ≡ kindNamed edition (now (word .entry)) ⌝ }
 {
-    let mut i: usize = 0;
-    while i < 5 {
-        if is_named(i, edition, word) {
-            return KINDS[i];
-        }
-        i += 1;
-    }
-    0
-}
-
-// The row of a kind's name.
-fn name_row(edition: u8, kind: u8) -> usize
-    ensures { λ r. ⌜ (r < 20) × (getD texts r [] ≡ nameOf edition kind) ⌝ }
-{
-    let mut i: usize = 0;
-    while i < 5 {
-        if is_kind(i, edition, kind) {
-            return i;
-        }
-        i += 1;
-    }
-    5
+    let i = row_of(edition, Key::Name, word);
+    KINDS[i]
 }
 
 // The text of a row.
@@ -132,7 +125,7 @@ fn put_row(out: &mut [u8], at: usize, i: usize) -> usize
 pub(crate) fn put_name(out: &mut [u8], at: usize, edition: u8, kind: u8) -> usize
     ensures { λ r. ⌜ Put (now (out .entry)) at (nameOf edition kind) r (now (out .exit)) ⌝ }
 {
-    let i = name_row(edition, kind);
+    let i = row_of(edition, Key::Kind(kind), b"");
     put_row(out, at, i)
 }
 

@@ -2,8 +2,9 @@
 // Every function takes any slice and any place. What they answer is defined in specs/Parsing.antt.
 ghost use mathlib.Core.Path.{_≡_};
 ghost use mathlib.Core.Bool.{true, _||_};
-ghost use Prim.Native.Nat.{_<_};
+ghost use Prim.Native.Nat.{_≤_, _<_, max};
 ghost use lib.Dec.{leb};
+ghost use lib.ListN.{length};
 ghost use Rattle.load_text.specs.Parsing.{FirstWord, digitOf, digitsIn, is, isNumber, none, numberIn, passes, placeOf, upToMost, valueIn};
 
 // A word of a line, from its first byte to after its last. Both are equal where there is no word.
@@ -65,7 +66,7 @@ fn passes(mark: Mark, b: u8) -> bool
 
 // The first place from `at` on of such a byte, or the end.
 pub(crate) fn place(text: &[u8], mark: Mark, at: usize) -> usize
-    ensures { λ r. ⌜ r ≡ placeOf (passes mark) (now (text .entry)) at ⌝ }
+    ensures { λ r. ⌜ (r ≡ placeOf (passes mark) (now (text .entry)) at) × (at ≤ r) × (r ≤ max at (length (now (text .entry)))) ⌝ }
 {
     let mut i = at;
     while i < text.len() {

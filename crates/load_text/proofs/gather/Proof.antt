@@ -28,7 +28,7 @@ returns-2 c =
     let p = a .before .before .before in
     let l = p .before .before in
     let b = l .before .before .before in
-    turn-wrong _ _ _ _ _ (b .put-byte .ensures .1) _ _ _ (l .loop .inv) (p .before .loop-test .taken) _ (p .place .ensures) _ _ (a .add .ensures) _ (c .before .n2 .given .1)
+    turn-wrong _ _ _ _ _ (b .put-byte .ensures .1) _ _ _ (l .loop .inv) (p .before .loop-test .taken) _ (p .place .ensures .0) _ _ (a .add .ensures) _ (c .before .n2 .given .1)
 
 loop-again : tie.Need-loop-again Inv-loop μ-loop
 loop-again c =
@@ -36,21 +36,15 @@ loop-again c =
     let p = a .before .before .before in
     let l = p .before .before in
     let b = l .before .before .before in
-    turn-more _ _ _ _ _ (b .put-byte .ensures .1) _ _ _ (l .loop .inv) (p .before .loop-test .taken) _ (p .place .ensures) _ _ (a .add .ensures) _ (c .before .n .given .1)
+    turn-more _ _ _ _ _ (b .put-byte .ensures .1) _ _ _ (l .loop .inv) (p .before .loop-test .taken) _ (p .place .ensures .0) _ _ (a .add .ensures) _ (c .before .n .given .1)
 
 pub gather-spec : {M : Type 1} → statement M
 gather-spec =
     tie.close
     (tie.spec
-    Inv-loop μ-loop (λ c κs. search needs) (λ c. gather-misread _ _ (c .before .heading .ensures) (c .if1 .taken) _)
-    (λ c κs. search needs)
+    Inv-loop μ-loop (λ c κs. search needs) (λ c. gather-misread _ _ (c .before .heading .ensures) (c .if1 .taken) _) (λ c κs. search needs)
     (λ c. let p = c .before .before in let i = p .before .before in turn-start _ _ _ _ (i .before .heading .ensures) (i .if1 .left) (p .put-byte .ensures .0))
-    (λ c. omega (arith, c .before .loop .inv .few)) (λ c κs. search needs)
-    (λ c. place-reach isFeed _ _ _ (c .before .before .loop-test .taken) (c .before .place .ensures) .0)
-    (λ c. place-reach isFeed _ _ _ (c .before .before .loop-test .taken) (c .before .place .ensures) .0)
-    (λ c. place-reach isFeed _ _ _ (c .before .before .loop-test .taken) (c .before .place .ensures) .1) (λ c κs. search needs)
-    (λ c. search needs) (λ c. search needs) same-length returns-2
-    (λ c. let p = c .before .before .before .before .before .before .before .before in omega (arith, place-reach isFeed _ _ _ (p .before .loop-test .taken) (p .place .ensures) .1))
-    (λ c. let p = c .before .before .before .before .before .before .before .before in omega (arith, place-reach isFeed _ _ _ (p .before .loop-test .taken) (p .place .ensures) .0))
-    loop-again (λ c. turn-size (c .before .loop .inv) ∙ c .before .before .before .before .put-byte .kept .0)
+    (λ c. omega (arith, c .before .loop .inv .few)) (λ c κs. search needs) (λ c. omega arith) (λ c. omega arith) (λ c. omega arith)
+    (λ c κs. search needs) (λ c. search needs) (λ c. search needs) same-length returns-2 (λ c. omega arith) (λ c. omega arith) loop-again
+    (λ c. turn-size (c .before .loop .inv) ∙ c .before .before .before .before .put-byte .kept .0)
     (λ c. turn-end _ _ _ _ _ (c .before .before .before .before .put-byte .ensures .1) _ _ _ (c .before .loop .inv) (c .loop-test .left)))

@@ -21,39 +21,31 @@ returns c =
     let e = c .before .before .before in
     let s = e .before .before in
     let p = s .before .before in
-    heads-edition _ _ _ (p .before .before .loop .inv) (p .before .loop-test .taken) _ (p .place .ensures) _ _ (sym (s .head-line .ensures) ∙ e .edition .given .1) (c .open-number .ensures)
+    heads-edition _ _ _ (p .before .before .loop .inv) (p .before .loop-test .taken) _ (p .place .ensures .0) _ _ (sym (s .head-line .ensures) ∙ e .edition .given .1) (c .open-number .ensures)
 
 returns-2 : tie.Need-returns-2 Inv-loop μ-loop
 returns-2 c =
     let s = c .before .before in
     let p = s .before .before in
-    heads-other _ _ _ (p .before .before .loop .inv) (p .before .loop-test .taken) _ (p .place .ensures) (sym (s .head-line .ensures) ∙ c .enum-told2 .given .1)
+    heads-other _ _ _ (p .before .before .loop .inv) (p .before .loop-test .taken) _ (p .place .ensures .0) (sym (s .head-line .ensures) ∙ c .enum-told2 .given .1)
 
 returns-3 : tie.Need-returns-3 Inv-loop μ-loop
 returns-3 c =
     let s = c .before .before .before in
     let p = s .before .before in
-    heads-misread _ _ _ (p .before .before .loop .inv) (p .before .loop-test .taken) _ (p .place .ensures) _ (sym (s .head-line .ensures) ∙ c .before .n .given .1)
+    heads-misread _ _ _ (p .before .before .loop .inv) (p .before .loop-test .taken) _ (p .place .ensures .0) _ (sym (s .head-line .ensures) ∙ c .before .n .given .1)
 
 loop-again : tie.Need-loop-again Inv-loop μ-loop
 loop-again c =
     let s = c .before .before in
     let p = s .before .before in
-    heads-on _ _ _ (p .before .before .loop .inv) (p .before .loop-test .taken) _ (p .place .ensures) (sym (s .head-line .ensures) ∙ c .enum-told .given .1)
+    heads-on _ _ _ (p .before .before .loop .inv) (p .before .loop-test .taken) _ (p .place .ensures .0) (sym (s .head-line .ensures) ∙ c .enum-told .given .1)
 
 pub heading-spec : {M : Type 1} → statement M
 heading-spec =
     tie.close
     (tie.spec
-    Inv-loop μ-loop (λ c. heads-start _) (λ c. omega (arith, c .before .loop .inv .few)) (λ c κs. search needs)
-    (λ c. place-reach isFeed _ _ _ (c .before .loop-test .taken) (c .place .ensures) .0)
-    (λ c. place-reach isFeed _ _ _ (c .before .loop-test .taken) (c .place .ensures) .0)
-    (λ c. place-reach isFeed _ _ _ (c .before .loop-test .taken) (c .place .ensures) .1) (λ c κs. search needs) (λ c. search needs)
-    (λ c. search needs) (λ c. search needs) (λ c κs. search needs)
-    (λ c. let p = c .before .before .before .before .before .before .before in omega (arith, place-reach isFeed _ _ _ (p .before .loop-test .taken) (p .place .ensures) .1))
-    returns (λ c. search needs) returns-2 (λ c. search needs)
-    (λ c. let p = c .before .before .before .before .before in omega (arith, place-reach isFeed _ _ _ (p .before .loop-test .taken) (p .place .ensures) .1))
-    returns-3
-    (λ c. let p = c .before .before .before .before in omega (arith, place-reach isFeed _ _ _ (p .before .loop-test .taken) (p .place .ensures) .1))
-    (λ c. let p = c .before .before .before .before in omega (arith, place-reach isFeed _ _ _ (p .before .loop-test .taken) (p .place .ensures) .0))
-    loop-again (λ c. heads-end _ _ _ (c .before .loop .inv) (c .loop-test .left)))
+    Inv-loop μ-loop (λ c. heads-start _) (λ c. omega (arith, c .before .loop .inv .few)) (λ c κs. search needs) (λ c. omega arith)
+    (λ c. omega arith) (λ c. omega arith) (λ c κs. search needs) (λ c. search needs) (λ c. search needs) (λ c. search needs)
+    (λ c κs. search needs) (λ c. omega arith) returns (λ c. search needs) returns-2 (λ c. search needs) (λ c. omega arith) returns-3
+    (λ c. omega arith) (λ c. omega arith) loop-again (λ c. heads-end _ _ _ (c .before .loop .inv) (c .loop-test .left)))

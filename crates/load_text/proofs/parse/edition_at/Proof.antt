@@ -41,8 +41,7 @@ edition-at-spec =
     tie.close
     (tie.spec
     (λ c κs. search needs) (λ c κs. search needs)
-    (λ c. edition-none (c .before .before .next-word .ensures) (sym (c .before .is-empty .ensures) ∙ c .if1 .taken))
-    (λ c κs. search needs) (λ c κs. search needs) returns-2 (λ c. search needs) (λ c. search needs) part-number-end (λ c κs. search needs)
-    (λ c. search needs)
+    (λ c. edition-none (c .before .before .next-word .ensures) (sym (c .before .is-empty .ensures) ∙ c .if1 .taken)) (λ c κs. search needs)
+    (λ c κs. search needs) returns-2 (λ c. search needs) (λ c. search needs) part-number-end (λ c κs. search needs) (λ c. search needs)
     (λ c. omega (arith, number-most _ _ _ _ _ _ (sym (c .before .before .before .number .ensures) ∙ c .before .e .given .1)))
     (λ c. search needs) returns-3 returns-4)

@@ -71,8 +71,8 @@ pub fill-spec : {M : Type 1} → statement M
 fill-spec =
     tie.close
     (tie.spec
-    Inv-loop μ-loop (λ c κs. search needs) loop-holds (λ c κs. search needs) (λ c κs. search needs) (λ c κs. search needs) returns
-    returns-2 (λ c κs. search needs) returns-3 (λ c. c .before .before .before .next-word .ensures .order)
+    Inv-loop μ-loop (λ c κs. search needs) loop-holds (λ c κs. search needs) (λ c κs. search needs) (λ c κs. search needs) returns returns-2
+    (λ c κs. search needs) returns-3 (λ c. c .before .before .before .next-word .ensures .order)
     (λ c. c .before .before .before .next-word .ensures .order)
     (λ c. word-in (c .before .before .before .next-word .ensures) (sym (c .before .is-empty2 .ensures) ∙ c .if3 .left) .1)
     (λ c κs. search needs) add-i loop-less loop-again)

@@ -14,4 +14,4 @@ said-end-spec =
     tie.close
     (tie.spec
     (λ c κs. search needs) slice-aggregate-place (λ c κs. search needs)
-    (λ c. said-is _ _ _ (c .before .before .line-end .ensures) (c .place .ensures)))
+    (λ c. said-is _ _ _ (c .before .before .line-end .ensures) (c .place .ensures .0)))

@@ -17,7 +17,4 @@ returns-2 c =
     print-all _ _ _ _ (line-short _ _) (omega (arith, n, i .if1 .left)) (p .put-call2 .ensures)
 
 pub put-line-spec : {M : Type 1} → statement M
-put-line-spec =
-    tie.close
-    (tie.spec
-    (λ c. search needs) (λ c κs. search needs) returns (λ c κs. search needs) (λ c. search needs) returns-2)
+put-line-spec = tie.close (tie.spec (λ c. search needs) (λ c κs. search needs) returns (λ c κs. search needs) (λ c. search needs) returns-2)

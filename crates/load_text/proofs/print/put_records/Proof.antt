@@ -53,6 +53,6 @@ put-records-spec =
     tie.close
     (tie.spec
     Inv-loop μ-loop (λ c. omega (arith, open-known _ (c .before .before .before .pre) .0))
-    (λ c. turn-start _ _ _ _ (omega arith) (omega arith)) (λ c κs. search needs) (λ c. search needs) (λ c κs. search needs) add-k
-    loop-less loop-again (λ c. search needs) (λ c. c .before .before .before .loop .inv .going .size) returns (λ c. search needs)
+    (λ c. turn-start _ _ _ _ (omega arith) (omega arith)) (λ c κs. search needs) (λ c. search needs) (λ c κs. search needs) add-k loop-less
+    loop-again (λ c. search needs) (λ c. c .before .before .before .loop .inv .going .size) returns (λ c. search needs)
     (λ c κs. search needs) same-length-2 returns-2)

@@ -11,6 +11,4 @@ unfolding stopLine
 returns c = put-then _ _ _ _ _ _ _ _ (omega arith) (put (c .before .before .before .before .before .before .put-bytes .ensures)) (put (c .before .before .put-pair .ensures))
 
 pub put-stop-spec : {M : Type 1} → statement M
-put-stop-spec =
-    tie.close
-    (tie.spec (λ c. search needs) (λ c κs. search needs) (λ c κs. search needs) (λ c. search needs) returns)
+put-stop-spec = tie.close (tie.spec (λ c. search needs) (λ c κs. search needs) (λ c κs. search needs) (λ c. search needs) returns)

@@ -17,7 +17,4 @@ returns-2 c =
     print-all _ _ _ _ (report-short _ _) (omega (arith, n, i .if1 .left)) (p .put-report2 .ensures)
 
 pub report-spec : {M : Type 1} → statement M
-report-spec =
-    tie.close
-    (tie.spec
-    (λ c. search needs) (λ c κs. search needs) returns (λ c κs. search needs) (λ c. search needs) returns-2)
+report-spec = tie.close (tie.spec (λ c. search needs) (λ c κs. search needs) returns (λ c κs. search needs) (λ c. search needs) returns-2)

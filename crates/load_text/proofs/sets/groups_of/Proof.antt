@@ -12,5 +12,4 @@ returns-2 : tie.Need-returns-2
 returns-2 c = c .list .ensures ∙ groups-list _ (sym (c .before .before .lacks .ensures) ∙ c .before .if1 .left)
 
 pub groups-of-spec : {M : Type 1} → statement M
-groups-of-spec =
-    tie.close (tie.spec (λ c κs. search needs) (λ c κs. search needs) returns (λ c κs. search needs) returns-2)
+groups-of-spec = tie.close (tie.spec (λ c κs. search needs) (λ c κs. search needs) returns (λ c κs. search needs) returns-2)

@@ -12,7 +12,7 @@ use Rattle.load_text.proofs.sets.item.Statement.{statement}
 use Rattle.load_text.proofs.sets.item.Tie as tie
 
 slice-aggregate-group : tie.Need-slice-aggregate-group
-slice-aggregate-group c = simp length-take (omega (arith, c .before .place .ensures, place-high isDash (c .before .before .before .args .word .now) 0))
+slice-aggregate-group c = simp length-take (omega arith)
 
 span-requires : tie.Need-span-requires
 span-requires c κs =
@@ -20,13 +20,13 @@ span-requires c κs =
     (omega arith, q)
 
 returns : tie.Need-returns
-returns c = ap (λ s. Value s) (c .span .ensures) ∙ item-one _ _ (c .before .before .before .before .before .before .before .place .ensures) _ (c .before .before .before .before .before .group .ensures) _ (c .before .before .before .low .given .1) (c .before .if1 .taken)
+returns c = ap (λ s. Value s) (c .span .ensures) ∙ item-one _ _ (c .before .before .before .before .before .before .before .place .ensures .0) _ (c .before .before .before .before .before .group .ensures) _ (c .before .before .before .low .given .1) (c .before .if1 .taken)
 
 returns-2 : tie.Need-returns-2
-returns-2 c = c .range .ensures ∙ item-range _ _ (c .before .before .before .before .before .before .before .before .place .ensures) _ (c .before .before .before .before .before .before .group .ensures) _ (c .before .before .before .before .low .given .1) (c .before .before .if1 .left)
+returns-2 c = c .range .ensures ∙ item-range _ _ (c .before .before .before .before .before .before .before .before .place .ensures .0) _ (c .before .before .before .before .before .before .group .ensures) _ (c .before .before .before .before .low .given .1) (c .before .before .if1 .left)
 
 returns-3 : tie.Need-returns-3
-returns-3 c = item-wrong _ _ (c .before .before .before .before .before .place .ensures) _ (c .before .before .before .group .ensures) _ (c .before .n .given .1)
+returns-3 c = item-wrong _ _ (c .before .before .before .before .before .place .ensures .0) _ (c .before .before .before .group .ensures) _ (c .before .n .given .1)
 
 pub item-spec : {M : Type 1} → statement M
 item-spec =

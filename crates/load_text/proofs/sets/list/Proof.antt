@@ -21,7 +21,7 @@ returns : tie.Need-returns Inv-loop μ-loop
 returns c =
     let p = c .before .before .before .before .before in
     let l = p .before .before .loop in
-    items-stop _ (l .at) _ (l .set) (p .before .loop-test .taken) (p .place .ensures) _ (c .before .before .before .item .ensures) _ (c .before .n .given .1) ∙ l .inv .1
+    items-stop _ (l .at) _ (l .set) (p .before .loop-test .taken) (p .place .ensures .0) _ (c .before .before .before .item .ensures) _ (c .before .n .given .1) ∙ l .inv .1
 
 loop-again : tie.Need-loop-again Inv-loop μ-loop
 loop-again c =
@@ -29,21 +29,16 @@ loop-again c =
     let p = i .before .before in
     let l = p .before .before .loop in
     let s = p .before .before .before .before .args .word .now in
-    let r = place-reach isComma s (l .at) _ (p .before .loop-test .taken) (p .place .ensures) in (
+    let r = place-reach isComma s (l .at) _ (p .before .loop-test .taken) (p .place .ensures .0) in (
       omega (arith, r .1),
       ap (λ k. withItems (Value k) (itemsIn (drop (p .place .result + 1) s))) (c .union .ensures)
-          ∙ sym (items-on s (l .at) _ (l .set) (p .before .loop-test .taken) (p .place .ensures) _ (i .item .ensures) _ (c .before .before .g .given .1)) ∙ l .inv .1,
+          ∙ sym (items-on s (l .at) _ (l .set) (p .before .loop-test .taken) (p .place .ensures .0) _ (i .item .ensures) _ (c .before .before .g .given .1)) ∙ l .inv .1,
     )
 
 pub list-spec : {M : Type 1} → statement M
 list-spec =
     tie.close
     (tie.spec
-    Inv-loop μ-loop (λ c. (omega arith, refl)) (λ c κs. search needs)
-    (λ c. place-reach isComma _ _ _ (c .before .loop-test .taken) (c .place .ensures) .0)
-    (λ c. place-reach isComma _ _ _ (c .before .loop-test .taken) (c .place .ensures) .0)
-    (λ c. place-reach isComma _ _ _ (c .before .loop-test .taken) (c .place .ensures) .1) (λ c κs. search needs) (λ c. search needs)
-    (λ c κs. search needs) (λ c. search needs) returns
-    (λ c. let p = c .before .before .before .before .before .before in omega (arith, place-reach isComma _ _ _ (p .before .loop-test .taken) (p .place .ensures) .1))
-    (λ c. let p = c .before .before .before .before .before .before in omega (arith, place-reach isComma _ _ _ (p .before .loop-test .taken) (p .place .ensures) .0))
+    Inv-loop μ-loop (λ c. (omega arith, refl)) (λ c κs. search needs) (λ c. omega arith) (λ c. omega arith) (λ c. omega arith)
+    (λ c κs. search needs) (λ c. search needs) (λ c κs. search needs) (λ c. search needs) returns (λ c. omega arith) (λ c. omega arith)
     loop-again (λ c. let l = c .before .loop in items-end _ (l .at) (l .set) (c .loop-test .left) ∙ l .inv .1))

@@ -26,7 +26,4 @@ returns-3 : tie.Need-returns-3
 returns-3 c = let g = c .before .before .before in up-wrong _ _ _ (sym (g .group .ensures) ∙ c .before .n .given .1)
 
 pub range-spec : {M : Type 1} → statement M
-range-spec =
-    tie.close
-    (tie.spec
-    (λ c κs. search needs) (λ c. search needs) returns span-requires (λ c. search needs) returns-2 returns-3)
+range-spec = tie.close (tie.spec (λ c κs. search needs) (λ c. search needs) returns span-requires (λ c. search needs) returns-2 returns-3)

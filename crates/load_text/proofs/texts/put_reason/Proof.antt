@@ -2,15 +2,15 @@
 use native.Mathlib.Omega.{arith}
 use borrow.Author.Needs.{needs}
 use Rattle.numerals.proofs.Laying.{put-as}
-use Rattle.load_text.proofs.Tables.{codeReasons, reason-is}
+use Rattle.load_text.specs.Lines.{reasons}
+use Rattle.load_text.proofs.Tables.{reason-is}
 use Rattle.load_text.proofs.texts.put_reason.Statement.{statement}
 use Rattle.load_text.proofs.texts.put_reason.Tie as tie
 
 pub put-reason-spec : {M : Type 1} → statement M
-unfolding codeReasons
+unfolding reasons
 put-reason-spec =
     tie.close
     (tie.spec
-    (λ c. search needs) (λ c κs. search needs) (λ c. omega (arith, reason-is _ _ (c .before .place .ensures) .0))
-    (λ c κs. reason-is _ _ (c .before .place .ensures) .0) (λ c. search needs)
-    (λ c. let p = c .before .before in put-as _ _ (reason-is _ _ (p .before .before .place .ensures) .1) (p .put-row .ensures)))
+    (λ c. search needs) (λ c κs. search needs) (λ c. omega arith) (λ c κs. omega arith) (λ c. search needs)
+    (λ c. let p = c .before .before in put-as _ _ (reason-is _ _ (p .before .before .place .ensures .0)) (p .put-row .ensures)))

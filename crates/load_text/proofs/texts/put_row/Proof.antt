@@ -2,25 +2,24 @@
 use lib.ListN.{length-take}
 use native.Mathlib.Omega.{arith}
 use borrow.Author.Needs.{needs}
+use Rattle.load.specs.Format.{format}
 use Rattle.numerals.proofs.Laying.{put, put-as}
-use Rattle.load_text.proofs.Tables.{codeLengths, codeTexts, text-is}
+use Rattle.load_text.specs.Lines.{reasons, reasonTexts, texts}
+use Rattle.load_text.proofs.Tables.{text-is}
 use Rattle.load_text.proofs.texts.put_row.Statement.{statement}
 use Rattle.load_text.proofs.texts.put_row.Tie as tie
 
 array-share-prefix-row : tie.Need-array-share-prefix-row
-unfolding codeLengths codeTexts
-array-share-prefix-row c = let s = c .before .before .before in text-is (s .args .i) (s .pre) .0
+unfolding texts reasonTexts format reasons
+array-share-prefix-row c = text-is texts (c .before .before .before .args .i) .0
 
 slice-aggregate-put-bytes : tie.Need-slice-aggregate-put-bytes
-unfolding codeLengths codeTexts
-slice-aggregate-put-bytes c = let s = c .before .before .before .before in simp length-take (omega (arith, text-is (s .args .i) (s .pre) .0))
+unfolding texts reasonTexts format reasons
+slice-aggregate-put-bytes c = simp length-take (omega (arith, text-is texts (c .before .before .before .before .args .i) .0))
 
 returns : tie.Need-returns
-unfolding codeLengths codeTexts
-returns c =
-    let p = c .before .before in
-    let s = p .before .before .before .before .before in
-    put-as _ _ (text-is (s .args .i) (s .pre) .1) (put (p .put-bytes .ensures))
+unfolding texts reasonTexts format reasons
+returns c = let p = c .before .before in put-as _ _ (text-is texts (p .before .before .before .before .before .args .i) .1) (put (p .put-bytes .ensures))
 
 pub put-row-spec : {M : Type 1} → statement M
 put-row-spec =

@@ -11,7 +11,7 @@ use Rattle.load_text.proofs.words.lacks.Tie as tie
 returns : tie.Need-returns
 returns c =
     let a = c .before .before .args in
-    ap (λ n. leb (length (a .text .now)) n) (c .place .ensures) ∙ none-place (passes (a .mark)) (a .text .now)
+    ap (λ n. leb (length (a .text .now)) n) (c .place .ensures .0) ∙ none-place (passes (a .mark)) (a .text .now)
 
 pub lacks-spec : {M : Type 1} → statement M
 lacks-spec = tie.close (tie.spec (λ c κs. search needs) returns)
