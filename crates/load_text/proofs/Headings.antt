@@ -12,7 +12,7 @@ use Rattle.load_text.specs.declared.parse.Head.{Head}
 use Rattle.load_text.specs.declared.parse.Head.the-variants.{Silent, Edition, Other, Misread}
 use Rattle.load_text.specs.Parsing.{isFeed, placeOf, linesIn, headSays}
 use Rattle.load_text.specs.Making.{Heading, plain, headed, headingIn, heading, headingNumber, Starts}
-use Rattle.load_text.proofs.Parts.{place-reach, parts-cut, parts-end}
+use Rattle.load_text.proofs.Parts.{place-low, parts-cut, parts-end}
 
 -- ── lines from a place on ──
 pub lines-cut : (text : List ℕ) (at e : ℕ) → at < length text → e ≡ placeOf isFeed text at
@@ -73,7 +73,7 @@ module _ (text : List ℕ) (at line : ℕ) (t : Heads text at line) where
     next = sym (ap (drop 1) (lines-cut text at j h i)) ∙ ap (drop 1) (t .rest) ∙ drop-drop 1 line (linesIn text)
 
     reach : line + 1 ≤ j + 1
-    reach = omega (arith, t .few, place-reach isFeed text at j h i .0)
+    reach = omega (arith, t .few, i, place-low isFeed text at)
 
     pub heads-on : says ≡ Silent → Heads text (j + 1) (line + 1)
     heads-on e = record { few = reach; is = rw e at on; rest = next }

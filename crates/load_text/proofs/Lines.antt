@@ -18,21 +18,14 @@ use Rattle.load.proofs.Format.{allBelow, below-passes, rest-some}
 use Rattle.load.proofs.Rows.{row-end}
 use Rattle.load_text.specs.declared.print.Printed.the-variants.{Length, Refusal}
 use Rattle.load_text.specs.declared.texts.Key.the-variants.{Kind}
-use Rattle.load_text.specs.Lines.{glyphOf, hexUpTo, wordOf, fieldsText, lineOf, stopLine, headerOf, reasons, reasonTexts, reasonText, reportOf, printedAs, printed}
+use Rattle.load_text.specs.Lines.{glyphOf, hexUpTo, wordOf, fieldsText, lineOf, stopLine, headerOf, reasons, reasonTexts, reasonText, reportOf, printed}
 use Rattle.load_text.specs.Parsing.{placeOf, is}
 use Rattle.load_text.specs.Reasons.{noSpace}
+use Rattle.load_text.proofs.Cases.{either, not-refused}
 use Rattle.load_text.proofs.Parts.{place-high}
 use Rattle.load_text.proofs.Tables.{allRows, row-cases, row-kind, known-passes}
 
 -- ── hex ──
-pub glyph-low : (v : ℕ) → v % 16 < 10 → 48 + v % 16 ≡ glyphOf v
-unfolding glyphOf
-glyph-low v h = rw (lt-ltb (v % 16) 10 h)
-
-pub glyph-high : (v : ℕ) → 10 ≤ v % 16 → 55 + v % 16 ≡ glyphOf v
-unfolding glyphOf
-glyph-high v h = rw (le-ltb (v % 16) 10 h)
-
 pub hex-one : (k v b : ℕ) → b ≡ glyphOf v → k ≡ 0 → b ∷ [] ≡ hexUpTo k v
 unfolding hexUpTo
 hex-one k v b g e = rw (e, g)
@@ -52,36 +45,9 @@ hex-more (suc k) v b g n h =
 hex-length : (k v : ℕ) → length (hexUpTo k v) ≤ suc k
 unfolding hexUpTo
 hex-length zero v = omega arith
-hex-length (suc k) v = go (hex-length k (v / 16)) (ltb v 16)
-  where
-    go : length (hexUpTo k (v / 16)) ≤ suc k → (b : Bool) → length (cond b (glyphOf v ∷ []) (hexUpTo k (v / 16) ++ (glyphOf v ∷ []))) ≤ suc (suc k)
-    go h true = omega arith
-    go h false = omega (arith, length-append (hexUpTo k (v / 16)) (glyphOf v ∷ []))
-
--- ── fields: f is what `field_at` answers at place i ──
-module _ (e k i f : ℕ) (s : f ≡ getD (fieldsOf e k) i 0) (c : Call) where
-  pub text-last : f ≡ 0 → fieldsText (drop i (fieldsOf e k)) c ≡ 10 ∷ []
-  unfolding fieldsText
-  text-last z = rw (row-end e k i f s z)
-
-  pub text-next : (f ≡ 0 → ⊥) → (v : ℕ) → v ≡ valueOf f c → fieldsText (drop i (fieldsOf e k)) c ≡ ((32 ∷ []) ++ wordOf f v) ++ fieldsText (drop (i + 1) (fieldsOf e k)) c
-  unfolding fieldsText
-  text-next z v q = rw (rest-some (fieldsOf e k) i f s z .1, q)
-
-pub word-groups : (f v : ℕ) → f ≡ theGroups → hexUpTo 15 v ≡ wordOf f v
-unfolding wordOf
-word-groups f v e = rw (eq-eqb f theGroups e)
-
-pub word-number : (f v : ℕ) → (f ≡ theGroups → ⊥) → decimalOf v ≡ wordOf f v
-unfolding wordOf
-word-number f v e = rw (ne-eqb f theGroups e)
-
-pub header-one : (e : ℕ) → e ≡ 1 → headerOf 1 ≡ headerOf e
-header-one e z = ap headerOf (sym z)
-
-pub header-other : (e : ℕ) → (e ≡ 1 → ⊥) → (101 ∷ 100 ∷ 105 ∷ 116 ∷ 105 ∷ 111 ∷ 110 ∷ 32 ∷ []) ++ column e 10 ≡ headerOf e
-unfolding headerOf
-header-other e n = rw (ne-eqb e 1 n)
+hex-length (suc k) v =
+    let l = length-append (hexUpTo k (v / 16)) (glyphOf v ∷ []) in
+    either (ltb v 16) (λ e. rw e (omega arith)) (λ e. rw e (omega (arith, hex-length k (v / 16))))
 
 -- ── lengths ──
 -- A field's word with the space in front of it, and the line feed.
@@ -91,11 +57,8 @@ bound (f ∷ fs) = cond (eqb f theGroups) 17 21 + bound fs
 
 word-length : (f v : ℕ) → suc (length (wordOf f v)) ≤ cond (eqb f theGroups) 17 21
 unfolding wordOf
-word-length f v = go (eqb f theGroups)
-  where
-    go : (b : Bool) → suc (length (cond b (hexUpTo 15 v) (decimalOf v))) ≤ cond b 17 21
-    go true = omega (arith, hex-length 15 v)
-    go false = omega (arith, decimal-length v, width-small v)
+word-length f v =
+    either (eqb f theGroups) (λ e. rw e (omega (arith, hex-length 15 v))) (λ e. rw e (omega (arith, decimal-length v, width-small v)))
 
 fields-length : (fs : List ℕ) (c : Call) → length (fieldsText fs c) ≤ bound fs
 unfolding fieldsText bound
@@ -160,13 +123,10 @@ print-all text o p r s h w =
     let l = lent-all text o p h (e .1) in
     (rw (l .0) (ap Length (e .0)), l .1)
 
-printed-length : (k m n : ℕ) → printedAs k m ≡ Length n → (k ≡ 0) × (m ≡ n)
-printed-length zero m n e = (refl, cc)
-printed-length (suc k) m n e = let z : _≡_ {A = ℕ} 0 1 = cc in absurd (omega arith)
-
 -- A length that is answered is one of the buffer.
 pub printed-within : (text o : List ℕ) (n : ℕ) → printed text o ≡ Length n → n ≤ length o
 unfolding printed
 printed-within text o n e =
-    let a = printed-length (spaceNumber text o) (length text) n e in
-    omega (arith, a .1, lent-known text o (a .0) .0)
+    let a = not-refused Refusal (Length (length text)) (spaceNumber text o) (Length n) (λ k c. let z : _≡_ {A = ℕ} 0 1 = cc in omega arith) e in
+    let m : length text ≡ n = cc in
+    omega (arith, lent-known text o (a .0) .0)

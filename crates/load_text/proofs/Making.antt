@@ -1,13 +1,12 @@
 -- The load of a text line by line: what a line adds, the loop over the lines, the copy into a lent buffer, and that the load reads as the
 -- calls that the lines say.
 use Prim.Native.Nat.{ℕ, zero, suc, _+_, _-_, _≤_, _<_}
-use mathlib.Core.Bool.{Bool, true, false, not, _||_, cond}
+use mathlib.Core.Bool.{not, _||_}
 use mathlib.Core.List.{List, [], _∷_, _++_, map, append-nil}
 use mathlib.Core.Path.{_≡_, refl, sym, ap, _∙_}
 use native.Mathlib.Omega.{arith}
 use native.Mathlib.Nat.{add-zero}
-use lib.Dec.{ltb}
-use borrow.Author.Tests.{ltb-false}
+use borrow.Author.Tests.{lt-ltb}
 use lib.ListN.{length, take, drop, replicate, length-replicate, length-append}
 use lib.Seq.{take-at, append-snoc}
 use Rattle.numerals.specs.Laid.{behind, laid, spaceNumber, lentOut}
@@ -17,8 +16,8 @@ use Rattle.load.specs.declared.Written.{Written}
 use Rattle.load.specs.declared.Written.the-variants.{Length, Refusal}
 use Rattle.load.specs.Calls.{carries}
 use Rattle.load.specs.Bytes.{recordBytes, recordsBytes}
-use Rattle.load.specs.Reading.{inPlace, editionOf, loadNumber, walk}
-use Rattle.load.specs.Writing.{grown, roomNumber, growNumber, appendNumber, appendAnswer, appendOut, answered}
+use Rattle.load.specs.Reading.{inPlace, editionOf, loadNumber, walk, unlessRefused}
+use Rattle.load.specs.Writing.{grown, roomNumber, growNumber, appendNumber, appendAnswer, appendOut}
 use Rattle.load.specs.RoundTrip.{Typed, Appended}
 use Rattle.load.proofs.Reading.{or-else, open-known}
 use Rattle.load.proofs.Writing.{append-grow}
@@ -30,32 +29,27 @@ use Rattle.load_text.specs.declared.parse.Parsed.{Parsed}
 use Rattle.load_text.specs.declared.parse.Parsed.the-variants.{Nothing, Said, Bad}
 use Rattle.load_text.specs.Parsing.{isFeed, placeOf, linesIn, lineSays, callsOf}
 use Rattle.load_text.specs.Reasons.{noSpace}
-use Rattle.load_text.specs.Making.{Making, whole, wrong, heading, headingNumber, saidIn, Starts, lineNumber, lineBytes, onFrom, gathered, made, madeAs, answerOn, bufferOn, madeOf, madeOut, Adds, Gathers, callsIn, MadeReads}
+use Rattle.load_text.specs.Making.{Making, whole, wrong, heading, headingNumber, saidIn, Starts, lineNumber, lineBytes, gathered, made, answerOn, bufferOn, madeOf, madeOut, Adds, Gathers, callsIn, MadeReads}
+use Rattle.load_text.proofs.Cases.{either, below, refused, not-refused, was-refused}
 use Rattle.load_text.proofs.Headings.{lines-cut, lines-end}
-use Rattle.load_text.proofs.Parts.{place-reach}
+use Rattle.load_text.proofs.Parts.{place-low}
 use Rattle.load_text.proofs.Within.{says-typed, reasons-apart}
 
 -- ── what a line adds ──
 -- A call that is taken leaves the load within its bound.
 grow-small : (e n : ℕ) (c : Call) (room : ℕ) → growNumber e n c room ≡ 0 → n + length (recordBytes e c) ≤ 65536
 unfolding growNumber roomNumber
-grow-small e n c room = go (not (inPlace (c .kind) n) || not (carries e c)) (ltb 65536 w) (ltb room w) refl
-  where
-    w : ℕ
-    w = n + length (recordBytes e c)
-
-    go : (a x y : Bool) → ltb 65536 w ≡ x → cond {A = ℕ} a 13 (cond x 14 (cond y 15 0)) ≡ 0 → w ≤ 65536
-    go true x y u h = absurd (omega arith)
-    go false true y u h = absurd (omega arith)
-    go false false y u h = ltb-false 65536 w u
+grow-small e n c room h =
+    let w = n + length (recordBytes e c) in
+    either (not (inPlace (c .kind) n) || not (carries e c)) (λ a. absurd (omega (arith, rw a at h)))
+    (λ a. below 65536 w (λ x. absurd (omega (arith, rw (a, lt-ltb 65536 w x) at h))) (λ x. x))
 
 pub said-bytes : (e : ℕ) (c : Call) → lineBytes e (Said c) ≡ recordBytes e c
 unfolding lineBytes recordsBytes
 said-bytes e c = append-nil (recordBytes e c)
 
-answer-length : (k m n : ℕ) → answered k m ≡ Length n → (k ≡ 0) × (m ≡ n)
-answer-length zero m n e = (refl, cc)
-answer-length (suc k) m n e = let z : _≡_ {A = ℕ} 0 1 = cc in absurd (omega arith)
+length-not : (k n : ℕ) → Refusal k ≡ Length n → ⊥
+length-not k n e = let z : _≡_ {A = ℕ} 0 1 = cc in omega arith
 
 module _ (e n : ℕ) (o : List ℕ) (p : Parsed) where
   pub add-nothing : p ≡ Nothing → Adds e n o p (Length n) o
@@ -63,14 +57,13 @@ module _ (e n : ℕ) (o : List ℕ) (p : Parsed) where
   add-nothing q = rw q (ap Length (sym (add-zero n)), sym (laid-none o n))
 
   -- Refused by k, which is the line's own number or that of its call.
-  refused : (k : ℕ) → lineNumber e n p ≡ k → (k ≡ 0 → ⊥) → Adds e n o p (Refusal k) o
-  refused zero q h = absurd (h refl)
-  refused (suc k) q h = rw q (refl, refl)
+  by-number : (k : ℕ) → lineNumber e n p ≡ k → (k ≡ 0 → ⊥) → Adds e n o p (Refusal k) o
+  by-number k q h = rw q (sym (refused Refusal _ k h), sym (refused (λ i. o) _ k h))
 
   pub add-bad : (l : List ℕ) (k : ℕ) → p ≡ lineSays e l → p ≡ Bad k → Adds e n o p (Refusal k) o
   unfolding lineNumber
   add-bad l zero i q = absurd (omega (arith, reasons-apart e l 0 (sym i ∙ q)))
-  add-bad l (suc k) i q = refused (suc k) (rw q) (λ z. omega arith)
+  add-bad l (suc k) i q = by-number (suc k) (rw q) (λ z. omega arith)
 
   module _ (c : Call) (q : p ≡ Said c) (k : ℕ) (g : k ≡ growNumber e n c 65536) where
     number : lineNumber e n p ≡ k
@@ -78,7 +71,7 @@ module _ (e n : ℕ) (o : List ℕ) (p : Parsed) where
     number = rw q (sym g)
 
     pub add-refused : (k ≡ 0 → ⊥) → Adds e n o p (Refusal k) o
-    add-refused h = refused k number h
+    add-refused h = by-number k number h
 
     pub add-taken : k ≡ 0 → (r : ℕ) (u : List ℕ) → r ≡ behind n (length (recordBytes e c)) → u ≡ laid o n (recordBytes e c) → Adds e n o p (Length r) u
     add-taken z r u x y =
@@ -90,11 +83,7 @@ module _ (e n : ℕ) (o : List ℕ) (p : Parsed) where
 -- A heading that is wrong.
 pub gather-misread : (text : List ℕ) (r : Start) → Starts text r → (r .number ≡ 0 → ⊥) → (o : List ℕ) → Gathers (made text) o (Mistake (r .line) (r .number)) o
 unfolding made
-gather-misread text r s z o = go (headingNumber text) (s .number) _
-  where
-    go : (n : ℕ) → r .number ≡ n → (m : Making) → Gathers (onFrom n (heading text .lines) m) o (Mistake (r .line) (r .number)) o
-    go zero q m = absurd (z q)
-    go (suc n) q m = ap (λ k. Mistake k (r .number)) (s .line) ∙ ap (Mistake (heading text .lines)) q
+gather-misread text r s z o = rw (refused (wrong (heading text .lines)) _ (headingNumber text) (λ q. z (s .number ∙ q)), s .line, s .number)
 
 -- Behind `line` lines, at a place: the edition byte and `rest` are laid, of which the lines from there on make what the text makes.
 -- The buffer was o₀, with the edition byte.
@@ -131,31 +120,34 @@ module _ (e : ℕ) (text i o₀ o : List ℕ) (b : o₀ ≡ laid i 0 (e ∷ []))
     abbrev says : Parsed
     says = lineSays e (take (j - at) (drop at text))
 
-    on : made text ≡ onFrom (lineNumber e size says) (line + 1) (gathered e (line + 1) (e ∷ (t .rest ++ lineBytes e says)) (map (lineSays e) (linesIn (drop (j + 1) text))))
+    on : made text ≡ unlessRefused (lineNumber e size says) (wrong (line + 1)) (gathered e (line + 1) (e ∷ (t .rest ++ lineBytes e says)) (map (lineSays e) (linesIn (drop (j + 1) text))))
     unfolding gathered
     on = sym (t .is) ∙ rw (lines-cut text at j h f, t .long)
 
     pub turn-more : (n : ℕ) → r ≡ Length n → Turn e text o₀ q n (j + 1) (line + 1)
     turn-more n z =
-        let a = answer-length (lineNumber e size says) (size + length (lineBytes e says)) n (sym (x .0) ∙ z) in
+        let a = not-refused Refusal (Length (size + length (lineBytes e says))) (lineNumber e size says) (Length n) (λ k. length-not k n) (sym (x .0) ∙ z) in
         let l = t .long in
+        let m : size + length (lineBytes e says) ≡ n = cc in
         record {
-          few = omega (arith, t .few, place-reach isFeed text at j h f .0);
+          few = omega (arith, t .few, f, place-low isFeed text at);
           rest = t .rest ++ lineBytes e says;
-          long = omega (arith, a .1, length-append (t .rest) (lineBytes e says));
+          long = omega (arith, length-append (t .rest) (lineBytes e says));
           lays = (rw (a .0) at (x .1)) ∙ ap (λ y. laid y size (lineBytes e says)) (t .lays) ∙ ap (λ k. laid (laid o₀ 1 (t .rest)) k (lineBytes e says)) (omega arith)
               ∙ sym (laid-append o₀ 1 (t .rest) (lineBytes e says));
           is = sym (rw (a .0) at on);
         }
 
     pub turn-wrong : (n : ℕ) → r ≡ Refusal n → Gathers (made text) i (Mistake (line + 1) n) q
-    turn-wrong n z = rw on (go (lineNumber e size says) _ (sym (x .0) ∙ z))
-      where
-        go : (k : ℕ) (m : Making) → answered k (size + length (lineBytes e says)) ≡ Refusal n → Gathers (onFrom k (line + 1) m) i (Mistake (line + 1) n) q
-        go zero m u = let y : _≡_ {A = ℕ} 0 1 = cc in absurd (omega arith)
-        go (suc k) m u = let y : suc k ≡ n = cc in ap (Mistake (line + 1)) (sym y)
+    turn-wrong n z =
+        let a = was-refused Refusal _ (lineNumber e size says) (Refusal n) (λ y. length-not n _ (sym y)) (sym (x .0) ∙ z) in
+        let m : n ≡ lineNumber e size says = cc in
+        rw (on, refused (wrong (line + 1)) _ (lineNumber e size says) (a .0)) (ap (Mistake (line + 1)) m)
 
 -- ── a made load reads as its calls ──
+whole-not : (k n : ℕ) (s : List ℕ) → wrong k n ≡ whole s → ⊥
+whole-not k n s e = let z : _≡_ {A = ℕ} 0 1 = cc in omega arith
+
 -- A call that the writer takes where there is room, taken.
 append-more : (e : ℕ) (cs : List Call) (t : List ℕ) (c : Call) (room : ℕ) → Appended e cs (e ∷ t) → Typed c → growNumber e (length (e ∷ t)) c room ≡ 0
     → Appended e (cs ++ (c ∷ [])) (e ∷ (t ++ recordBytes e c))
@@ -173,56 +165,29 @@ gathered-reads : (e k : ℕ) (ls : List (List ℕ)) (cs : List Call) (t u : List
     → Appended e (cs ++ callsIn (map (lineSays e) ls)) u × (editionOf u ≡ e)
 unfolding gathered callsIn lineNumber lineBytes recordsBytes
 gathered-reads e k [] cs t u a q = let i : e ∷ t ≡ u = cc in (rw (append-nil, ← i) a, ap editionOf (sym i))
-gathered-reads e k (l ∷ ls) cs t u a q = go (lineSays e l) refl q (λ ds r b. gathered-reads e (k + 1) ls ds r u b)
+gathered-reads e k (l ∷ ls) cs t u a q =
+    let b = not-refused (wrong (k + 1)) _ (lineNumber e (length (e ∷ t)) (lineSays e l)) (whole u) (λ n. whole-not (k + 1) n u) q in
+    go (lineSays e l) refl (b .0) (b .1) (λ ds r b. gathered-reads e (k + 1) ls ds r u b)
   where
     ps : List Parsed
     ps = map (lineSays e) ls
 
-    go : (p : Parsed) → lineSays e l ≡ p → onFrom (lineNumber e (length (e ∷ t)) p) (k + 1) (gathered e (k + 1) (e ∷ (t ++ lineBytes e p)) ps) ≡ whole u
+    go : (p : Parsed) → lineSays e l ≡ p → lineNumber e (length (e ∷ t)) p ≡ 0 → gathered e (k + 1) (e ∷ (t ++ lineBytes e p)) ps ≡ whole u
         → ((ds : List Call) (r : List ℕ) → Appended e ds (e ∷ r) → gathered e (k + 1) (e ∷ r) ps ≡ whole u → Appended e (ds ++ callsIn ps) u × (editionOf u ≡ e))
         → Appended e (cs ++ (callsOf p ++ callsIn ps)) u × (editionOf u ≡ e)
-    go Nothing i q f = f cs t a (rw append-nil at q)
-    go (Bad zero) i q f = absurd (omega (arith, reasons-apart e l 0 i))
-    go (Bad (suc j)) i q f = let z : _≡_ {A = ℕ} 0 1 = cc in absurd (omega arith)
-    go (Said c) i q f = call (growNumber e (length (e ∷ t)) c 65536) refl q
-      where
-        call : (j : ℕ) → growNumber e (length (e ∷ t)) c 65536 ≡ j → onFrom j (k + 1) (gathered e (k + 1) (e ∷ (t ++ lineBytes e (Said c))) ps) ≡ whole u
-            → Appended e (cs ++ (c ∷ callsIn ps)) u × (editionOf u ≡ e)
-        call zero z q =
-            rw (append-snoc cs c (callsIn ps)) at (f (cs ++ (c ∷ [])) (t ++ recordBytes e c) (append-more e cs t c 65536 a (says-typed e l c i) z) (rw (said-bytes e c) at q))
-        call (suc j) z q = let y : _≡_ {A = ℕ} 0 1 = cc in absurd (omega arith)
-
--- A heading that is not wrong goes on to the lines after it.
-behind-heading : (n k : ℕ) (m : Making) (s : List ℕ) → onFrom n k m ≡ whole s → (n ≡ 0) × (m ≡ whole s)
-behind-heading zero k m s q = (refl, q)
-behind-heading (suc n) k m s q = let z : _≡_ {A = ℕ} 0 1 = cc in absurd (omega arith)
+    go Nothing i z q f = f cs t a (rw append-nil at q)
+    go (Bad n) i z q f = absurd (omega (arith, reasons-apart e l n i, or-else n _ z .0))
+    go (Said c) i z q f =
+        rw (append-snoc cs c (callsIn ps)) at (f (cs ++ (c ∷ [])) (t ++ recordBytes e c) (append-more e cs t c 65536 a (says-typed e l c i) z) (rw (said-bytes e c) at q))
 
 made-ends : (text s : List ℕ) → made text ≡ whole s → Appended (heading text .edition) (callsIn (saidIn text)) s × (editionOf s ≡ heading text .edition)
 unfolding made saidIn headingNumber
 made-ends text s q =
     let h = heading text in
-    let b = behind-heading (headingNumber text) (h .lines) _ s q in
+    let b = not-refused (wrong (h .lines)) _ (headingNumber text) (whole s) (λ n. whole-not (h .lines) n s) q in
     gathered-reads (h .edition) (h .lines) (drop (h .lines) (linesIn text)) [] [] s (Appended.none (open-known _ (or-else (h .number) _ (b .0) .1) .1)) (b .1)
 
--- A line that is wrong has a number.
-from-wrong : (j k : ℕ) (m : Making) (i n : ℕ) → onFrom j k m ≡ wrong i n → (m ≡ wrong i n → 0 < n) → 0 < n
-from-wrong zero k m i n q f = f q
-from-wrong (suc j) k m i n q f = let z : suc j ≡ n = cc in omega arith
-
-gathered-wrong : (e k : ℕ) (s : List ℕ) (ps : List Parsed) (i n : ℕ) → gathered e k s ps ≡ wrong i n → 0 < n
-unfolding gathered
-gathered-wrong e k s [] i n q = let z : _≡_ {A = ℕ} 0 1 = cc in absurd (omega arith)
-gathered-wrong e k s (p ∷ ps) i n q =
-    from-wrong (lineNumber e (length s) p) (k + 1) (gathered e (k + 1) (s ++ lineBytes e p) ps) i n q (gathered-wrong e (k + 1) (s ++ lineBytes e p) ps i n)
-
 -- ── into a lent buffer ──
-wrong-is : (text : List ℕ) (k n : ℕ) → made text ≡ wrong k n → madeAs n k 0 ≡ Mistake k n
-unfolding made
-wrong-is text k zero q =
-    let h = heading text in
-    absurd (omega (arith, from-wrong (headingNumber text) (h .lines) _ k 0 q (gathered-wrong (h .edition) (h .lines) (h .edition ∷ []) (saidIn text) k 0)))
-wrong-is text k (suc n) q = refl
-
 -- What `gather` has of a text that makes a load of n bytes.
 pub record Loaded (text p : List ℕ) (n : ℕ) : Type 0 where
   pub load : List ℕ
@@ -239,7 +204,7 @@ loaded text o r p n g e h = go (made text) refl g
         let l : length s ≡ n = cc in
         let b = read-bounded s (written-reads _ _ s (made-ends text s i .0) .0) in
         record { load = s; is = i; long = l; small = omega arith; first = ap (take n) (g .1) ∙ laid-first o s n l (omega arith) }
-    go (wrong k j) i g = let y = wrong-is text k j i in let z : _≡_ {A = ℕ} 0 1 = cc in absurd (omega arith)
+    go (wrong k j) i g = let z : _≡_ {A = ℕ} 0 1 = cc in absurd (omega arith)
 
 module _ (text p : List ℕ) (n : ℕ) (l : Loaded text p n) (out : List ℕ) where
   pub make-none : length out < n → (Mistake 0 noSpace ≡ madeOf text out) × (out ≡ madeOut text out)
@@ -261,10 +226,6 @@ make-wrong text o r p k n g e out = go (made text) g
     go (whole s) g = let z : _≡_ {A = ℕ} 0 1 = cc in absurd (omega arith)
     go (wrong i j) g = (sym e ∙ g, refl)
 
-made-length : (k line m n : ℕ) → madeAs k line m ≡ Load n → (k ≡ 0) × (m ≡ n)
-made-length zero line m n e = (refl, cc)
-made-length (suc k) line m n e = let z : _≡_ {A = ℕ} 0 1 = cc in absurd (omega arith)
-
 pub made-reads : MadeReads
 unfolding madeOf madeOut
 made-reads text out n e = go (made text) refl e
@@ -273,10 +234,11 @@ made-reads text out n e = go (made text) refl e
         → (n ≤ length out) × (loadNumber (take n (bufferOn m out)) ≡ 0) × (walk (take n (bufferOn m out)) 1 ≡ record { calls = callsIn (saidIn text); stop = 0 })
         × (editionOf (take n (bufferOn m out)) ≡ heading text .edition)
     go (whole s) i e =
-        let q = made-length (spaceNumber s out) 0 (length s) n e in
+        let q = not-refused (Mistake 0) (Load (length s)) (spaceNumber s out) (Load n) (λ k c. let z : _≡_ {A = ℕ} 0 1 = cc in omega arith) e in
+        let m : length s ≡ n = cc in
         let l = lent-known s out (q .0) in
-        let t : take n (lentOut s out) ≡ s = rw (← (q .1)) (l .1) in
+        let t : take n (lentOut s out) ≡ s = rw (← m) (l .1) in
         let a = made-ends text s i in
         let w = written-reads _ _ s (a .0) in
-        (omega (arith, q .1, l .0), rw t (w .0), rw t (w .1), rw t (a .1))
-    go (wrong k j) i e = let y = wrong-is text k j i in let z : _≡_ {A = ℕ} 0 1 = cc in absurd (omega arith)
+        (omega (arith, l .0), rw t (w .0), rw t (w .1), rw t (a .1))
+    go (wrong k j) i e = let z : _≡_ {A = ℕ} 0 1 = cc in absurd (omega arith)

@@ -1,7 +1,7 @@
 -- Laws of digits and of the numbers that they say, as the code reads them.
 use Prim.Native.Nat.{ℕ, suc, _+_, _-_, _*_, _/_, _≤_, _<_}
-use mathlib.Core.Path.{_≡_, refl, sym, ap, _∙_}
-use mathlib.Core.Bool.{Bool, true, false, cond, and-eq-true-iff}
+use mathlib.Core.Path.{_≡_, sym, ap, _∙_}
+use mathlib.Core.Bool.{true, _&&_, cond, and-eq-true-iff}
 use mathlib.Core.List.{List, [], _∷_}
 use native.Mathlib.Nat.{mul-le-mul-right, mul-le-mul-left, div-mul-le-self, suc-mul, mod-lt, div-add-mod'}
 use native.Mathlib.Numerals.{add-one}
@@ -9,55 +9,39 @@ use native.Mathlib.Omega.{arith}
 use lib.Dec.{ltb, leb}
 use lib.ListN.{length, getD, drop, drop-of-length-le}
 use lib.Seq.{drop-cons}
-use borrow.Author.Tests.{le-leb, lt-leb, lt-ltb, le-ltb, leb-true, leb-false}
-use Rattle.load_text.specs.declared.words.Field.{Field}
+use borrow.Author.Tests.{le-leb, lt-leb, leb-true, leb-false}
 use Rattle.load_text.specs.declared.words.Field.the-variants.{Value, Wrong}
 use Rattle.load_text.specs.Parsing.{digitOf, noDigit, digitsIn, isNumber, valueIn, upToMost, numberIn}
+use Rattle.load_text.proofs.Cases.{either, below}
 use Rattle.load_text.proofs.Parts.{none-cons}
 
 -- ── a digit ──
+module _ (low high b x y : ℕ) where
+  in-range : low ≤ b → b ≤ high → cond (leb low b && leb b high) x y ≡ x
+  in-range h k = rw (le-leb low b h, le-leb b high k)
+
+  off-range : (low ≤ b → high < b) → cond (leb low b && leb b high) x y ≡ y
+  off-range h = below b low (λ k. rw (lt-leb low b k)) (λ k. rw (le-leb low b k, lt-leb b high (h k)))
+
 module _ (b : ℕ) where
   pub digit-ten : 48 ≤ b → b ≤ 57 → b - 48 ≡ digitOf b
   unfolding digitOf
-  digit-ten h k = rw (le-leb 48 b h, le-leb b 57 k)
+  digit-ten h k = sym (in-range 48 57 b _ _ h k)
 
   pub digit-upper : 65 ≤ b → b ≤ 70 → b - 55 ≡ digitOf b
   unfolding digitOf
-  digit-upper h k = rw (le-leb 48 b (omega arith), lt-leb b 57 (omega arith), le-leb 65 b h, le-leb b 70 k)
+  digit-upper h k = sym (off-range 48 57 b _ _ (λ x. omega arith) ∙ in-range 65 70 b _ _ h k)
 
   pub digit-lower : 97 ≤ b → b ≤ 102 → b - 87 ≡ digitOf b
   unfolding digitOf
-  digit-lower h k =
-      rw (le-leb 48 b (omega arith), lt-leb b 57 (omega arith), le-leb 65 b (omega arith), lt-leb b 70 (omega arith), le-leb 97 b h, le-leb b 102 k)
+  digit-lower h k = sym (off-range 48 57 b _ _ (λ x. omega arith) ∙ off-range 65 70 b _ _ (λ x. omega arith) ∙ in-range 97 102 b _ _ h k)
 
-  pub none-below : b < 48 → 16 ≡ digitOf b
+  pub no-digit : (48 ≤ b → 57 < b) → (65 ≤ b → 70 < b) → (97 ≤ b → 102 < b) → 16 ≡ digitOf b
   unfolding digitOf
-  none-below h = rw (lt-leb 48 b h, lt-leb 65 b (omega arith), lt-leb 97 b (omega arith))
-
-  pub none-upper : 57 < b → b < 65 → 16 ≡ digitOf b
-  unfolding digitOf
-  none-upper h k = rw (le-leb 48 b (omega arith), lt-leb b 57 h, lt-leb 65 b k, lt-leb 97 b (omega arith))
-
-  pub none-lower : 70 < b → b < 97 → 16 ≡ digitOf b
-  unfolding digitOf
-  none-lower h k = rw (le-leb 48 b (omega arith), lt-leb b 57 (omega arith), le-leb 65 b (omega arith), lt-leb b 70 h, lt-leb 97 b k)
-
-  pub none-above : 102 < b → 16 ≡ digitOf b
-  unfolding digitOf
-  none-above h =
-      rw (le-leb 48 b (omega arith), lt-leb b 57 (omega arith), le-leb 65 b (omega arith), lt-leb b 70 (omega arith), le-leb 97 b (omega arith), lt-leb b 102 h)
+  no-digit h k l = sym (off-range 48 57 b _ _ h ∙ off-range 65 70 b _ _ k ∙ off-range 97 102 b _ _ l)
 
 -- ── a word of digits ──
-pub no-number : (base : ℕ) (w : List ℕ) → length w ≡ 0 → false ≡ isNumber base w
-unfolding isNumber
-no-number base w h = rw (le-ltb 0 (length w) (omega arith))
-
-pub digits-number : (base : ℕ) (w : List ℕ) → 0 < length w → digitsIn base w ≡ isNumber base w
-unfolding isNumber
-digits-number base w h = rw (lt-ltb 0 (length w) h)
-
 pub number-digits : (base : ℕ) (w : List ℕ) → isNumber base w ≡ true → digitsIn base w ≡ true
-unfolding isNumber
 number-digits base w e = and-eq-true-iff (ltb 0 (length w)) (digitsIn base w) .0 e .1
 
 module _ (base : ℕ) (w : List ℕ) (i : ℕ) (h : i < length w) where
@@ -119,25 +103,14 @@ module _ (base most : ℕ) (w : List ℕ) (v i : ℕ) (s : Summing base most w v
     pub sum-on : v * base + d ≤ most → Summing base most w (v * base + d) (i + 1)
     sum-on k = record { room = k; digits = digit-held base w i h (s .digits) .1; is = sum-next }
 
-module _ (base most none large : ℕ) (w : List ℕ) where
-  pub number-none : isNumber base w ≡ false → Wrong none ≡ numberIn base most none large w
-  unfolding numberIn
-  number-none e = rw e
-
-  pub number-is : isNumber base w ≡ true → upToMost most large (valueIn base 0 w) ≡ numberIn base most none large w
-  unfolding numberIn
-  number-is e = rw e
-
 -- The value of a number that a word says is at most the most allowed.
-abbrev valueOf : Field → ℕ
-valueOf (Value v) = v
-valueOf (Wrong n) = 0
-
 pub number-most : (base most none large v : ℕ) (w : List ℕ) → numberIn base most none large w ≡ Value v → v ≤ most
 unfolding numberIn
-number-most base most none large v w e = omega (arith, go (isNumber base w) (leb (valueIn base 0 w) most) refl, ap valueOf e)
+number-most base most none large v w e =
+    let u = valueIn base 0 w in
+    either (isNumber base w)
+    (λ t. let f = rw t at e in either (leb u most) (λ k. let g = rw k at f in let z : u ≡ v = cc in omega (arith, leb-true u most k)) (λ k. clash (rw k at f)))
+    (λ t. clash (rw t at e))
   where
-    go : (t u : Bool) → leb (valueIn base 0 w) most ≡ u → valueOf (cond t (cond u (Value (valueIn base 0 w)) (Wrong large)) (Wrong none)) ≤ most
-    go true true k = leb-true _ _ k
-    go true false k = omega arith
-    go false u k = omega arith
+    clash : {n : ℕ} → Wrong n ≡ Value v → v ≤ most
+    clash q = let z : _≡_ {A = ℕ} 0 1 = cc in absurd (omega arith)

@@ -8,7 +8,7 @@ use native.Mathlib.Nat.{pow-suc, pow-le-pow-right}
 use native.Mathlib.Omega.{arith}
 use lib.Dec.{ltb, leb, eqb}
 use lib.ListN.{length, drop, getD, length-append}
-use borrow.Author.Tests.{eqb-true, ltb-true, ltb-false, leb-false, leb-true, lt-leb, not-true}
+use borrow.Author.Tests.{eqb-true, ltb-true, ltb-false, leb-false, leb-true, lt-ltb, le-leb, lt-leb, not-true}
 use Rattle.numerals.specs.Digits.{digits, widthUpTo, widthOf, decimalOf, column}
 use Rattle.load.specs.declared.Call.{Call}
 use Rattle.load.specs.Format.{theGroups, fieldWidths, fieldWidth, Row, format, known, rowIn, nameOf, fieldsOf, lengthIn, lengthOf}
@@ -25,13 +25,13 @@ use Rattle.load_text.specs.declared.texts.Key.the-variants.{Kind}
 use Rattle.load_text.specs.declared.words.Field.the-variants.{Value, Wrong}
 use Rattle.load_text.specs.Lines.{glyphOf, hexUpTo, wordOf, fieldsText, lineOf, linesOf, restOf, headerOf, textOf}
 use Rattle.load_text.specs.Making.{Heading, plain, headingIn, heading, saidIn}
-use Rattle.load_text.specs.Parsing.{none, until, parts, inFront, full, is, isFeed, isBlank, isJoint, linesIn, wordsIn, chomped, said, digitOf, noDigit, digitsIn, valueIn, numberIn, groupsIn, noNumber, fieldIn, filledIn, isWord, isRow, rowFor, kindNamed, kindSays, callIn, lineSays, editionWord, editionOr, editionIn, headIn, headSays}
+use Rattle.load_text.specs.Parsing.{none, before, parts, inFront, full, is, isFeed, isBlank, isJoint, isList, linesIn, wordsIn, chomped, said, digitOf, noDigit, digitsIn, valueIn, numberIn, groupsIn, noNumber, fieldIn, filledIn, isWord, isRow, rowFor, kindNamed, kindSays, callIn, lineSays, editionWord, editionOr, editionIn, headIn, headSays}
 use Rattle.load_text.specs.ReadBack.{LineReadBack, TextReadBack}
 use Rattle.load_text.specs.Reasons.{noEdition, tooLarge}
+use Rattle.load_text.proofs.Fields.{kind-some}
 use Rattle.load_text.proofs.Parts.{none-cons, none-at, until-none}
-use Rattle.load_text.proofs.Numbers.{digit-ten, digit-upper, digits-number, number-is, fits}
+use Rattle.load_text.proofs.Numbers.{digit-ten, digit-upper}
 use Rattle.load_text.proofs.Reading.{full-cons}
-use Rattle.load_text.proofs.Spans.{groups-hex}
 use Rattle.load_text.proofs.Tables.{allRows, row-cases, row-kind, known-passes}
 
 -- ── parts of a text in front of a byte that ends one ──
@@ -184,10 +184,8 @@ says-more base u v b w s h e = record {
 }
 
 number-said : (base most lack large v : ℕ) (w : List ℕ) → Says base v w → v ≤ most → numberIn base most lack large w ≡ Value v
-number-said base most lack large v w s h =
-    sym (number-is base most lack large w (sym (digits-number base w (s .some)) ∙ s .digit))
-    ∙ ap (λ n. cond (leb n most) (Value n) (Wrong large)) (s .value)
-    ∙ sym (fits most large v h)
+unfolding numberIn
+number-said base most lack large v w s h = rw (lt-ltb 0 (length w) (s .some), s .digit, s .value, le-leb v most h)
 
 -- ── decimal ──
 ten : (v : ℕ) → digitOf (v % 10 + 48) ≡ v % 10
@@ -253,7 +251,7 @@ module _ (f v : ℕ) (h : v < 256 ^ fieldWidth f) where
   in-word = let wide : 256 ^ fieldWidth f ≤ 256 ^ 8 = pow-le-pow-right (omega arith) (width-most f) in omega arith
 
   word-said : Plain (wordOf f v) × (fieldIn f (wordOf f v) ≡ Value v)
-  unfolding wordOf fieldIn fieldWidth fieldWidths
+  unfolding wordOf fieldIn fieldWidth fieldWidths groupsIn isList
   word-said = go (eqb f theGroups) refl
     where
       go : (b : Bool) → eqb f theGroups ≡ b
@@ -261,7 +259,7 @@ module _ (f v : ℕ) (h : v < 256 ^ fieldWidth f) where
       go true e =
           let s = hex-says 15 v in-word in
           let x = hexUpTo 15 v in
-          (digits-plain x (s .some) (s .digit), sym (groups-hex x (digits-no-list x (s .digit))) ∙ number-said 16 18446744073709551615 _ _ v x s (omega (arith, in-word)))
+          (digits-plain x (s .some) (s .digit), rw (digits-no-list x (s .digit)) (number-said 16 18446744073709551615 _ _ v x s (omega (arith, in-word))))
       go false e =
           let s = decimal-says v in-word in
           let x = decimalOf v in
@@ -346,13 +344,9 @@ line-of e c h t rest =
     record {
       line = spaced name (wordsOf fs c);
       front = ap linesIn (fields-spaced c rest name fs) ∙ line-front name (wordsOf fs c) (n .word) ps rest;
-      says = ap (callIn e) words ∙ ap (λ (x : ℕ). kindSays e x (wordsOf fs c)) (n .kind) ∙ go k (n .some) ∙ fields-said c t fs (bare k) ∙ ap Said (call-of-values e c h);
+      says = ap (callIn e) words ∙ ap (λ (x : ℕ). kindSays e x (wordsOf fs c)) (n .kind) ∙ sym (kind-some e k _ (λ z. omega (arith, n .some))) ∙ fields-said c t fs (bare k) ∙ ap Said (call-of-values e c h);
       head = ap headIn words ∙ rw (n .other);
     }
-  where
-    go : (k : ℕ) → 0 < k → kindSays e k (wordsOf (fieldsOf e (c .kind)) c) ≡ filledIn (fieldsOf e k) (wordsOf (fieldsOf e (c .kind)) c) (Said (bare k))
-    go zero z = absurd (omega arith)
-    go (suc k) z = refl
 
 pub line-read-back : LineReadBack
 line-read-back e c h t rest = let l = line-of e c h t rest in ap (map (lineSays e)) (l .front) ∙ ap (λ x. x ∷ map (lineSays e) (linesIn rest)) (l .says)
@@ -393,7 +387,7 @@ edition-says e k t =
 
 text-said : (e : ℕ) (cs : List Call) → known e ≡ true → Loadable e true cs → (t : List ℕ) → t ≡ headerOf e ++ linesOf e 1 cs 0
     → (heading t .number ≡ 0) × (heading t .edition ≡ e) × (saidIn t ≡ cond (eqb e 1) (Nothing ∷ []) [] ++ map Said cs)
-unfolding heading headingIn saidIn headerOf headSays headIn lineSays callIn wordsIn said chomped until parts
+unfolding heading headingIn saidIn headerOf headSays headIn lineSays callIn wordsIn said chomped before parts
 text-said e cs k g t q = go (eqb e 1) refl q
   where
     rest : List ℕ

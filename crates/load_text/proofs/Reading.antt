@@ -1,41 +1,27 @@
 -- Laws of the words of a line, as the code finds them.
 use Prim.Native.Nat.{ℕ, _+_, _-_, _≤_, _<_}
 use mathlib.Core.Path.{_≡_, refl, sym, ap, subst, _∙_}
-use mathlib.Core.Bool.{Bool, true, false, not, _||_, cond}
+use mathlib.Core.Bool.{true, cond}
 use mathlib.Core.List.{List, [], _∷_}
 use native.Mathlib.Numerals.{add-one}
 use native.Mathlib.Omega.{arith}
-use lib.Dec.{eqb, ltb}
+use lib.Dec.{leb}
 use lib.ListN.{length, getD, take, drop, drop-of-length-le, length-drop, length-take}
 use lib.Seq.{drop-cons, take-all, take-take}
-use borrow.Author.Tests.{eq-eqb, ne-eqb, not-true, lt-ltb, le-ltb, ltb-true, ltb-false}
-use Rattle.load_text.specs.Parsing.{until, since, placeOf, parts, full, is, isBlank, isFull, wordsIn, wordAt, FirstWord, chomped, said}
+use borrow.Author.Tests.{not-true, le-leb, lt-leb}
+use Rattle.load_text.specs.Parsing.{before, until, since, placeOf, parts, full, is, isBlank, isFull, wordsIn, wordAt, FirstWord, chomped, said}
+use Rattle.load_text.proofs.Cases.{either, below}
 use Rattle.load_text.proofs.Parts.{place-low, place-high, place-end, place-on, place-passes, until-first, since-drop, parts-cut}
-
-pub either-first : (b c d : ℕ) → b ≡ c → eqb b c ≡ (is c b || is d b)
-either-first b c d e = rw (eq-eqb b c e)
-
-pub either-second : (b c d : ℕ) → (b ≡ c → ⊥) → eqb b d ≡ (is c b || is d b)
-either-second b c d e = rw (ne-eqb b c e)
 
 -- Blanks in front of a word say nothing.
 words-since : (l : List ℕ) → wordsIn l ≡ wordsIn (since isFull l)
-unfolding wordsIn since parts
+unfolding wordsIn before parts
 words-since [] = refl
-words-since (b ∷ l) = go (words-since l) (isBlank b) refl
-  where
-    go : full (parts isBlank l) ≡ full (parts isBlank (since isFull l)) → (t : Bool) → isBlank b ≡ t
-        → wordsIn (b ∷ l) ≡ wordsIn (cond (not t) (b ∷ l) (since isFull l))
-    go h true e = rw e h
-    go h false e = refl
+words-since (b ∷ l) = either (isBlank b) (λ e. rw e (words-since l)) (λ e. rw (e, e))
 
 pub full-cons : (w : List ℕ) (ws : List (List ℕ)) → 0 < length w → full (w ∷ ws) ≡ w ∷ full ws
 full-cons [] ws h = absurd (omega arith)
 full-cons (b ∷ w) ws h = refl
-
-words-blank : (b : ℕ) (l : List ℕ) → isBlank b ≡ true → wordsIn (b ∷ l) ≡ wordsIn l
-unfolding wordsIn parts
-words-blank b l e = rw e
 
 words-none : (l : List ℕ) (at : ℕ) → length l ≤ at → wordsIn (drop at l) ≡ []
 unfolding wordsIn parts
@@ -43,11 +29,9 @@ words-none l at h = rw (drop-of-length-le l h)
 
 -- The byte that ends a word is no part of the next.
 words-past : (l : List ℕ) (at : ℕ) → (at < length l → isBlank (getD l at 0) ≡ true) → wordsIn (drop at l) ≡ wordsIn (drop (at + 1) l)
-words-past l at f = go (ltb at (length l)) refl
-  where
-    go : (t : Bool) → ltb at (length l) ≡ t → wordsIn (drop at l) ≡ wordsIn (drop (at + 1) l)
-    go true e = let h = ltb-true at (length l) e in rw (drop-cons l at 0 h, add-one) (words-blank _ _ (f h))
-    go false e = let h = ltb-false at (length l) e in words-none l at h ∙ sym (words-none l (at + 1) (omega arith))
+unfolding wordsIn parts
+words-past l at f =
+    below at (length l) (λ h. rw (drop-cons l at 0 h, add-one, f h)) (λ h. words-none l at h ∙ sym (words-none l (at + 1) (omega arith)))
 
 module _ (l : List ℕ) (at from to : ℕ) (e : from ≡ placeOf isFull l at) (f : to ≡ placeOf isBlank l from) where
   longer : from < length l → from < to
@@ -63,49 +47,28 @@ module _ (l : List ℕ) (at from to : ℕ) (e : from ≡ placeOf isFull l at) (f
       let q : to < length l → isBlank (getD l to 0) ≡ true = subst (λ k. k < length l → isBlank (getD l k 0) ≡ true) (sym f) (place-passes isBlank l from) in
       ap full g ∙ full-cons _ (parts isBlank (drop (to + 1) l)) n ∙ ap (λ ws. wordAt l from to ∷ ws) (sym (words-past l to q))
 
-  is-first : (t : Bool) → ltb from (length l) ≡ t → wordsIn (drop from l) ≡ cond (ltb from to) (wordAt l from to ∷ wordsIn (drop to l)) []
-  is-first true k = let h = ltb-true from (length l) k in rw (lt-ltb from to (longer h)) (cut h)
-  is-first false k =
-      let h = ltb-false from (length l) k in
-      rw (le-ltb from to (omega (arith, f, place-end isBlank l from h))) (words-none l from h)
-
-  ended : (t : Bool) → ltb from (length l) ≡ t → to ≤ from → length l ≤ to
-  ended true k q = absurd (omega (arith, longer (ltb-true from (length l) k)))
-  ended false k q = omega (arith, f, ltb-false from (length l) k, place-low isBlank l from)
+  is-first : wordsIn (drop from l) ≡ cond (leb to from) [] (wordAt l from to ∷ wordsIn (drop to l))
+  is-first =
+      below from (length l) (λ h. rw (lt-leb to from (longer h)) (cut h))
+      (λ h. rw (le-leb to from (omega (arith, f, place-end isBlank l from h))) (words-none l from h))
 
   pub first-word : FirstWord l at from to
   first-word = record {
     low = omega (arith, e, place-low isFull l at);
     order = omega (arith, f, place-low isBlank l from);
     high = omega (arith, e, f, place-high isFull l at, place-high isBlank l from);
-    none = ended (ltb from (length l)) refl;
-    words = words-since (drop at l) ∙ ap wordsIn (since-drop isFull l at ∙ ap (λ k. drop k l) (sym e)) ∙ is-first (ltb from (length l)) refl;
+    words = words-since (drop at l) ∙ ap wordsIn (since-drop isFull l at ∙ ap (λ k. drop k l) (sym e)) ∙ is-first;
   }
 
 -- ── a line before its end ──
 chomped-is : (l : List ℕ) → take (length (chomped l)) l ≡ chomped l
 unfolding chomped
-chomped-is l = go (is 13 (getD l (length l - 1) 0))
-  where
-    go : (t : Bool) → take (length (cond t (take (length l - 1) l) l)) l ≡ cond t (take (length l - 1) l) l
-    go true = let n : length (take (length l - 1) l) ≡ length l - 1 = omega (arith, length-take (length l - 1) l) in rw n
-    go false = take-all (length l) l (omega arith)
+chomped-is l =
+    let n : length (take (length l - 1) l) ≡ length l - 1 = omega (arith, length-take (length l - 1) l) in
+    either (is 13 (getD l (length l - 1) 0)) (λ e. rw (e, n)) (λ e. rw e (take-all (length l) l (omega arith)))
 
 pub chomped-within : (l : List ℕ) → length (chomped l) ≤ length l
 chomped-within l = omega (arith, ap length (chomped-is l), length-take (length (chomped l)) l)
-
-module _ (l : List ℕ) where
-  pub chomped-none : length l ≡ 0 → 0 ≡ length (chomped l)
-  chomped-none h = omega (arith, chomped-within l)
-
-  module _ (h : 0 < length l) where
-    pub chomped-return : getD l (length l - 1) 0 ≡ 13 → length l - 1 ≡ length (chomped l)
-    unfolding chomped
-    chomped-return e = rw (eq-eqb (getD l (length l - 1) 0) 13 e) (omega (arith, length-take (length l - 1) l))
-
-    pub chomped-whole : (getD l (length l - 1) 0 ≡ 13 → ⊥) → length l ≡ length (chomped l)
-    unfolding chomped
-    chomped-whole e = rw (ne-eqb (getD l (length l - 1) 0) 13 e)
 
 -- What the code reads of a line: up to the comment of the line up to its end.
 pub said-is : (l : List ℕ) (n m : ℕ) → n ≡ length (chomped l) → m ≡ placeOf (is 35) (take n l) 0 → (m ≤ length l) × (take m l ≡ said l)

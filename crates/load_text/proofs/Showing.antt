@@ -14,7 +14,8 @@ use Rattle.load.specs.declared.Item.the-variants.{Record, End, Refused}
 use Rattle.load.specs.Format.{fieldWidths, fieldWidth, format, total, lengthIn, leastIn, leastLength}
 use Rattle.load.specs.Reading.{editionOf, itemAt, walk, openNumber}
 use Rattle.load.proofs.Reading.{walk-record, walk-end, walk-refused, step-refused, step-next, walk-few, open-known}
-use Rattle.load_text.specs.Lines.{lineOf, stopLine, stopped, linesOf, restOf, headerOf, opened, textOf}
+use Rattle.load_text.specs.Lines.{lineOf, stopLine, linesOf, restOf, headerOf, textOf}
+use Rattle.load_text.proofs.Cases.{zero-or, refused}
 use Rattle.load_text.proofs.Lines.{line-length, stop-length, header-length}
 
 module _ (e : ℕ) (s : List ℕ) (at k : ℕ) where
@@ -24,11 +25,7 @@ module _ (e : ℕ) (s : List ℕ) (at k : ℕ) where
 
   rest-refused : (n : ℕ) → itemAt s at ≡ Refused n → restOf e k (walk s at) ≡ stopLine n k
   unfolding restOf linesOf
-  rest-refused n i = rw (walk-refused s at n i) (go n (step-refused s at n i))
-    where
-      go : (n : ℕ) → 0 < n → stopped n k ≡ stopLine n k
-      go zero h = absurd (omega arith)
-      go (suc n) h = refl
+  rest-refused n i = rw (walk-refused s at n i) (refused (λ m. stopLine m k) [] n (λ z. omega (arith, step-refused s at n i)))
 
   rest-record : (c : Call) (next : ℕ) → itemAt s at ≡ Record c next → restOf e k (walk s at) ≡ lineOf e c ++ restOf e (k + 1) (walk s next)
   unfolding restOf linesOf
@@ -66,11 +63,7 @@ whole s = headerOf (editionOf s) ++ restOf (editionOf s) 1 (walk s 1)
 
 pub text-open : (s : List ℕ) (n : ℕ) → n ≡ openNumber s → (n ≡ 0 → ⊥) → stopLine n 0 ≡ textOf s
 unfolding textOf
-text-open s n p q = go (openNumber s) p
-  where
-    go : (m : ℕ) → n ≡ m → stopLine n 0 ≡ opened m (whole s)
-    go zero p = absurd (q p)
-    go (suc m) p = ap (λ i. stopLine i 0) p
+text-open s n p q = sym (refused (λ m. stopLine m 0) (whole s) n q) ∙ rw p
 
 pub text-read : (s : List ℕ) (n : ℕ) → n ≡ openNumber s → n ≡ 0 → whole s ≡ textOf s
 unfolding textOf
@@ -89,17 +82,14 @@ least = refl
 
 text-length : (s : List ℕ) → length (textOf s) ≤ 387266
 unfolding textOf restOf
-text-length s = go (openNumber s) refl
-  where
-    e : ℕ
-    e = editionOf s
-
-    go : (m : ℕ) → openNumber s ≡ m → length (opened m (headerOf e ++ linesOf e 1 (walk s 1 .calls) (walk s 1 .stop))) ≤ 387266
-    go zero z =
-        let o = open-known s z in
-        let f : length (walk s 1 .calls) ≤ length s / 11 = rw least at (walk-few s 1) in
-        omega (arith, o .2, f, header-length e (o .1), length-append (headerOf e) (linesOf e 1 (walk s 1 .calls) (walk s 1 .stop)), lines-length e 1 (walk s 1 .calls) (walk s 1 .stop))
-    go (suc m) z = omega (arith, stop-length (suc m) 0)
+text-length s =
+    let e = editionOf s in
+    let w = walk s 1 in
+    zero-or (openNumber s) (λ z.
+    let o = open-known s z in
+    let f : length (w .calls) ≤ length s / 11 = rw least at (walk-few s 1) in
+    rw z (omega (arith, o .2, f, header-length e (o .1), length-append (headerOf e) (linesOf e 1 (w .calls) (w .stop)), lines-length e 1 (w .calls) (w .stop))))
+    (λ n. rw (refused (λ m. stopLine m 0) (whole s) (openNumber s) n) (omega (arith, stop-length (openNumber s) 0)))
 
 pub text-short : (s : List ℕ) → length (textOf s) < 2 ^ 64
 text-short s = omega (arith, text-length s)

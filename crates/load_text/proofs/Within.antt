@@ -1,13 +1,13 @@
 -- The values of a call that a line says are within their types, and a line that says none has a reason from 101 on.
 use Prim.Native.Nat.{ℕ, zero, suc, _+_, _-_, _*_, _^_, _≤_, _<_}
-use mathlib.Core.Bool.{Bool, true, false, _&&_, _||_, cond}
+use mathlib.Core.Bool.{Bool, _&&_, _||_}
 use mathlib.Core.List.{List, [], _∷_}
 use mathlib.Core.Path.{_≡_, refl}
 use native.Mathlib.Omega.{arith}
 use lib.Dec.{leb, ltb, eqb}
 use lib.ListN.{List·getD-eq-default}
 use native.Mathlib.Nat.{two-pow-succ, one-le-pow}
-use borrow.Author.Tests.{leb-true, ltb-true, ltb-false, eqb-true}
+use borrow.Author.Tests.{leb-true, eqb-true}
 use Rattle.groups.specs.Groups.{setFrom, union, has}
 use Rattle.load.specs.declared.Call.{Call}
 use Rattle.load.specs.Format.{theGroups, fieldWidths, fieldWidth, fieldsOf}
@@ -19,8 +19,9 @@ use Rattle.load_text.specs.declared.parse.Parsed.{Parsed}
 use Rattle.load_text.specs.declared.parse.Parsed.the-variants.{Nothing, Said, Bad}
 use Rattle.load_text.specs.declared.words.Field.{Field}
 use Rattle.load_text.specs.declared.words.Field.the-variants.{Value, Wrong}
-use Rattle.load_text.specs.Parsing.{until, since, isDash, isList, isNumber, valueIn, numberIn, groupIn, span, upTo, rangeIn, itemIn, itemsIn, withItem, withItems, joined, groupsIn, noNumbers, noNumber, fieldIn, withField, filledIn, kindNamed, kindSays, callIn, wordsIn, said, lineSays, ReasonsApart}
+use Rattle.load_text.specs.Parsing.{until, since, isDash, isList, isNumber, valueIn, numberIn, groupIn, span, andThen, upTo, rangeIn, itemIn, itemsIn, withItems, groupsIn, noNumbers, noNumber, fieldIn, withField, filledIn, kindNamed, kindSays, callIn, wordsIn, said, lineSays, ReasonsApart}
 use Rattle.load_text.specs.Reasons.{unknown, tooLarge}
+use Rattle.load_text.proofs.Cases.{either, below}
 use Rattle.load_text.proofs.Tables.{kind-below}
 
 -- ── fields ──
@@ -28,88 +29,66 @@ abbrev Under : ℕ → Field → Type 0
 Under most (Value v) = v ≤ most
 Under most (Wrong n) = 101 ≤ n
 
-under-cond : (most : ℕ) (t : Bool) (f g : Field) → Under most f → Under most g → Under most (cond t f g)
-under-cond most true f g h k = h
-under-cond most false f g h k = k
+under-then : (a b : ℕ) (f : Field) (k : ℕ → Field) → Under a f → ((v : ℕ) → Under b (k v)) → Under b (andThen f k)
+under-then a b (Value v) k h g = g v
+under-then a b (Wrong n) k h g = h
 
 number-under : (base most none large : ℕ) (w : List ℕ) → 101 ≤ none → 101 ≤ large → Under most (numberIn base most none large w)
 unfolding numberIn
 number-under base most none large w n l =
-    under-cond most (isNumber base w) (cond (leb v most) (Value v) (Wrong large)) (Wrong none) (go (leb v most) refl) n
-  where
-    v : ℕ
-    v = valueIn base 0 w
-
-    go : (t : Bool) → leb v most ≡ t → Under most (cond t (Value v) (Wrong large))
-    go true e = leb-true v most e
-    go false e = l
+    let v = valueIn base 0 w in
+    either (isNumber base w) (λ e. rw e (either (leb v most) (λ q. rw q (leb-true v most q)) (λ q. rw q l))) (λ e. rw e n)
 
 set-below : (k g : ℕ) (p : ℕ → Bool) → setFrom k g p < 2 ^ k
 unfolding setFrom
 set-below zero g p = omega arith
-set-below (suc k) g p = go (p g) (set-below k (suc g) p)
-  where
-    go : (t : Bool) → setFrom k (suc g) p < 2 ^ k → cond t 1 0 + 2 * setFrom k (suc g) p < 2 ^ suc k
-    go true h = omega (arith, two-pow-succ k)
-    go false h = omega (arith, two-pow-succ k)
+set-below (suc k) g p =
+    let h = set-below k (suc g) p in
+    let t = two-pow-succ k in
+    either (p g) (λ e. rw e (omega arith)) (λ e. rw e (omega arith))
 
-union-under : (a b : ℕ) → union a b ≤ 18446744073709551615
+abbrev InWord : Field → Type 0
+InWord f = Under 18446744073709551615 f
+
+union-in : (a b : ℕ) → InWord (Value (union a b))
 unfolding union
-union-under a b = omega (arith, set-below 64 0 (λ g. has a g || has b g))
+union-in a b = omega (arith, set-below 64 0 (λ g. has a g || has b g))
 
-span-under : (low high : ℕ) → span low high ≤ 18446744073709551615
+span-in : (low high : ℕ) → InWord (Value (span low high))
 unfolding span
-span-under low high = omega (arith, set-below 64 0 (λ g. leb low g && leb g high))
+span-in low high = omega (arith, set-below 64 0 (λ g. leb low g && leb g high))
 
 group-under : (w : List ℕ) → Under 63 (groupIn w)
 group-under w = number-under 10 _ _ _ w (omega arith) (omega arith)
 
-item-under : (w : List ℕ) → Under 18446744073709551615 (itemIn w)
+item-in : (w : List ℕ) → InWord (itemIn w)
 unfolding itemIn
-item-under w = range (groupIn (until isDash w)) (since isDash w) (group-under (until isDash w))
+item-in w = under-then 63 _ (groupIn (until isDash w)) (rangeIn (since isDash w)) (group-under (until isDash w)) (range (since isDash w))
   where
-    up : (low : ℕ) (f : Field) → Under 63 f → Under 18446744073709551615 (upTo low f)
-    up low (Value high) h = under-cond _ (ltb high low) _ _ (omega arith) (span-under low high)
-    up low (Wrong n) h = h
+    range : (l : List ℕ) (g : ℕ) → InWord (rangeIn l g)
+    range [] g = span-in g g
+    range (b ∷ l) g = under-then 63 _ (groupIn l) (upTo g) (group-under l) (λ high. either (ltb high g) (λ e. rw e (omega arith)) (λ e. rw e (span-in g high)))
 
-    range : (f : Field) (l : List ℕ) → Under 63 f → Under 18446744073709551615 (rangeIn f l)
-    range (Value g) [] h = span-under g g
-    range (Value g) (b ∷ l) h = up g (groupIn l) (group-under l)
-    range (Wrong n) l h = h
-
-items-under : (f : Field) (ws : List (List ℕ)) → Under 18446744073709551615 f → Under 18446744073709551615 (withItems f ws)
+items-in : (s : ℕ) (ws : List (List ℕ)) → InWord (Value s) → InWord (withItems s ws)
 unfolding withItems
-items-under f [] h = h
-items-under f (w ∷ ws) h = items-under (withItem f w) ws (one f h)
-  where
-    join : (s : ℕ) (i : Field) → Under 18446744073709551615 i → Under 18446744073709551615 (joined s i)
-    join s (Value g) k = union-under s g
-    join s (Wrong n) k = k
+items-in s [] h = h
+items-in s (w ∷ ws) h = under-then 18446744073709551615 _ (itemIn w) (λ g. withItems (union s g) ws) (item-in w) (λ g. items-in (union s g) ws (union-in s g))
 
-    one : (f : Field) → Under 18446744073709551615 f → Under 18446744073709551615 (withItem f w)
-    one (Value s) k = join s (itemIn w) (item-under w)
-    one (Wrong n) k = k
-
-groups-under : (w : List ℕ) → Under 18446744073709551615 (groupsIn w)
+groups-in : (w : List ℕ) → InWord (groupsIn w)
 unfolding groupsIn
-groups-under w = under-cond _ (isList w) _ _ (items-under (Value 0) (itemsIn w) (omega arith)) (number-under 16 _ _ _ w (omega arith) (omega arith))
+groups-in w = either (isList w) (λ e. rw e (items-in 0 (itemsIn w) (omega arith))) (λ e. rw e (number-under 16 _ _ _ w (omega arith) (omega arith)))
 
 -- The reason of a field is one, and so is what is told of a field's number.
 no-number-apart : (f : ℕ) → 101 ≤ noNumber f
 unfolding noNumber noNumbers allBelow
-no-number-apart f = go (ltb f 5) refl
-  where
-    go : (b : Bool) → ltb f 5 ≡ b → 101 ≤ noNumber f
-    go true e = leb-true 101 (noNumber f) (below-passes 5 (λ i. leb 101 (noNumber i)) refl f (ltb-true f 5 e))
-    go false e = omega (arith, List·getD-eq-default noNumbers unknown (ltb-false f 5 e))
+no-number-apart f =
+    below f 5 (λ h. leb-true 101 (noNumber f) (below-passes 5 (λ i. leb 101 (noNumber i)) refl f h))
+    (λ h. omega (arith, List·getD-eq-default noNumbers unknown h))
 
 field-under : (f : ℕ) (w : List ℕ) → Under (256 ^ fieldWidth f - 1) (fieldIn f w)
 unfolding fieldIn fieldWidth fieldWidths
-field-under f w = go (eqb f theGroups) refl
-  where
-    go : (b : Bool) → eqb f theGroups ≡ b → Under (256 ^ fieldWidth f - 1) (cond b (groupsIn w) (numberIn 10 (256 ^ fieldWidth f - 1) (noNumber f) tooLarge w))
-    go true e = rw (eqb-true f theGroups e) (groups-under w)
-    go false e = number-under 10 _ _ _ w (no-number-apart f) (omega arith)
+field-under f w =
+    either (eqb f theGroups) (λ e. rw (eqb-true f theGroups e) (groups-in w)) (λ e. rw e (number-under 10 _ _ _ w (no-number-apart f) (omega arith)))
 
 -- What is read goes into the field.
 pub field-fits : (f v : ℕ) (w : List ℕ) → fieldIn f w ≡ Value v → v < 256 ^ fieldWidth f
@@ -124,12 +103,10 @@ Within (Said c) = Typed c
 Within (Bad n) = 101 ≤ n
 
 typed-with : (f v : ℕ) (c : Call) → v < 256 ^ fieldWidth f → Typed c → Typed (withValue f v c)
-typed-with f v c h t g = go (eqb g f) (ltb f 5) refl refl
-  where
-    go : (a b : Bool) → eqb g f ≡ a → ltb f 5 ≡ b → valueOf g (withValue f v c) < 256 ^ fieldWidth g
-    go true true p q = rw (eqb-true g f p, value-same f v c (ltb-true f 5 q)) h
-    go true false p q = rw (← (with-none f v c (ltb-false f 5 q))) (t g)
-    go false b p q = rw (value-other g f v c p) (t g)
+typed-with f v c h t g =
+    either (eqb g f)
+    (λ e. below f 5 (λ q. rw (eqb-true g f e, value-same f v c q) h) (λ q. rw (← (with-none f v c q)) (t g)))
+    (λ e. rw (value-other g f v c e) (t g))
 
 with-within : (f : ℕ) (x : Field) (p : Parsed) → Under (256 ^ fieldWidth f - 1) x → Within p → Within (withField f x p)
 with-within f (Value v) (Said c) u h = typed-with f v c (omega (arith, one-le-pow (fieldWidth f) 256 (omega arith))) h

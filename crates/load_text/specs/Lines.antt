@@ -9,7 +9,7 @@ use Rattle.numerals.specs.Laid.{spaceNumber}
 use Rattle.load.specs.declared.Call.{Call}
 use Rattle.load.specs.Format.{theGroups, format, nameOf, fieldsOf}
 use Rattle.load.specs.Calls.{valueOf}
-use Rattle.load.specs.Reading.{editionOf, Walk, walk, openNumber}
+use Rattle.load.specs.Reading.{editionOf, Walk, walk, openNumber, unlessRefused}
 use Rattle.load_text.specs.declared.print.Printed.{Printed}
 use Rattle.load_text.specs.declared.print.Printed.the-variants.{Length, Refusal}
 use Rattle.load_text.specs.Parsing.{placeOf, is}
@@ -41,14 +41,9 @@ lineOf e c = nameOf e (c .kind) ++ fieldsText (fieldsOf e (c .kind)) c
 unfoldable pub stopLine : ℕ → ℕ → List ℕ
 stopLine n k = (35 ∷ 32 ∷ 115 ∷ 116 ∷ 111 ∷ 112 ∷ 32 ∷ []) ++ pair n k 10
 
--- nothing for 0, the number of a load that is read to its end
-abbrev pub stopped : ℕ → ℕ → List ℕ
-stopped zero k = []
-stopped (suc n) k = stopLine (suc n) k
-
--- the lines from record k on
+-- the lines from record k on; none for stop 0, the number of a load that is read to its end
 unfoldable pub linesOf : ℕ → ℕ → List Call → ℕ → List ℕ
-linesOf e k [] stop = stopped stop k
+linesOf e k [] stop = unlessRefused stop (λ n. stopLine n k) []
 linesOf e k (c ∷ cs) stop = lineOf e c ++ linesOf e (k + 1) cs stop
 
 unfoldable pub restOf : ℕ → ℕ → Walk → List ℕ
@@ -61,13 +56,9 @@ headerOf e =
     (35 ∷ 32 ∷ 101 ∷ 100 ∷ 105 ∷ 116 ∷ 105 ∷ 111 ∷ 110 ∷ 32 ∷ 49 ∷ 10 ∷ [])
     ((101 ∷ 100 ∷ 105 ∷ 116 ∷ 105 ∷ 111 ∷ 110 ∷ 32 ∷ []) ++ column e 10)
 
-abbrev pub opened : ℕ → List ℕ → List ℕ
-opened zero t = t
-opened (suc n) t = stopLine (suc n) 0
-
--- the text of a load
+-- the text of a load: a stop line alone where it does not open
 unfoldable pub textOf : List ℕ → List ℕ
-textOf s = opened (openNumber s) (headerOf (editionOf s) ++ restOf (editionOf s) 1 (walk s 1))
+textOf s = unlessRefused (openNumber s) (λ n. stopLine n 0) (headerOf (editionOf s) ++ restOf (editionOf s) 1 (walk s 1))
 
 -- what is wrong with a line: a number and its text
 pub record Reason : Type 0 where
@@ -128,8 +119,7 @@ reportOf line n = (108 ∷ 105 ∷ 110 ∷ 101 ∷ 32 ∷ []) ++ (decimalOf line
 -- ── what is answered ──
 -- The cases of `Printed` by their number and length: 0 is a text of that length.
 abbrev pub printedAs : ℕ → ℕ → Printed
-printedAs zero n = Length n
-printedAs (suc k) n = Refusal (suc k)
+printedAs k n = unlessRefused k Refusal (Length n)
 
 -- The text's length, or 15 where it does not go into the lent buffer. The buffer is then `lentOut text out`.
 unfoldable pub printed : List ℕ → List ℕ → Printed

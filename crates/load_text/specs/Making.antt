@@ -1,14 +1,15 @@
 -- The load that a text makes, line by line, and what `make` answers of it and leaves in a lent buffer.
-use Prim.Native.Nat.{ℕ, zero, suc, _+_, _≤_}
+use Prim.Native.Nat.{ℕ, _+_, _≤_}
 use mathlib.Core.List.{List, [], _∷_, _++_, map}
 use mathlib.Core.Path.{_≡_}
 use lib.ListN.{length, take, drop}
 use Rattle.numerals.specs.Laid.{laid, spaceNumber, lentOut}
 use Rattle.load.specs.declared.Call.{Call}
 use Rattle.load.specs.declared.Written.{Written}
+use Rattle.load.specs.declared.Written.the-variants.{Length, Refusal}
 use Rattle.load.specs.Bytes.{recordsBytes}
-use Rattle.load.specs.Reading.{editionOf, openNumber, loadNumber, walk, orElse}
-use Rattle.load.specs.Writing.{growNumber, answered, lent}
+use Rattle.load.specs.Reading.{editionOf, openNumber, loadNumber, walk, orElse, unlessRefused}
+use Rattle.load.specs.Writing.{growNumber}
 use Rattle.load_text.specs.declared.Made.{Made}
 use Rattle.load_text.specs.declared.Made.the-variants.{Load, Mistake}
 use Rattle.load_text.specs.declared.Start.{Start}
@@ -77,33 +78,27 @@ lineNumber e n p = orElse (numberOf p) (callsNumber e n (callsOf p))
 unfoldable pub lineBytes : ℕ → Parsed → List ℕ
 lineBytes e p = recordsBytes e (callsOf p)
 
--- On to what the later lines make, unless line k has a number.
-abbrev pub onFrom : ℕ → ℕ → Making → Making
-onFrom zero k m = m
-onFrom (suc n) k m = wrong k (suc n)
-
--- What lines make of a load s of edition e, after k lines.
+-- What lines make of a load s of edition e, after k lines: what the later lines make, unless line k + 1 has a number.
 unfoldable pub gathered : ℕ → ℕ → List ℕ → List Parsed → Making
 gathered e k s [] = whole s
-gathered e k s (p ∷ ps) = onFrom (lineNumber e (length s) p) (k + 1) (gathered e (k + 1) (s ++ lineBytes e p) ps)
+gathered e k s (p ∷ ps) = unlessRefused (lineNumber e (length s) p) (wrong (k + 1)) (gathered e (k + 1) (s ++ lineBytes e p) ps)
 
 -- What a text makes: "Writing begins from the edition byte alone".
 abbrev pub behindHeading : Heading → List Parsed → Making
 behindHeading h ps = gathered (h .edition) (h .lines) (h .edition ∷ []) ps
 
 unfoldable pub made : List ℕ → Making
-made text = onFrom (headingNumber text) (heading text .lines) (behindHeading (heading text) (saidIn text))
+made text = unlessRefused (headingNumber text) (wrong (heading text .lines)) (behindHeading (heading text) (saidIn text))
 
 -- ── `make` ──
 -- The cases of `Made` by their number, line and length: 0 is a load of that length, any other number is told with its line.
 abbrev pub madeAs : ℕ → ℕ → ℕ → Made
-madeAs zero line n = Load n
-madeAs (suc k) line n = Mistake line (suc k)
+madeAs k line n = unlessRefused k (Mistake line) (Load n)
 
 -- The first line that is wrong, else 15, whose line is 0, for a load that does not go in.
 abbrev pub answerOn : Making → List ℕ → Made
 answerOn (whole s) out = madeAs (spaceNumber s out) 0 (length s)
-answerOn (wrong k n) out = madeAs n k 0
+answerOn (wrong k n) out = Mistake k n
 
 -- The buffer after it: where a number is answered, "no byte of a lent buffer differs".
 abbrev pub bufferOn : Making → List ℕ → List ℕ
@@ -119,11 +114,13 @@ madeOut text out = bufferOn (made text) out
 -- What the code has in a buffer o of its own: q after a line that says p and a load of edition e and n bytes, with the answer r on the line;
 -- and after a text, unless a line is wrong.
 abbrev pub Adds : ℕ → ℕ → List ℕ → Parsed → Written → List ℕ → Type 0
-Adds e n o p r q = (r ≡ answered (lineNumber e n p) (n + length (lineBytes e p))) × (q ≡ lent (lineNumber e n p) (laid o n (lineBytes e p)) o)
+Adds e n o p r q =
+    (r ≡ unlessRefused (lineNumber e n p) Refusal (Length (n + length (lineBytes e p))))
+    × (q ≡ unlessRefused (lineNumber e n p) (λ k. o) (laid o n (lineBytes e p)))
 
 abbrev pub Gathers : Making → List ℕ → Made → List ℕ → Type 0
 Gathers (whole s) o r q = (r ≡ Load (length s)) × (q ≡ laid o 0 s)
-Gathers (wrong k n) o r q = r ≡ madeAs n k 0
+Gathers (wrong k n) o r q = r ≡ Mistake k n
 
 -- ── what it reads as ──
 -- The calls that lines say.

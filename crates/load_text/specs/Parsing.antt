@@ -22,14 +22,16 @@ use Rattle.load_text.specs.declared.words.Mark.the-variants.{Byte, Blank
 use Rattle.load_text.specs.Reasons.{noEdition, unknown, missing, tooMany, noClock, noTicket, noLength, noGroups, tooLarge, over63, backward}
 
 -- ── parts of a text ──
--- The bytes before the first that passes p, and those from it on.
-unfoldable pub until : (ℕ → Bool) → List ℕ → List ℕ
-until p [] = []
-until p (b ∷ l) = cond (p b) [] (b ∷ until p l)
+-- How many bytes stand before the first that passes p; these bytes, and those from it on.
+unfoldable pub before : (ℕ → Bool) → List ℕ → ℕ
+before p [] = 0
+before p (b ∷ l) = cond (p b) 0 (suc (before p l))
 
-unfoldable pub since : (ℕ → Bool) → List ℕ → List ℕ
-since p [] = []
-since p (b ∷ l) = cond (p b) (b ∷ l) (since p l)
+abbrev pub until : (ℕ → Bool) → List ℕ → List ℕ
+until p l = take (before p l) l
+
+abbrev pub since : (ℕ → Bool) → List ℕ → List ℕ
+since p l = drop (before p l) l
 
 -- No byte passes p.
 unfoldable pub none : (ℕ → Bool) → List ℕ → Bool
@@ -38,7 +40,7 @@ none p (b ∷ l) = not (p b) && none p l
 
 -- The place of the first byte from `at` on that passes p, or the text's end.
 unfoldable pub placeOf : (ℕ → Bool) → List ℕ → ℕ → ℕ
-placeOf p s at = at + length (until p (drop at s))
+placeOf p s at = at + before p (drop at s)
 
 -- A byte in front of the first part.
 abbrev pub inFront : ℕ → List (List ℕ) → List (List ℕ)
@@ -97,8 +99,7 @@ pub record FirstWord (l : List ℕ) (at from to : ℕ) : Type 0 where
   pub low : at ≤ from
   pub order : from ≤ to
   pub high : to ≤ max at (length l)
-  pub none : to ≤ from → length l ≤ to
-  pub words : wordsIn (drop at l) ≡ cond (ltb from to) (wordAt l from to ∷ wordsIn (drop to l)) []
+  pub words : wordsIn (drop at l) ≡ cond (leb to from) [] (wordAt l from to ∷ wordsIn (drop to l))
 
 -- A line without the carriage return that ends it, and of that what stands before its comment.
 unfoldable pub chomped : List ℕ → List ℕ
@@ -127,7 +128,7 @@ noDigit base b = leb base (digitOf b)
 abbrev pub digitsIn : ℕ → List ℕ → Bool
 digitsIn base w = none (noDigit base) w
 
-unfoldable pub isNumber : ℕ → List ℕ → Bool
+abbrev pub isNumber : ℕ → List ℕ → Bool
 isNumber base w = ltb 0 (length w) && digitsIn base w
 
 -- The bytes that the code looks for.
@@ -154,40 +155,34 @@ groupIn w = numberIn 10 63 noGroups over63 w
 unfoldable pub span : ℕ → ℕ → ℕ
 span low high = setWhere (λ g. leb low g && leb g high)
 
-abbrev pub upTo : ℕ → Field → Field
-upTo low (Value high) = cond (ltb high low) (Wrong backward) (Value (span low high))
-upTo low (Wrong n) = Wrong n
+-- From a number that a word says; what is wrong stays so.
+abbrev pub andThen : Field → (ℕ → Field) → Field
+andThen (Value v) f = f v
+andThen (Wrong n) f = Wrong n
 
--- A group, and what stands after it from a dash on.
-abbrev pub rangeIn : Field → List ℕ → Field
-rangeIn (Value g) [] = Value (span g g)
-rangeIn (Value g) (dash ∷ l) = upTo g (groupIn l)
-rangeIn (Wrong n) l = Wrong n
+abbrev pub upTo : ℕ → ℕ → Field
+upTo low high = cond (ltb high low) (Wrong backward) (Value (span low high))
+
+-- The groups from one on, by what stands after it from a dash on.
+abbrev pub rangeIn : List ℕ → ℕ → Field
+rangeIn [] g = Value (span g g)
+rangeIn (dash ∷ l) g = andThen (groupIn l) (upTo g)
 
 -- An item of a list: `5` or `5-7`.
 unfoldable pub itemIn : List ℕ → Field
-itemIn w = rangeIn (groupIn (until isDash w)) (since isDash w)
-
--- Groups, and those of an item more.
-abbrev pub joined : ℕ → Field → Field
-joined s (Value g) = Value (union s g)
-joined s (Wrong n) = Wrong n
-
-abbrev pub withItem : Field → List ℕ → Field
-withItem (Value s) w = joined s (itemIn w)
-withItem (Wrong n) w = Wrong n
+itemIn w = andThen (groupIn (until isDash w)) (rangeIn (since isDash w))
 
 -- Groups, and those of the items of a list; the first that is wrong decides.
-unfoldable pub withItems : Field → List (List ℕ) → Field
-withItems f [] = f
-withItems f (w ∷ ws) = withItems (withItem f w) ws
+unfoldable pub withItems : ℕ → List (List ℕ) → Field
+withItems s [] = Value s
+withItems s (w ∷ ws) = andThen (itemIn w) (λ g. withItems (union s g) ws)
 
 unfoldable pub isList : List ℕ → Bool
 isList w = not (none isJoint w)
 
 -- A word with a comma or a dash is a list, any other a set in hex.
 unfoldable pub groupsIn : List ℕ → Field
-groupsIn w = cond (isList w) (withItems (Value 0) (itemsIn w)) (numberIn 16 18446744073709551615 noGroups tooLarge w)
+groupsIn w = cond (isList w) (withItems 0 (itemsIn w)) (numberIn 16 18446744073709551615 noGroups tooLarge w)
 
 -- ── calls ──
 -- The reasons of words that say nothing as a field, in the order of the fields: the kind has no word, then clock, groups, length, ticket.

@@ -5,7 +5,7 @@ ghost use lib.ListN.{length, take, drop};
 ghost use Rattle.load.specs.Format.{fieldsOf};
 ghost use Rattle.load.specs.Calls.{bare};
 ghost use Rattle.load_text.specs.declared.parse.Parsed.the-variants.{Said};
-ghost use Rattle.load_text.specs.Parsing.{callIn, chomped, editionIn, fieldIn, filledIn, headIn, headSays, kindSays, lineSays, said, withField, wordsIn};
+ghost use Rattle.load_text.specs.Parsing.{callIn, chomped, editionIn, fieldIn, filledIn, headIn, headSays, lineSays, said, withField, wordsIn};
 use crate::reasons;
 use crate::sets::groups_of;
 use crate::texts::kind_named;
@@ -128,16 +128,6 @@ fn said_end(line: &[u8]) -> usize
     place(&line[..size], Mark::Byte(b'#'), 0)
 }
 
-// The call that a kind's words from a place on say.
-fn call(edition: u8, kind: u8, said: &[u8], at: usize) -> Parsed
-    ensures { λ r. ⌜ r ≡ kindSays edition kind (wordsIn (drop at (now (said .entry)))) ⌝ }
-{
-    if kind == 0 {
-        return Parsed::Bad(reasons::UNKNOWN);
-    }
-    fill(edition, kind, said, at)
-}
-
 // A line's part before its end or its comment.
 fn parse(edition: u8, said: &[u8]) -> Parsed
     ensures { λ r. ⌜ r ≡ callIn edition (wordsIn (now (said .entry))) ⌝ }
@@ -149,7 +139,10 @@ fn parse(edition: u8, said: &[u8]) -> Parsed
     let from = w.from;
     let to = w.to;
     let kind = kind_named(edition, &said[from..to]);
-    call(edition, kind, said, to)
+    if kind == 0 {
+        return Parsed::Bad(reasons::UNKNOWN);
+    }
+    fill(edition, kind, said, to)
 }
 
 // A line of a show of an edition, without its line feed.

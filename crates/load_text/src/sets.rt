@@ -1,8 +1,7 @@
 // Sets of groups as text: hex, or a list such as 0,3,5-7. What a word says is defined in specs/Parsing.antt.
 ghost use mathlib.Core.Path.{_≡_};
 ghost use Prim.Native.Nat.{_≤_};
-ghost use Rattle.load_text.specs.declared.words.Field.the-variants.{Value};
-ghost use Rattle.load_text.specs.Parsing.{groupIn, groupsIn, itemIn, itemsIn, span, upTo, withItems};
+ghost use Rattle.load_text.specs.Parsing.{andThen, groupIn, groupsIn, itemIn, itemsIn, span, upTo, withItems};
 use crate::reasons;
 use crate::words::Field;
 use crate::words::Mark;
@@ -27,7 +26,7 @@ fn group(word: &[u8]) -> Field
 
 // The groups from one to the one that a word says.
 fn range(low: u64, word: &[u8]) -> Field
-    ensures { λ r. ⌜ r ≡ upTo low (groupIn (now (word .entry))) ⌝ }
+    ensures { λ r. ⌜ r ≡ andThen (groupIn (now (word .entry))) (upTo low) ⌝ }
 {
     match group(word) {
         Field::Value(high) => {
@@ -57,7 +56,7 @@ fn item(word: &[u8]) -> Field
 }
 
 fn list(word: &[u8]) -> Field
-    ensures { λ r. ⌜ r ≡ withItems (Value 0) (itemsIn (now (word .entry))) ⌝ }
+    ensures { λ r. ⌜ r ≡ withItems 0 (itemsIn (now (word .entry))) ⌝ }
 {
     let mut set: u64 = 0;
     let mut at: usize = 0;

@@ -5,7 +5,7 @@ ghost use mathlib.Core.Bool.{true, _||_};
 ghost use Prim.Native.Nat.{_≤_, _<_, max};
 ghost use lib.Dec.{leb};
 ghost use lib.ListN.{length};
-ghost use Rattle.load_text.specs.Parsing.{FirstWord, digitOf, digitsIn, is, isNumber, none, numberIn, passes, placeOf, upToMost, valueIn};
+ghost use Rattle.load_text.specs.Parsing.{FirstWord, digitOf, digitsIn, is, none, numberIn, passes, placeOf, upToMost, valueIn};
 
 // A word of a line, from its first byte to after its last. Both are equal where there is no word.
 pub struct Word {
@@ -49,7 +49,7 @@ pub enum Mark {
 fn is_either(b: u8, c: u8, d: u8) -> bool
     ensures { λ r. ⌜ r ≡ (is c b || is d b) ⌝ }
 {
-    b == c || b == d
+    (b == c) | (b == d)
 }
 
 fn passes(mark: Mark, b: u8) -> bool
@@ -100,16 +100,6 @@ pub(crate) fn is_empty(w: Word) -> bool
     w.to <= w.from
 }
 
-// Whether a word has only digits of a base, and at least one.
-fn is_number(word: &[u8], base: u64) -> bool
-    ensures { λ r. ⌜ r ≡ isNumber base (now (word .entry)) ⌝ }
-{
-    if word.len() == 0 {
-        return false;
-    }
-    lacks(word, Mark::NoDigit(base))
-}
-
 // The number that digits say, if it is at most `most`, else the reason `large`.
 fn value(word: &[u8], base: u64, most: u64, large: u8) -> Field
     requires { ⌜ digitsIn base (now word) ≡ true ⌝ }
@@ -135,8 +125,8 @@ fn value(word: &[u8], base: u64, most: u64, large: u8) -> Field
 pub(crate) fn number(word: &[u8], base: u64, most: u64, none: u8, large: u8) -> Field
     ensures { λ r. ⌜ r ≡ numberIn base most none large (now (word .entry)) ⌝ }
 {
-    if !is_number(word, base) {
-        return Field::Wrong(none);
+    if (0 < word.len()) & lacks(word, Mark::NoDigit(base)) {
+        return value(word, base, most, large);
     }
-    value(word, base, most, large)
+    Field::Wrong(none)
 }

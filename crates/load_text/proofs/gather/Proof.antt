@@ -3,10 +3,8 @@ use Prim.Native.Nat.{_-_}
 use mathlib.Core.Path.{_∙_}
 use native.Mathlib.Omega.{arith}
 use lib.ListN.{length}
-use Rattle.load_text.proofs.Parts.{place-reach}
 use Rattle.load_text.proofs.Making.{Turn, gather-misread, turn-start, turn-size, turn-more, turn-wrong, turn-end}
 use borrow.Author.Needs.{needs}
-use Rattle.load_text.specs.Parsing.{isFeed}
 use Rattle.load_text.proofs.gather.Statement.{statement}
 use Rattle.load_text.proofs.gather.Tie as tie
 

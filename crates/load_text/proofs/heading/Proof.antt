@@ -4,9 +4,7 @@ use mathlib.Core.Path.{sym, _∙_}
 use native.Mathlib.Omega.{arith}
 use lib.ListN.{length}
 use borrow.Author.Needs.{needs}
-use Rattle.load_text.specs.Parsing.{isFeed}
 use Rattle.load_text.proofs.Headings.{Heads, heads-start, heads-end, heads-on, heads-edition, heads-other, heads-misread}
-use Rattle.load_text.proofs.Parts.{place-reach}
 use Rattle.load_text.proofs.heading.Statement.{statement}
 use Rattle.load_text.proofs.heading.Tie as tie
 

@@ -1,18 +1,25 @@
 -- `parse::field_of` meets its contract: a set, or a number by the code's tables (`field-number`).
 use mathlib.Core.Path.{_∙_}
 use borrow.Author.Needs.{needs}
-use Rattle.load_text.proofs.Fields.{codeMost, codeNone, field-groups, field-number, field-none}
+use borrow.Author.Tests.{eq-eqb}
+use Rattle.load.specs.Format.{fieldWidths}
+use Rattle.load_text.specs.Parsing.{noNumbers, fieldIn}
+use Rattle.load_text.proofs.Fields.{field-number, field-none}
 use Rattle.load_text.proofs.parse.field_of.Statement.{statement}
 use Rattle.load_text.proofs.parse.field_of.Tie as tie
 
+returns : tie.Need-returns
+unfolding fieldIn
+returns c = rw (eq-eqb _ 2 (c .before .if1 .taken)) (c .groups-of .ensures)
+
 returns-3 : tie.Need-returns-3
-unfolding codeMost codeNone
+unfolding fieldWidths noNumbers
 returns-3 c = c .number2 .ensures ∙ field-number _ _ (c .before .before .if1 .left) (c .before .if2 .left)
 
 pub field-of-spec : {M : Type 1} → statement M
 field-of-spec =
     tie.close
     (tie.spec
-    (λ c κs. search needs) (λ c. c .groups-of .ensures ∙ field-groups _ _ (c .before .if1 .taken)) (λ c κs. search needs)
+    (λ c κs. search needs) returns (λ c κs. search needs)
     (λ c. c .number .ensures ∙ field-none _ _ (c .before .before .if1 .left) (c .before .if2 .taken)) (λ c. search needs)
     (λ c. search needs) (λ c. search needs) (λ c κs. search needs) returns-3)

@@ -6,11 +6,11 @@ use lib.ListN.{length, drop}
 use borrow.Author.Needs.{needs}
 use Rattle.load.specs.Format.{fieldsOf}
 use Rattle.load.specs.Calls.{bare}
-use Rattle.load.proofs.Format.{fields-few}
-use Rattle.load.proofs.Rows.{row-more}
+use Rattle.load.proofs.Format.{fields-few, rest-some}
+use Rattle.load.proofs.Rows.{row-end, row-more}
 use Rattle.load_text.specs.declared.parse.Parsed.the-variants.{Said}
 use Rattle.load_text.specs.Parsing.{wordsIn, filledIn}
-use Rattle.load_text.proofs.Fields.{word-in, fill-end, fill-many, fill-missing, fill-on}
+use Rattle.load_text.proofs.Fields.{word-in}
 use Rattle.load_text.proofs.parse.fill.Statement.{statement}
 use Rattle.load_text.proofs.parse.fill.Tie as tie
 
@@ -28,22 +28,28 @@ loop-holds c =
     (omega arith, ap (λ x. filledIn (fieldsOf (a .edition) (a .kind)) (wordsIn (drop (a .from) (a .said .now))) (Said x)) (c .bare .ensures))
 
 returns : tie.Need-returns Inv-loop μ-loop
+unfolding filledIn
 returns c =
     let z = c .before .before in
     let n = z .before in
-    fill-end _ _ _ _ (n .before .field-at .ensures) (n .next-word .ensures) _ (z .if1 .taken) (sym (c .before .is-empty .ensures) ∙ c .if2 .taken) ∙ n .before .before .loop .inv .1
+    let l = n .before in
+    rw (row-end _ _ _ _ (l .field-at .ensures) (z .if1 .taken), n .next-word .ensures .words, sym (c .before .is-empty .ensures) ∙ c .if2 .taken) at (l .before .loop .inv .1)
 
 returns-2 : tie.Need-returns-2 Inv-loop μ-loop
+unfolding filledIn
 returns-2 c =
     let z = c .before .before in
     let n = z .before in
-    fill-many _ _ _ _ (n .before .field-at .ensures) (n .next-word .ensures) _ (z .if1 .taken) (sym (c .before .is-empty .ensures) ∙ c .if2 .left) ∙ n .before .before .loop .inv .1
+    let l = n .before in
+    rw (row-end _ _ _ _ (l .field-at .ensures) (z .if1 .taken), n .next-word .ensures .words, sym (c .before .is-empty .ensures) ∙ c .if2 .left) at (l .before .loop .inv .1)
 
 returns-3 : tie.Need-returns-3 Inv-loop μ-loop
+unfolding filledIn
 returns-3 c =
     let z = c .before .before in
     let n = z .before in
-    fill-missing _ _ _ _ (n .before .field-at .ensures) (n .next-word .ensures) _ (z .if1 .left) (sym (c .before .is-empty2 .ensures) ∙ c .if3 .taken) ∙ n .before .before .loop .inv .1
+    let l = n .before in
+    rw (rest-some _ _ _ (l .field-at .ensures) (z .if1 .left) .1, n .next-word .ensures .words, sym (c .before .is-empty2 .ensures) ∙ c .if3 .taken) at (l .before .loop .inv .1)
 
 add-i : tie.Need-add-i Inv-loop μ-loop
 add-i c =
@@ -58,14 +64,15 @@ loop-less c =
     omega (arith, row-more _ _ _ _ (n .before .field-at .ensures) (z .if1 .left))
 
 loop-again : tie.Need-loop-again Inv-loop μ-loop
+unfolding filledIn
 loop-again c =
     let t = c .before .before in
     let z = t .before .before in
     let n = z .before in
-    let i = n .before .before .loop .inv in (
-      omega (arith, row-more _ _ _ _ (n .before .field-at .ensures) (z .if1 .left)),
-      fill-on _ _ _ _ (n .before .field-at .ensures) (n .next-word .ensures) _ (z .if1 .left) (sym (t .before .is-empty2 .ensures) ∙ t .if3 .left) _ (c .with-word .ensures) ∙ i .1,
-    )
+    let l = n .before in
+    let s = l .field-at .ensures in
+    let w = n .next-word .ensures .words in
+    (omega (arith, row-more _ _ _ _ s (z .if1 .left)), rw (c .with-word .ensures) (rw (rest-some _ _ _ s (z .if1 .left) .1, w, sym (t .before .is-empty2 .ensures) ∙ t .if3 .left) at (l .before .loop .inv .1)))
 
 pub fill-spec : {M : Type 1} → statement M
 fill-spec =
@@ -74,5 +81,5 @@ fill-spec =
     Inv-loop μ-loop (λ c κs. search needs) loop-holds (λ c κs. search needs) (λ c κs. search needs) (λ c κs. search needs) returns returns-2
     (λ c κs. search needs) returns-3 (λ c. c .before .before .before .next-word .ensures .order)
     (λ c. c .before .before .before .next-word .ensures .order)
-    (λ c. word-in (c .before .before .before .next-word .ensures) (sym (c .before .is-empty2 .ensures) ∙ c .if3 .left) .1)
+    (λ c. word-in (c .before .before .before .next-word .ensures) (sym (c .before .is-empty2 .ensures) ∙ c .if3 .left))
     (λ c κs. search needs) add-i loop-less loop-again)

@@ -1,13 +1,17 @@
--- `parse::line_end` meets its contract: each return is a law of a line's end.
+-- `parse::line_end` meets its contract: each return is a case of a line's end.
 use native.Mathlib.Omega.{arith}
+use lib.ListN.{length-take}
+use borrow.Author.Tests.{eq-eqb, ne-eqb}
 use borrow.Author.Needs.{needs}
-use Rattle.load_text.proofs.Reading.{chomped-none, chomped-return, chomped-whole}
+use Rattle.load_text.specs.Parsing.{chomped}
+use Rattle.load_text.proofs.Reading.{chomped-within}
 use Rattle.load_text.proofs.parse.line_end.Statement.{statement}
 use Rattle.load_text.proofs.parse.line_end.Tie as tie
 
 pub line-end-spec : {M : Type 1} → statement M
+unfolding chomped
 line-end-spec =
     tie.close
     (tie.spec
-    (λ c. chomped-none _ (c .if1 .taken)) (λ c. search needs) (λ c. search needs) (λ c. search needs)
-    (λ c. chomped-return _ (omega arith) (c .if2 .taken)) (λ c. chomped-whole _ (omega arith) (c .if2 .left)))
+    (λ c. omega (arith, chomped-within (c .before .args .line .now))) (λ c. search needs) (λ c. search needs) (λ c. search needs)
+    (λ c. rw (eq-eqb _ 13 (c .if2 .taken)) (simp length-take (omega arith))) (λ c. rw (ne-eqb _ 13 (c .if2 .left))))

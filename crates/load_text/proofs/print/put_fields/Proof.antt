@@ -5,12 +5,11 @@ use native.Mathlib.Omega.{arith}
 use lib.ListN.{length, drop}
 use borrow.Author.Needs.{needs}
 use Rattle.numerals.proofs.Laying.{put}
-use Rattle.numerals.proofs.Going.{Going, going-start, going-as, going-step, going-last}
+use Rattle.numerals.proofs.Going.{Going, going-start, going-step, going-last}
 use Rattle.load.specs.Format.{fieldsOf}
-use Rattle.load.proofs.Format.{fields-few}
-use Rattle.load.proofs.Rows.{row-more}
+use Rattle.load.proofs.Format.{fields-few, rest-some}
+use Rattle.load.proofs.Rows.{row-end, row-more}
 use Rattle.load_text.specs.Lines.{fieldsText}
-use Rattle.load_text.proofs.Lines.{text-last, text-next}
 use Rattle.load_text.proofs.print.put_fields.Statement.{statement}
 use Rattle.load_text.proofs.print.put_fields.Tie as tie
 
@@ -28,11 +27,12 @@ same-length : tie.Need-same-length Inv-loop μ-loop
 same-length c = let p = c .before .before in p .put-byte .kept .0 ∙ p .before .before .before .before .loop .inv .1 .size
 
 returns : tie.Need-returns Inv-loop μ-loop
+unfolding fieldsText
 returns c =
     let p = c .before .before in
     let z = p .before .before in
     let f = z .before in
-    going-last _ _ _ _ _ _ _ _ (going-as _ _ _ _ _ _ _ (text-last _ _ _ _ (f .field-at .ensures) _ (z .if1 .taken)) (f .before .loop .inv .1)) (put (p .put-byte .ensures))
+    going-last _ _ _ _ _ _ _ _ (rw (row-end _ _ _ _ (f .field-at .ensures) (z .if1 .taken)) at (f .before .loop .inv .1)) (put (p .put-byte .ensures))
 
 add-i : tie.Need-add-i Inv-loop μ-loop
 add-i c =
@@ -46,14 +46,14 @@ loop-less c =
     omega (arith, row-more _ _ _ _ (z .before .field-at .ensures) (z .if1 .left))
 
 loop-again : tie.Need-loop-again Inv-loop μ-loop
+unfolding fieldsText
 loop-again c =
     let p = c .before .before in
     let v = p .before .before in
     let z = v .before in
     let f = z .before in
     let m = row-more _ _ _ _ (f .field-at .ensures) (z .if1 .left) in
-    let t = text-next _ _ _ _ (f .field-at .ensures) _ (z .if1 .left) _ (v .value-of .ensures .0) in
-    (omega arith, going-step _ _ _ _ _ _ _ _ _ (going-as _ _ _ _ _ _ _ t (f .before .loop .inv .1)) (p .put-word .ensures))
+    (omega arith, going-step _ _ _ _ _ _ _ _ _ (rw (rest-some _ _ _ (f .field-at .ensures) (z .if1 .left) .1, ← (v .value-of .ensures .0)) at (f .before .loop .inv .1)) (p .put-word .ensures))
 
 pub put-fields-spec : {M : Type 1} → statement M
 put-fields-spec =

@@ -1,18 +1,16 @@
 -- `sets::list` meets its contract: what is read so far, with the items left, gives the whole.
 use Prim.Native.Nat.{_+_, _-_, _≤_}
-use mathlib.Core.Path.{_≡_, refl, sym, ap, _∙_}
+use mathlib.Core.Path.{_≡_, refl, sym, _∙_}
 use native.Mathlib.Omega.{arith}
 use lib.ListN.{length, drop}
 use borrow.Author.Needs.{needs}
-use Rattle.load_text.specs.declared.words.Field.the-variants.{Value}
-use Rattle.load_text.specs.Parsing.{isComma, itemsIn, withItems}
-use Rattle.load_text.proofs.Parts.{place-reach}
-use Rattle.load_text.proofs.Spans.{items-end, items-on, items-stop}
+use Rattle.load_text.specs.Parsing.{itemsIn, withItems}
+use Rattle.load_text.proofs.Spans.{items-end, items-on}
 use Rattle.load_text.proofs.sets.list.Statement.{statement}
 use Rattle.load_text.proofs.sets.list.Tie as tie
 
 abbrev Inv-loop : tie.InvT-loop
-Inv-loop word set₀ at₀ set at = (at ≤ length word + 1) × (withItems (Value set) (itemsIn (drop at word)) ≡ withItems (Value 0) (itemsIn word))
+Inv-loop word set₀ at₀ set at = (at ≤ length word + 1) × (withItems set (itemsIn (drop at word)) ≡ withItems 0 (itemsIn word))
 
 abbrev μ-loop : tie.MeasureT-loop
 μ-loop word set₀ at₀ set at = length word - at
@@ -21,19 +19,15 @@ returns : tie.Need-returns Inv-loop μ-loop
 returns c =
     let p = c .before .before .before .before .before in
     let l = p .before .before .loop in
-    items-stop _ (l .at) _ (l .set) (p .before .loop-test .taken) (p .place .ensures .0) _ (c .before .before .before .item .ensures) _ (c .before .n .given .1) ∙ l .inv .1
+    sym (items-on _ (l .at) _ (l .set) (omega arith) (p .place .ensures .0) _ (c .before .before .before .item .ensures) ∙ rw (c .before .n .given .1)) ∙ l .inv .1
 
 loop-again : tie.Need-loop-again Inv-loop μ-loop
 loop-again c =
     let i = c .before .before .before .before in
     let p = i .before .before in
     let l = p .before .before .loop in
-    let s = p .before .before .before .before .args .word .now in
-    let r = place-reach isComma s (l .at) _ (p .before .loop-test .taken) (p .place .ensures .0) in (
-      omega (arith, r .1),
-      ap (λ k. withItems (Value k) (itemsIn (drop (p .place .result + 1) s))) (c .union .ensures)
-          ∙ sym (items-on s (l .at) _ (l .set) (p .before .loop-test .taken) (p .place .ensures .0) _ (i .item .ensures) _ (c .before .before .g .given .1)) ∙ l .inv .1,
-    )
+    let o = items-on _ (l .at) _ (l .set) (omega arith) (p .place .ensures .0) _ (i .item .ensures) in
+    (omega arith, rw (c .union .ensures) (sym (o ∙ rw (c .before .before .g .given .1)) ∙ l .inv .1))
 
 pub list-spec : {M : Type 1} → statement M
 list-spec =
