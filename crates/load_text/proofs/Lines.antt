@@ -1,21 +1,20 @@
 -- Laws of lines: hex digit by digit, and lengths, none of which is long.
-use Prim.Native.Nat.{ℕ, zero, suc, _+_, _-_, _/_, _%_, _^_, _≤_, _<_}
-use mathlib.Core.Bool.{Bool, true, false, cond}
+use Prim.Native.Nat.{ℕ, zero, suc, _+_, _-_, _/_, _^_, _≤_, _<_}
+use mathlib.Core.Bool.{Bool, true, false, _||_, cond, false≢true}
 use mathlib.Core.List.{List, [], _∷_, _++_, map}
 use mathlib.Core.Logic.{⊎-elim}
 use mathlib.Core.Path.{_≡_, refl, sym, ap}
 use native.Mathlib.Omega.{arith}
 use lib.Dec.{ltb, leb, eqb}
-use lib.ListN.{length, drop, getD, length-append}
-use borrow.Author.Tests.{lt-ltb, le-ltb, eq-eqb, ne-eqb, leb-true}
+use lib.ListN.{length, getD, length-append}
+use borrow.Author.Tests.{ne-eqb, leb-true}
 use Rattle.numerals.specs.Digits.{digits, widthUpTo, widthOf, decimalOf, column}
 use Rattle.numerals.specs.Laid.{Put, spaceNumber, lentOut}
 use Rattle.numerals.proofs.Laying.{width-small, decimal-length, pair-length, put-short, lent-all, lent-none, lent-known}
 use Rattle.load.specs.declared.Call.{Call}
 use Rattle.load.specs.Format.{theGroups, Row, format, known, rowIn, nameOf, fieldsOf}
 use Rattle.load.specs.Calls.{valueOf}
-use Rattle.load.proofs.Format.{allBelow, below-passes, rest-some}
-use Rattle.load.proofs.Rows.{row-end}
+use Rattle.load.proofs.Format.{allBelow, below-passes}
 use Rattle.load_text.specs.declared.print.Printed.the-variants.{Length, Refusal}
 use Rattle.load_text.specs.declared.texts.Key.the-variants.{Kind}
 use Rattle.load_text.specs.Lines.{glyphOf, hexUpTo, wordOf, fieldsText, lineOf, stopLine, headerOf, reasons, reasonTexts, reasonText, reportOf, printed}
@@ -26,21 +25,20 @@ use Rattle.load_text.proofs.Parts.{place-high}
 use Rattle.load_text.proofs.Tables.{allRows, row-cases, row-kind, known-passes}
 
 -- ── hex ──
-pub hex-one : (k v b : ℕ) → b ≡ glyphOf v → k ≡ 0 → b ∷ [] ≡ hexUpTo k v
-unfolding hexUpTo
-hex-one k v b g e = rw (e, g)
+module _ (v b : ℕ) (g : b ≡ glyphOf v) where
+  pub hex-last : (k : ℕ) → (eqb k 0 || ltb v 16) ≡ true → b ∷ [] ≡ hexUpTo k v
+  unfolding hexUpTo
+  hex-last zero h = rw g
+  hex-last (suc k) h = rw (rw (ne-eqb (suc k) 0 (λ z. omega arith)) at h, g)
 
-pub hex-last : (k v b : ℕ) → b ≡ glyphOf v → v < 16 → b ∷ [] ≡ hexUpTo k v
-unfolding hexUpTo
-hex-last zero v b g h = rw g
-hex-last (suc k) v b g h = rw (lt-ltb v 16 h, g)
+  pub hex-more : (k : ℕ) → (eqb k 0 || ltb v 16) ≡ false → hexUpTo (k - 1) (v / 16) ++ (b ∷ []) ≡ hexUpTo k v
+  unfolding hexUpTo
+  hex-more zero h = absurd (false≢true (sym h))
+  hex-more (suc k) h = let e : suc k - 1 ≡ k = omega arith in rw (rw (ne-eqb (suc k) 0 (λ z. omega arith)) at h, e, g)
 
-pub hex-more : (k v b : ℕ) → b ≡ glyphOf v → (k ≡ 0 → ⊥) → 16 ≤ v → hexUpTo (k - 1) (v / 16) ++ (b ∷ []) ≡ hexUpTo k v
-unfolding hexUpTo
-hex-more zero v b g n h = absurd (n refl)
-hex-more (suc k) v b g n h =
-    let e : suc k - 1 ≡ k = omega arith in
-    rw (le-ltb v 16 h, e, g)
+pub hex-some : (k : ℕ) (t : Bool) → (eqb k 0 || t) ≡ false → 0 < k
+hex-some zero t h = absurd (false≢true (sym h))
+hex-some (suc k) t h = omega arith
 
 hex-length : (k v : ℕ) → length (hexUpTo k v) ≤ suc k
 unfolding hexUpTo

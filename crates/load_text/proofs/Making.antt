@@ -22,7 +22,6 @@ use Rattle.load.specs.RoundTrip.{Typed, Appended}
 use Rattle.load.proofs.Reading.{or-else, open-known}
 use Rattle.load.proofs.Writing.{append-grow}
 use Rattle.load.proofs.RoundTrip.{written-reads, read-bounded}
-use Rattle.load_text.specs.declared.Made.{Made}
 use Rattle.load_text.specs.declared.Made.the-variants.{Load, Mistake}
 use Rattle.load_text.specs.declared.Start.{Start}
 use Rattle.load_text.specs.declared.parse.Parsed.{Parsed}
@@ -51,39 +50,32 @@ said-bytes e c = append-nil (recordBytes e c)
 length-not : (k n : ℕ) → Refusal k ≡ Length n → ⊥
 length-not k n e = let z : _≡_ {A = ℕ} 0 1 = cc in omega arith
 
-module _ (e n : ℕ) (o : List ℕ) (p : Parsed) where
-  pub add-nothing : p ≡ Nothing → Adds e n o p (Length n) o
+module _ (e n : ℕ) (o : List ℕ) where
+  pub add-nothing : Adds e n o Nothing (Length n) o
   unfolding lineNumber lineBytes recordsBytes
-  add-nothing q = rw q (ap Length (sym (add-zero n)), sym (laid-none o n))
+  add-nothing = (ap Length (sym (add-zero n)), sym (laid-none o n))
 
-  -- Refused by k, which is the line's own number or that of its call.
-  by-number : (k : ℕ) → lineNumber e n p ≡ k → (k ≡ 0 → ⊥) → Adds e n o p (Refusal k) o
-  by-number k q h = rw q (sym (refused Refusal _ k h), sym (refused (λ i. o) _ k h))
-
-  pub add-bad : (l : List ℕ) (k : ℕ) → p ≡ lineSays e l → p ≡ Bad k → Adds e n o p (Refusal k) o
+  pub add-bad : (k : ℕ) → 101 ≤ k → Adds e n o (Bad k) (Refusal k) o
   unfolding lineNumber
-  add-bad l zero i q = absurd (omega (arith, reasons-apart e l 0 (sym i ∙ q)))
-  add-bad l (suc k) i q = by-number (suc k) (rw q) (λ z. omega arith)
+  add-bad zero h = absurd (omega arith)
+  add-bad (suc k) h = (refl, refl)
 
-  module _ (c : Call) (q : p ≡ Said c) (k : ℕ) (g : k ≡ growNumber e n c 65536) where
-    number : lineNumber e n p ≡ k
+  module _ (c : Call) (k : ℕ) (g : k ≡ growNumber e n c 65536) where
+    pub add-refused : (k ≡ 0 → ⊥) → Adds e n o (Said c) (Refusal k) o
     unfolding lineNumber
-    number = rw q (sym g)
+    add-refused h = rw (← g) (sym (refused Refusal _ k h), sym (refused (λ i. o) _ k h))
 
-    pub add-refused : (k ≡ 0 → ⊥) → Adds e n o p (Refusal k) o
-    add-refused h = by-number k number h
-
-    pub add-taken : k ≡ 0 → (r : ℕ) (u : List ℕ) → r ≡ behind n (length (recordBytes e c)) → u ≡ laid o n (recordBytes e c) → Adds e n o p (Length r) u
+    pub add-taken : k ≡ 0 → (r : ℕ) (u : List ℕ) → r ≡ behind n (length (recordBytes e c)) → u ≡ laid o n (recordBytes e c) → Adds e n o (Said c) (Length r) u
+    unfolding lineNumber
     add-taken z r u x y =
-        let b = ap (lineBytes e) q ∙ said-bytes e c in
         let l = grow-small e n c 65536 (sym g ∙ z) in
-        rw (number ∙ z, b) (ap Length (x ∙ behind-small n (length (recordBytes e c)) (omega arith)), y)
+        rw (sym g ∙ z, said-bytes e c) (ap Length (x ∙ behind-small n (length (recordBytes e c)) (omega arith)), y)
 
 -- ── the loop ──
 -- A heading that is wrong.
-pub gather-misread : (text : List ℕ) (r : Start) → Starts text r → (r .number ≡ 0 → ⊥) → (o : List ℕ) → Gathers (made text) o (Mistake (r .line) (r .number)) o
+pub gather-misread : (text : List ℕ) (r : Start) → Starts text r → (r .number ≡ 0 → ⊥) → made text ≡ wrong (r .line) (r .number)
 unfolding made
-gather-misread text r s z o = rw (refused (wrong (heading text .lines)) _ (headingNumber text) (λ q. z (s .number ∙ q)), s .line, s .number)
+gather-misread text r s z = rw (refused (wrong (heading text .lines)) _ (headingNumber text) (λ q. z (s .number ∙ q)), s .line, s .number)
 
 -- Behind `line` lines, at a place: the edition byte and `rest` are laid, of which the lines from there on make what the text makes.
 -- The buffer was o₀, with the edition byte.
@@ -108,11 +100,11 @@ turn-start text o size r s z b = record {
 }
 
 module _ (e : ℕ) (text i o₀ o : List ℕ) (b : o₀ ≡ laid i 0 (e ∷ [])) (size at line : ℕ) (t : Turn e text o₀ o size at line) where
-  pub turn-end : length text ≤ at → Gathers (made text) i (Load size) o
+  pub turn-end : length text ≤ at → Gathers text i (Load size) o
   unfolding gathered
   turn-end h =
       let w : whole (e ∷ t .rest) ≡ made text = rw (lines-end text at h) at (t .is) in
-      rw (← w) (ap Load (t .long), t .lays ∙ ap (λ x. laid x 1 (t .rest)) b ∙ sym (laid-append i 0 (e ∷ []) (t .rest)))
+      (e ∷ t .rest, sym w, sym (t .long), t .lays ∙ ap (λ x. laid x 1 (t .rest)) b ∙ sym (laid-append i 0 (e ∷ []) (t .rest)))
 
   -- A line: j is where it ends, r the answer on it, q the buffer after it.
   module _ (h : at < length text) (j : ℕ) (f : j ≡ placeOf isFeed text at) (r : Written) (q : List ℕ)
@@ -138,11 +130,11 @@ module _ (e : ℕ) (text i o₀ o : List ℕ) (b : o₀ ≡ laid i 0 (e ∷ []))
           is = sym (rw (a .0) at on);
         }
 
-    pub turn-wrong : (n : ℕ) → r ≡ Refusal n → Gathers (made text) i (Mistake (line + 1) n) q
+    pub turn-wrong : (n : ℕ) → r ≡ Refusal n → made text ≡ wrong (line + 1) n
     turn-wrong n z =
         let a = was-refused Refusal _ (lineNumber e size says) (Refusal n) (λ y. length-not n _ (sym y)) (sym (x .0) ∙ z) in
-        let m : n ≡ lineNumber e size says = cc in
-        rw (on, refused (wrong (line + 1)) _ (lineNumber e size says) (a .0)) (ap (Mistake (line + 1)) m)
+        let m : lineNumber e size says ≡ n = cc in
+        on ∙ refused (wrong (line + 1)) _ (lineNumber e size says) (a .0) ∙ ap (wrong (line + 1)) m
 
 -- ── a made load reads as its calls ──
 whole-not : (k n : ℕ) (s : List ℕ) → wrong k n ≡ whole s → ⊥
@@ -188,43 +180,20 @@ made-ends text s q =
     gathered-reads (h .edition) (h .lines) (drop (h .lines) (linesIn text)) [] [] s (Appended.none (open-known _ (or-else (h .number) _ (b .0) .1) .1)) (b .1)
 
 -- ── into a lent buffer ──
--- What `gather` has of a text that makes a load of n bytes.
-pub record Loaded (text p : List ℕ) (n : ℕ) : Type 0 where
-  pub load : List ℕ
-  pub is : made text ≡ whole load
-  pub long : length load ≡ n
-  pub small : n ≤ 65536
-  pub first : take n p ≡ load
+module _ (text o : List ℕ) (n : ℕ) (p : List ℕ) (g : Gathers text o (Load n) p) where
+  pub gathered-small : n ≤ 65536
+  gathered-small = omega (arith, g .2, read-bounded (g .0) (written-reads _ _ (g .0) (made-ends text (g .0) (g .1) .0) .0))
 
-pub loaded : (text o : List ℕ) (r : Made) (p : List ℕ) (n : ℕ) → Gathers (made text) o r p → r ≡ Load n → 65536 ≡ length o → Loaded text p n
-loaded text o r p n g e h = go (made text) refl g
-  where
-    go : (m : Making) → made text ≡ m → Gathers m o r p → Loaded text p n
-    go (whole s) i g =
-        let l : length s ≡ n = cc in
-        let b = read-bounded s (written-reads _ _ s (made-ends text s i .0) .0) in
-        record { load = s; is = i; long = l; small = omega arith; first = ap (take n) (g .1) ∙ laid-first o s n l (omega arith) }
-    go (wrong k j) i g = let z : _≡_ {A = ℕ} 0 1 = cc in absurd (omega arith)
-
-module _ (text p : List ℕ) (n : ℕ) (l : Loaded text p n) (out : List ℕ) where
-  pub make-none : length out < n → (Mistake 0 noSpace ≡ madeOf text out) × (out ≡ madeOut text out)
+  pub make-none : (out : List ℕ) → length out < n → (Mistake 0 noSpace ≡ madeOf text out) × (out ≡ madeOut text out)
   unfolding madeOf madeOut
-  make-none h = let k = l .long in let w = lent-none (l .load) out (omega arith) in rw (l .is) (rw (w .0), w .1)
+  make-none out h = let w = lent-none (g .0) out (omega (arith, g .2)) in rw (g .1) (rw (w .0), w .1)
 
-  pub make-all : n ≤ length out → (q : List ℕ) → q ≡ laid out 0 (take n p) → (Load n ≡ madeOf text out) × (q ≡ madeOut text out)
+  pub make-all : (out : List ℕ) → 65536 ≡ length o → n ≤ length out → (q : List ℕ) → q ≡ laid out 0 (take n p) → (Load n ≡ madeOf text out) × (q ≡ madeOut text out)
   unfolding madeOf madeOut
-  make-all h q e =
-      let k = l .long in
-      let w = lent-all (l .load) out q (omega arith) (e ∙ ap (laid out 0) (l .first)) in
-      rw (l .is) (rw (w .0) (ap Load (sym k)), w .1)
-
-pub make-wrong : (text o : List ℕ) (r : Made) (p : List ℕ) (k n : ℕ) → Gathers (made text) o r p → r ≡ Mistake k n → (out : List ℕ) → (Mistake k n ≡ madeOf text out) × (out ≡ madeOut text out)
-unfolding madeOf madeOut
-make-wrong text o r p k n g e out = go (made text) g
-  where
-    go : (m : Making) → Gathers m o r p → (Mistake k n ≡ answerOn m out) × (out ≡ bufferOn m out)
-    go (whole s) g = let z : _≡_ {A = ℕ} 0 1 = cc in absurd (omega arith)
-    go (wrong i j) g = (sym e ∙ g, refl)
+  make-all out r h q e =
+      let f : take n p ≡ g .0 = ap (take n) (g .3) ∙ laid-first o (g .0) n (g .2) (omega (arith, g .2, gathered-small)) in
+      let w = lent-all (g .0) out q (omega (arith, g .2)) (e ∙ ap (laid out 0) f) in
+      rw (g .1) (rw (w .0) (ap Load (sym (g .2))), w .1)
 
 pub made-reads : MadeReads
 unfolding madeOf madeOut

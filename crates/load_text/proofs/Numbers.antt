@@ -65,12 +65,6 @@ value-grows base v [] h = omega arith
 value-grows base v (b ∷ l) h = omega (arith, mul-le-mul-left {m = 1} {n = base} v h, value-grows base (v * base + digitOf b) l h)
 
 -- ── a number that is too large ──
-pub fits : (most large v : ℕ) → v ≤ most → Value v ≡ upToMost most large v
-fits most large v h = rw (le-leb v most h)
-
-pub over : (most large v : ℕ) → most < v → Wrong large ≡ upToMost most large v
-over most large v h = rw (lt-leb v most h)
-
 -- One digit more after a number that has room for it, and after one that has none.
 pub digit-more : (v base most d : ℕ) → d ≤ most → v ≤ (most - d) / base → v * base + d ≤ most
 digit-more v base most d h k = omega (arith, mul-le-mul-right base k, div-mul-le-self (most - d) base)
@@ -88,7 +82,7 @@ pub record Summing (base most : ℕ) (w : List ℕ) (v i : ℕ) : Type 0 where
 
 module _ (base most : ℕ) (w : List ℕ) (v i : ℕ) (s : Summing base most w v i) where
   pub sum-end : (large : ℕ) → length w ≤ i → Value v ≡ upToMost most large (valueIn base 0 w)
-  sum-end large h = fits most large v (s .room) ∙ ap (upToMost most large) (sym (value-end base v w i h) ∙ s .is)
+  sum-end large h = rw (sym (s .is) ∙ value-end base v w i h, le-leb v most (s .room))
 
   module _ (h : i < length w) (d : ℕ) (e : d ≡ digitOf (getD w i 0)) where
     pub sum-base : 0 < base
@@ -98,7 +92,7 @@ module _ (base most : ℕ) (w : List ℕ) (v i : ℕ) (s : Summing base most w v
     sum-next = ap (λ k. valueIn base (v * base + k) (drop (i + 1) w)) e ∙ sym (value-on base w i h v) ∙ s .is
 
     pub sum-over : (large : ℕ) → most < v * base + d → Wrong large ≡ upToMost most large (valueIn base 0 w)
-    sum-over large k = over most large _ (omega (arith, k, sum-next, value-grows base (v * base + d) (drop (i + 1) w) sum-base))
+    sum-over large k = rw (lt-leb (valueIn base 0 w) most (omega (arith, k, sum-next, value-grows base (v * base + d) (drop (i + 1) w) sum-base)))
 
     pub sum-on : v * base + d ≤ most → Summing base most w (v * base + d) (i + 1)
     sum-on k = record { room = k; digits = digit-held base w i h (s .digits) .1; is = sum-next }

@@ -45,6 +45,11 @@ module _ (p : ℕ → Bool) where
   unfolding none
   none-cons b l h = let q = and-eq-true-iff (not (p b)) (none p l) .0 h in (not-true (p b) (q .0), q .1)
 
+  pub none-less : (q : ℕ → Bool) → ((b : ℕ) → q b ≡ false → p b ≡ false) → (l : List ℕ) → none q l ≡ true → none p l ≡ true
+  unfolding none
+  none-less q f [] h = refl
+  none-less q f (b ∷ l) h = let k = and-eq-true-iff (not (q b)) (none q l) .0 h in rw (f b (not-true (q b) (k .0))) (none-less q f l (k .1))
+
   pub none-at : (l : List ℕ) (i : ℕ) → p 0 ≡ false → none p l ≡ true → p (getD l i 0) ≡ false
   none-at [] i z h = z
   none-at (b ∷ l) zero z h = none-cons b l h .0
@@ -89,9 +94,6 @@ module _ (p : ℕ → Bool) where
     unfolding placeOf
     until-first = rw zero-add
 
-    pub until-take : (at : ℕ) → until p (drop at s) ≡ take (placeOf p s at - at) (drop at s)
-    until-take at = rw (past at)
-
     pub since-drop : (at : ℕ) → since p (drop at s) ≡ drop (placeOf p s at) s
     unfolding placeOf
     since-drop at = drop-drop (before p (drop at s)) at s
@@ -101,7 +103,7 @@ module _ (p : ℕ → Bool) where
         let far : at + suc (before p (drop at s)) ≡ placeOf p s at + 1 = omega (arith, past at, place-low at) in
         parts-of (drop at s) (omega (arith, length-drop at s))
         ∙ ap (λ k. until p (drop at s) ∷ parts p k) (drop-drop (suc (before p (drop at s))) at s ∙ ap (λ n. drop n s) far)
-        ∙ ap (λ k. k ∷ parts p (drop (placeOf p s at + 1) s)) (until-take at)
+        ∙ rw (past at)
 
     pub parts-end : (at : ℕ) → length s ≤ at → parts p (drop at s) ≡ []
     unfolding parts

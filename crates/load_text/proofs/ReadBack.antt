@@ -7,11 +7,11 @@ use mathlib.Core.Logic.{⊎-elim}
 use native.Mathlib.Nat.{pow-suc, pow-le-pow-right}
 use native.Mathlib.Omega.{arith}
 use lib.Dec.{ltb, leb, eqb}
-use lib.ListN.{length, drop, getD, length-append}
-use borrow.Author.Tests.{eqb-true, ltb-true, ltb-false, leb-false, leb-true, lt-ltb, le-leb, lt-leb, not-true}
+use lib.ListN.{length, getD, length-append}
+use borrow.Author.Tests.{eqb-true, ltb-true, leb-false, leb-true, lt-ltb, le-ltb, le-leb, lt-leb, not-true}
 use Rattle.numerals.specs.Digits.{digits, widthUpTo, widthOf, decimalOf, column}
 use Rattle.load.specs.declared.Call.{Call}
-use Rattle.load.specs.Format.{theGroups, fieldWidths, fieldWidth, Row, format, known, rowIn, nameOf, fieldsOf, lengthIn, lengthOf}
+use Rattle.load.specs.Format.{theGroups, fieldWidth, Row, format, known, rowIn, nameOf, fieldsOf, lengthIn, lengthOf}
 use Rattle.load.specs.Calls.{valueOf, withValue, bare, filled, callOf, valuesIn, valuesOf, carries}
 use Rattle.load.specs.Reading.{editionOf, walk}
 use Rattle.load.specs.RoundTrip.{Typed}
@@ -22,14 +22,15 @@ use Rattle.load.proofs.Loads.{Loadable, read-loadable}
 use Rattle.load_text.specs.declared.parse.Head.the-variants.{Edition, Other}
 use Rattle.load_text.specs.declared.parse.Parsed.the-variants.{Nothing, Said}
 use Rattle.load_text.specs.declared.texts.Key.the-variants.{Kind}
-use Rattle.load_text.specs.declared.words.Field.the-variants.{Value, Wrong}
+use Rattle.load_text.specs.declared.words.Field.the-variants.{Value}
 use Rattle.load_text.specs.Lines.{glyphOf, hexUpTo, wordOf, fieldsText, lineOf, linesOf, restOf, headerOf, textOf}
-use Rattle.load_text.specs.Making.{Heading, plain, headingIn, heading, saidIn}
-use Rattle.load_text.specs.Parsing.{none, before, parts, inFront, full, is, isFeed, isBlank, isJoint, isList, linesIn, wordsIn, chomped, said, digitOf, noDigit, digitsIn, valueIn, numberIn, groupsIn, noNumber, fieldIn, filledIn, isWord, isRow, rowFor, kindNamed, kindSays, callIn, lineSays, editionWord, editionOr, editionIn, headIn, headSays}
+use Rattle.load_text.specs.Making.{plain, headingIn, heading, saidIn}
+use Rattle.load_text.specs.Parsing.{none, before, parts, inFront, full, is, isFeed, isBlank, isJoint, isList, linesIn, wordsIn, chomped, said, digitOf, noDigit, digitsIn, valueIn, numberIn, groupsIn, fieldIn, filledIn, isWord, isRow, rowFor, kindNamed, kindSays, callIn, lineSays, editionWord, editionOr, editionIn, headIn, headSays}
 use Rattle.load_text.specs.ReadBack.{LineReadBack, TextReadBack}
-use Rattle.load_text.specs.Reasons.{noEdition, tooLarge}
+use Rattle.load_text.specs.Reasons.{noEdition}
+use Rattle.load_text.proofs.Cases.{either, below}
 use Rattle.load_text.proofs.Fields.{kind-some}
-use Rattle.load_text.proofs.Parts.{none-cons, none-at, until-none}
+use Rattle.load_text.proofs.Parts.{none-cons, none-less, none-at, until-none}
 use Rattle.load_text.proofs.Numbers.{digit-ten, digit-upper}
 use Rattle.load_text.proofs.Reading.{full-cons}
 use Rattle.load_text.proofs.Tables.{allRows, row-cases, row-kind, known-passes}
@@ -57,104 +58,81 @@ spaced : List ℕ → List (List ℕ) → List ℕ
 spaced w [] = w
 spaced w (v ∷ vs) = w ++ 32 ∷ spaced v vs
 
--- A byte that ends what a line says.
+-- A byte that ends a line or what it says, and one that is no part of a word.
 abbrev isEnd : ℕ → Bool
-isEnd b = is 35 b || is 13 b
+isEnd b = isFeed b || (is 35 b || is 13 b)
 
-record Plain (w : List ℕ) : Type 0 where
-  some : 0 < length w
-  blank : none isBlank w ≡ true
-  feed : none isFeed w ≡ true
-  end : none isEnd w ≡ true
+abbrev isMark : ℕ → Bool
+isMark b = isBlank b || isEnd b
+
+neither : (a b : Bool) → (a || b) ≡ false → (a ≡ false) × (b ≡ false)
+neither true b h = absurd (false≢true (sym h))
+neither false b h = (refl, h)
+
+abbrev Plain : List ℕ → Type 0
+Plain w = (0 < length w) × (none isMark w ≡ true)
 
 isPlain : List ℕ → Bool
-isPlain w = (ltb 0 (length w) && none isBlank w) && (none isFeed w && none isEnd w)
+isPlain w = ltb 0 (length w) && none isMark w
 
 plain-word : (w : List ℕ) → isPlain w ≡ true → Plain w
 unfolding isPlain
-plain-word w h =
-    let a = both (ltb 0 (length w) && none isBlank w) (none isFeed w && none isEnd w) h in
-    let b = both (ltb 0 (length w)) (none isBlank w) (a .0) in
-    let c = both (none isFeed w) (none isEnd w) (a .1) in
-    record { some = ltb-true 0 (length w) (b .0); blank = b .1; feed = c .0; end = c .1 }
+plain-word w h = let q = both (ltb 0 (length w)) (none isMark w) h in (ltb-true 0 (length w) (q .0), q .1)
 
 data Plains : List (List ℕ) → Type 0 where
   nil : Plains []
   also : {w : List ℕ} {ws : List (List ℕ)} → Plain w → Plains ws → Plains (w ∷ ws)
 
+module _ (w : List ℕ) (h : Plain w) where
+  no-blank : none isBlank w ≡ true
+  no-blank = none-less isBlank isMark (λ b q. neither (isBlank b) (isEnd b) q .0) w (h .1)
+
+  no-end : none isEnd w ≡ true
+  no-end = none-less isEnd isMark (λ b q. neither (isBlank b) (isEnd b) q .1) w (h .1)
+
 words-spaced : (w : List ℕ) (ws : List (List ℕ)) → Plain w → Plains ws → wordsIn (spaced w ws) ≡ w ∷ ws
 unfolding wordsIn spaced
-words-spaced w [] h hs = ap full (parts-last isBlank w (h .some) (h .blank)) ∙ full-cons w [] (h .some)
+words-spaced w [] h hs = ap full (parts-last isBlank w (h .0) (no-blank w h)) ∙ full-cons w [] (h .0)
 words-spaced w (v ∷ vs) h (also k ks) =
-    ap full (parts-front isBlank w 32 (spaced v vs) (h .blank) refl)
-    ∙ full-cons w (parts isBlank (spaced v vs)) (h .some)
+    ap full (parts-front isBlank w 32 (spaced v vs) (no-blank w h) refl)
+    ∙ full-cons w (parts isBlank (spaced v vs)) (h .0)
     ∙ ap (λ ws. w ∷ ws) (words-spaced v vs k ks)
 
-module _ (p : ℕ → Bool) (q : p 32 ≡ false) (plain : (w : List ℕ) → Plain w → none p w ≡ true) where
-  none-spaced : (w : List ℕ) (ws : List (List ℕ)) → Plain w → Plains ws → none p (spaced w ws) ≡ true
-  unfolding none spaced
-  none-spaced w [] h hs = plain w h
-  none-spaced w (v ∷ vs) h (also k ks) = none-append p w (32 ∷ spaced v vs) (plain w h) (rw q (none-spaced v vs k ks))
+none-spaced : (w : List ℕ) (ws : List (List ℕ)) → Plain w → Plains ws → none isEnd (spaced w ws) ≡ true
+unfolding none spaced
+none-spaced w [] h hs = no-end w h
+none-spaced w (v ∷ vs) h (also k ks) = none-append isEnd w (32 ∷ spaced v vs) (no-end w h) (none-spaced v vs k ks)
 
 -- Nothing of such a line is left out.
-module _ (l : List ℕ) (h : none isEnd l ≡ true) where
-  no-return : is 13 (getD l (length l - 1) 0) ≡ false
-  no-return = go (is 35 x) (is 13 x) (none-at isEnd l (length l - 1) refl h)
-    where
-      x : ℕ
-      x = getD l (length l - 1) 0
-
-      go : (t u : Bool) → (t || u) ≡ false → u ≡ false
-      go true u q = absurd (false≢true (sym q))
-      go false u q = q
-
-  said-whole : said l ≡ l
-  unfolding said chomped none
-  said-whole = rw no-return (until-none (is 35) l (no-hash l h))
-    where
-      no-hash : (l : List ℕ) → none isEnd l ≡ true → none (is 35) l ≡ true
-      no-hash [] h = refl
-      no-hash (b ∷ l) h = let q = none-cons isEnd b l h in go (is 35 b) (is 13 b) (q .0) (no-hash l (q .1))
-        where
-          go : (t u : Bool) → (t || u) ≡ false → none (is 35) l ≡ true → (not t && none (is 35) l) ≡ true
-          go true u q k = absurd (false≢true (sym q))
-          go false u q k = k
+said-whole : (l : List ℕ) → none isEnd l ≡ true → said l ≡ l
+unfolding said chomped
+said-whole l h =
+    let x = getD l (length l - 1) 0 in
+    let r = neither (is 35 x) (is 13 x) (neither (isFeed x) _ (none-at isEnd l (length l - 1) refl h) .1) .1 in
+    rw r (until-none (is 35) l (none-less (is 35) isEnd (λ b q. neither (is 35 b) (is 13 b) (neither (isFeed b) _ q .1) .0) l h))
 
 -- A line of plain words in front of other lines, and its words.
 module _ (w : List ℕ) (ws : List (List ℕ)) (h : Plain w) (hs : Plains ws) where
   line-front : (rest : List ℕ) → linesIn (spaced w ws ++ 10 ∷ rest) ≡ spaced w ws ∷ linesIn rest
   unfolding linesIn
-  line-front rest = parts-front isFeed (spaced w ws) 10 rest (none-spaced isFeed refl (λ w k. k .feed) w ws h hs) refl
+  line-front rest = parts-front isFeed (spaced w ws) 10 rest (none-less isFeed isEnd (λ b q. neither (isFeed b) _ q .0) _ (none-spaced w ws h hs)) refl
 
   line-words : wordsIn (said (spaced w ws)) ≡ w ∷ ws
-  line-words = ap wordsIn (said-whole (spaced w ws) (none-spaced isEnd refl (λ w k. k .end) w ws h hs)) ∙ words-spaced w ws h hs
+  line-words = ap wordsIn (said-whole (spaced w ws) (none-spaced w ws h hs)) ∙ words-spaced w ws h hs
 
 -- ── words of digits ──
 -- A byte that is no digit is not among digits.
-no-is : (a b : ℕ) → digitOf a ≡ 16 → digitOf b < 16 → is a b ≡ false
-no-is a b e h = go (is a b) refl
-  where
-    go : (t : Bool) → is a b ≡ t → t ≡ false
-    go true q = absurd (omega (arith, ap digitOf (eqb-true b a q), e, h))
-    go false q = refl
-
-none-digits : (p : ℕ → Bool) → ((b : ℕ) → digitOf b < 16 → p b ≡ false) → (w : List ℕ) → digitsIn 16 w ≡ true → none p w ≡ true
-unfolding none
-none-digits p fails [] h = refl
-none-digits p fails (b ∷ w) h = let q = none-cons (noDigit 16) b w h in rw (fails b (leb-false 16 (digitOf b) (q .0))) (none-digits p fails w (q .1))
+no-is : (a b : ℕ) → digitOf a ≡ 16 → noDigit 16 b ≡ false → is a b ≡ false
+no-is a b e h = either (is a b) (λ q. absurd (omega (arith, ap digitOf (eqb-true b a q), e, leb-false 16 (digitOf b) h))) (λ q. q)
 
 digits-plain : (w : List ℕ) → 0 < length w → digitsIn 16 w ≡ true → Plain w
 unfolding digitOf
-digits-plain w h k = record {
-  some = h;
-  blank = none-digits isBlank (λ b q. rw (no-is 32 b refl q, no-is 9 b refl q)) w k;
-  feed = none-digits isFeed (λ b q. no-is 10 b refl q) w k;
-  end = none-digits isEnd (λ b q. rw (no-is 35 b refl q, no-is 13 b refl q)) w k;
-}
+digits-plain w h k =
+    (h, none-less isMark (noDigit 16) (λ b q. rw (no-is 32 b refl q, no-is 9 b refl q, no-is 10 b refl q, no-is 35 b refl q, no-is 13 b refl q)) w k)
 
 digits-no-list : (w : List ℕ) → digitsIn 16 w ≡ true → none isJoint w ≡ true
 unfolding digitOf
-digits-no-list w k = none-digits isJoint (λ b q. rw (no-is 44 b refl q, no-is 45 b refl q)) w k
+digits-no-list w k = none-less isJoint (noDigit 16) (λ b q. rw (no-is 44 b refl q, no-is 45 b refl q)) w k
 
 module _ (base : ℕ) where
   digits-snoc : (w : List ℕ) (b : ℕ) → digitsIn base w ≡ true → digitOf b < base → digitsIn base (w ++ (b ∷ [])) ≡ true
@@ -203,12 +181,9 @@ decimal-digits (suc n) v h =
 width-holds : (k v : ℕ) → v < 10 ^ suc k → (n : ℕ) × (widthUpTo k v ≡ suc n) × (v < 10 ^ suc n)
 unfolding widthUpTo
 width-holds zero v h = (0, refl, h)
-width-holds (suc k) v h = go (width-holds k (v / 10) (omega (arith, pow-suc 10 (suc k)))) (ltb v 10) refl
-  where
-    go : (n : ℕ) × (widthUpTo k (v / 10) ≡ suc n) × (v / 10 < 10 ^ suc n) → (t : Bool) → ltb v 10 ≡ t
-        → (n : ℕ) × (cond t 1 (suc (widthUpTo k (v / 10))) ≡ suc n) × (v < 10 ^ suc n)
-    go r true e = (0, refl, ltb-true v 10 e)
-    go r false e = (suc (r .0), ap suc (r .1), omega (arith, r .2, pow-suc 10 (suc (r .0))))
+width-holds (suc k) v h =
+    let r = width-holds k (v / 10) (omega (arith, pow-suc 10 (suc k))) in
+    below v 10 (λ q. (0, rw (lt-ltb v 10 q), q)) (λ q. (suc (r .0), rw (le-ltb v 10 q, r .1), omega (arith, r .2, pow-suc 10 (suc (r .0)))))
 
 decimal-says : (v : ℕ) → v < 2 ^ 64 → Says 10 v (decimalOf v)
 unfolding decimalOf widthOf
@@ -217,53 +192,40 @@ decimal-says v h = let r = width-holds 19 v (omega arith) in rw (r .1) (decimal-
 -- ── hex ──
 glyph : (v : ℕ) → digitOf (glyphOf v) ≡ v % 16
 unfolding glyphOf
-glyph v = go (ltb (v % 16) 10) refl
-  where
-    go : (t : Bool) → ltb (v % 16) 10 ≡ t → digitOf (cond t (48 + v % 16) (55 + v % 16)) ≡ v % 16
-    go true e = let h = ltb-true (v % 16) 10 e in omega (arith, digit-ten (48 + v % 16) (omega arith) (omega arith))
-    go false e = let h = ltb-false (v % 16) 10 e in omega (arith, digit-upper (55 + v % 16) (omega arith) (omega arith))
+glyph v =
+    below (v % 16) 10 (λ h. rw (lt-ltb (v % 16) 10 h) (omega (arith, digit-ten (48 + v % 16) (omega arith) (omega arith))))
+    (λ h. rw (le-ltb (v % 16) 10 h) (omega (arith, digit-upper (55 + v % 16) (omega arith) (omega arith))))
 
 hex-says : (k v : ℕ) → v < 16 ^ suc k → Says 16 v (hexUpTo k v)
 unfolding hexUpTo
 hex-says zero v h = says-one 16 v (glyphOf v) (omega (arith, glyph v)) (omega (arith, glyph v))
-hex-says (suc k) v h = go (hex-says k (v / 16) (omega (arith, pow-suc 16 (suc k)))) (ltb v 16) refl
-  where
-    go : Says 16 (v / 16) (hexUpTo k (v / 16)) → (t : Bool) → ltb v 16 ≡ t → Says 16 v (cond t (glyphOf v ∷ []) (hexUpTo k (v / 16) ++ (glyphOf v ∷ [])))
-    go s true e = let q = ltb-true v 16 e in says-one 16 v (glyphOf v) (omega (arith, glyph v)) (omega (arith, glyph v))
-    go s false e = says-more 16 (v / 16) v (glyphOf v) (hexUpTo k (v / 16)) s (omega (arith, glyph v)) (omega (arith, glyph v))
+hex-says (suc k) v h =
+    let s = hex-says k (v / 16) (omega (arith, pow-suc 16 (suc k))) in
+    below v 16 (λ q. rw (lt-ltb v 16 q) (says-one 16 v (glyphOf v) (omega (arith, glyph v)) (omega (arith, glyph v))))
+    (λ q. rw (le-ltb v 16 q) (says-more 16 (v / 16) v (glyphOf v) (hexUpTo k (v / 16)) s (omega (arith, glyph v)) (omega (arith, glyph v))))
 
 -- Decimal digits are hex digits.
 ten-sixteen : (w : List ℕ) → digitsIn 10 w ≡ true → digitsIn 16 w ≡ true
-unfolding none
-ten-sixteen [] h = refl
-ten-sixteen (b ∷ w) h = let q = none-cons (noDigit 10) b w h in let r = leb-false 10 (digitOf b) (q .0) in rw (lt-leb 16 (digitOf b) (omega arith)) (ten-sixteen w (q .1))
+ten-sixteen w h = none-less (noDigit 16) (noDigit 10) (λ b q. lt-leb 16 (digitOf b) (omega (arith, leb-false 10 (digitOf b) q))) w h
 
 -- ── a value as a word ──
 width-most : (f : ℕ) → fieldWidth f ≤ 8
-width-most f = go (ltb f 5) refl
-  where
-    go : (b : Bool) → ltb f 5 ≡ b → fieldWidth f ≤ 8
-    go true e = let q = width-is f (ltb-true f 5 e) in omega (arith, q .0, q .1)
-    go false e = omega (arith, no-width f (ltb-false f 5 e))
+width-most f = below f 5 (λ h. let q = width-is f h in omega arith) (λ h. omega (arith, no-width f h))
 
 module _ (f v : ℕ) (h : v < 256 ^ fieldWidth f) where
   in-word : v < 2 ^ 64
   in-word = let wide : 256 ^ fieldWidth f ≤ 256 ^ 8 = pow-le-pow-right (omega arith) (width-most f) in omega arith
 
   word-said : Plain (wordOf f v) × (fieldIn f (wordOf f v) ≡ Value v)
-  unfolding wordOf fieldIn fieldWidth fieldWidths groupsIn isList
-  word-said = go (eqb f theGroups) refl
-    where
-      go : (b : Bool) → eqb f theGroups ≡ b
-          → Plain (cond b (hexUpTo 15 v) (decimalOf v)) × (cond b (groupsIn (cond b (hexUpTo 15 v) (decimalOf v))) (numberIn 10 (256 ^ fieldWidth f - 1) (noNumber f) tooLarge (cond b (hexUpTo 15 v) (decimalOf v))) ≡ Value v)
-      go true e =
-          let s = hex-says 15 v in-word in
-          let x = hexUpTo 15 v in
-          (digits-plain x (s .some) (s .digit), rw (digits-no-list x (s .digit)) (number-said 16 18446744073709551615 _ _ v x s (omega (arith, in-word))))
-      go false e =
-          let s = decimal-says v in-word in
-          let x = decimalOf v in
-          (digits-plain x (s .some) (ten-sixteen x (s .digit)), number-said 10 (256 ^ fieldWidth f - 1) _ _ v x s (omega arith))
+  unfolding wordOf fieldIn groupsIn isList
+  word-said =
+      let x = hexUpTo 15 v in
+      let s = hex-says 15 v in-word in
+      let d = decimalOf v in
+      let t = decimal-says v in-word in
+      either (eqb f theGroups)
+      (λ e. rw e (digits-plain x (s .some) (s .digit), rw (digits-no-list x (s .digit)) (number-said 16 18446744073709551615 _ _ v x s (omega (arith, in-word)))))
+      (λ e. rw e (digits-plain d (t .some) (ten-sixteen d (t .digit)), number-said 10 (256 ^ fieldWidth f - 1) _ _ v d t (omega arith)))
 
 -- ── the fields of a call ──
 wordsOf : List ℕ → Call → List (List ℕ)
@@ -314,9 +276,9 @@ named e c h =
     go t =
         let x = both (eqb (r .edition) e) (eqb (r .kind) (c .kind)) (t .1) in
         let k = eqb-true (r .kind) (c .kind) (x .1) in
-        let a = both (ltb 0 (r .kind) && eqb (kindNamed (r .edition) (r .name)) (r .kind)) (not (isWord (r .name) editionWord) && isPlain (r .name)) (t .0) in
-        let b = both (ltb 0 (r .kind)) (eqb (kindNamed (r .edition) (r .name)) (r .kind)) (a .0) in
-        let d = both (not (isWord (r .name) editionWord)) (isPlain (r .name)) (a .1) in
+        let a = both _ _ (t .0) in
+        let b = both _ _ (a .0) in
+        let d = both _ _ (a .1) in
         record {
           some = omega (arith, ltb-true 0 (r .kind) (b .0));
           kind = ap (λ (n : ℕ). kindNamed n (r .name)) (sym (eqb-true (r .edition) e (x .0))) ∙ eqb-true _ _ (b .1) ∙ k;
@@ -364,12 +326,7 @@ unfolding linesOf linesIn parts headingIn
 lines-plain e k b [] Loadable.none i = refl
 lines-plain e k b (c ∷ cs) (Loadable.one v g) i = let l = line-of e c (v .carried) (v .typed) (linesOf e (k + 1) cs 0) in rw (l .front, l .head)
 
--- The header of edition 1 says nothing; that of another its edition.
-module _ (t : List ℕ) where
-  header-comment : (linesIn (headerOf 1 ++ t) ≡ (35 ∷ 32 ∷ 101 ∷ 100 ∷ 105 ∷ 116 ∷ 105 ∷ 111 ∷ 110 ∷ 32 ∷ 49 ∷ []) ∷ linesIn t)
-  unfolding headerOf linesIn parts
-  header-comment = refl
-
+-- The header of another edition than 1 says it.
 small-test : ℕ → Bool
 small-test e = leb e 255
 
@@ -387,31 +344,14 @@ edition-says e k t =
 
 text-said : (e : ℕ) (cs : List Call) → known e ≡ true → Loadable e true cs → (t : List ℕ) → t ≡ headerOf e ++ linesOf e 1 cs 0
     → (heading t .number ≡ 0) × (heading t .edition ≡ e) × (saidIn t ≡ cond (eqb e 1) (Nothing ∷ []) [] ++ map Said cs)
-unfolding heading headingIn saidIn headerOf headSays headIn lineSays callIn wordsIn said chomped before parts
-text-said e cs k g t q = go (eqb e 1) refl q
-  where
-    rest : List ℕ
-    rest = linesOf e 1 cs 0
-
-    go : (b : Bool) → eqb e 1 ≡ b → t ≡ cond b (35 ∷ 32 ∷ 101 ∷ 100 ∷ 105 ∷ 116 ∷ 105 ∷ 111 ∷ 110 ∷ 32 ∷ 49 ∷ 10 ∷ []) ((101 ∷ 100 ∷ 105 ∷ 116 ∷ 105 ∷ 111 ∷ 110 ∷ 32 ∷ []) ++ column e 10) ++ rest
-        → (heading t .number ≡ 0) × (heading t .edition ≡ e) × (saidIn t ≡ cond b (Nothing ∷ []) [] ++ map Said cs)
-    go true o q =
-        let l = ap linesIn q ∙ header-comment rest in
-        let h : heading t ≡ plain = ap (λ x. headingIn 0 (map headSays x)) l ∙ lines-plain e 1 true cs g 1 in
-        let i : e ≡ 1 = eqb-true e 1 o in (
-          ap (λ (x : Heading). x .number) h,
-          ap (λ (x : Heading). x .edition) h ∙ sym i,
-          ap (λ (x : Heading). map (lineSays (x .edition)) (drop (x .lines) (linesIn t))) h ∙ ap (map (lineSays 1)) l
-              ∙ ap (λ (x : ℕ). Nothing ∷ map (lineSays x) (linesIn rest)) (sym i) ∙ ap (λ x. Nothing ∷ x) (lines-read-back e 1 true cs g),
-        )
-    go false o q =
-        let s = edition-says e k rest in
-        let l = ap linesIn q ∙ s .0 in
-        let h : heading t ≡ record { number = 0; edition = e; lines = 1 } = ap (λ x. headingIn 0 (map headSays x)) l ∙ rw (s .1) in (
-          ap (λ (x : Heading). x .number) h,
-          ap (λ (x : Heading). x .edition) h,
-          ap (λ (x : Heading). map (lineSays (x .edition)) (drop (x .lines) (linesIn t))) h ∙ ap (λ x. map (lineSays e) (drop 1 x)) l ∙ lines-read-back e 1 true cs g,
-        )
+unfolding heading headingIn saidIn headerOf headSays headIn lineSays callIn linesIn wordsIn said chomped before parts
+text-said e cs k g t q =
+    let rest = linesOf e 1 cs 0 in
+    either (eqb e 1) (λ o.
+    let i : e ≡ 1 = eqb-true e 1 o in
+    let l : linesIn t ≡ (35 ∷ 32 ∷ 101 ∷ 100 ∷ 105 ∷ 116 ∷ 105 ∷ 111 ∷ 110 ∷ 32 ∷ 49 ∷ []) ∷ linesIn rest = ap linesIn (rw o at q) in
+    rw (o, l, lines-plain e 1 true cs g 1) (refl, sym i, ap (λ x. Nothing ∷ x) (ap (λ (x : ℕ). map (lineSays x) (linesIn rest)) (sym i) ∙ lines-read-back e 1 true cs g)))
+    (λ o. let s = edition-says e k rest in rw (o, ap linesIn (rw o at q) ∙ s .0, s .1) (refl, refl, lines-read-back e 1 true cs g))
 
 pub text-read-back : TextReadBack
 unfolding textOf restOf

@@ -2,7 +2,7 @@
 use Prim.Native.Nat.{ℕ, zero, suc, _+_, _-_, _*_, _^_, _%_, _≤_, _<_}
 use mathlib.Core.Path.{_≡_, sym, ap, _∙_}
 use mathlib.Core.Bool.{_&&_}
-use mathlib.Core.List.{List, _∷_}
+use mathlib.Core.List.{List}
 use native.Mathlib.Nat.{two-pow-succ, sub-zero}
 use native.Mathlib.Numerals.{add-one}
 use native.Mathlib.Omega.{arith}
@@ -16,7 +16,7 @@ use Rattle.load_text.specs.declared.words.Field.{Field}
 use Rattle.load_text.specs.declared.words.Field.the-variants.{Value}
 use Rattle.load_text.specs.Parsing.{until, since, placeOf, parts, isComma, isDash, span, groupIn, andThen, upTo, rangeIn, itemIn, itemsIn, withItems, wordAt}
 use Rattle.load_text.proofs.Cases.{below}
-use Rattle.load_text.proofs.Parts.{until-take, since-drop, parts-cut}
+use Rattle.load_text.proofs.Parts.{until-first, since-drop, parts-cut}
 
 -- ── the groups from one to another ──
 module _ (low high : ℕ) where
@@ -50,7 +50,7 @@ module _ (w : List ℕ) (end : ℕ) (e : end ≡ placeOf isDash w 0) (f : Field)
   pub item-from : itemIn w ≡ andThen f (rangeIn (drop end w))
   unfolding itemIn
   item-from =
-      let u : until isDash w ≡ take end w = until-take isDash w 0 ∙ ap (λ n. take n w) (sub-zero (placeOf isDash w 0) ∙ sym e) in
+      let u : until isDash w ≡ take end w = until-first isDash w ∙ ap (λ n. take n w) (sym e) in
       let s : since isDash w ≡ drop end w = since-drop isDash w 0 ∙ ap (λ n. drop n w) (sym e) in
       rw (u, s, r)
 

@@ -1,6 +1,6 @@
 -- The texts of the code's table; the search for a row of the format; and what holds of every row.
 use Prim.Native.Nat.{ℕ, zero, suc, _+_, _-_, _≤_, _<_}
-use mathlib.Core.Bool.{Bool, true, false, _&&_, _||_, cond, false≢true}
+use mathlib.Core.Bool.{Bool, true, false, _&&_, false≢true}
 use mathlib.Core.List.{List, [], _∷_, _++_, map}
 use mathlib.Core.Logic.{_⊎_, inl, inr, ⊎-elim}
 use mathlib.Core.Path.{_≡_, refl, sym, ap, _∙_}
@@ -16,6 +16,7 @@ use Rattle.load_text.specs.declared.texts.Key.{Key}
 use Rattle.load_text.specs.declared.texts.Key.the-variants.{Kind, Name}
 use Rattle.load_text.specs.Lines.{reasons, reasonTexts, reasonText, texts}
 use Rattle.load_text.specs.Parsing.{placeOf, is, isWord, isRow, rowFor, rowAt, kindNamed}
+use Rattle.load_text.proofs.Cases.{either}
 
 -- ── words ──
 word-refl : (k : List ℕ) → isWord k k ≡ true
@@ -32,11 +33,7 @@ word-same (a ∷ k) (b ∷ n) e = let q = both (eqb a b) (isWord k n) e in let x
 
 pub word-test : (r : Bool) (k n : List ℕ) → (r ≡ true → k ≡ n) × (k ≡ n → r ≡ true) → isWord k n ≡ r
 word-test true k n h = ap (λ w. isWord w n) (h .0 refl) ∙ word-refl n
-word-test false k n h = go (isWord k n) refl
-  where
-    go : (t : Bool) → isWord k n ≡ t → t ≡ false
-    go true q = sym (h .1 (word-same k n q))
-    go false q = refl
+word-test false k n h = either (isWord k n) (λ q. q ∙ sym (h .1 (word-same k n q))) (λ q. q)
 
 -- ── the code's texts: each padded to 32 bytes, and its length ──
 abbrev padded : List ℕ → List ℕ
@@ -107,24 +104,17 @@ pub row-cases : (f : Row → Bool) (e : ℕ) (x : Key) (w : List ℕ) (rs : List
     → (rowFor e x w rs ≡ row 0 0 [] []) ⊎ ((f (rowFor e x w rs) ≡ true) × (isRow e x w (rowFor e x w rs) ≡ true))
 unfolding rowFor isRow allRows
 row-cases f e x w [] h = inl refl
-row-cases f e x w (r ∷ rs) h = go (isRow e x w r) refl (both (f r) _ h) (row-cases f e x w rs)
-  where
-    go : (b : Bool) → isRow e x w r ≡ b → (f r ≡ true) × (allRows f rs ≡ true)
-        → (allRows f rs ≡ true → (rowFor e x w rs ≡ row 0 0 [] []) ⊎ ((f (rowFor e x w rs) ≡ true) × (isRow e x w (rowFor e x w rs) ≡ true)))
-        → (cond b r (rowFor e x w rs) ≡ row 0 0 [] []) ⊎ ((f (cond b r (rowFor e x w rs)) ≡ true) × (isRow e x w (cond b r (rowFor e x w rs)) ≡ true))
-    go true q t ih = inr (t .0, q)
-    go false q t ih = ih (t .1)
+row-cases f e x w (r ∷ rs) h =
+    let t = both (f r) _ h in
+    either (isRow e x w r) (λ q. rw q (inr (t .0, q))) (λ q. rw q (row-cases f e x w rs (t .1)))
 
 -- A test of all editions holds of one that is known.
 pub known-passes : (f : ℕ → Bool) (rs : List Row) → allRows (λ r. f (r .edition)) rs ≡ true → (e : ℕ) → knownIn rs e ≡ true → f e ≡ true
 unfolding knownIn allRows
 known-passes f [] h e k = absurd (false≢true k)
-known-passes f (r ∷ rs) h e k = go (eqb (r .edition) e) refl (both (f (r .edition)) _ h) k (λ t. known-passes f rs t e)
-  where
-    go : (b : Bool) → eqb (r .edition) e ≡ b → (f (r .edition) ≡ true) × (allRows (λ r. f (r .edition)) rs ≡ true) → (b || knownIn rs e) ≡ true
-        → (allRows (λ r. f (r .edition)) rs ≡ true → knownIn rs e ≡ true → f e ≡ true) → f e ≡ true
-    go true p t k ih = ap f (sym (eqb-true (r .edition) e p)) ∙ t .0
-    go false p t k ih = ih (t .1) k
+known-passes f (r ∷ rs) h e k =
+    let t = both (f (r .edition)) _ h in
+    either (eqb (r .edition) e) (λ p. ap f (sym (eqb-true (r .edition) e p)) ∙ t .0) (λ p. known-passes f rs (t .1) e (rw p at k))
 
 -- The kind that a word names is a byte.
 pub kind-below : (e : ℕ) (w : List ℕ) → kindNamed e w < 256

@@ -1,5 +1,5 @@
 -- The values of a call that a line says are within their types, and a line that says none has a reason from 101 on.
-use Prim.Native.Nat.{ℕ, zero, suc, _+_, _-_, _*_, _^_, _≤_, _<_}
+use Prim.Native.Nat.{ℕ, zero, suc, _-_, _^_, _≤_, _<_}
 use mathlib.Core.Bool.{Bool, _&&_, _||_}
 use mathlib.Core.List.{List, [], _∷_}
 use mathlib.Core.Path.{_≡_, refl}
@@ -11,7 +11,7 @@ use borrow.Author.Tests.{leb-true, eqb-true}
 use Rattle.groups.specs.Groups.{setFrom, union, has}
 use Rattle.load.specs.declared.Call.{Call}
 use Rattle.load.specs.Format.{theGroups, fieldWidths, fieldWidth, fieldsOf}
-use Rattle.load.specs.Calls.{made, valueOf, withValue, bare}
+use Rattle.load.specs.Calls.{made, withValue, bare}
 use Rattle.load.specs.RoundTrip.{Typed}
 use Rattle.load.proofs.Format.{allBelow, below-passes}
 use Rattle.load.proofs.Calls.{value-same, value-other, with-none, typed-call}
@@ -20,7 +20,7 @@ use Rattle.load_text.specs.declared.parse.Parsed.the-variants.{Nothing, 
 use Rattle.load_text.specs.declared.words.Field.{Field}
 use Rattle.load_text.specs.declared.words.Field.the-variants.{Value, Wrong}
 use Rattle.load_text.specs.Parsing.{until, since, isDash, isList, isNumber, valueIn, numberIn, groupIn, span, andThen, upTo, rangeIn, itemIn, itemsIn, withItems, groupsIn, noNumbers, noNumber, fieldIn, withField, filledIn, kindNamed, kindSays, callIn, wordsIn, said, lineSays, ReasonsApart}
-use Rattle.load_text.specs.Reasons.{unknown, tooLarge}
+use Rattle.load_text.specs.Reasons.{unknown}
 use Rattle.load_text.proofs.Cases.{either, below}
 use Rattle.load_text.proofs.Tables.{kind-below}
 

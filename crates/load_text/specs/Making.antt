@@ -112,15 +112,15 @@ unfoldable pub madeOut : List ℕ → List ℕ → List ℕ
 madeOut text out = bufferOn (made text) out
 
 -- What the code has in a buffer o of its own: q after a line that says p and a load of edition e and n bytes, with the answer r on the line;
--- and after a text, unless a line is wrong.
+-- and after a text, whose load is laid over the buffer, or which has a line that is wrong.
 abbrev pub Adds : ℕ → ℕ → List ℕ → Parsed → Written → List ℕ → Type 0
 Adds e n o p r q =
     (r ≡ unlessRefused (lineNumber e n p) Refusal (Length (n + length (lineBytes e p))))
     × (q ≡ unlessRefused (lineNumber e n p) (λ k. o) (laid o n (lineBytes e p)))
 
-abbrev pub Gathers : Making → List ℕ → Made → List ℕ → Type 0
-Gathers (whole s) o r q = (r ≡ Load (length s)) × (q ≡ laid o 0 s)
-Gathers (wrong k n) o r q = r ≡ Mistake k n
+abbrev pub Gathers : List ℕ → List ℕ → Made → List ℕ → Type 0
+Gathers text o (Load n) q = (s : List ℕ) × (made text ≡ whole s) × (length s ≡ n) × (q ≡ laid o 0 s)
+Gathers text o (Mistake k n) q = made text ≡ wrong k n
 
 -- ── what it reads as ──
 -- The calls that lines say.

@@ -4,7 +4,7 @@
 ghost use mathlib.Core.Path.{_≡_};
 ghost use lib.ListN.{length};
 ghost use Rattle.load_text.specs.Parsing.{lineSays};
-ghost use Rattle.load_text.specs.Making.{Starts, Adds, Gathers, made, madeOf, madeOut};
+ghost use Rattle.load_text.specs.Making.{Starts, Adds, Gathers, madeOf, madeOut};
 
 mod parse;
 mod print;
@@ -104,7 +104,7 @@ fn add(out: &mut [u8], size: usize, edition: u8, line: &[u8]) -> Written
 
 // The load that a text makes, laid over a buffer as far as that goes.
 fn gather(text: &[u8], out: &mut [u8]) -> Made
-    ensures { λ r. ⌜ Gathers (made (now (text .entry))) (now (out .entry)) r (now (out .exit)) ⌝ }
+    ensures { λ r. ⌜ Gathers (now (text .entry)) (now (out .entry)) r (now (out .exit)) ⌝ }
 {
     let start = heading(text);
     let edition = start.edition;

@@ -5,7 +5,7 @@ ghost use lib.ListN.{length, take, drop};
 ghost use Rattle.load.specs.Format.{fieldsOf};
 ghost use Rattle.load.specs.Calls.{bare};
 ghost use Rattle.load_text.specs.declared.parse.Parsed.the-variants.{Said};
-ghost use Rattle.load_text.specs.Parsing.{callIn, chomped, editionIn, fieldIn, filledIn, headIn, headSays, lineSays, said, withField, wordsIn};
+ghost use Rattle.load_text.specs.Parsing.{chomped, editionIn, fieldIn, filledIn, headSays, lineSays, said, withField, wordsIn};
 use crate::reasons;
 use crate::sets::groups_of;
 use crate::texts::kind_named;
@@ -128,10 +128,12 @@ fn said_end(line: &[u8]) -> usize
     place(&line[..size], Mark::Byte(b'#'), 0)
 }
 
-// A line's part before its end or its comment.
-fn parse(edition: u8, said: &[u8]) -> Parsed
-    ensures { λ r. ⌜ r ≡ callIn edition (wordsIn (now (said .entry))) ⌝ }
+// A line of a show of an edition, without its line feed: its first word names the call.
+pub fn parse_line(edition: u8, line: &[u8]) -> Parsed
+    ensures { λ r. ⌜ r ≡ lineSays edition (now (line .entry)) ⌝ }
 {
+    let end = said_end(line);
+    let said = &line[..end];
     let w = next_word(said, 0);
     if is_empty(w) {
         return Parsed::Nothing;
@@ -143,14 +145,6 @@ fn parse(edition: u8, said: &[u8]) -> Parsed
         return Parsed::Bad(reasons::UNKNOWN);
     }
     fill(edition, kind, said, to)
-}
-
-// A line of a show of an edition, without its line feed.
-pub fn parse_line(edition: u8, line: &[u8]) -> Parsed
-    ensures { λ r. ⌜ r ≡ lineSays edition (now (line .entry)) ⌝ }
-{
-    let end = said_end(line);
-    parse(edition, &line[..end])
 }
 
 // ---- the edition
@@ -180,9 +174,12 @@ fn edition_at(said: &[u8], at: usize) -> Head
     }
 }
 
-fn head_of(said: &[u8]) -> Head
-    ensures { λ r. ⌜ r ≡ headIn (wordsIn (now (said .entry))) ⌝ }
+// The same as the first line of a show.
+pub(crate) fn head_line(line: &[u8]) -> Head
+    ensures { λ r. ⌜ r ≡ headSays (now (line .entry)) ⌝ }
 {
+    let end = said_end(line);
+    let said = &line[..end];
     let w = next_word(said, 0);
     if is_empty(w) {
         return Head::Silent;
@@ -193,12 +190,4 @@ fn head_of(said: &[u8]) -> Head
         return edition_at(said, to);
     }
     Head::Other
-}
-
-// The same as the first line of a show.
-pub(crate) fn head_line(line: &[u8]) -> Head
-    ensures { λ r. ⌜ r ≡ headSays (now (line .entry)) ⌝ }
-{
-    let end = said_end(line);
-    head_of(&line[..end])
 }

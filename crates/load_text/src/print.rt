@@ -36,10 +36,7 @@ fn glyph(d: u64) -> u8
 fn put_digits(out: &mut [u8], at: usize, value: u64, k: usize) -> usize
     ensures { λ r. ⌜ Put (now (out .entry)) at (hexUpTo k value) r (now (out .exit)) ⌝ }
 {
-    if k == 0 {
-        return numerals::put_byte(out, at, glyph(value));
-    }
-    if value < 16 {
+    if (k == 0) | (value < 16) {
         return numerals::put_byte(out, at, glyph(value));
     }
     let m = put_digits(out, at, value / 16, k - 1);

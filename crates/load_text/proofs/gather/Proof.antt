@@ -40,7 +40,7 @@ pub gather-spec : {M : Type 1} → statement M
 gather-spec =
     tie.close
     (tie.spec
-    Inv-loop μ-loop (λ c κs. search needs) (λ c. gather-misread _ _ (c .before .heading .ensures) (c .if1 .taken) _) (λ c κs. search needs)
+    Inv-loop μ-loop (λ c κs. search needs) (λ c. gather-misread _ _ (c .before .heading .ensures) (c .if1 .taken)) (λ c κs. search needs)
     (λ c. let p = c .before .before in let i = p .before .before in turn-start _ _ _ _ (i .before .heading .ensures) (i .if1 .left) (p .put-byte .ensures .0))
     (λ c. omega (arith, c .before .loop .inv .few)) (λ c κs. search needs) (λ c. omega arith) (λ c. omega arith) (λ c. omega arith)
     (λ c κs. search needs) (λ c. search needs) (λ c. search needs) same-length returns-2 (λ c. omega arith) (λ c. omega arith) loop-again

@@ -8,18 +8,12 @@ use Rattle.load_text.proofs.Fields.{field-number, field-none}
 use Rattle.load_text.proofs.parse.field_of.Statement.{statement}
 use Rattle.load_text.proofs.parse.field_of.Tie as tie
 
-returns : tie.Need-returns
-unfolding fieldIn
-returns c = rw (eq-eqb _ 2 (c .before .if1 .taken)) (c .groups-of .ensures)
-
-returns-3 : tie.Need-returns-3
-unfolding fieldWidths noNumbers
-returns-3 c = c .number2 .ensures ∙ field-number _ _ (c .before .before .if1 .left) (c .before .if2 .left)
-
 pub field-of-spec : {M : Type 1} → statement M
+unfolding fieldIn fieldWidths noNumbers
 field-of-spec =
     tie.close
     (tie.spec
-    (λ c κs. search needs) returns (λ c κs. search needs)
+    (λ c κs. search needs) (λ c. rw (eq-eqb _ 2 (c .before .if1 .taken)) (c .groups-of .ensures)) (λ c κs. search needs)
     (λ c. c .number .ensures ∙ field-none _ _ (c .before .before .if1 .left) (c .before .if2 .taken)) (λ c. search needs)
-    (λ c. search needs) (λ c. search needs) (λ c κs. search needs) returns-3)
+    (λ c. search needs) (λ c. search needs) (λ c κs. search needs)
+    (λ c. c .number2 .ensures ∙ field-number _ _ (c .before .before .if1 .left) (c .before .if2 .left)))

@@ -31,25 +31,22 @@ returns : tie.Need-returns Inv-loop μ-loop
 unfolding filledIn
 returns c =
     let z = c .before .before in
-    let n = z .before in
-    let l = n .before in
-    rw (row-end _ _ _ _ (l .field-at .ensures) (z .if1 .taken), n .next-word .ensures .words, sym (c .before .is-empty .ensures) ∙ c .if2 .taken) at (l .before .loop .inv .1)
+    let l = z .before .before in
+    rw (row-end _ _ _ _ (l .field-at .ensures) (z .if1 .taken), z .before .next-word .ensures .words, sym (c .before .is-empty .ensures) ∙ c .if2 .taken) at (l .before .loop .inv .1)
 
 returns-2 : tie.Need-returns-2 Inv-loop μ-loop
 unfolding filledIn
 returns-2 c =
     let z = c .before .before in
-    let n = z .before in
-    let l = n .before in
-    rw (row-end _ _ _ _ (l .field-at .ensures) (z .if1 .taken), n .next-word .ensures .words, sym (c .before .is-empty .ensures) ∙ c .if2 .left) at (l .before .loop .inv .1)
+    let l = z .before .before in
+    rw (row-end _ _ _ _ (l .field-at .ensures) (z .if1 .taken), z .before .next-word .ensures .words, sym (c .before .is-empty .ensures) ∙ c .if2 .left) at (l .before .loop .inv .1)
 
 returns-3 : tie.Need-returns-3 Inv-loop μ-loop
 unfolding filledIn
 returns-3 c =
     let z = c .before .before in
-    let n = z .before in
-    let l = n .before in
-    rw (rest-some _ _ _ (l .field-at .ensures) (z .if1 .left) .1, n .next-word .ensures .words, sym (c .before .is-empty2 .ensures) ∙ c .if3 .taken) at (l .before .loop .inv .1)
+    let l = z .before .before in
+    rw (rest-some _ _ _ (l .field-at .ensures) (z .if1 .left) .1, z .before .next-word .ensures .words, sym (c .before .is-empty2 .ensures) ∙ c .if3 .taken) at (l .before .loop .inv .1)
 
 add-i : tie.Need-add-i Inv-loop μ-loop
 add-i c =
@@ -68,10 +65,9 @@ unfolding filledIn
 loop-again c =
     let t = c .before .before in
     let z = t .before .before in
-    let n = z .before in
-    let l = n .before in
+    let l = z .before .before in
     let s = l .field-at .ensures in
-    let w = n .next-word .ensures .words in
+    let w = z .before .next-word .ensures .words in
     (omega (arith, row-more _ _ _ _ s (z .if1 .left)), rw (c .with-word .ensures) (rw (rest-some _ _ _ s (z .if1 .left) .1, w, sym (t .before .is-empty2 .ensures) ∙ t .if3 .left) at (l .before .loop .inv .1)))
 
 pub fill-spec : {M : Type 1} → statement M

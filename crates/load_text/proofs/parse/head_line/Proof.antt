@@ -1,18 +1,37 @@
--- `parse::head_line` meets its contract: what is read is the line before its end and its comment.
-use mathlib.Core.Path.{ap, _∙_}
+-- `parse::head_line` meets its contract: the first word before the line's end and its comment, if there is one, is `edition` or not.
+use mathlib.Core.Path.{sym, _∙_}
 use native.Mathlib.Omega.{arith}
 use lib.ListN.{length-take}
 use borrow.Author.Needs.{needs}
-use Rattle.load_text.specs.Parsing.{headIn, wordsIn, headSays}
+use Rattle.load_text.specs.Parsing.{headIn, headSays}
+use Rattle.load_text.proofs.Tables.{word-test}
 use Rattle.load_text.proofs.parse.head_line.Statement.{statement}
 use Rattle.load_text.proofs.parse.head_line.Tie as tie
 
-slice-aggregate-head-of : tie.Need-slice-aggregate-head-of
-slice-aggregate-head-of c = simp length-take (omega (arith, c .before .said-end .ensures .0))
-
 returns : tie.Need-returns
-unfolding headSays
-returns c = let e = c .before .before in c .head-of .ensures ∙ ap (λ s. headIn (wordsIn s)) (e .said-end .ensures .1)
+unfolding headSays headIn
+returns c = let n = c .before .before in rw (← (n .before .before .said-end .ensures .1), n .next-word .ensures .words, sym (c .before .is-empty .ensures) ∙ c .if1 .taken)
+
+returns-2 : tie.Need-returns-2
+unfolding headSays headIn
+returns-2 c =
+    let s = c .before .before in
+    let l = s .before .before .before in
+    let n = l .before .before in
+    rw (← (n .before .before .said-end .ensures .1), n .next-word .ensures .words, sym (l .before .is-empty .ensures) ∙ l .if1 .left, word-test _ _ _ (s .same .ensures) ∙ c .before .if2 .taken)
+    (c .edition-at .ensures)
+
+returns-3 : tie.Need-returns-3
+unfolding headSays headIn
+returns-3 c =
+    let s = c .before in
+    let l = s .before .before .before in
+    let n = l .before .before in
+    rw (← (n .before .before .said-end .ensures .1), n .next-word .ensures .words, sym (l .before .is-empty .ensures) ∙ l .if1 .left, word-test _ _ _ (s .same .ensures) ∙ c .if2 .left)
 
 pub head-line-spec : {M : Type 1} → statement M
-head-line-spec = tie.close (tie.spec (λ c κs. search needs) slice-aggregate-head-of (λ c κs. search needs) returns)
+head-line-spec =
+    tie.close
+    (tie.spec
+    (λ c κs. search needs) (λ c. simp length-take (omega arith)) (λ c κs. search needs) (λ c κs. search needs) returns (λ c. search needs)
+    (λ c. search needs) (λ c. search needs) (λ c. search needs) (λ c κs. search needs) (λ c κs. search needs) returns-2 returns-3)

@@ -1,18 +1,36 @@
--- `parse::parse_line` meets its contract: what is read is the line before its end and its comment.
-use mathlib.Core.Path.{ap, _∙_}
+-- `parse::parse_line` meets its contract: the first word before the line's end and its comment names the call.
+use mathlib.Core.Path.{sym, _∙_}
 use native.Mathlib.Omega.{arith}
 use lib.ListN.{length-take}
 use borrow.Author.Needs.{needs}
-use Rattle.load_text.specs.Parsing.{callIn, wordsIn, lineSays}
+use Rattle.load_text.specs.Parsing.{callIn, lineSays}
+use Rattle.load_text.proofs.Fields.{kind-some}
 use Rattle.load_text.proofs.parse.parse_line.Statement.{statement}
 use Rattle.load_text.proofs.parse.parse_line.Tie as tie
 
-slice-aggregate-parse : tie.Need-slice-aggregate-parse
-slice-aggregate-parse c = simp length-take (omega (arith, c .before .said-end .ensures .0))
-
 returns : tie.Need-returns
-unfolding lineSays
-returns c = let e = c .before .before in c .parse .ensures ∙ ap (λ s. callIn (e .before .before .args .edition) (wordsIn s)) (e .said-end .ensures .1)
+unfolding lineSays callIn
+returns c = let n = c .before .before in rw (← (n .before .before .said-end .ensures .1), n .next-word .ensures .words, sym (c .before .is-empty .ensures) ∙ c .if1 .taken)
+
+returns-2 : tie.Need-returns-2
+unfolding lineSays callIn
+returns-2 c =
+    let l = c .before .before .before in
+    let n = l .before .before in
+    rw (← (n .before .before .said-end .ensures .1), n .next-word .ensures .words, sym (l .before .is-empty .ensures) ∙ l .if1 .left, sym (c .before .kind-named .ensures) ∙ c .if2 .taken)
+
+returns-3 : tie.Need-returns-3
+unfolding lineSays callIn
+returns-3 c =
+    let k = c .before .before in
+    let l = k .before .before in
+    let n = l .before .before in
+    rw (← (n .before .before .said-end .ensures .1), n .next-word .ensures .words, sym (l .before .is-empty .ensures) ∙ l .if1 .left, ← (k .kind-named .ensures))
+    (c .fill .ensures ∙ kind-some _ _ _ (c .before .if2 .left))
 
 pub parse-line-spec : {M : Type 1} → statement M
-parse-line-spec = tie.close (tie.spec (λ c κs. search needs) slice-aggregate-parse (λ c κs. search needs) returns)
+parse-line-spec =
+    tie.close
+    (tie.spec
+    (λ c κs. search needs) (λ c. simp length-take (omega arith)) (λ c κs. search needs) (λ c κs. search needs) returns (λ c. search needs)
+    (λ c. search needs) (λ c. search needs) (λ c κs. search needs) returns-2 (λ c κs. search needs) returns-3)

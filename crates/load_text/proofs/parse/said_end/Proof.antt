@@ -6,12 +6,10 @@ use Rattle.load_text.proofs.Reading.{chomped-within, said-is}
 use Rattle.load_text.proofs.parse.said_end.Statement.{statement}
 use Rattle.load_text.proofs.parse.said_end.Tie as tie
 
-slice-aggregate-place : tie.Need-slice-aggregate-place
-slice-aggregate-place c = simp length-take (omega (arith, c .before .line-end .ensures, chomped-within (c .before .before .before .args .line .now)))
-
 pub said-end-spec : {M : Type 1} → statement M
 said-end-spec =
     tie.close
     (tie.spec
-    (λ c κs. search needs) slice-aggregate-place (λ c κs. search needs)
-    (λ c. said-is _ _ _ (c .before .before .line-end .ensures) (c .place .ensures .0)))
+    (λ c κs. search needs)
+    (λ c. simp length-take (omega (arith, c .before .line-end .ensures, chomped-within (c .before .before .before .args .line .now))))
+    (λ c κs. search needs) (λ c. said-is _ _ _ (c .before .before .line-end .ensures) (c .place .ensures .0)))

@@ -4,7 +4,7 @@ use native.Mathlib.Omega.{arith}
 use borrow.Author.Needs.{needs}
 use borrow.Fn.Kinds.{In}
 use borrow.Fn.PlainCycle.{Measures, is, falls, and}
-use Rattle.load_text.proofs.Lines.{hex-one, hex-last, hex-more}
+use Rattle.load_text.proofs.Lines.{hex-last, hex-more, hex-some}
 use Rattle.numerals.proofs.Laying.{put, put-as, put-then}
 use Rattle.numerals.proofs.put_byte.Reads as put-byte-reads
 use Rattle.load_text.proofs.print.+put_digits.{statement}
@@ -29,33 +29,24 @@ abbrev claims : ℕ → put-digits-lts.Claims
 claims t = (glyph-reads.Asked, glyph-reads.Learnt, put-byte-reads.Asked, put-byte-reads.Learnt, put-digits-below t, put-digits.Post)
 
 put-digits-returns : (t : ℕ) → put-digits-lts.Need-returns (claims t) (put-digits-at t) put-digits.Post
-put-digits-returns t c = put-as _ _ (hex-one _ _ _ (c .before .before .before .glyph .ensures) (c .before .before .before .before .before .if1 .taken)) (put (c .before .before .put-byte .ensures))
-
-put-digits-returns-2 : (t : ℕ) → put-digits-lts.Need-returns-2 (claims t) (put-digits-at t) put-digits.Post
-put-digits-returns-2 t c = put-as _ _ (hex-last _ _ _ (c .before .before .before .glyph2 .ensures) (c .before .before .before .before .before .if2 .taken)) (put (c .before .before .put-byte2 .ensures))
+put-digits-returns t c =
+    let g = c .before .before .before in
+    put-as _ _ (hex-last _ _ (g .glyph .ensures) _ (g .before .before .if1 .taken)) (put (c .before .before .put-byte .ensures))
 
 put-digits-sub-put-digits : (t : ℕ) → put-digits-lts.Need-sub-put-digits (claims t) (put-digits-at t) put-digits.Post
-put-digits-sub-put-digits t c = omega (arith, c .before .before .if1 .left)
+put-digits-sub-put-digits t c = hex-some _ _ (c .before .if1 .left)
 
 put-digits-put-digits-requires : (t : ℕ) → put-digits-lts.Need-put-digits-requires (claims t) (put-digits-at t) put-digits.Post
-put-digits-put-digits-requires t c κs = (omega (arith, c .before .before .before .before .pre .0, c .before .before .if1 .left), tt)
+put-digits-put-digits-requires t c κs = let h : 0 < c .before .before .before .args .k = hex-some _ _ (c .before .if1 .left) in (omega (arith, c .before .before .before .pre .0), tt)
 
-put-digits-returns-3 : (t : ℕ) → put-digits-lts.Need-returns-3 (claims t) (put-digits-at t) put-digits.Post
-put-digits-returns-3 t c = put-as _ _ (hex-more _ _ _ (c .before .before .before .glyph3 .ensures) (c .before .before .before .before .before .before .before .before .before .before .if1 .left) (c .before .before .before .before .before .before .before .before .before .if2 .left)) (put-then _ _ _ _ _ _ _ _ (omega arith) (c .before .before .before .before .before .before .before .put-digits .ensures) (put (c .before .before .put-byte3 .ensures)))
+put-digits-returns-2 : (t : ℕ) → put-digits-lts.Need-returns-2 (claims t) (put-digits-at t) put-digits.Post
+put-digits-returns-2 t c =
+    let g = c .before .before .before in
+    let d = g .before .before .before .before in
+    put-as _ _ (hex-more _ _ (g .glyph2 .ensures) _ (d .before .before .if1 .left))
+    (put-then _ _ _ _ _ _ _ _ (omega arith) (d .put-digits .ensures) (put (c .before .before .put-byte2 .ensures)))
 
 pub +put-digits-spec : {M : Type 1} → statement M
 +put-digits-spec = close μ-put-digits λ t. put-digits-lts.spec (claims t) (put-digits-at t) put-digits.Post
-    (λ c κs. search needs)
-    (λ c κs. search needs)
-    (λ c. search needs)
-    (put-digits-returns t)
-    (λ c κs. search needs)
-    (λ c κs. search needs)
-    (λ c. search needs)
-    (put-digits-returns-2 t)
-    (put-digits-sub-put-digits t)
-    (put-digits-put-digits-requires t)
-    (λ c κs. search needs)
-    (λ c κs. search needs)
-    (λ c. search needs)
-    (put-digits-returns-3 t)
+    (λ c κs. search needs) (λ c κs. search needs) (λ c. search needs) (put-digits-returns t) (put-digits-sub-put-digits t)
+    (put-digits-put-digits-requires t) (λ c κs. search needs) (λ c κs. search needs) (λ c. search needs) (put-digits-returns-2 t)

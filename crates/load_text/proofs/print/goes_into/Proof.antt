@@ -7,13 +7,10 @@ use borrow.Author.Needs.{needs}
 use Rattle.load_text.proofs.print.goes_into.Statement.{statement}
 use Rattle.load_text.proofs.print.goes_into.Tie as tie
 
-returns : tie.Need-returns
-returns c = text-goes _ _ (c .if1 .taken)
-
 returns-2 : tie.Need-returns-2
 returns-2 c =
     let p = c .before in
     ap (λ n. leb n (p .before .before .before .before .args .room)) (put-short (text-short _) (p .put-text .ensures) .0)
 
 pub goes-into-spec : {M : Type 1} → statement M
-goes-into-spec = tie.close (tie.spec returns (λ c. search needs) (λ c κs. search needs) returns-2)
+goes-into-spec = tie.close (tie.spec (λ c. text-goes _ _ (c .if1 .taken)) (λ c. search needs) (λ c κs. search needs) returns-2)

@@ -20,12 +20,6 @@ Inv-loop out₀ at edition call kind n₀ i₀ out n i =
 abbrev μ-loop : tie.MeasureT-loop
 μ-loop out₀ at edition call kind n₀ i₀ out n i = length (fieldsOf edition kind) - i
 
-loop-holds : tie.Need-loop-holds Inv-loop μ-loop
-loop-holds c = (omega arith, going-start _ _ _ (omega arith) (omega arith))
-
-same-length : tie.Need-same-length Inv-loop μ-loop
-same-length c = let p = c .before .before in p .put-byte .kept .0 ∙ p .before .before .before .before .loop .inv .1 .size
-
 returns : tie.Need-returns Inv-loop μ-loop
 unfolding fieldsText
 returns c =
@@ -59,5 +53,6 @@ pub put-fields-spec : {M : Type 1} → statement M
 put-fields-spec =
     tie.close
     (tie.spec
-    Inv-loop μ-loop loop-holds (λ c κs. search needs) (λ c κs. search needs) same-length returns (λ c κs. search needs)
-    (λ c κs. search needs) add-i loop-less loop-again)
+    Inv-loop μ-loop (λ c. (omega arith, going-start _ _ _ (omega arith) (omega arith))) (λ c κs. search needs) (λ c κs. search needs)
+    (λ c. let p = c .before .before in p .put-byte .kept .0 ∙ p .before .before .before .before .loop .inv .1 .size) returns
+    (λ c κs. search needs) (λ c κs. search needs) add-i loop-less loop-again)

@@ -21,9 +21,6 @@ abbrev μ-loop : tie.MeasureT-loop
 read : (c : tie.After-item-at Inv-loop μ-loop) → itemAt (c .before .before .before .before .before .args .load .now) (c .before .loop .at) ≡ c .item-at .result
 read c = item-opened _ _ _ refl (c .before .before .before .before .before .pre) ∙ sym (c .item-at .ensures .0)
 
-add-k : tie.Need-add-k Inv-loop μ-loop
-add-k c = let t = c .before .before .before .before .before .before .before .before .loop .inv in omega (arith, t .few, t .inside)
-
 loop-less : tie.Need-loop-less Inv-loop μ-loop
 loop-less c =
     let k = c .before .before .before .before .before in
@@ -35,9 +32,6 @@ loop-again c =
     let k = c .before .before .before .before .before in
     let i = k .before .before in
     turn-more _ _ _ _ _ _ _ _ (i .before .loop .inv) _ _ (open-known _ (i .before .before .before .before .before .pre) .2) _ _ (read i ∙ k .call .given .1) (c .before .before .put-call .ensures)
-
-returns : tie.Need-returns Inv-loop μ-loop
-returns c = let i = c .before .before in turn-end _ _ _ _ _ _ _ _ (i .before .loop .inv) (read i ∙ c .enum-told .given .1)
 
 same-length-2 : tie.Need-same-length-2 Inv-loop μ-loop
 same-length-2 c = c .before .before .put-stop .kept .0 ∙ c .before .before .before .before .before .before .before .before .loop .inv .going .size
@@ -53,6 +47,8 @@ put-records-spec =
     tie.close
     (tie.spec
     Inv-loop μ-loop (λ c. omega (arith, open-known _ (c .before .before .before .pre) .0))
-    (λ c. turn-start _ _ _ _ (omega arith) (omega arith)) (λ c κs. search needs) (λ c. search needs) (λ c κs. search needs) add-k loop-less
-    loop-again (λ c. search needs) (λ c. c .before .before .before .loop .inv .going .size) returns (λ c. search needs)
-    (λ c κs. search needs) same-length-2 returns-2)
+    (λ c. turn-start _ _ _ _ (omega arith) (omega arith)) (λ c κs. search needs) (λ c. search needs) (λ c κs. search needs)
+    (λ c. let t = c .before .before .before .before .before .before .before .before .loop .inv in omega (arith, t .few, t .inside))
+    loop-less loop-again (λ c. search needs) (λ c. c .before .before .before .loop .inv .going .size)
+    (λ c. let i = c .before .before in turn-end _ _ _ _ _ _ _ _ (i .before .loop .inv) (read i ∙ c .enum-told .given .1))
+    (λ c. search needs) (λ c κs. search needs) same-length-2 returns-2)

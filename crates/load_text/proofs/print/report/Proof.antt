@@ -6,9 +6,6 @@ use borrow.Author.Needs.{needs}
 use Rattle.load_text.proofs.print.report.Statement.{statement}
 use Rattle.load_text.proofs.print.report.Tie as tie
 
-returns : tie.Need-returns
-returns c = print-none _ _ (omega (arith, c .if1 .taken, put-short (report-short _ _) (c .before .before .put-report .ensures) .0))
-
 returns-2 : tie.Need-returns-2
 returns-2 c =
     let p = c .before .before in
@@ -17,4 +14,9 @@ returns-2 c =
     print-all _ _ _ _ (report-short _ _) (omega (arith, n, i .if1 .left)) (p .put-report2 .ensures)
 
 pub report-spec : {M : Type 1} → statement M
-report-spec = tie.close (tie.spec (λ c. search needs) (λ c κs. search needs) returns (λ c κs. search needs) (λ c. search needs) returns-2)
+report-spec =
+    tie.close
+    (tie.spec
+    (λ c. search needs) (λ c κs. search needs)
+    (λ c. print-none _ _ (omega (arith, c .if1 .taken, put-short (report-short _ _) (c .before .before .put-report .ensures) .0)))
+    (λ c κs. search needs) (λ c. search needs) returns-2)

@@ -13,8 +13,9 @@ returns c =
     let i = p .before .before in
     print-all _ _ _ _ (text-short _) (leb-true _ _ (sym (i .before .goes-into .ensures) ∙ i .if1 .taken)) (p .put-text .ensures)
 
-returns-2 : tie.Need-returns-2
-returns-2 c = print-none _ _ (leb-false _ _ (sym (c .before .goes-into .ensures) ∙ c .if1 .left))
-
 pub show-spec : {M : Type 1} → statement M
-show-spec = tie.close (tie.spec (λ c κs. search needs) (λ c κs. search needs) (λ c. search needs) returns returns-2)
+show-spec =
+    tie.close
+    (tie.spec
+    (λ c κs. search needs) (λ c κs. search needs) (λ c. search needs) returns
+    (λ c. print-none _ _ (leb-false _ _ (sym (c .before .goes-into .ensures) ∙ c .if1 .left))))

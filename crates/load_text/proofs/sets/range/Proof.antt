@@ -7,9 +7,6 @@ use Rattle.load_text.proofs.Numbers.{number-most}
 use Rattle.load_text.proofs.sets.range.Statement.{statement}
 use Rattle.load_text.proofs.sets.range.Tie as tie
 
-returns : tie.Need-returns
-returns c = let h = c .before .before in rw (sym (h .before .before .group .ensures) ∙ h .high .given .1, lt-ltb _ _ (c .if1 .taken))
-
 span-requires : tie.Need-span-requires
 span-requires c κs = let h = c .before .before in (c .if1 .left, number-most _ _ _ _ _ _ (sym (h .before .before .group .ensures) ∙ h .high .given .1))
 
@@ -22,5 +19,6 @@ pub range-spec : {M : Type 1} → statement M
 range-spec =
     tie.close
     (tie.spec
-    (λ c κs. search needs) (λ c. search needs) returns span-requires (λ c. search needs) returns-2
-    (λ c. rw (sym (c .before .before .before .group .ensures) ∙ c .before .n .given .1)))
+    (λ c κs. search needs) (λ c. search needs)
+    (λ c. let h = c .before .before in rw (sym (h .before .before .group .ensures) ∙ h .high .given .1, lt-ltb _ _ (c .if1 .taken)))
+    span-requires (λ c. search needs) returns-2 (λ c. rw (sym (c .before .before .before .group .ensures) ∙ c .before .n .given .1)))

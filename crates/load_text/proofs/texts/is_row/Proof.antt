@@ -8,18 +8,6 @@ use Rattle.load_text.proofs.Tables.{text-is, row-other, row-kinded, row
 use Rattle.load_text.proofs.texts.is_row.Statement.{statement}
 use Rattle.load_text.proofs.texts.is_row.Tie as tie
 
-returns : tie.Need-returns
-unfolding format
-returns c = row-other _ _ _ _ (c .before .before .pre) (c .if1 .taken)
-
-array-share-prefix-row : tie.Need-array-share-prefix-row
-unfolding texts reasonTexts format reasons
-array-share-prefix-row c = text-is texts (c .before .before .before .before .before .args .i) .0
-
-slice-aggregate-same : tie.Need-slice-aggregate-same
-unfolding texts reasonTexts format reasons
-slice-aggregate-same c = simp length-take (omega (arith, text-is texts (c .before .before .before .before .before .before .args .i) .0))
-
 returns-2 : tie.Need-returns-2
 unfolding format
 returns-2 c = let l = c .before .before .before in row-kinded _ _ _ _ (l .before .before .pre) (l .if1 .left) _ (c .before .key .given .1)
@@ -33,8 +21,12 @@ returns-3 c =
     row-named _ _ _ _ (s .pre) (l .if1 .left) (k .enum-told .given .1) _ _ (text-is texts (s .args .i) .1) (c .same .ensures)
 
 pub is-row-spec : {M : Type 1} → statement M
+unfolding format reasonTexts reasons texts
 is-row-spec =
     tie.close
     (tie.spec
-    (λ c. search needs) returns (λ c. search needs) (λ c. search needs) (λ c. search needs) (λ c. search needs) (λ c. search needs)
-    (λ c. search needs) (λ c. search needs) array-share-prefix-row slice-aggregate-same (λ c κs. search needs) returns-2 returns-3)
+    (λ c. search needs) (λ c. row-other _ _ _ _ (c .before .before .pre) (c .if1 .taken)) (λ c. search needs) (λ c. search needs)
+    (λ c. search needs) (λ c. search needs) (λ c. search needs) (λ c. search needs) (λ c. search needs)
+    (λ c. text-is texts (c .before .before .before .before .before .args .i) .0)
+    (λ c. simp length-take (omega (arith, text-is texts (c .before .before .before .before .before .before .args .i) .0)))
+    (λ c κs. search needs) returns-2 returns-3)

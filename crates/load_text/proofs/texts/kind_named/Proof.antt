@@ -7,9 +7,10 @@ use Rattle.load_text.proofs.Tables.{first-is}
 use Rattle.load_text.proofs.texts.kind_named.Statement.{statement}
 use Rattle.load_text.proofs.texts.kind_named.Tie as tie
 
-returns : tie.Need-returns
-unfolding kindNamed format
-returns c = let e = c .row-of .ensures in first-is (c .row-of .result) (e .0) .0 ∙ ap (λ (r : Row). r .kind) (e .1)
-
 pub kind-named-spec : {M : Type 1} → statement M
-kind-named-spec = tie.close (tie.spec (λ c κs. search needs) (λ c. search needs) returns)
+unfolding format kindNamed
+kind-named-spec =
+    tie.close
+    (tie.spec
+    (λ c κs. search needs) (λ c. search needs)
+    (λ c. let e = c .row-of .ensures in first-is (c .row-of .result) (e .0) .0 ∙ ap (λ (r : Row). r .kind) (e .1)))

@@ -9,21 +9,16 @@ use Rattle.load_text.proofs.Tables.{text-is}
 use Rattle.load_text.proofs.texts.put_row.Statement.{statement}
 use Rattle.load_text.proofs.texts.put_row.Tie as tie
 
-array-share-prefix-row : tie.Need-array-share-prefix-row
-unfolding texts reasonTexts format reasons
-array-share-prefix-row c = text-is texts (c .before .before .before .args .i) .0
-
-slice-aggregate-put-bytes : tie.Need-slice-aggregate-put-bytes
-unfolding texts reasonTexts format reasons
-slice-aggregate-put-bytes c = simp length-take (omega (arith, text-is texts (c .before .before .before .before .args .i) .0))
-
 returns : tie.Need-returns
 unfolding texts reasonTexts format reasons
 returns c = let p = c .before .before in put-as _ _ (text-is texts (p .before .before .before .before .before .args .i) .1) (put (p .put-bytes .ensures))
 
 pub put-row-spec : {M : Type 1} → statement M
+unfolding format reasonTexts reasons texts
 put-row-spec =
     tie.close
     (tie.spec
-    (λ c. search needs) (λ c. search needs) (λ c. search needs) (λ c. search needs) array-share-prefix-row slice-aggregate-put-bytes
-    (λ c κs. search needs) (λ c. search needs) returns)
+    (λ c. search needs) (λ c. search needs) (λ c. search needs) (λ c. search needs)
+    (λ c. text-is texts (c .before .before .before .args .i) .0)
+    (λ c. simp length-take (omega (arith, text-is texts (c .before .before .before .before .args .i) .0))) (λ c κs. search needs)
+    (λ c. search needs) returns)

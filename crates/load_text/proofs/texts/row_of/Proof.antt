@@ -15,16 +15,13 @@ Inv-loop edition key word i₀ i = rowFor edition key word (drop i format) ≡ r
 abbrev μ-loop : tie.MeasureT-loop
 μ-loop edition key word i₀ i = 5 - i
 
-returns : tie.Need-returns Inv-loop μ-loop
-returns c = let l = c .before .before .before in (omega arith, sym (row-here _ _ _ (l .loop .i) (omega arith) (cc)) ∙ l .loop .inv)
-
-loop-again : tie.Need-loop-again Inv-loop μ-loop
-loop-again c = let l = c .before .before .before in sym (row-on _ _ _ (l .loop .i) (omega arith) (cc)) ∙ l .loop .inv
-
-returns-2 : tie.Need-returns-2 Inv-loop μ-loop
-unfolding format
-returns-2 c = (omega arith, sym (row-none _ _ _ _ (c .loop-test .left)) ∙ c .before .loop .inv)
-
 pub row-of-spec : {M : Type 1} → statement M
+unfolding format
 row-of-spec =
-    tie.close (tie.spec Inv-loop μ-loop (λ c. refl) (λ c κs. omega arith) returns (λ c. omega arith) (λ c. omega arith) loop-again returns-2)
+    tie.close
+    (tie.spec
+    Inv-loop μ-loop (λ c. refl) (λ c κs. omega arith)
+    (λ c. let l = c .before .before .before in (omega arith, sym (row-here _ _ _ (l .loop .i) (omega arith) (cc)) ∙ l .loop .inv))
+    (λ c. omega arith) (λ c. omega arith)
+    (λ c. let l = c .before .before .before in sym (row-on _ _ _ (l .loop .i) (omega arith) (cc)) ∙ l .loop .inv)
+    (λ c. (omega arith, sym (row-none _ _ _ _ (c .loop-test .left)) ∙ c .before .loop .inv)))

@@ -4,8 +4,8 @@ use Rattle.load_text.proofs.Reading.{first-word}
 use Rattle.load_text.proofs.words.next_word.Statement.{statement}
 use Rattle.load_text.proofs.words.next_word.Tie as tie
 
-returns : tie.Need-returns
-returns c = first-word _ _ _ _ (c .before .place .ensures .0) (c .place2 .ensures .0)
-
 pub next-word-spec : {M : Type 1} → statement M
-next-word-spec = tie.close (tie.spec (λ c κs. search needs) (λ c κs. search needs) returns)
+next-word-spec =
+    tie.close
+    (tie.spec
+    (λ c κs. search needs) (λ c κs. search needs) (λ c. first-word _ _ _ _ (c .before .place .ensures .0) (c .place2 .ensures .0)))

@@ -14,35 +14,23 @@ Inv-loop word base most large v₀ i₀ v i = Summing base most word v i
 abbrev μ-loop : tie.MeasureT-loop
 μ-loop word base most large v₀ i₀ v i = length word - i
 
-loop-holds : tie.Need-loop-holds Inv-loop μ-loop
-loop-holds c = record { room = omega arith; digits = c .before .pre; is = refl }
-
 returns : tie.Need-returns Inv-loop μ-loop
 returns c = sum-over _ _ _ _ _ (c .before .before .before .before .loop .inv) (omega arith) _ (c .before .digit .ensures .0) _ (omega arith)
-
-div-if2 : tie.Need-div-if2 Inv-loop μ-loop
-div-if2 c = sum-base _ _ _ _ _ (c .before .before .before .before .loop .inv) (omega arith) _ (c .before .digit .ensures .0)
 
 returns-2 : tie.Need-returns-2 Inv-loop μ-loop
 returns-2 c =
     let p = sum-base _ _ _ _ _ (c .before .before .before .before .before .loop .inv) (omega arith) _ (c .before .before .digit .ensures .0) in
     sum-over _ _ _ _ _ (c .before .before .before .before .before .loop .inv) (omega arith) _ (c .before .before .digit .ensures .0) _ (digit-over _ _ _ _ p (c .before .if1 .left) (c .if2 .taken))
 
-mul-v : tie.Need-mul-v Inv-loop μ-loop
-mul-v c = omega (arith, digit-more _ _ _ _ (c .before .if1 .left) (c .if2 .left))
-
-add-v : tie.Need-add-v Inv-loop μ-loop
-add-v c = omega (arith, digit-more _ _ _ _ (c .before .if1 .left) (c .if2 .left))
-
 loop-again : tie.Need-loop-again Inv-loop μ-loop
 loop-again c = sum-on _ _ _ _ _ (c .before .before .before .before .before .loop .inv) (omega arith) _ (c .before .before .digit .ensures .0) (digit-more _ _ _ _ (c .before .if1 .left) (c .if2 .left))
-
-returns-3 : tie.Need-returns-3 Inv-loop μ-loop
-returns-3 c = sum-end _ _ _ _ _ (c .before .loop .inv) _ (omega arith)
 
 pub value-spec : {M : Type 1} → statement M
 value-spec =
     tie.close
     (tie.spec
-    Inv-loop μ-loop loop-holds (λ c. search needs) (λ c κs. search needs) returns div-if2 returns-2 mul-v add-v (λ c. search needs)
-    (λ c. search needs) loop-again returns-3)
+    Inv-loop μ-loop (λ c. record { room = omega arith; digits = c .before .pre; is = refl }) (λ c. search needs) (λ c κs. search needs)
+    returns (λ c. sum-base _ _ _ _ _ (c .before .before .before .before .loop .inv) (omega arith) _ (c .before .digit .ensures .0))
+    returns-2 (λ c. omega (arith, digit-more _ _ _ _ (c .before .if1 .left) (c .if2 .left)))
+    (λ c. omega (arith, digit-more _ _ _ _ (c .before .if1 .left) (c .if2 .left))) (λ c. search needs) (λ c. search needs) loop-again
+    (λ c. sum-end _ _ _ _ _ (c .before .loop .inv) _ (omega arith)))
