@@ -1,13 +1,12 @@
 -- Laws of the words of a call, as the code reads them.
 use Prim.Native.Nat.{ℕ, zero, suc, _-_, _%_, _^_, _≤_, _<_}
 use mathlib.Core.Path.{_≡_, refl, ap, _∙_}
-use mathlib.Core.Bool.{false}
 use mathlib.Core.List.{List, map}
 use native.Mathlib.Nat.{mod-eq-of-lt}
 use native.Mathlib.Omega.{arith}
-use lib.Dec.{leb, eqb}
-use lib.ListN.{length, getD, List·getD-eq-default, List·getD-map}
-use borrow.Author.Tests.{leb-false, eqb-true, ne-eqb}
+use lib.Dec.{eqb}
+use lib.ListN.{getD, List·getD-eq-default, List·getD-map}
+use borrow.Author.Tests.{eqb-true, ne-eqb}
 use Rattle.load.specs.declared.Call.{Call}
 use Rattle.load.specs.Format.{theGroups, fieldWidths, fieldWidth, fieldsOf}
 use Rattle.load.specs.Calls.{withValue, bare}
@@ -15,12 +14,9 @@ use Rattle.load.proofs.Format.{allBelow, below-passes, no-width}
 use Rattle.load_text.specs.declared.parse.Parsed.{Parsed}
 use Rattle.load_text.specs.declared.parse.Parsed.the-variants.{Said}
 use Rattle.load_text.specs.declared.words.Field.the-variants.{Value}
-use Rattle.load_text.specs.Parsing.{FirstWord, numberIn, noNumbers, noNumber, fieldIn, withField, filledIn, kindSays}
+use Rattle.load_text.specs.Parsing.{numberIn, noNumbers, noNumber, fieldIn, withField, filledIn, kindSays}
 use Rattle.load_text.specs.Reasons.{unknown, tooLarge}
 use Rattle.load_text.proofs.Within.{field-fits}
-
-pub word-in : {l : List ℕ} {at f t : ℕ} → FirstWord l at f t → leb t f ≡ false → t ≤ length l
-word-in {l} {at} {f} {t} a e = omega (arith, leb-false t f e, a .low, a .high)
 
 -- ── a field: MOST and NONE ──
 module _ (f : ℕ) (w : List ℕ) (n : f ≡ theGroups → ⊥) where

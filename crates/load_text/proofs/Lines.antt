@@ -12,7 +12,7 @@ use Rattle.numerals.specs.Digits.{digits, widthUpTo, widthOf, decimalOf, column
 use Rattle.numerals.specs.Laid.{Put, spaceNumber, lentOut}
 use Rattle.numerals.proofs.Laying.{width-small, decimal-length, pair-length, put-short, lent-all, lent-none, lent-known}
 use Rattle.load.specs.declared.Call.{Call}
-use Rattle.load.specs.Format.{theGroups, Row, format, known, rowIn, nameOf, fieldsOf}
+use Rattle.load.specs.Format.{theGroups, format, known, rowIn, nameOf, fieldsOf}
 use Rattle.load.specs.Calls.{valueOf}
 use Rattle.load.proofs.Format.{allBelow, below-passes}
 use Rattle.load_text.specs.declared.print.Printed.the-variants.{Length, Refusal}
@@ -64,43 +64,35 @@ fields-length [] c = omega arith
 fields-length (f ∷ fs) c = omega (arith, length-append (wordOf f (valueOf f c)) (fieldsText fs c), word-length f (valueOf f c), fields-length fs c)
 
 -- The longest line has 65 bytes.
-long-test : Row → Bool
-long-test r = leb (length (r .name) + bound (r .fields)) 65
-
 pub line-length : (e : ℕ) (c : Call) → length (lineOf e c) ≤ 65
-unfolding lineOf nameOf fieldsOf long-test allRows format bound
+unfolding lineOf nameOf fieldsOf allRows format bound
 line-length e c =
     let k = c .kind in
     let r = rowIn format e k in
     let l = length-append (r .name) (fieldsText (r .fields) c) in
     let b : length (r .name) + bound (r .fields) ≤ 65 =
-    ⊎-elim (λ n. rw n (omega arith)) (λ t. leb-true (length (r .name) + bound (r .fields)) 65 (t .0)) (rw row-kind at (row-cases long-test e (Kind k) [] format refl)) in
+    ⊎-elim (λ n. rw n (omega arith)) (λ t. leb-true (length (r .name) + bound (r .fields)) 65 (t .0)) (rw row-kind at (row-cases (λ r. leb (length (r .name) + bound (r .fields)) 65) e (Kind k) [] format refl)) in
     omega (arith, fields-length (r .fields) c)
 
 pub line-short : (e : ℕ) (c : Call) → length (lineOf e c) < 2 ^ 64
 line-short e c = omega (arith, line-length e c)
 
 -- The header of an edition that there is has at most 12.
-header-test : ℕ → Bool
-header-test e = leb (length (headerOf e)) 12
-
 pub header-length : (e : ℕ) → known e ≡ true → length (headerOf e) ≤ 12
-unfolding header-test allRows known format headerOf column decimalOf widthOf widthUpTo digits
-header-length e k = leb-true (length (headerOf e)) 12 (known-passes header-test format refl e k)
+unfolding allRows known format headerOf column decimalOf widthOf widthUpTo digits
+header-length e k = leb-true (length (headerOf e)) 12 (known-passes (λ i. leb (length (headerOf i)) 12) format refl e k)
 
 pub stop-length : (n k : ℕ) → length (stopLine n k) ≤ 49
 unfolding stopLine
 stop-length n k = omega (arith, pair-length n k 10)
 
 -- ── reports ──
-short-test : ℕ → Bool
-short-test i = leb (length (getD reasonTexts i [])) 29
-
 reason-length : (n : ℕ) → length (reasonText n) ≤ 29
-unfolding reasonText reasonTexts reasons short-test allBelow
+unfolding reasonText reasonTexts reasons allBelow
 reason-length n =
     let i = placeOf (is n) (map (λ r. r .number) reasons) 0 in
-    leb-true (length (getD reasonTexts i [])) 29 (below-passes 14 short-test refl i (omega (arith, place-high (is n) (map (λ r. r .number) reasons) 0)))
+    let h = place-high (is n) (map (λ r. r .number) reasons) 0 in
+    leb-true (length (getD reasonTexts i [])) 29 (below-passes 14 (λ i. leb (length (getD reasonTexts i [])) 29) refl i (omega arith))
 
 report-length : (line n : ℕ) → length (reportOf line n) ≤ 56
 unfolding reportOf

@@ -1,6 +1,6 @@
 -- Laws of digits and of the numbers that they say, as the code reads them.
 use Prim.Native.Nat.{ℕ, suc, _+_, _-_, _*_, _/_, _≤_, _<_}
-use mathlib.Core.Path.{_≡_, sym, ap, _∙_}
+use mathlib.Core.Path.{_≡_, sym, _∙_}
 use mathlib.Core.Bool.{true, _&&_, cond, and-eq-true-iff}
 use mathlib.Core.List.{List, [], _∷_}
 use native.Mathlib.Nat.{mul-le-mul-right, mul-le-mul-left, div-mul-le-self, suc-mul, mod-lt, div-add-mod'}
@@ -10,6 +10,7 @@ use lib.Dec.{ltb, leb}
 use lib.ListN.{length, getD, drop, drop-of-length-le}
 use lib.Seq.{drop-cons}
 use borrow.Author.Tests.{le-leb, lt-leb, leb-true, leb-false}
+use Rattle.load_text.specs.declared.words.Field.{Field}
 use Rattle.load_text.specs.declared.words.Field.the-variants.{Value, Wrong}
 use Rattle.load_text.specs.Parsing.{digitOf, noDigit, digitsIn, isNumber, valueIn, upToMost, numberIn}
 use Rattle.load_text.proofs.Cases.{either, below}
@@ -44,21 +45,6 @@ module _ (b : ℕ) where
 pub number-digits : (base : ℕ) (w : List ℕ) → isNumber base w ≡ true → digitsIn base w ≡ true
 number-digits base w e = and-eq-true-iff (ltb 0 (length w)) (digitsIn base w) .0 e .1
 
-module _ (base : ℕ) (w : List ℕ) (i : ℕ) (h : i < length w) where
-  -- The first of digits is one, and the others are.
-  digit-held : digitsIn base (drop i w) ≡ true → (digitOf (getD w i 0) < base) × (digitsIn base (drop (i + 1) w) ≡ true)
-  digit-held e =
-      let q = none-cons (noDigit base) (getD w i 0) (drop (suc i) w) (rw (drop-cons w i 0 h) at e) in
-      (leb-false base (digitOf (getD w i 0)) (q .0), rw add-one (q .1))
-
-  value-on : (v : ℕ) → valueIn base v (drop i w) ≡ valueIn base (v * base + digitOf (getD w i 0)) (drop (i + 1) w)
-  unfolding valueIn
-  value-on v = rw (drop-cons w i 0 h, add-one)
-
-value-end : (base v : ℕ) (w : List ℕ) (i : ℕ) → length w ≤ i → valueIn base v (drop i w) ≡ v
-unfolding valueIn
-value-end base v w i h = rw (drop-of-length-le w h)
-
 value-grows : (base v : ℕ) (l : List ℕ) → 0 < base → v ≤ valueIn base v l
 unfolding valueIn
 value-grows base v [] h = omega arith
@@ -82,29 +68,40 @@ pub record Summing (base most : ℕ) (w : List ℕ) (v i : ℕ) : Type 0 where
 
 module _ (base most : ℕ) (w : List ℕ) (v i : ℕ) (s : Summing base most w v i) where
   pub sum-end : (large : ℕ) → length w ≤ i → Value v ≡ upToMost most large (valueIn base 0 w)
-  sum-end large h = rw (sym (s .is) ∙ value-end base v w i h, le-leb v most (s .room))
+  unfolding valueIn
+  sum-end large h = rw (← (s .is), drop-of-length-le w h, le-leb v most (s .room))
 
   module _ (h : i < length w) (d : ℕ) (e : d ≡ digitOf (getD w i 0)) where
+    -- The first of the digits left is one, and the others are.
+    held : (d < base) × (digitsIn base (drop (i + 1) w) ≡ true)
+    held =
+        let q = none-cons (noDigit base) (getD w i 0) (drop (suc i) w) (rw (drop-cons w i 0 h) at (s .digits)) in
+        (omega (arith, leb-false base (digitOf (getD w i 0)) (q .0)), rw add-one (q .1))
+
     pub sum-base : 0 < base
-    sum-base = omega (arith, digit-held base w i h (s .digits) .0)
+    sum-base = omega (arith, held .0)
 
     sum-next : valueIn base (v * base + d) (drop (i + 1) w) ≡ valueIn base 0 w
-    sum-next = ap (λ k. valueIn base (v * base + k) (drop (i + 1) w)) e ∙ sym (value-on base w i h v) ∙ s .is
+    unfolding valueIn
+    sum-next = rw (add-one, e) (rw (drop-cons w i 0 h) at (s .is))
 
     pub sum-over : (large : ℕ) → most < v * base + d → Wrong large ≡ upToMost most large (valueIn base 0 w)
     sum-over large k = rw (lt-leb (valueIn base 0 w) most (omega (arith, k, sum-next, value-grows base (v * base + d) (drop (i + 1) w) sum-base)))
 
     pub sum-on : v * base + d ≤ most → Summing base most w (v * base + d) (i + 1)
-    sum-on k = record { room = k; digits = digit-held base w i h (s .digits) .1; is = sum-next }
+    sum-on k = record { room = k; digits = held .1; is = sum-next }
 
--- The value of a number that a word says is at most the most allowed.
+-- The value of a number that a word says is at most the most allowed, and a reason one of two.
+abbrev pub Under : ℕ → ℕ → Field → Type 0
+Under least most (Value v) = v ≤ most
+Under least most (Wrong n) = least ≤ n
+
+module _ (least base most none large : ℕ) (w : List ℕ) where
+  pub number-under : least ≤ none → least ≤ large → Under least most (numberIn base most none large w)
+  unfolding numberIn
+  number-under n l =
+      let v = valueIn base 0 w in
+      either (isNumber base w) (λ e. rw e (either (leb v most) (λ q. rw q (leb-true v most q)) (λ q. rw q l))) (λ e. rw e n)
+
 pub number-most : (base most none large v : ℕ) (w : List ℕ) → numberIn base most none large w ≡ Value v → v ≤ most
-unfolding numberIn
-number-most base most none large v w e =
-    let u = valueIn base 0 w in
-    either (isNumber base w)
-    (λ t. let f = rw t at e in either (leb u most) (λ k. let g = rw k at f in let z : u ≡ v = cc in omega (arith, leb-true u most k)) (λ k. clash (rw k at f)))
-    (λ t. clash (rw t at e))
-  where
-    clash : {n : ℕ} → Wrong n ≡ Value v → v ≤ most
-    clash q = let z : _≡_ {A = ℕ} 0 1 = cc in absurd (omega arith)
+number-most base most none large v w e = rw e at (number-under 0 base most none large w (omega arith) (omega arith))

@@ -104,7 +104,3 @@ module _ (p : ℕ → Bool) where
         parts-of (drop at s) (omega (arith, length-drop at s))
         ∙ ap (λ k. until p (drop at s) ∷ parts p k) (drop-drop (suc (before p (drop at s))) at s ∙ ap (λ n. drop n s) far)
         ∙ rw (past at)
-
-    pub parts-end : (at : ℕ) → length s ≤ at → parts p (drop at s) ≡ []
-    unfolding parts
-    parts-end at h = rw (drop-of-length-le s h)

@@ -122,27 +122,23 @@ module _ (w : List ℕ) (ws : List (List ℕ)) (h : Plain w) (hs : Plains ws) wh
 
 -- ── words of digits ──
 -- A byte that is no digit is not among digits.
-no-is : (a b : ℕ) → digitOf a ≡ 16 → noDigit 16 b ≡ false → is a b ≡ false
-no-is a b e h = either (is a b) (λ q. absurd (omega (arith, ap digitOf (eqb-true b a q), e, leb-false 16 (digitOf b) h))) (λ q. q)
+module _ (base : ℕ) (p : base ≤ 16) (w : List ℕ) (k : digitsIn base w ≡ true) where
+  no-is : (a b : ℕ) → digitOf a ≡ 16 → noDigit base b ≡ false → is a b ≡ false
+  no-is a b e h = either (is a b) (λ q. absurd (omega (arith, ap digitOf (eqb-true b a q), e, leb-false base (digitOf b) h))) (λ q. q)
 
-digits-plain : (w : List ℕ) → 0 < length w → digitsIn 16 w ≡ true → Plain w
-unfolding digitOf
-digits-plain w h k =
-    (h, none-less isMark (noDigit 16) (λ b q. rw (no-is 32 b refl q, no-is 9 b refl q, no-is 10 b refl q, no-is 35 b refl q, no-is 13 b refl q)) w k)
+  digits-plain : 0 < length w → Plain w
+  unfolding digitOf
+  digits-plain h =
+      (h, none-less isMark (noDigit base) (λ b q. rw (no-is 32 b refl q, no-is 9 b refl q, no-is 10 b refl q, no-is 35 b refl q, no-is 13 b refl q)) w k)
 
-digits-no-list : (w : List ℕ) → digitsIn 16 w ≡ true → none isJoint w ≡ true
-unfolding digitOf
-digits-no-list w k = none-less isJoint (noDigit 16) (λ b q. rw (no-is 44 b refl q, no-is 45 b refl q)) w k
+  digits-no-list : none isJoint w ≡ true
+  unfolding digitOf
+  digits-no-list = none-less isJoint (noDigit base) (λ b q. rw (no-is 44 b refl q, no-is 45 b refl q)) w k
 
-module _ (base : ℕ) where
-  digits-snoc : (w : List ℕ) (b : ℕ) → digitsIn base w ≡ true → digitOf b < base → digitsIn base (w ++ (b ∷ [])) ≡ true
-  unfolding none
-  digits-snoc w b h q = none-append (noDigit base) w (b ∷ []) h (rw (lt-leb base (digitOf b) q))
-
-  value-snoc : (v : ℕ) (w : List ℕ) (b : ℕ) → valueIn base v (w ++ (b ∷ [])) ≡ valueIn base v w * base + digitOf b
-  unfolding valueIn
-  value-snoc v [] b = refl
-  value-snoc v (a ∷ w) b = value-snoc (v * base + digitOf a) w b
+value-snoc : (base v : ℕ) (w : List ℕ) (b : ℕ) → valueIn base v (w ++ (b ∷ [])) ≡ valueIn base v w * base + digitOf b
+unfolding valueIn
+value-snoc base v [] b = refl
+value-snoc base v (a ∷ w) b = value-snoc base (v * base + digitOf a) w b
 
 -- A word of digits that says v in a base.
 record Says (base v : ℕ) (w : List ℕ) : Type 0 where
@@ -155,9 +151,10 @@ unfolding none valueIn
 says-one base v b h e = record { some = omega arith; digit = rw (lt-leb base (digitOf b) h); value = omega (arith, e) }
 
 says-more : (base u v b : ℕ) (w : List ℕ) → Says base u w → digitOf b < base → u * base + digitOf b ≡ v → Says base v (w ++ (b ∷ []))
+unfolding none
 says-more base u v b w s h e = record {
   some = omega (arith, length-append w (b ∷ []), s .some);
-  digit = digits-snoc base w b (s .digit) h;
+  digit = none-append (noDigit base) w (b ∷ []) (s .digit) (rw (lt-leb base (digitOf b) h));
   value = value-snoc base 0 w b ∙ ap (λ n. n * base + digitOf b) (s .value) ∙ e;
 }
 
@@ -169,25 +166,13 @@ number-said base most lack large v w s h = rw (lt-ltb 0 (length w) (s .some), s 
 ten : (v : ℕ) → digitOf (v % 10 + 48) ≡ v % 10
 ten v = omega (arith, digit-ten (v % 10 + 48) (omega arith) (omega arith))
 
-decimal-digits : (n v : ℕ) → v < 10 ^ suc n → Says 10 v (digits 10 48 (suc n) v)
-unfolding digits
-decimal-digits zero v h = says-one 10 v (v % 10 + 48) (omega (arith, ten v)) (omega (arith, ten v))
-decimal-digits (suc n) v h =
-    says-more 10 (v / 10) v (v % 10 + 48) (digits 10 48 (suc n) (v / 10))
-    (decimal-digits n (v / 10) (omega (arith, pow-suc 10 (suc n))))
-    (omega (arith, ten v))
-    (omega (arith, ten v))
-
-width-holds : (k v : ℕ) → v < 10 ^ suc k → (n : ℕ) × (widthUpTo k v ≡ suc n) × (v < 10 ^ suc n)
-unfolding widthUpTo
-width-holds zero v h = (0, refl, h)
-width-holds (suc k) v h =
-    let r = width-holds k (v / 10) (omega (arith, pow-suc 10 (suc k))) in
-    below v 10 (λ q. (0, rw (lt-ltb v 10 q), q)) (λ q. (suc (r .0), rw (le-ltb v 10 q, r .1), omega (arith, r .2, pow-suc 10 (suc (r .0)))))
-
-decimal-says : (v : ℕ) → v < 2 ^ 64 → Says 10 v (decimalOf v)
-unfolding decimalOf widthOf
-decimal-says v h = let r = width-holds 19 v (omega arith) in rw (r .1) (decimal-digits (r .0) v (r .2))
+decimal-says : (k v : ℕ) → v < 10 ^ suc k → Says 10 v (digits 10 48 (widthUpTo k v) v)
+unfolding digits widthUpTo
+decimal-says zero v h = says-one 10 v (v % 10 + 48) (omega (arith, ten v)) (omega (arith, ten v))
+decimal-says (suc k) v h =
+    let s = decimal-says k (v / 10) (omega (arith, pow-suc 10 (suc k))) in
+    below v 10 (λ q. rw (lt-ltb v 10 q) (says-one 10 v (v % 10 + 48) (omega (arith, ten v)) (omega (arith, ten v))))
+    (λ q. rw (le-ltb v 10 q) (says-more 10 (v / 10) v (v % 10 + 48) (digits 10 48 (widthUpTo k (v / 10)) (v / 10)) s (omega (arith, ten v)) (omega (arith, ten v))))
 
 -- ── hex ──
 glyph : (v : ℕ) → digitOf (glyphOf v) ≡ v % 16
@@ -204,10 +189,6 @@ hex-says (suc k) v h =
     below v 16 (λ q. rw (lt-ltb v 16 q) (says-one 16 v (glyphOf v) (omega (arith, glyph v)) (omega (arith, glyph v))))
     (λ q. rw (le-ltb v 16 q) (says-more 16 (v / 16) v (glyphOf v) (hexUpTo k (v / 16)) s (omega (arith, glyph v)) (omega (arith, glyph v))))
 
--- Decimal digits are hex digits.
-ten-sixteen : (w : List ℕ) → digitsIn 10 w ≡ true → digitsIn 16 w ≡ true
-ten-sixteen w h = none-less (noDigit 16) (noDigit 10) (λ b q. lt-leb 16 (digitOf b) (omega (arith, leb-false 10 (digitOf b) q))) w h
-
 -- ── a value as a word ──
 width-most : (f : ℕ) → fieldWidth f ≤ 8
 width-most f = below f 5 (λ h. let q = width-is f h in omega arith) (λ h. omega (arith, no-width f h))
@@ -217,15 +198,15 @@ module _ (f v : ℕ) (h : v < 256 ^ fieldWidth f) where
   in-word = let wide : 256 ^ fieldWidth f ≤ 256 ^ 8 = pow-le-pow-right (omega arith) (width-most f) in omega arith
 
   word-said : Plain (wordOf f v) × (fieldIn f (wordOf f v) ≡ Value v)
-  unfolding wordOf fieldIn groupsIn isList
+  unfolding wordOf fieldIn groupsIn isList decimalOf widthOf
   word-said =
       let x = hexUpTo 15 v in
       let s = hex-says 15 v in-word in
       let d = decimalOf v in
-      let t = decimal-says v in-word in
+      let t = decimal-says 19 v (omega (arith, in-word)) in
       either (eqb f theGroups)
-      (λ e. rw e (digits-plain x (s .some) (s .digit), rw (digits-no-list x (s .digit)) (number-said 16 18446744073709551615 _ _ v x s (omega (arith, in-word)))))
-      (λ e. rw e (digits-plain d (t .some) (ten-sixteen d (t .digit)), number-said 10 (256 ^ fieldWidth f - 1) _ _ v d t (omega arith)))
+      (λ e. rw e (digits-plain 16 (omega arith) x (s .digit) (s .some), rw (digits-no-list 16 (omega arith) x (s .digit)) (number-said 16 18446744073709551615 _ _ v x s (omega (arith, in-word)))))
+      (λ e. rw e (digits-plain 10 (omega arith) d (t .digit) (t .some), number-said 10 (256 ^ fieldWidth f - 1) _ _ v d t (omega arith)))
 
 -- ── the fields of a call ──
 wordsOf : List ℕ → Call → List (List ℕ)
@@ -327,17 +308,14 @@ lines-plain e k b [] Loadable.none i = refl
 lines-plain e k b (c ∷ cs) (Loadable.one v g) i = let l = line-of e c (v .carried) (v .typed) (linesOf e (k + 1) cs 0) in rw (l .front, l .head)
 
 -- The header of another edition than 1 says it.
-small-test : ℕ → Bool
-small-test e = leb e 255
-
 edition-says : (e : ℕ) → known e ≡ true → (t : List ℕ)
     → (linesIn (((editionWord ++ (32 ∷ [])) ++ column e 10) ++ t) ≡ spaced editionWord (decimalOf e ∷ []) ∷ linesIn t) × (headSays (spaced editionWord (decimalOf e ∷ [])) ≡ Edition e)
-unfolding headSays headIn editionIn column spaced isWord isPlain none known format small-test allRows
+unfolding headSays headIn editionIn column decimalOf widthOf spaced isWord isPlain none known format allRows
 edition-says e k t =
-    let b = leb-true e 255 (known-passes small-test format refl e k) in
-    let s = decimal-says e (omega arith) in
+    let b = leb-true e 255 (known-passes (λ i. leb i 255) format refl e k) in
+    let s = decimal-says 19 e (omega arith) in
     let p = plain-word editionWord refl in
-    let d : Plain (decimalOf e) = digits-plain (decimalOf e) (s .some) (ten-sixteen (decimalOf e) (s .digit)) in (
+    let d : Plain (decimalOf e) = digits-plain 10 (omega arith) (decimalOf e) (s .digit) (s .some) in (
       ap (λ x. linesIn (editionWord ++ 32 ∷ x)) (append-assoc (decimalOf e) (10 ∷ []) t) ∙ line-front editionWord (decimalOf e ∷ []) p (also d nil) t,
       ap headIn (line-words editionWord (decimalOf e ∷ []) p (also d nil)) ∙ ap editionOr (number-said 10 255 noEdition noEdition e (decimalOf e) s b),
     )

@@ -8,7 +8,7 @@ use lib.Dec.{leb}
 use borrow.Author.Tests.{le-leb}
 use lib.ListN.{length, length-append}
 use Rattle.numerals.specs.Laid.{Put}
-use Rattle.numerals.proofs.Going.{Going, going-start, going-step, going-as, going-none, going-last}
+use Rattle.numerals.proofs.Going.{Going, going-start, going-step, going-none, going-last}
 use Rattle.load.specs.declared.Call.{Call}
 use Rattle.load.specs.declared.Item.the-variants.{Record, End, Refused}
 use Rattle.load.specs.Format.{fieldWidths, fieldWidth, format, total, lengthIn, leastIn, leastLength}
@@ -17,19 +17,6 @@ use Rattle.load.proofs.Reading.{walk-record, walk-end, walk-refused, step-refus
 use Rattle.load_text.specs.Lines.{lineOf, stopLine, linesOf, restOf, headerOf, textOf}
 use Rattle.load_text.proofs.Cases.{zero-or, refused}
 use Rattle.load_text.proofs.Lines.{line-length, stop-length, header-length}
-
-module _ (e : ℕ) (s : List ℕ) (at k : ℕ) where
-  rest-end : itemAt s at ≡ End → restOf e k (walk s at) ≡ []
-  unfolding restOf linesOf
-  rest-end i = rw (walk-end s at i)
-
-  rest-refused : (n : ℕ) → itemAt s at ≡ Refused n → restOf e k (walk s at) ≡ stopLine n k
-  unfolding restOf linesOf
-  rest-refused n i = rw (walk-refused s at n i) (refused (λ m. stopLine m k) [] n (λ z. omega (arith, step-refused s at n i)))
-
-  rest-record : (c : Call) (next : ℕ) → itemAt s at ≡ Record c next → restOf e k (walk s at) ≡ lineOf e c ++ restOf e (k + 1) (walk s next)
-  unfolding restOf linesOf
-  rest-record c next i = rw (walk-record s at c next i)
 
 -- the loop's invariant
 pub record Turn (e : ℕ) (s o₀ : List ℕ) (from : ℕ) (o : List ℕ) (at k n : ℕ) : Type 0 where
@@ -42,20 +29,25 @@ turn-start e s o from h k = record { inside = omega arith; few = omega arith; go
 
 module _ (e : ℕ) (s o₀ : List ℕ) (from : ℕ) (o : List ℕ) (at k n : ℕ) (t : Turn e s o₀ from o at k n) where
   pub turn-end : itemAt s at ≡ End → Put o₀ from (restOf e 1 (walk s 1)) n o
-  turn-end i = going-none o₀ from _ o n (going-as o₀ from _ o n _ _ (rest-end e s at k i) (t .going))
+  unfolding restOf linesOf
+  turn-end i = going-none o₀ from _ o n (rw (walk-end s at i) at (t .going))
 
   module _ (m : ℕ) (p : List ℕ) where
     pub turn-more : length s ≤ 65536 → (c : Call) (next : ℕ) → itemAt s at ≡ Record c next → Put o n (lineOf e c) m p → Turn e s o₀ from p next (k + 1) m
+    unfolding restOf linesOf
     turn-more l c next i z =
         let j = step-next s at c next i in
         record {
           inside = omega (arith, j .1);
           few = omega (arith, j .0, t .few);
-          going = going-step o₀ from _ o n (lineOf e c) _ p m (going-as o₀ from _ o n _ _ (rest-record e s at k c next i) (t .going)) z;
+          going = going-step o₀ from _ o n (lineOf e c) _ p m (rw (walk-record s at c next i) at (t .going)) z;
         }
 
     pub turn-refused : (x : ℕ) → itemAt s at ≡ Refused x → Put o n (stopLine x k) m p → Put o₀ from (restOf e 1 (walk s 1)) m p
-    turn-refused x i z = going-last o₀ from _ o n (stopLine x k) p m (going-as o₀ from _ o n _ _ (rest-refused e s at k x i) (t .going)) z
+    unfolding restOf linesOf
+    turn-refused x i z =
+        let r = refused (λ m. stopLine m k) [] x (λ q. omega (arith, step-refused s at x i)) in
+        going-last o₀ from _ o n (stopLine x k) p m (rw (walk-refused s at x i, r) at (t .going)) z
 
 -- ── the whole ──
 abbrev whole : List ℕ → List ℕ

@@ -7,14 +7,14 @@ use native.Mathlib.Nat.{two-pow-succ, sub-zero}
 use native.Mathlib.Numerals.{add-one}
 use native.Mathlib.Omega.{arith}
 use lib.Dec.{leb}
-use lib.ListN.{length, take, drop, drop-of-length-le, length-drop}
+use lib.ListN.{length, take, drop, length-drop}
 use lib.Seq.{drop-cons, take-all}
 use lib.Pow.{pow-mono, pow-pos}
 use borrow.Author.Tests.{le-leb, lt-leb}
 use Rattle.groups.specs.Groups.{setFrom, union}
 use Rattle.load_text.specs.declared.words.Field.{Field}
 use Rattle.load_text.specs.declared.words.Field.the-variants.{Value}
-use Rattle.load_text.specs.Parsing.{until, since, placeOf, parts, isComma, isDash, span, groupIn, andThen, upTo, rangeIn, itemIn, itemsIn, withItems, wordAt}
+use Rattle.load_text.specs.Parsing.{until, since, placeOf, isComma, isDash, span, groupIn, andThen, upTo, rangeIn, itemIn, itemsIn, withItems, wordAt}
 use Rattle.load_text.proofs.Cases.{below}
 use Rattle.load_text.proofs.Parts.{until-first, since-drop, parts-cut}
 
@@ -59,10 +59,6 @@ module _ (w : List ℕ) (end : ℕ) (e : end ≡ placeOf isDash w 0) (f : Field)
       rw (item-from, k, drop-cons w end 0 h, add-one, take-all (length w - suc end) (drop (suc end) w) (omega (arith, length-drop (suc end) w)))
 
 -- ── a list ──
-pub items-end : (w : List ℕ) (at s : ℕ) → length w ≤ at → Value s ≡ withItems s (itemsIn (drop at w))
-unfolding withItems itemsIn parts
-items-end w at s h = rw (drop-of-length-le w h)
-
 module _ (w : List ℕ) (at end s : ℕ) (h : at < length w) (e : end ≡ placeOf isComma w at) (f : Field) (r : f ≡ itemIn (wordAt w at end)) where
   pub items-on : withItems s (itemsIn (drop at w)) ≡ andThen f (λ g. withItems (union s g) (itemsIn (drop (end + 1) w)))
   unfolding withItems itemsIn

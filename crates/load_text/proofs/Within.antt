@@ -19,25 +19,16 @@ use Rattle.load_text.specs.declared.parse.Parsed.{Parsed}
 use Rattle.load_text.specs.declared.parse.Parsed.the-variants.{Nothing, Said, Bad}
 use Rattle.load_text.specs.declared.words.Field.{Field}
 use Rattle.load_text.specs.declared.words.Field.the-variants.{Value, Wrong}
-use Rattle.load_text.specs.Parsing.{until, since, isDash, isList, isNumber, valueIn, numberIn, groupIn, span, andThen, upTo, rangeIn, itemIn, itemsIn, withItems, groupsIn, noNumbers, noNumber, fieldIn, withField, filledIn, kindNamed, kindSays, callIn, wordsIn, said, lineSays, ReasonsApart}
+use Rattle.load_text.specs.Parsing.{until, since, isDash, isList, groupIn, span, andThen, upTo, rangeIn, itemIn, itemsIn, withItems, groupsIn, noNumbers, noNumber, fieldIn, withField, filledIn, kindNamed, kindSays, callIn, wordsIn, said, lineSays, ReasonsApart}
 use Rattle.load_text.specs.Reasons.{unknown}
 use Rattle.load_text.proofs.Cases.{either, below}
+use Rattle.load_text.proofs.Numbers.{Under, number-under}
 use Rattle.load_text.proofs.Tables.{kind-below}
 
 -- ── fields ──
-abbrev Under : ℕ → Field → Type 0
-Under most (Value v) = v ≤ most
-Under most (Wrong n) = 101 ≤ n
-
-under-then : (a b : ℕ) (f : Field) (k : ℕ → Field) → Under a f → ((v : ℕ) → Under b (k v)) → Under b (andThen f k)
+under-then : (a b : ℕ) (f : Field) (k : ℕ → Field) → Under 101 a f → ((v : ℕ) → Under 101 b (k v)) → Under 101 b (andThen f k)
 under-then a b (Value v) k h g = g v
 under-then a b (Wrong n) k h g = h
-
-number-under : (base most none large : ℕ) (w : List ℕ) → 101 ≤ none → 101 ≤ large → Under most (numberIn base most none large w)
-unfolding numberIn
-number-under base most none large w n l =
-    let v = valueIn base 0 w in
-    either (isNumber base w) (λ e. rw e (either (leb v most) (λ q. rw q (leb-true v most q)) (λ q. rw q l))) (λ e. rw e n)
 
 set-below : (k g : ℕ) (p : ℕ → Bool) → setFrom k g p < 2 ^ k
 unfolding setFrom
@@ -48,7 +39,7 @@ set-below (suc k) g p =
     either (p g) (λ e. rw e (omega arith)) (λ e. rw e (omega arith))
 
 abbrev InWord : Field → Type 0
-InWord f = Under 18446744073709551615 f
+InWord f = Under 101 18446744073709551615 f
 
 union-in : (a b : ℕ) → InWord (Value (union a b))
 unfolding union
@@ -58,8 +49,8 @@ span-in : (low high : ℕ) → InWord (Value (span low high))
 unfolding span
 span-in low high = omega (arith, set-below 64 0 (λ g. leb low g && leb g high))
 
-group-under : (w : List ℕ) → Under 63 (groupIn w)
-group-under w = number-under 10 _ _ _ w (omega arith) (omega arith)
+group-under : (w : List ℕ) → Under 101 63 (groupIn w)
+group-under w = number-under 101 10 _ _ _ w (omega arith) (omega arith)
 
 item-in : (w : List ℕ) → InWord (itemIn w)
 unfolding itemIn
@@ -76,7 +67,7 @@ items-in s (w ∷ ws) h = under-then 18446744073709551615 _ (itemIn w) (λ g. wi
 
 groups-in : (w : List ℕ) → InWord (groupsIn w)
 unfolding groupsIn
-groups-in w = either (isList w) (λ e. rw e (items-in 0 (itemsIn w) (omega arith))) (λ e. rw e (number-under 16 _ _ _ w (omega arith) (omega arith)))
+groups-in w = either (isList w) (λ e. rw e (items-in 0 (itemsIn w) (omega arith))) (λ e. rw e (number-under 101 16 _ _ _ w (omega arith) (omega arith)))
 
 -- The reason of a field is one, and so is what is told of a field's number.
 no-number-apart : (f : ℕ) → 101 ≤ noNumber f
@@ -85,10 +76,10 @@ no-number-apart f =
     below f 5 (λ h. leb-true 101 (noNumber f) (below-passes 5 (λ i. leb 101 (noNumber i)) refl f h))
     (λ h. omega (arith, List·getD-eq-default noNumbers unknown h))
 
-field-under : (f : ℕ) (w : List ℕ) → Under (256 ^ fieldWidth f - 1) (fieldIn f w)
+field-under : (f : ℕ) (w : List ℕ) → Under 101 (256 ^ fieldWidth f - 1) (fieldIn f w)
 unfolding fieldIn fieldWidth fieldWidths
 field-under f w =
-    either (eqb f theGroups) (λ e. rw (eqb-true f theGroups e) (groups-in w)) (λ e. rw e (number-under 10 _ _ _ w (no-number-apart f) (omega arith)))
+    either (eqb f theGroups) (λ e. rw (eqb-true f theGroups e) (groups-in w)) (λ e. rw e (number-under 101 10 _ _ _ w (no-number-apart f) (omega arith)))
 
 -- What is read goes into the field.
 pub field-fits : (f v : ℕ) (w : List ℕ) → fieldIn f w ≡ Value v → v < 256 ^ fieldWidth f
@@ -108,7 +99,7 @@ typed-with f v c h t g =
     (λ e. below f 5 (λ q. rw (eqb-true g f e, value-same f v c q) h) (λ q. rw (← (with-none f v c q)) (t g)))
     (λ e. rw (value-other g f v c e) (t g))
 
-with-within : (f : ℕ) (x : Field) (p : Parsed) → Under (256 ^ fieldWidth f - 1) x → Within p → Within (withField f x p)
+with-within : (f : ℕ) (x : Field) (p : Parsed) → Under 101 (256 ^ fieldWidth f - 1) x → Within p → Within (withField f x p)
 with-within f (Value v) (Said c) u h = typed-with f v c (omega (arith, one-le-pow (fieldWidth f) 256 (omega arith))) h
 with-within f (Wrong n) (Said c) u h = u
 with-within f x Nothing u h = h

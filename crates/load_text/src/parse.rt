@@ -11,7 +11,6 @@ use crate::sets::groups_of;
 use crate::texts::kind_named;
 use crate::words::Field;
 use crate::words::Mark;
-use crate::words::is_empty;
 use crate::words::next_word;
 use crate::words::number;
 use crate::words::place;
@@ -89,17 +88,17 @@ fn fill(edition: u8, kind: u8, said: &[u8], from: usize) -> Parsed
     loop {
         let f = load::field_at(edition, kind, i);
         let w = next_word(said, at);
+        let start = w.from;
+        let end = w.to;
         if f == 0 {
-            if is_empty(w) {
+            if end <= start {
                 return p;
             }
             return Parsed::Bad(reasons::TOO_MANY);
         }
-        if is_empty(w) {
+        if end <= start {
             return Parsed::Bad(reasons::MISSING);
         }
-        let start = w.from;
-        let end = w.to;
         p = with_word(p, f, &said[start..end]);
         at = end;
         i += 1;
@@ -135,11 +134,11 @@ pub fn parse_line(edition: u8, line: &[u8]) -> Parsed
     let end = said_end(line);
     let said = &line[..end];
     let w = next_word(said, 0);
-    if is_empty(w) {
-        return Parsed::Nothing;
-    }
     let from = w.from;
     let to = w.to;
+    if to <= from {
+        return Parsed::Nothing;
+    }
     let kind = kind_named(edition, &said[from..to]);
     if kind == 0 {
         return Parsed::Bad(reasons::UNKNOWN);
@@ -153,13 +152,13 @@ fn edition_at(said: &[u8], at: usize) -> Head
     ensures { λ r. ⌜ r ≡ editionIn (wordsIn (drop at (now (said .entry)))) ⌝ }
 {
     let w = next_word(said, at);
-    if is_empty(w) {
-        return Head::Misread(reasons::MISSING);
-    }
     let from = w.from;
     let to = w.to;
+    if to <= from {
+        return Head::Misread(reasons::MISSING);
+    }
     let more = next_word(said, to);
-    if !is_empty(more) {
+    if more.from < more.to {
         return Head::Misread(reasons::TOO_MANY);
     }
     match number(
@@ -181,11 +180,11 @@ pub(crate) fn head_line(line: &[u8]) -> Head
     let end = said_end(line);
     let said = &line[..end];
     let w = next_word(said, 0);
-    if is_empty(w) {
-        return Head::Silent;
-    }
     let from = w.from;
     let to = w.to;
+    if to <= from {
+        return Head::Silent;
+    }
     if check::same(&said[from..to], b"edition") {
         return edition_at(said, to);
     }

@@ -3,7 +3,6 @@
 ghost use mathlib.Core.Path.{_≡_};
 ghost use mathlib.Core.Bool.{true, _||_};
 ghost use Prim.Native.Nat.{_≤_, _<_, max};
-ghost use lib.Dec.{leb};
 ghost use lib.ListN.{length};
 ghost use Rattle.load_text.specs.Parsing.{FirstWord, digitOf, digitsIn, is, none, numberIn, passes, placeOf, upToMost, valueIn};
 
@@ -92,12 +91,6 @@ pub(crate) fn next_word(line: &[u8], at: usize) -> Word
     let from = place(line, Mark::Full, at);
     let to = place(line, Mark::Blank, from);
     Word { from: from, to: to }
-}
-
-pub(crate) fn is_empty(w: Word) -> bool
-    ensures { λ r. ⌜ r ≡ leb (w .to) (w .from) ⌝ }
-{
-    w.to <= w.from
 }
 
 // The number that digits say, if it is at most `most`, else the reason `large`.

@@ -1,16 +1,16 @@
 -- `parse::fill` meets its contract: the fields filled so far, with the words left, give the whole.
 use Prim.Native.Nat.{_-_, _≤_}
-use mathlib.Core.Path.{_≡_, sym, ap, _∙_}
+use mathlib.Core.Path.{_≡_, ap}
 use native.Mathlib.Omega.{arith}
 use lib.ListN.{length, drop}
 use borrow.Author.Needs.{needs}
+use borrow.Author.Tests.{le-leb, lt-leb}
 use Rattle.load.specs.Format.{fieldsOf}
 use Rattle.load.specs.Calls.{bare}
 use Rattle.load.proofs.Format.{fields-few, rest-some}
 use Rattle.load.proofs.Rows.{row-end, row-more}
 use Rattle.load_text.specs.declared.parse.Parsed.the-variants.{Said}
 use Rattle.load_text.specs.Parsing.{wordsIn, filledIn}
-use Rattle.load_text.proofs.Fields.{word-in}
 use Rattle.load_text.proofs.parse.fill.Statement.{statement}
 use Rattle.load_text.proofs.parse.fill.Tie as tie
 
@@ -30,52 +30,44 @@ loop-holds c =
 returns : tie.Need-returns Inv-loop μ-loop
 unfolding filledIn
 returns c =
-    let z = c .before .before in
+    let z = c .before in
     let l = z .before .before in
-    rw (row-end _ _ _ _ (l .field-at .ensures) (z .if1 .taken), z .before .next-word .ensures .words, sym (c .before .is-empty .ensures) ∙ c .if2 .taken) at (l .before .loop .inv .1)
+    rw (row-end _ _ _ _ (l .field-at .ensures) (z .if1 .taken), z .before .next-word .ensures .words, le-leb _ _ (c .if2 .taken)) at (l .before .loop .inv .1)
 
 returns-2 : tie.Need-returns-2 Inv-loop μ-loop
 unfolding filledIn
 returns-2 c =
-    let z = c .before .before in
+    let z = c .before in
     let l = z .before .before in
-    rw (row-end _ _ _ _ (l .field-at .ensures) (z .if1 .taken), z .before .next-word .ensures .words, sym (c .before .is-empty .ensures) ∙ c .if2 .left) at (l .before .loop .inv .1)
+    rw (row-end _ _ _ _ (l .field-at .ensures) (z .if1 .taken), z .before .next-word .ensures .words, lt-leb _ _ (c .if2 .left)) at (l .before .loop .inv .1)
 
 returns-3 : tie.Need-returns-3 Inv-loop μ-loop
 unfolding filledIn
 returns-3 c =
-    let z = c .before .before in
+    let z = c .before in
     let l = z .before .before in
-    rw (rest-some _ _ _ (l .field-at .ensures) (z .if1 .left) .1, z .before .next-word .ensures .words, sym (c .before .is-empty2 .ensures) ∙ c .if3 .taken) at (l .before .loop .inv .1)
+    rw (rest-some _ _ _ (l .field-at .ensures) (z .if1 .left) .1, z .before .next-word .ensures .words, le-leb _ _ (c .if3 .taken)) at (l .before .loop .inv .1)
 
 add-i : tie.Need-add-i Inv-loop μ-loop
 add-i c =
-    let l = c .before .before .before .before .before .before .before in
-    let a = l .before .before .before .args in
-    omega (arith, l .loop .inv .0, fields-few (a .edition) (a .kind))
-
-loop-less : tie.Need-loop-less Inv-loop μ-loop
-loop-less c =
-    let z = c .before .before .before .before in
-    let n = z .before in
-    omega (arith, row-more _ _ _ _ (n .before .field-at .ensures) (z .if1 .left))
+    let a = c .before .before .before .before .before .before .before .before .before .args in
+    omega (arith, c .before .before .before .before .before .before .loop .inv .0, fields-few (a .edition) (a .kind))
 
 loop-again : tie.Need-loop-again Inv-loop μ-loop
 unfolding filledIn
 loop-again c =
     let t = c .before .before in
-    let z = t .before .before in
+    let z = t .before in
     let l = z .before .before in
     let s = l .field-at .ensures in
-    let w = z .before .next-word .ensures .words in
-    (omega (arith, row-more _ _ _ _ s (z .if1 .left)), rw (c .with-word .ensures) (rw (rest-some _ _ _ s (z .if1 .left) .1, w, sym (t .before .is-empty2 .ensures) ∙ t .if3 .left) at (l .before .loop .inv .1)))
+    let i = rw (rest-some _ _ _ s (z .if1 .left) .1, z .before .next-word .ensures .words, lt-leb _ _ (t .if3 .left)) at (l .before .loop .inv .1) in
+    (omega (arith, row-more _ _ _ _ s (z .if1 .left)), rw (c .with-word .ensures) i)
 
 pub fill-spec : {M : Type 1} → statement M
 fill-spec =
     tie.close
     (tie.spec
-    Inv-loop μ-loop (λ c κs. search needs) loop-holds (λ c κs. search needs) (λ c κs. search needs) (λ c κs. search needs) returns returns-2
-    (λ c κs. search needs) returns-3 (λ c. c .before .before .before .next-word .ensures .order)
-    (λ c. c .before .before .before .next-word .ensures .order)
-    (λ c. word-in (c .before .before .before .next-word .ensures) (sym (c .before .is-empty2 .ensures) ∙ c .if3 .left))
-    (λ c κs. search needs) add-i loop-less loop-again)
+    Inv-loop μ-loop (λ c κs. search needs) loop-holds (λ c κs. search needs) (λ c κs. search needs) returns returns-2 returns-3
+    (λ c. omega arith) (λ c. omega arith) (λ c. omega arith) (λ c κs. search needs) add-i
+    (λ c. let z = c .before .before .before in omega (arith, row-more _ _ _ _ (z .before .before .field-at .ensures) (z .if1 .left)))
+    loop-again)

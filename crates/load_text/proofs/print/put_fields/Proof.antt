@@ -34,11 +34,6 @@ add-i c =
     let a = l .before .before .args in
     omega (arith, l .loop .inv .0, fields-few (a .edition) (a .call .kind))
 
-loop-less : tie.Need-loop-less Inv-loop μ-loop
-loop-less c =
-    let z = c .before .before .before .before .before in
-    omega (arith, row-more _ _ _ _ (z .before .field-at .ensures) (z .if1 .left))
-
 loop-again : tie.Need-loop-again Inv-loop μ-loop
 unfolding fieldsText
 loop-again c =
@@ -55,4 +50,6 @@ put-fields-spec =
     (tie.spec
     Inv-loop μ-loop (λ c. (omega arith, going-start _ _ _ (omega arith) (omega arith))) (λ c κs. search needs) (λ c κs. search needs)
     (λ c. let p = c .before .before in p .put-byte .kept .0 ∙ p .before .before .before .before .loop .inv .1 .size) returns
-    (λ c κs. search needs) (λ c κs. search needs) add-i loop-less loop-again)
+    (λ c κs. search needs) (λ c κs. search needs) add-i
+    (λ c. let z = c .before .before .before .before .before in omega (arith, row-more _ _ _ _ (z .before .field-at .ensures) (z .if1 .left)))
+    loop-again)
