@@ -14,7 +14,7 @@ use Rattle.load.specs.Format.{theGroups, fieldWidths, fieldWidth, fieldsOf}
 use Rattle.load.specs.Calls.{made, withValue, bare}
 use Rattle.load.specs.RoundTrip.{Typed}
 use Rattle.load.proofs.Format.{allBelow, below-passes}
-use Rattle.load.proofs.Calls.{value-same, value-other, with-none, typed-call}
+use Rattle.load.proofs.Calls.{value-same, value-other, with-none, typed-bare}
 use Rattle.load_text.specs.declared.parse.Parsed.{Parsed}
 use Rattle.load_text.specs.declared.parse.Parsed.the-variants.{Nothing, Said, Bad}
 use Rattle.load_text.specs.declared.words.Field.{Field}
@@ -119,7 +119,7 @@ call-within e (k ∷ ws) = go (kindNamed e k) (kind-below e k)
   where
     go : (n : ℕ) → n < 256 → Within (kindSays e n ws)
     go zero h = omega arith
-    go (suc n) h = fill-within (fieldsOf e (suc n)) ws (Said (bare (suc n))) (typed-call (bare (suc n)) h (omega arith) (omega arith) (omega arith) (omega arith))
+    go (suc n) h = fill-within (fieldsOf e (suc n)) ws (Said (bare (suc n))) (typed-bare (suc n) h)
 
 pub says-typed : (e : ℕ) (l : List ℕ) (c : Call) → lineSays e l ≡ Said c → Typed c
 unfolding lineSays
