@@ -113,6 +113,14 @@ print-all text o p r s h w =
     let l = lent-all text o p h (e .1) in
     (rw (l .0) (ap Length (e .0)), l .1)
 
+-- A text that was counted on one byte: it goes in or not.
+module _ (text : List ℕ) (s : length text < 2 ^ 64) {o₁ p₁ : List ℕ} {n : ℕ} (w : Put o₁ 0 text n p₁) (o : List ℕ) where
+  pub counted-none : length o < n → (Refusal noSpace ≡ printed text o) × (o ≡ lentOut text o)
+  counted-none h = print-none text o (omega (arith, put-short s w .0))
+
+  pub counted-all : n ≤ length o → (p : List ℕ) (r : ℕ) → Put o 0 text r p → (Length r ≡ printed text o) × (p ≡ lentOut text o)
+  counted-all h p r z = print-all text o p r s (omega (arith, put-short s w .0)) z
+
 -- A length that is answered is one of the buffer.
 pub printed-within : (text o : List ℕ) (n : ℕ) → printed text o ≡ Length n → n ≤ length o
 unfolding printed

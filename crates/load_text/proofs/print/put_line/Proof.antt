@@ -1,7 +1,5 @@
 -- Counted on one byte, it goes in or not.
-use native.Mathlib.Omega.{arith}
-use Rattle.numerals.proofs.Laying.{put-short}
-use Rattle.load_text.proofs.Lines.{line-short, print-none, print-all}
+use Rattle.load_text.proofs.Lines.{line-short, counted-none, counted-all}
 use borrow.Author.Needs.{needs}
 use Rattle.load_text.proofs.print.put_line.Statement.{statement}
 use Rattle.load_text.proofs.print.put_line.Tie as tie
@@ -10,13 +8,12 @@ returns-2 : tie.Need-returns-2
 returns-2 c =
     let p = c .before .before in
     let i = p .before .before in
-    let n = put-short (line-short _ _) (i .before .before .put-call .ensures) .0 in
-    print-all _ _ _ _ (line-short _ _) (omega (arith, n, i .if1 .left)) (p .put-call2 .ensures)
+    counted-all _ (line-short _ _) (i .before .before .put-call .ensures) _ (i .if1 .left) _ _ (p .put-call2 .ensures)
 
 pub put-line-spec : {M : Type 1} → statement M
 put-line-spec =
     tie.close
     (tie.spec
     (λ c. search needs) (λ c κs. search needs)
-    (λ c. print-none _ _ (omega (arith, c .if1 .taken, put-short (line-short _ _) (c .before .before .put-call .ensures) .0)))
-    (λ c κs. search needs) (λ c. search needs) returns-2)
+    (λ c. counted-none _ (line-short _ _) (c .before .before .put-call .ensures) _ (c .if1 .taken)) (λ c κs. search needs)
+    (λ c. search needs) returns-2)
