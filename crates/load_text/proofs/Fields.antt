@@ -27,7 +27,7 @@ module _ (f : ℕ) (w : List ℕ) (n : f ≡ theGroups → ⊥) where
       rw (ne-eqb f theGroups n, List·getD-map (λ w. 256 ^ w - 1) fieldWidths f 0, eqb-true (getD noNumbers f 0) (noNumber f) q)
 
   pub field-none : 4 < f → numberIn 10 0 unknown tooLarge w ≡ fieldIn f w
-  unfolding fieldIn noNumber noNumbers
+  unfolding fieldIn noNumber noNumbers fieldWidths
   field-none h = rw (ne-eqb f theGroups n, no-width f h, List·getD-eq-default noNumbers unknown h)
 
 -- ── a word put into a field ──

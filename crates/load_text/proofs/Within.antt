@@ -2,7 +2,7 @@
 use Prim.Native.Nat.{ℕ, zero, suc, _-_, _^_, _≤_, _<_}
 use mathlib.Core.Bool.{Bool, _&&_, _||_}
 use mathlib.Core.List.{List, [], _∷_}
-use mathlib.Core.Path.{_≡_, refl}
+use mathlib.Core.Path.{_≡_, refl, subst}
 use native.Mathlib.Omega.{arith}
 use lib.Dec.{leb, ltb, eqb}
 use lib.ListN.{List·getD-eq-default}
@@ -10,11 +10,11 @@ use native.Mathlib.Nat.{two-pow-succ, one-le-pow}
 use borrow.Author.Tests.{leb-true, eqb-true}
 use Rattle.groups.specs.Groups.{setFrom, union, has}
 use Rattle.load.specs.declared.Call.{Call}
-use Rattle.load.specs.Format.{theGroups, fieldWidths, fieldWidth, fieldsOf}
+use Rattle.load.specs.Format.{theGroups, fieldWidths, fieldCount, fieldWidth, fieldsOf}
 use Rattle.load.specs.Calls.{made, withValue, bare}
 use Rattle.load.specs.RoundTrip.{Typed}
 use Rattle.load.proofs.Format.{allBelow, below-passes}
-use Rattle.load.proofs.Calls.{value-same, value-other, with-none, typed-bare}
+use Rattle.load.proofs.Calls.{with-none, typed-with, typed-bare}
 use Rattle.load_text.specs.declared.parse.Parsed.{Parsed}
 use Rattle.load_text.specs.declared.parse.Parsed.the-variants.{Nothing, Said, Bad}
 use Rattle.load_text.specs.declared.words.Field.{Field}
@@ -93,14 +93,11 @@ Within Nothing = 0 ≤ 0
 Within (Said c) = Typed c
 Within (Bad n) = 101 ≤ n
 
-typed-with : (f v : ℕ) (c : Call) → v < 256 ^ fieldWidth f → Typed c → Typed (withValue f v c)
-typed-with f v c h t g =
-    either (eqb g f)
-    (λ e. below f 5 (λ q. rw (eqb-true g f e, value-same f v c q) h) (λ q. rw (← (with-none f v c q)) (t g)))
-    (λ e. rw (value-other g f v c e) (t g))
+typed-put : (f v : ℕ) (c : Call) → v < 256 ^ fieldWidth f → Typed c → Typed (withValue f v c)
+typed-put f v c h t = below f fieldCount (λ q. typed-with f v c q h t) (λ q. subst Typed (with-none f v c q) t)
 
 with-within : (f : ℕ) (x : Field) (p : Parsed) → Under 101 (256 ^ fieldWidth f - 1) x → Within p → Within (withField f x p)
-with-within f (Value v) (Said c) u h = typed-with f v c (omega (arith, one-le-pow (fieldWidth f) 256 (omega arith))) h
+with-within f (Value v) (Said c) u h = typed-put f v c (omega (arith, one-le-pow (fieldWidth f) 256 (omega arith))) h
 with-within f (Wrong n) (Said c) u h = u
 with-within f x Nothing u h = h
 with-within f x (Bad n) u h = h
