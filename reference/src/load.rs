@@ -5,10 +5,10 @@ use crate::table::TimedCall;
 
 /// The most bytes of a load.
 pub const MAX_LOAD: usize = 65_536;
-/// The only edition.
-pub const EDITION: u8 = 1;
+/// The editions that are known.
+pub const EDITIONS: [u8; 1] = [1];
 /// The load from which writing begins: the edition byte alone.
-pub const EMPTY: [u8; 1] = [EDITION];
+pub const EMPTY: [u8; 1] = [1];
 
 /// What one record of a load says.
 #[derive(Clone, Copy, PartialEq, Eq, PartialOrd, Ord, Hash, Debug)]
@@ -35,7 +35,7 @@ pub fn open(load: &[u8]) -> Result<usize, Refusal> {
     }
     match load.first() {
         None => Err(Refusal::Short),
-        Some(&EDITION) => Ok(1),
+        Some(edition) if EDITIONS.contains(edition) => Ok(1),
         Some(_) => Err(Refusal::Edition),
     }
 }

@@ -1,123 +1,302 @@
-//! Calls as lines of text for people.
+//! The planner's text (docs/FORMAT.md): a show of lines is made into a load,
+//! and a load is shown as lines.
 //!
 //! ```text
-//! rig F
+//! edition NUMBER
+//! rig GROUPS
 //! claim CLOCK GROUPS LENGTH
 //! release CLOCK TICKET
 //! withdraw CLOCK TICKET
 //! clock CLOCK
 //! ```
 //!
-//! `#` begins a comment; blank lines are skipped. Groups are hex, or a list of
-//! group numbers such as `0,3,5-7` if the text has a `,` or a `-`.
+//! `#` begins a comment. Groups are hex, or a list such as `0,3,5-7` if the
+//! word has a `,` or a `-`.
 
-use std::fmt::Display;
-use std::str::FromStr;
+use std::fmt;
 
-use crate::load::Call;
+use crate::load::{self, Call, Reader, EDITIONS, EMPTY, MAX_LOAD};
+use crate::refusal::Refusal;
 use crate::table::TimedCall;
 
-/// One call as a line, without its line feed.
+/// The most bytes of a text.
+pub const MAX_TEXT: usize = 1_048_576;
+/// The greatest group.
+const MAX_GROUP: u128 = 63;
+
+/// Why a line is wrong, with its number.
+#[derive(Clone, Copy, PartialEq, Eq, PartialOrd, Ord, Hash, Debug)]
+pub enum Reason {
+    Edition = 11,
+    RigNotFirst = 13,
+    LoadTooLong = 14,
+    UnknownCall = 101,
+    Missing = 102,
+    TooMany = 103,
+    Clock = 104,
+    Ticket = 105,
+    Length = 106,
+    Groups = 107,
+    TooLarge = 108,
+    GroupTooLarge = 109,
+    Backward = 110,
+}
+
+/// Every reason.
+pub const REASONS: [Reason; 13] = [
+    Reason::Edition,
+    Reason::RigNotFirst,
+    Reason::LoadTooLong,
+    Reason::UnknownCall,
+    Reason::Missing,
+    Reason::TooMany,
+    Reason::Clock,
+    Reason::Ticket,
+    Reason::Length,
+    Reason::Groups,
+    Reason::TooLarge,
+    Reason::GroupTooLarge,
+    Reason::Backward,
+];
+
+impl Reason {
+    pub fn number(self) -> u8 {
+        self as u8
+    }
+
+    /// The reason as printed.
+    pub fn words(self) -> &'static str {
+        match self {
+            Reason::Edition => "unknown edition",
+            Reason::RigNotFirst => "rig must be first",
+            Reason::LoadTooLong => "load over 65,536 bytes",
+            Reason::UnknownCall => "unknown call",
+            Reason::Missing => "a number is missing",
+            Reason::TooMany => "too many words",
+            Reason::Clock => "clock is not a number",
+            Reason::Ticket => "ticket is not a number",
+            Reason::Length => "length is not a number",
+            Reason::Groups => "groups are not hex or a list",
+            Reason::TooLarge => "number too large",
+            Reason::GroupTooLarge => "group over 63",
+            Reason::Backward => "range runs backward",
+        }
+    }
+}
+
+/// The first wrong line of a text, from 1, and what is wrong with it.
+#[derive(Clone, Copy, PartialEq, Eq, Debug)]
+pub struct Wrong {
+    pub line: usize,
+    pub reason: Reason,
+}
+
+impl fmt::Display for Wrong {
+    fn fmt(&self, f: &mut fmt::Formatter) -> fmt::Result {
+        write!(f, "line {}: {}", self.line, self.reason.words())
+    }
+}
+
+/// What `load_write` writes to standard output and to standard error.
+pub fn load_write(text: &[u8]) -> (Vec<u8>, Vec<u8>) {
+    if text.len() > MAX_TEXT {
+        return (Vec::new(), b"text over 1,048,576 bytes\n".to_vec());
+    }
+    match make(text) {
+        Ok(load) => (load, Vec::new()),
+        Err(wrong) => (Vec::new(), format!("{wrong}\n").into_bytes()),
+    }
+}
+
+/// The load of a text.
+pub fn make(text: &[u8]) -> Result<Vec<u8>, Wrong> {
+    let mut load = EMPTY.to_vec();
+    // An edition's line, or a call, has been read.
+    let mut begun = false;
+    for (index, line) in text.split(|&byte| byte == b'\n').enumerate() {
+        let words = words(line);
+        if words.is_empty() {
+            continue;
+        }
+        let read = if words[0] == b"edition" && !begun {
+            edition(&words).map(|edition| load[0] = edition)
+        } else {
+            call(&words).and_then(|call| add(&mut load, call))
+        };
+        read.map_err(|reason| Wrong {
+            line: index + 1,
+            reason,
+        })?;
+        begun = true;
+    }
+    Ok(load)
+}
+
+/// The words of a line, without its comment.
+fn words(line: &[u8]) -> Vec<&[u8]> {
+    let line = line.strip_suffix(b"\r").unwrap_or(line);
+    let said = line.split(|&byte| byte == b'#').next().unwrap_or(b"");
+    said.split(|&byte| byte == b' ' || byte == b'\t')
+        .filter(|word| !word.is_empty())
+        .collect()
+}
+
+/// Refuses a count of words that is not the one needed.
+fn count(words: &[&[u8]], needed: usize) -> Result<(), Reason> {
+    if words.len() < needed {
+        return Err(Reason::Missing);
+    }
+    if words.len() > needed {
+        return Err(Reason::TooMany);
+    }
+    Ok(())
+}
+
+/// The edition that an edition's line names.
+fn edition(words: &[&[u8]]) -> Result<u8, Reason> {
+    count(words, 2)?;
+    number(words[1], 10)
+        .and_then(|number| u8::try_from(number).ok())
+        .filter(|edition| EDITIONS.contains(edition))
+        .ok_or(Reason::Edition)
+}
+
+/// The call of a line that has words.
+fn call(words: &[&[u8]]) -> Result<Call, Reason> {
+    let needed = match words[0] {
+        b"rig" | b"clock" => 2,
+        b"release" | b"withdraw" => 3,
+        b"claim" => 4,
+        _ => return Err(Reason::UnknownCall),
+    };
+    count(words, needed)?;
+    if words[0] == b"rig" {
+        return Ok(Call::Rig(groups(words[1])?));
+    }
+    let clock = field(words[1], Reason::Clock)?;
+    Ok(Call::Timed(match words[0] {
+        b"claim" => TimedCall::Claim {
+            clock,
+            groups: groups(words[2])?,
+            length: field(words[3], Reason::Length)?,
+        },
+        b"release" => TimedCall::Release {
+            clock,
+            ticket: field(words[2], Reason::Ticket)?,
+        },
+        b"withdraw" => TimedCall::Withdraw {
+            clock,
+            ticket: field(words[2], Reason::Ticket)?,
+        },
+        _ => TimedCall::Clock { clock },
+    }))
+}
+
+/// Puts the record of a call behind the load.
+fn add(load: &mut Vec<u8>, call: Call) -> Result<(), Reason> {
+    if matches!(call, Call::Rig(_)) != (load.len() == EMPTY.len()) {
+        return Err(Reason::RigNotFirst);
+    }
+    let record = load::encode(call);
+    if load.len() + record.len() > MAX_LOAD {
+        return Err(Reason::LoadTooLong);
+    }
+    load.extend(record);
+    Ok(())
+}
+
+/// The number that digits in a base stand for, or one over every limit here;
+/// none for anything but digits.
+fn number(word: &[u8], base: u32) -> Option<u128> {
+    let mut number: u128 = 0;
+    for &byte in word {
+        let digit = char::from(byte).to_digit(base)?;
+        number = number
+            .saturating_mul(base.into())
+            .saturating_add(digit.into());
+    }
+    (!word.is_empty()).then_some(number)
+}
+
+/// A decimal number for a field, with the reason where it is none.
+fn field<T: TryFrom<u128>>(word: &[u8], not: Reason) -> Result<T, Reason> {
+    let number = number(word, 10).ok_or(not)?;
+    T::try_from(number).map_err(|_| Reason::TooLarge)
+}
+
+/// A set of groups: hex, or a list if the word has a `,` or a `-`.
+pub fn groups(word: &[u8]) -> Result<u64, Reason> {
+    if !word.iter().any(|byte| b",-".contains(byte)) {
+        let set = number(word, 16).ok_or(Reason::Groups)?;
+        return u64::try_from(set).map_err(|_| Reason::TooLarge);
+    }
+    let list = word.strip_suffix(b",").unwrap_or(word);
+    let mut set = 0;
+    for item in list.split(|&byte| byte == b',') {
+        let mut ends = item.splitn(2, |&byte| byte == b'-');
+        let first = group(ends.next().unwrap_or(b""))?;
+        let last = ends.next().map_or(Ok(first), group)?;
+        if first > last {
+            return Err(Reason::Backward);
+        }
+        for group in first..=last {
+            set |= 1 << group;
+        }
+    }
+    Ok(set)
+}
+
+/// A group of a list.
+fn group(word: &[u8]) -> Result<u128, Reason> {
+    let group = number(word, 10).ok_or(Reason::Groups)?;
+    if group > MAX_GROUP {
+        return Err(Reason::GroupTooLarge);
+    }
+    Ok(group)
+}
+
+/// What `load_show` prints of a load.
+pub fn load_show(load: &[u8]) -> String {
+    let mut reader = match Reader::open(load) {
+        Ok(reader) => reader,
+        Err(refusal) => return stop_line(refusal, 0),
+    };
+    let mut text = edition_line(load[0]);
+    let mut record = 0;
+    loop {
+        record += 1;
+        match reader.read() {
+            Ok(Some(read)) => text.push_str(&line(read.call)),
+            Ok(None) => return text,
+            Err(refusal) => return text + &stop_line(refusal, record),
+        }
+    }
+}
+
+/// The line of an edition: a comment where a text without it means the same.
+pub fn edition_line(edition: u8) -> String {
+    let comment = if [edition] == EMPTY { "# " } else { "" };
+    format!("{comment}edition {edition}\n")
+}
+
+/// The line where a load is refused.
+fn stop_line(refusal: Refusal, record: usize) -> String {
+    format!("# stop {} {record}\n", refusal.number())
+}
+
+/// The line of a call.
 pub fn line(call: Call) -> String {
     match call {
-        Call::Rig(groups) => format!("rig {groups:X}"),
+        Call::Rig(groups) => format!("rig {groups:X}\n"),
         Call::Timed(TimedCall::Claim {
             clock,
             groups,
             length,
-        }) => format!("claim {clock} {groups:X} {length}"),
-        Call::Timed(TimedCall::Release { clock, ticket }) => format!("release {clock} {ticket}"),
-        Call::Timed(TimedCall::Withdraw { clock, ticket }) => format!("withdraw {clock} {ticket}"),
-        Call::Timed(TimedCall::Clock { clock }) => format!("clock {clock}"),
-    }
-}
-
-/// Calls as lines, each ending in a line feed.
-pub fn print(calls: &[Call]) -> String {
-    let mut text = String::new();
-    for &call in calls {
-        text.push_str(&line(call));
-        text.push('\n');
-    }
-    text
-}
-
-/// The calls of a text. An error names the line, from 1.
-pub fn parse(text: &str) -> Result<Vec<Call>, String> {
-    let mut calls = Vec::new();
-    for (index, line) in text.lines().enumerate() {
-        match parse_line(line) {
-            Ok(Some(call)) => calls.push(call),
-            Ok(None) => {}
-            Err(error) => return Err(format!("line {}: {error}", index + 1)),
+        }) => format!("claim {clock} {groups:X} {length}\n"),
+        Call::Timed(TimedCall::Release { clock, ticket }) => format!("release {clock} {ticket}\n"),
+        Call::Timed(TimedCall::Withdraw { clock, ticket }) => {
+            format!("withdraw {clock} {ticket}\n")
         }
+        Call::Timed(TimedCall::Clock { clock }) => format!("clock {clock}\n"),
     }
-    Ok(calls)
-}
-
-/// The call of one line; none for a blank line or a comment alone.
-pub fn parse_line(line: &str) -> Result<Option<Call>, String> {
-    let line = line.split('#').next().unwrap_or("");
-    let words: Vec<&str> = line.split_whitespace().collect();
-    let call = match words[..] {
-        [] => return Ok(None),
-        ["rig", groups] => Call::Rig(parse_groups(groups)?),
-        ["claim", clock, groups, length] => Call::Timed(TimedCall::Claim {
-            clock: parse_number("clock", clock)?,
-            groups: parse_groups(groups)?,
-            length: parse_number("length", length)?,
-        }),
-        ["release", clock, ticket] => Call::Timed(TimedCall::Release {
-            clock: parse_number("clock", clock)?,
-            ticket: parse_number("ticket", ticket)?,
-        }),
-        ["withdraw", clock, ticket] => Call::Timed(TimedCall::Withdraw {
-            clock: parse_number("clock", clock)?,
-            ticket: parse_number("ticket", ticket)?,
-        }),
-        ["clock", clock] => Call::Timed(TimedCall::Clock {
-            clock: parse_number("clock", clock)?,
-        }),
-        [kind @ ("rig" | "claim" | "release" | "withdraw" | "clock"), ..] => {
-            return Err(format!("wrong count of values for {kind}"));
-        }
-        [word, ..] => return Err(format!("no call is named {word}")),
-    };
-    Ok(Some(call))
-}
-
-/// A set of groups: hex, or a list if the text has a `,` or a `-`.
-pub fn parse_groups(text: &str) -> Result<u64, String> {
-    if !text.contains([',', '-']) {
-        if text.is_empty() || !text.chars().all(|c| c.is_ascii_hexdigit()) {
-            return Err(format!("groups {text}: not hex"));
-        }
-        return u64::from_str_radix(text, 16).map_err(|error| format!("groups {text}: {error}"));
-    }
-    let mut groups = 0;
-    for part in text.split(',') {
-        let (first, last) = part.split_once('-').unwrap_or((part, part));
-        let first: u32 = parse_number("group", first)?;
-        let last: u32 = parse_number("group", last)?;
-        if first > last || last > 63 {
-            return Err(format!("groups {part}: not within 0 to 63, ascending"));
-        }
-        for group in first..=last {
-            groups |= 1 << group;
-        }
-    }
-    Ok(groups)
-}
-
-/// A number in base ten, digits only.
-fn parse_number<T>(name: &str, text: &str) -> Result<T, String>
-where
-    T: FromStr,
-    T::Err: Display,
-{
-    if !text.chars().all(|c| c.is_ascii_digit()) {
-        return Err(format!("{name} {text}: not a number"));
-    }
-    text.parse()
-        .map_err(|error| format!("{name} {text}: {error}"))
 }

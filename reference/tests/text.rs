@@ -1,106 +1,320 @@
-//! Calls as lines of text.
+//! The planner's text.
 
 mod common;
 
-use common::{claim, clock, for_seeds, release, withdraw};
+use common::{claim, clock, for_seeds, load_of, release, withdraw};
 use reference::generate;
-use reference::load::Call;
-use reference::text::{line, parse, parse_groups, parse_line, print};
+use reference::load::{self, Call, MAX_LOAD};
+use reference::text::{
+    edition_line, groups, line, load_show, load_write, make, Reason, Wrong, MAX_TEXT, REASONS,
+};
+
+/// The load of a text that is right.
+fn made(text: &str) -> Vec<u8> {
+    make(text.as_bytes()).unwrap_or_else(|wrong| panic!("{text}{wrong}"))
+}
+
+/// A text is wrong at this line, for this reason.
+fn wrong(text: &str, line: usize, reason: Reason) {
+    assert_eq!(
+        make(text.as_bytes()),
+        Err(Wrong { line, reason }),
+        "{text:?}"
+    );
+}
 
 #[test]
 fn each_call_has_its_line() {
-    let calls = [
-        (Call::Rig(0xF), "rig F"),
-        (Call::Rig(0), "rig 0"),
-        (Call::Rig(u64::MAX), "rig FFFFFFFFFFFFFFFF"),
-        (Call::Timed(claim(12, 0xAB, 10)), "claim 12 AB 10"),
-        (Call::Timed(release(4, 1)), "release 4 1"),
-        (Call::Timed(withdraw(0, 65_535)), "withdraw 0 65535"),
-        (Call::Timed(clock(u64::MAX)), "clock 18446744073709551615"),
-    ];
-    for (call, text) in calls {
+    for (call, text) in [
+        (Call::Rig(0xF), "rig F\n"),
+        (Call::Rig(0), "rig 0\n"),
+        (Call::Rig(u64::MAX), "rig FFFFFFFFFFFFFFFF\n"),
+    ] {
         assert_eq!(line(call), text);
-        assert_eq!(parse_line(text), Ok(Some(call)));
+        assert_eq!(made(text), load::join(&[call]));
+    }
+    for (call, text) in [
+        (claim(12, 0xAB, 10), "claim 12 AB 10\n"),
+        (release(4, 1), "release 4 1\n"),
+        (withdraw(0, 65_535), "withdraw 0 65535\n"),
+        (clock(u64::MAX), "clock 18446744073709551615\n"),
+    ] {
+        assert_eq!(line(Call::Timed(call)), text);
+        assert_eq!(made(&format!("rig F\n{text}")), load_of(0xF, &[call]));
     }
 }
 
 #[test]
-fn comments_and_blank_lines_are_skipped() {
-    let text = "# a rig\nrig F # four groups\n\n   \n\tclaim  0 8   10#first\nclock 3\r\n";
-    let calls = vec![
-        Call::Rig(0xF),
-        Call::Timed(claim(0, 8, 10)),
-        Call::Timed(clock(3)),
-    ];
-    assert_eq!(parse(text), Ok(calls.clone()));
-    assert_eq!(print(&calls), "rig F\nclaim 0 8 10\nclock 3\n");
-    assert_eq!(parse(""), Ok(vec![]));
+fn what_a_line_may_have_beside_its_words() {
+    let load = load_of(0xF, &[claim(0, 8, 10), clock(3)]);
+    for text in [
+        "# a rig\nrig F # four groups\n\n   \n\tclaim  0 8   10#first\nclock 3\r\n",
+        "rig F\r\n\r\n# x\r\nclaim 0 8 10 \r\nclock 3#\r",
+        " rig\tF\t\n claim 000 08 0010\n\nclock 00000000000000000000000003",
+        "rig F # edition 2\nclaim 0 3, 10\n#\r# x\nclock 3 # # \x0B",
+    ] {
+        assert_eq!(made(text), load, "{text:?}");
+    }
+    for text in ["", "\n", "\r", " \t\n# x", "#\n\r\n"] {
+        assert_eq!(made(text), [1], "{text:?}");
+    }
+    for (text, reason) in [
+        ("rig F\r\r\n", Reason::Groups),
+        ("rig F\r#\n", Reason::Groups),
+        ("rig F \r \n", Reason::TooMany),
+        ("\rrig F\n", Reason::UnknownCall),
+        ("rig\x0BF\n", Reason::UnknownCall),
+        ("rig\u{A0}F\n", Reason::UnknownCall),
+        ("\u{FEFF}rig F\n", Reason::UnknownCall),
+        ("rig F\x0C\n", Reason::Groups),
+        ("rig F\0\n", Reason::Groups),
+    ] {
+        wrong(text, 1, reason);
+    }
+    let bytes = Wrong {
+        line: 2,
+        reason: Reason::Clock,
+    };
+    assert_eq!(make(b"rig F # \xFF\nclock 1\xFF"), Err(bytes));
 }
 
 #[test]
 fn groups_are_hex_or_a_list() {
-    for (text, groups) in [
+    for (text, set) in [
         ("0", 0),
         ("3", 3),
         ("10", 0x10),
-        ("ab", 0xAB),
+        ("aB", 0xAB),
         ("00000000000000000F", 0xF),
+        ("FFFFFFFFFFFFFFFF", u64::MAX),
         ("0,3,5-7", 0b1110_1001),
-        ("3-3", 0b1000),
+        ("5,", 0b10_0000),
+        ("5-5", 0b10_0000),
+        ("5-5,", 0b10_0000),
         ("0-63", u64::MAX),
         ("10,11", 0xC00),
         ("63,0", 0x8000_0000_0000_0001),
         ("1,1,1-2", 0b110),
+        ("0000000000000000000000000000000000000000001,", 0b10),
     ] {
-        assert_eq!(parse_groups(text), Ok(groups), "{text}");
+        assert_eq!(groups(text.as_bytes()), Ok(set), "{text}");
     }
-    for text in [
-        "",
-        "G",
-        "0x3",
-        "+3",
-        "1,",
-        ",1",
-        "-",
-        "1-",
-        "-1",
-        "7-5",
-        "64,0",
-        "0-64",
-        "1-2-3",
-        "a,b",
-        "1,,2",
-        "10000000000000000",
+    for (reason, texts) in [
+        (
+            Reason::Groups,
+            &[
+                "G", "0x3", "+3", ",", ",,", "1,,", ",1", "-", "1-", "-1", "1-,", "1-2-3", "1-0-3",
+                "1-64-3", "a,b", "1,A", "1,,2", "a-70", "x,70", "-70", "1--2",
+            ][..],
+        ),
+        (
+            Reason::GroupTooLarge,
+            &[
+                "64,",
+                "64,0",
+                "0-64",
+                "70-5",
+                "5-70,x",
+                "70-a",
+                "70-",
+                "64-2-3",
+                "18446744073709551617,",
+                "340282366920938463463374607431768211457,",
+            ],
+        ),
+        (Reason::Backward, &["7-5", "7-5,x", "63-0,64"]),
+        (
+            Reason::TooLarge,
+            &[
+                "10000000000000000",
+                "1FFFFFFFFFFFFFFFF",
+                "100000000000000000000000000000001",
+            ],
+        ),
     ] {
-        assert!(parse_groups(text).is_err(), "{text}");
+        for text in texts {
+            assert_eq!(groups(text.as_bytes()), Err(reason), "{text}");
+        }
     }
 }
 
 #[test]
-fn errors_name_their_line() {
-    for (text, start) in [
+fn numbers_go_up_to_what_their_fields_carry() {
+    let text = "rig F\nclaim 18446744073709551615 F 4294967295\nrelease 0 65535\nwithdraw 7 0\n";
+    let calls = [
+        claim(u64::MAX, 0xF, u32::MAX),
+        release(0, u16::MAX),
+        withdraw(7, 0),
+    ];
+    assert_eq!(made(text), load_of(0xF, &calls));
+    for (call, reason) in [
+        ("clock 18446744073709551616", Reason::TooLarge),
         (
-            "rig F\nclaim 0 8\n",
-            "line 2: wrong count of values for claim",
+            "clock 340282366920938463463374607431768211456",
+            Reason::TooLarge,
         ),
-        ("\n\nrelease 1 65536", "line 3: ticket 65536"),
-        ("clock 18446744073709551616", "line 1: clock"),
-        ("claim 0 8 4294967296", "line 1: length"),
-        ("claim -1 8 1", "line 1: clock -1: not a number"),
-        ("claim +1 8 1", "line 1: clock +1: not a number"),
-        ("look 1", "line 1: no call is named look"),
-        ("rig", "line 1: wrong count of values for rig"),
-        ("Rig F", "line 1: no call is named Rig"),
+        ("clock 99999999999999999999999999x", Reason::Clock),
+        ("clock -1", Reason::Clock),
+        ("clock +1", Reason::Clock),
+        ("clock 1,", Reason::Clock),
+        ("claim 0 F 4294967296", Reason::TooLarge),
+        ("claim 0 F A", Reason::Length),
+        ("release 0 65536", Reason::TooLarge),
+        ("withdraw 0 0x1", Reason::Ticket),
     ] {
-        let error = parse(text).unwrap_err();
-        assert!(error.starts_with(start), "{error}");
+        wrong(&format!("rig F\n{call}\n"), 2, reason);
+    }
+}
+
+#[test]
+fn the_first_test_that_fails_decides() {
+    for (text, line, reason) in [
+        ("rig F\n\nlook 1\n", 3, Reason::UnknownCall),
+        ("Rig F\n", 1, Reason::UnknownCall),
+        ("rigs\n", 1, Reason::UnknownCall),
+        ("rig # F\n", 1, Reason::Missing),
+        ("rig F\nclaim x y\n", 2, Reason::Missing),
+        ("rig F\nclock x y\n", 2, Reason::TooMany),
+        (
+            "rig F\nclaim 99999999999999999999 x y\n",
+            2,
+            Reason::TooLarge,
+        ),
+        ("rig F\nclaim x 64, y\n", 2, Reason::Clock),
+        ("rig F\nclaim 0 64, y\n", 2, Reason::GroupTooLarge),
+        ("rig F\nrig x\n", 2, Reason::Groups),
+        ("clock x\nrig F\n", 1, Reason::Clock),
+        ("clock 0\nrig F\n", 1, Reason::RigNotFirst),
+        ("rig F\nclock 0\nrig F\n", 3, Reason::RigNotFirst),
+        ("rig F\nclock\nedition 2\nfoo\n", 2, Reason::Missing),
+    ] {
+        wrong(text, line, reason);
+    }
+}
+
+#[test]
+fn an_edition_may_stand_before_the_first_call() {
+    let load = load_of(0xF, &[]);
+    for text in [
+        "edition 1\nrig F\n",
+        "# x\n\n \t edition 001 # y\r\nrig F\n",
+        "#edition 2\nedition\t1#\n# edition 2\n\nrig F",
+        "edition 000000000000000000000000000000000000000000000001\nrig F\n",
+    ] {
+        assert_eq!(made(text), load, "{text:?}");
+    }
+    assert_eq!(made("edition 1"), [1]);
+    for number in [
+        "0",
+        "2",
+        "255",
+        "256",
+        "257",
+        "65537",
+        "4294967297",
+        "18446744073709551617",
+        "340282366920938463463374607431768211457",
+        "one",
+        "+1",
+        "1,",
+        "0x1",
+    ] {
+        wrong(
+            &format!("# x\n\nedition {number}\nfoo\n"),
+            3,
+            Reason::Edition,
+        );
+    }
+    for (text, line, reason) in [
+        ("edition\n", 1, Reason::Missing),
+        ("edition # 1\nrig F\n", 1, Reason::Missing),
+        ("edition 1 1\n", 1, Reason::TooMany),
+        ("edition x y\n", 1, Reason::TooMany),
+        ("Edition 1\n", 1, Reason::UnknownCall),
+        ("edition1\n", 1, Reason::UnknownCall),
+        ("edition 1\nedition 1\n", 2, Reason::UnknownCall),
+        ("edition 1\n\nedition\n", 3, Reason::UnknownCall),
+        ("rig F\nedition 1\n", 2, Reason::UnknownCall),
+        ("foo\nedition 1\n", 1, Reason::UnknownCall),
+        ("edition 1\nclock 0\n", 2, Reason::RigNotFirst),
+        ("edition 1\nrig F\n\nclock\n", 4, Reason::Missing),
+    ] {
+        wrong(text, line, reason);
+    }
+}
+
+#[test]
+fn editions_other_than_1_are_printed() {
+    assert_eq!(edition_line(1), "# edition 1\n");
+    assert_eq!(edition_line(2), "edition 2\n");
+    assert_eq!(edition_line(255), "edition 255\n");
+}
+
+/// The edition byte, the rig and 5,956 clocks are 65,528 bytes.
+#[test]
+fn a_load_has_its_greatest_length() {
+    let full = "rig F\n".to_string() + &"clock 1\n".repeat(5_956);
+    assert_eq!(made(&full).len(), 65_528);
+    for (more, reason) in [
+        ("clock 1", Reason::LoadTooLong),
+        ("rig F", Reason::RigNotFirst),
+        ("clock x", Reason::Clock),
+        ("rig x", Reason::Groups),
+    ] {
+        wrong(&format!("{full}\n{more}\nfoo\n"), 5_959, reason);
+    }
+    for size in [MAX_LOAD - 1, MAX_LOAD] {
+        let load = generate::sized_load(1, size).expect("a load of that size");
+        assert_eq!(made(&load_show(&load)), load);
+    }
+}
+
+#[test]
+fn a_text_has_its_greatest_length() {
+    let mut text = b"rig F\n".to_vec();
+    text.resize(MAX_TEXT, b'\n');
+    assert_eq!(load_write(&text), (load_of(0xF, &[]), Vec::new()));
+    text.push(b'\n');
+    let message = b"text over 1,048,576 bytes\n".to_vec();
+    assert_eq!(load_write(&text), (Vec::new(), message.clone()));
+    text[0] = b'x';
+    assert_eq!(load_write(&text), (Vec::new(), message));
+}
+
+#[test]
+fn a_wrong_line_is_reported_and_nothing_written() {
+    let message = b"line 2: a number is missing\n".to_vec();
+    assert_eq!(load_write(b"rig F\nclock\n"), (Vec::new(), message));
+    let numbers: Vec<u8> = REASONS.iter().map(|reason| reason.number()).collect();
+    let expected = [11, 13, 14, 101, 102, 103, 104, 105, 106, 107, 108, 109, 110];
+    assert_eq!(numbers, expected);
+}
+
+#[test]
+fn loads_are_shown() {
+    let rig = load_of(0xF, &[]);
+    let second = [&rig[..], &rig[1..]].concat();
+    let cut = [&load_of(0xF, &[clock(7)])[..], &[0, 11, 3]].concat();
+    let header = "# edition 1\n";
+    for (load, text) in [
+        (&b""[..], "# stop 12 0\n".to_string()),
+        (&[0xFF], "# stop 11 0\n".to_string()),
+        (&[2, 0, 0], "# stop 11 0\n".to_string()),
+        (&[1; MAX_LOAD + 1], "# stop 14 0\n".to_string()),
+        (&[1], header.to_string()),
+        (&[1, 0], format!("{header}# stop 12 1\n")),
+        (&[1, 0, 0], format!("{header}# stop 13 1\n")),
+        (&second, format!("{header}rig F\n# stop 13 2\n")),
+        (&cut, format!("{header}rig F\nclock 7\n# stop 12 3\n")),
+    ] {
+        assert_eq!(load_show(load), text);
     }
 }
 
 #[test]
 fn text_goes_round() {
     for_seeds(0..200, |seed| {
-        let calls = generate::run(seed).load_calls();
-        assert_eq!(parse(&print(&calls)), Ok(calls));
+        let load = generate::load(seed);
+        assert_eq!(made(&load_show(&load)), load);
     });
 }

@@ -1,7 +1,8 @@
 //! The proved library as Rust sees it, and what a comparison prints where the
 //! two differ.
 
-use reference::{load, shrink, text};
+use reference::load::Reader;
+use reference::{shrink, text};
 use std::io::Write;
 use std::path::PathBuf;
 use std::process::{Command, Stdio};
@@ -79,22 +80,21 @@ pub fn cases(variable: &str, otherwise: u64) -> u64 {
 }
 
 /// A load as lines of text, as far as it reads, for a report.
-pub fn shown(bytes: &[u8]) -> String {
-    let mut calls = Vec::new();
-    let mut position = 1;
-    while let Ok(load::Next::Call { call, next }) = load::next_call(bytes, position) {
-        calls.push(call);
-        position = next;
+pub fn shown(load: &[u8]) -> String {
+    let mut position = 0;
+    if let Ok(mut reader) = Reader::open(load) {
+        while let Ok(Some(_)) = reader.read() {}
+        position = reader.position();
     }
-    let rest: Vec<String> = bytes[position.min(bytes.len())..]
+    let rest: Vec<String> = load[position..]
         .iter()
         .take(64)
         .map(|b| format!("{b:02X}"))
         .collect();
     format!(
         "{}# {} bytes in all; unread: {}\n",
-        text::print(&calls),
-        bytes.len(),
+        text::load_show(load),
+        load.len(),
         rest.join(" ")
     )
 }

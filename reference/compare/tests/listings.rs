@@ -188,7 +188,7 @@ fn agreed(load: &[u8]) -> String {
 #[test]
 fn the_fifteen_scenarios() {
     for (text, last) in scenarios().iter().zip(LAST_LINES) {
-        let load = load::join(&text::parse(text).expect("a load's text"));
+        let load = text::make(text.as_bytes()).expect("a load's text");
         let listing = agreed(&load);
         assert!(listing.ends_with(last), "{text}gives\n{listing}");
     }
@@ -207,7 +207,7 @@ fn the_fifteen_scenarios() {
 #[test]
 fn the_sample() {
     let text = format!("rig F\n{S}claim 0 3 20\nrelease 4 1\n");
-    let load = load::join(&text::parse(&text).expect("a load's text"));
+    let load = text::make(text.as_bytes()).expect("a load's text");
     assert_eq!(
         agreed(&load),
         "rec answer ticket start\n1 0 0 0\n2 0 1 0\non 1 0\n3 0 2 10\n4 0 3 20\n\
