@@ -10,6 +10,7 @@
 
 pub mod answers;
 pub mod generate;
+pub mod generate_text;
 pub mod listing;
 pub mod load;
 pub mod monitor;

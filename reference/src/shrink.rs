@@ -1,5 +1,6 @@
 //! Makes a load smaller while a difference that it shows stays: drops records,
-//! then lowers the values of fields.
+//! then lowers the values of fields. Makes a text smaller: drops lines, then
+//! bytes.
 
 use crate::load::{self, Call};
 use crate::table::{Table, TimedCall};
@@ -291,4 +292,37 @@ fn fewer(groups: u64) -> Vec<u64> {
     sets.retain(|&other| other < groups);
     sets.dedup();
     sets
+}
+
+/// A text that is not longer and for which `still_differs` holds, if it holds
+/// for the given one; else the given one.
+pub fn shrink_text(text: &[u8], mut still_differs: impl FnMut(&[u8]) -> bool) -> Vec<u8> {
+    if !still_differs(text) {
+        return text.to_vec();
+    }
+    let mut lines: Vec<&[u8]> = text.split_inclusive(|&byte| byte == b'\n').collect();
+    drop_runs(&mut lines, |lines| still_differs(&lines.concat()));
+    let mut bytes = lines.concat();
+    drop_runs(&mut bytes, still_differs);
+    bytes
+}
+
+/// Drops runs of items, from long ones to single ones; of very many items only
+/// the longer runs.
+fn drop_runs<T: Clone>(items: &mut Vec<T>, mut holds: impl FnMut(&[T]) -> bool) {
+    let least = items.len() / 4_096;
+    let mut size = items.len();
+    while size > least {
+        let mut to = items.len();
+        while to > 0 {
+            let from = to.saturating_sub(size);
+            let mut fewer = items.clone();
+            fewer.drain(from..to);
+            if holds(&fewer) {
+                *items = fewer;
+            }
+            to = from;
+        }
+        size /= 2;
+    }
 }

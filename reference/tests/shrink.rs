@@ -5,7 +5,7 @@ mod common;
 use common::{claim, for_seeds, listing, load_of, release, withdraw};
 use reference::generate::{self, Shape};
 use reference::load::{self, Call};
-use reference::shrink::shrink;
+use reference::shrink::{shrink, shrink_text};
 use reference::table::{Table, TimedCall};
 
 /// Whether some line of the listing has this answer.
@@ -117,4 +117,16 @@ fn what_is_left_still_differs_and_is_no_larger() {
         assert!(differs(&small));
         assert!(small.len() <= load.len());
     });
+}
+
+#[test]
+fn texts_shrink_to_the_bytes_that_differ() {
+    let text = b"# a rig\nrig F\nclaim 0 3,x 10 # x\nclock 7\n";
+    let has = |text: &[u8]| text.windows(2).any(|bytes| bytes == b",x");
+    assert_eq!(shrink_text(text, has), b",x");
+    assert_eq!(shrink_text(text, |_| false), text);
+    assert_eq!(shrink_text(text, |_| true), b"");
+    let long = b"\n".repeat(50_000);
+    let small = shrink_text(&long, |text| text.len() > 30_000);
+    assert!((30_001..31_000).contains(&small.len()));
 }

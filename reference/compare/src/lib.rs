@@ -4,8 +4,10 @@
 use reference::load::Reader;
 use reference::{shrink, text};
 use std::io::Write;
+use std::ops::Range;
 use std::path::PathBuf;
 use std::process::{Command, Stdio};
+use std::thread;
 
 mod proved {
     extern "C" {
@@ -53,30 +55,52 @@ pub fn program(name: &str) -> PathBuf {
         .join(name)
 }
 
-/// What a program writes to standard output when it is given these bytes.
-pub fn output_of(name: &str, input: &[u8]) -> Vec<u8> {
+/// What a program writes to standard output and to standard error when it is given these bytes. Behind the latter
+/// comes an exit status other than 0, with which no comparison is good.
+pub fn outputs_of(name: &str, input: &[u8]) -> (Vec<u8>, Vec<u8>) {
     let mut child = Command::new(program(name))
         .stdin(Stdio::piped())
         .stdout(Stdio::piped())
+        .stderr(Stdio::piped())
         .spawn()
         .unwrap_or_else(|e| panic!("{name} does not start ({e}): run rt check first"));
     let mut stdin = child.stdin.take().expect("a pipe");
-    let bytes = input.to_vec();
-    let writer = std::thread::spawn(move || {
-        // A program may stop reading early.
-        let _ = stdin.write_all(&bytes);
+    let mut output = thread::scope(|scope| {
+        scope.spawn(move || {
+            // A program may stop reading early.
+            let _ = stdin.write_all(input);
+        });
+        child.wait_with_output().expect("an output")
     });
-    let output = child.wait_with_output().expect("an output");
-    writer.join().expect("the writer ends");
-    output.stdout
+    if !output.status.success() {
+        output.stderr.extend(output.status.to_string().bytes());
+    }
+    (output.stdout, output.stderr)
 }
 
-/// How many cases to run: the number in the environment variable, or else.
-pub fn cases(variable: &str, otherwise: u64) -> u64 {
-    std::env::var(variable)
-        .ok()
-        .and_then(|n| n.parse().ok())
-        .unwrap_or(otherwise)
+/// The same in one, for programs that write nothing to standard error.
+pub fn output_of(name: &str, input: &[u8]) -> Vec<u8> {
+    let (mut output, errors) = outputs_of(name, input);
+    output.extend(errors);
+    output
+}
+
+/// The seeds of a comparison: as many as the environment variable says, or else, from COMPARE_SEED on, or 1.
+pub fn seeds(variable: &str, otherwise: u64) -> Range<u64> {
+    let first = number("COMPARE_SEED", 1);
+    let count = number(variable, otherwise);
+    println!("{variable}: {count} seeds from {first} on");
+    first..first + count
+}
+
+/// The number in an environment variable, or else.
+fn number(variable: &str, otherwise: u64) -> u64 {
+    match std::env::var(variable) {
+        Ok(text) => text
+            .parse()
+            .unwrap_or_else(|_| panic!("{variable}={text} is no number")),
+        Err(_) => otherwise,
+    }
 }
 
 /// A load as lines of text, as far as it reads, for a report.
@@ -103,4 +127,13 @@ pub fn shown(load: &[u8]) -> String {
 pub fn report(seed: u64, load: &[u8], differ: impl FnMut(&[u8]) -> bool) -> ! {
     let small = shrink::shrink(load, differ);
     panic!("seed {seed}: differs; shrunk to\n{}", shown(&small));
+}
+
+/// Fails with the seed and the smallest text found on which the two still differ.
+pub fn report_text(seed: u64, text: &[u8], differ: impl FnMut(&[u8]) -> bool) -> ! {
+    let small = shrink::shrink_text(text, differ);
+    panic!(
+        "seed {seed}: differs; shrunk to\n\"{}\"",
+        small.escape_ascii()
+    );
 }

@@ -1,6 +1,6 @@
 //! The proved listing against the reference, byte for byte.
 
-use compare::{cases, listing, output_of, report};
+use compare::{listing, output_of, report, seeds};
 use reference::generate::{self, Prng};
 use reference::load::{self, Call};
 use reference::table::TimedCall;
@@ -40,10 +40,7 @@ fn check(load: &[u8]) {
 
 #[test]
 fn generated_loads() {
-    let count = cases("COMPARE_LOADS", 20_000);
-    let first = cases("COMPARE_SEED", 1);
-    println!("loads of seeds {first} to {}", first + count - 1);
-    for seed in first..first + count {
+    for seed in seeds("COMPARE_LOADS", 20_000) {
         let load = generate::any_load(seed);
         if differs(&load) {
             report(seed, &load, differs);
@@ -109,7 +106,7 @@ fn loads_of_the_greatest_length() {
 
 #[test]
 fn the_program_prints_the_same() {
-    for seed in 1..=cases("COMPARE_PROGRAMS", 300) {
+    for seed in seeds("COMPARE_PROGRAMS", 300) {
         let load = generate::any_load(seed);
         let expected = reference::listing::listing(&load);
         assert!(output_of("cue", &load) == expected, "seed {seed}");
@@ -120,10 +117,7 @@ fn the_program_prints_the_same() {
 #[test]
 fn whole_answers() {
     let differs = |load: &[u8]| output_of("try_answers", load) != reference::answers::answers(load);
-    let count = cases("COMPARE_ANSWERS", 2_000);
-    let first = cases("COMPARE_SEED", 1);
-    println!("answers to loads of seeds {first} to {}", first + count - 1);
-    for seed in first..first + count {
+    for seed in seeds("COMPARE_ANSWERS", 2_000) {
         let load = generate::any_load(seed);
         let load = &load[..load.len().min(2_500)];
         if differs(load) {

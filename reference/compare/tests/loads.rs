@@ -1,6 +1,6 @@
 //! The proved reader and writer against the reference: the program `try_loads` prints what they answer on a load.
 
-use compare::{cases, output_of, report};
+use compare::{output_of, report, seeds};
 use reference::generate;
 use reference::load::{self, Call};
 use reference::table::TimedCall;
@@ -30,13 +30,7 @@ fn last_lines(answers: [(u8, usize); 4]) -> String {
 
 #[test]
 fn reader_and_writer_on_generated_loads() {
-    let count = cases("COMPARE_TRIES", 500);
-    let first = cases("COMPARE_SEED", 1);
-    println!(
-        "reader and writer on loads of seeds {first} to {}",
-        first + count - 1
-    );
-    for seed in first..first + count {
+    for seed in seeds("COMPARE_TRIES", 500) {
         let load = generate::any_load(seed);
         if differs(&load) {
             report(seed, &load, differs);

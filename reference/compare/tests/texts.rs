@@ -1,0 +1,158 @@
+//! The proved programs `load_write` and `load_show` against the reference: loads, messages and texts, byte for byte.
+
+use compare::{outputs_of, report, report_text, seeds};
+use reference::generate::{self, Shape};
+use reference::generate_text::any_text;
+use reference::text::{load_show, load_write, MAX_TEXT};
+
+fn write_differs(text: &[u8]) -> bool {
+    outputs_of("load_write", text) != load_write(text)
+}
+
+fn show_differs(load: &[u8]) -> bool {
+    outputs_of("load_show", load) != (load_show(load).into_bytes(), Vec::new())
+}
+
+/// What both write to standard output and to standard error.
+fn agreed(text: &[u8]) -> (Vec<u8>, Vec<u8>) {
+    if write_differs(text) {
+        report_text(0, text, write_differs);
+    }
+    load_write(text)
+}
+
+/// The load of each text is shown; where a text is wrong, a damaged load instead.
+#[test]
+fn generated_texts() {
+    for seed in seeds("COMPARE_TEXTS", 4_000) {
+        let text = any_text(seed);
+        if write_differs(&text) {
+            report_text(seed, &text, write_differs);
+        }
+        let mut load = load_write(&text).0;
+        if load.is_empty() {
+            load = generate::damage(&generate::run_of(Shape::Short, seed).load(), seed);
+        }
+        if show_differs(&load) {
+            report(seed, &load, show_differs);
+        }
+    }
+}
+
+/// The text and the load of six records of docs/FORMAT.md.
+#[test]
+fn the_sample() {
+    let text = b"rig 0-3              # or: rig F\nclaim 0 3, 10        # or: claim 0 8 10\n\
+        claim 0 2,3 10\nclaim 0 1,2 11\nclaim 0 0,1 20\nrelease 4 1\n";
+    let hex = "01000901000000000000000F00150200000000000000000000000000000008\
+        0000000A0015020000000000000000000000000000000C0000000A00150200000\
+        0000000000000000000000000060000000B001502000000000000000000000000\
+        0000000300000014000B0300000000000000040001";
+    let load: Vec<u8> = (0..hex.len())
+        .step_by(2)
+        .map(|at| u8::from_str_radix(&hex[at..at + 2], 16).expect("hex"))
+        .collect();
+    assert_eq!(agreed(text), (load.clone(), Vec::new()));
+    assert!(!show_differs(&load));
+    let shown =
+        "# edition 1\nrig F\nclaim 0 8 10\nclaim 0 C 10\nclaim 0 6 11\nclaim 0 3 20\nrelease 4 1\n";
+    assert_eq!(load_show(&load), shown);
+    assert_eq!(agreed(shown.as_bytes()).0, load);
+}
+
+/// A line for each reason of docs/FORMAT.md that a short text can have.
+#[test]
+fn the_reasons() {
+    for (line, reason) in [
+        ("look 1", "unknown call"),
+        ("clock", "a number is missing"),
+        ("clock 1 2", "too many words"),
+        ("clock x", "clock is not a number"),
+        ("release 0 x", "ticket is not a number"),
+        ("claim 0 F x", "length is not a number"),
+        ("claim 0 x 1", "groups are not hex or a list"),
+        ("withdraw 0 65536", "number too large"),
+        ("claim 0 64, 1", "group over 63"),
+        ("claim 0 7-5 1", "range runs backward"),
+        ("rig F", "rig must be first"),
+        ("edition 1", "unknown call"),
+    ] {
+        let message = format!("line 4: {reason}\n").into_bytes();
+        let text = format!("# x\nrig F\n\n{line}\nfoo\n");
+        assert_eq!(agreed(text.as_bytes()), (Vec::new(), message), "{line}");
+    }
+    for number in 0..=300 {
+        let (load, message) = agreed(format!("\n# x\nedition {number}\n").as_bytes());
+        if number == 1 {
+            assert_eq!((load, message), (vec![1], Vec::new()));
+        } else {
+            assert_eq!(message, b"line 3: unknown edition\n", "{number}");
+        }
+    }
+}
+
+/// Each byte between words, inside them and at both ends of a line.
+#[test]
+fn every_byte_in_every_place() {
+    for byte in 0..=255 {
+        for text in [
+            &b"?rig F"[..],
+            b"rig?F\n",
+            b"rig F?\n",
+            b"r?ig F\n",
+            b"edition?1\nrig F",
+            b"rig F\nclock 1?\nclock 2\n",
+        ] {
+            let text: Vec<u8> = text
+                .iter()
+                .map(|&other| if other == b'?' { byte } else { other })
+                .collect();
+            agreed(&text);
+        }
+    }
+}
+
+/// Every word of up to four of these parts as groups.
+#[test]
+fn every_short_list() {
+    let mut words = vec![String::new()];
+    for _ in 0..4 {
+        words = words
+            .iter()
+            .flat_map(|word| ["0", "7", "64", "x", "-", ","].map(|part| word.clone() + part))
+            .collect();
+        for word in &words {
+            agreed(format!("rig {word}\n").as_bytes());
+        }
+    }
+}
+
+#[test]
+fn texts_of_the_greatest_length() {
+    for size in [MAX_TEXT - 1, MAX_TEXT, MAX_TEXT + 1, MAX_TEXT + 70_000] {
+        for (fill, tail) in [(b'\n', "rig F"), (b' ', "rig F\n"), (b'\n', "\nrig G")] {
+            let mut text = vec![fill; size - tail.len()];
+            text.extend(tail.bytes());
+            agreed(&text);
+        }
+    }
+    assert_eq!(
+        agreed(&vec![b'1'; MAX_TEXT]).1,
+        b"line 1: unknown call\n".to_vec()
+    );
+}
+
+/// The edition byte, the rig and 5,956 clocks are 65,528 bytes.
+#[test]
+fn loads_of_the_greatest_length() {
+    let full = "rig F\n".to_string() + &"clock 1\n".repeat(5_956);
+    assert_eq!(agreed(full.as_bytes()).0.len(), 65_528);
+    for more in ["clock 1", "rig F", "clock x", "edition 1"] {
+        agreed(format!("{full}{more}\nfoo").as_bytes());
+    }
+    for size in [65_535, 65_536, 65_537] {
+        let load = generate::sized_load(1, size).expect("a load of that size");
+        assert!(!show_differs(&load), "{size}");
+        agreed(load_show(&load).as_bytes());
+    }
+}
