@@ -15,7 +15,7 @@ pub fn good_text(seed: u64) -> (Vec<u8>, Vec<u8>) {
     let calls = calls(&mut prng, seed);
     let lines = lines(&mut prng, &calls);
     let mut text = spell(&mut prng, &lines);
-    if prng.one_in(1_000) {
+    if prng.one_in(400) {
         let size = MAX_TEXT - prng.below(2) as usize;
         pad(&mut prng, &mut text, size);
     }
@@ -32,9 +32,10 @@ pub fn any_text(seed: u64) -> Vec<u8> {
     let mut calls = calls(&mut Prng::new(seed), seed);
     let full = load::join(&calls).len() > MAX_LOAD / 2;
     if full {
-        // With more than a load has room for.
-        let more = prng.range(3, 5) as usize;
-        calls.extend(vec![Call::Timed(TimedCall::Clock { clock: 1 }); more]);
+        // With more than a load has room for, a rig perhaps among it.
+        let clock = Call::Timed(TimedCall::Clock { clock: 1 });
+        let more = prng.range(3, 5);
+        calls.extend((0..more).map(|_| prng.pick(&[clock, clock, clock, Call::Rig(1)])));
     }
     let mut lines = lines(&mut prng, &calls);
     let count = prng.pick(if full { &[0, 0, 0, 1] } else { &[0, 1, 1, 2] });
@@ -45,7 +46,7 @@ pub fn any_text(seed: u64) -> Vec<u8> {
     if count == 0 && !full || prng.one_in(8) {
         damage_bytes(&mut prng, &mut text);
     }
-    if prng.one_in(1_000) {
+    if prng.one_in(400) {
         let size = MAX_TEXT + prng.below(3) as usize;
         pad(&mut prng, &mut text, size);
     }
@@ -54,8 +55,9 @@ pub fn any_text(seed: u64) -> Vec<u8> {
 
 /// The calls of a good load: none, some, or now and then as many as go in.
 fn calls(prng: &mut Prng, seed: u64) -> Vec<Call> {
-    if prng.one_in(300) {
-        let size = MAX_LOAD - prng.below(24) as usize;
+    if prng.one_in(150) {
+        let less = prng.below(24) as usize;
+        let size = MAX_LOAD - prng.pick(&[0, less]);
         let load = generate::sized_load(seed, size).expect("a size that goes");
         return load::read_all(&load).expect("a good load");
     }
@@ -477,9 +479,16 @@ const BYTES: &[u8] = b"#\r\n\t ,-+09aAfFgG1\x00\x0B\x0C\x7F\x80\xA0\xFF";
 fn damage_bytes(prng: &mut Prng, text: &mut Vec<u8>) {
     let count = prng.pick(&[1, 1, 2, 5]);
     for _ in 0..count {
-        let at = prng.below(text.len() as u64 + 1) as usize;
+        let mut at = prng.below(text.len() as u64 + 1) as usize;
+        if prng.one_in(2) {
+            // Up to the next byte that parts words or lines.
+            while at < text.len() && !b"#\r\n\t ,-".contains(&text[at]) {
+                at += 1;
+            }
+        }
         match prng.below(8) {
-            0..=3 => text.insert(at, prng.pick(BYTES)),
+            0..=2 => text.insert(at, prng.pick(BYTES)),
+            3 => text.insert(at, b'\r'),
             4 if at < text.len() => text[at] = prng.pick(BYTES),
             5 if at < text.len() => text[at] ^= 1 << prng.below(8),
             6 if at < text.len() => {
