@@ -1,6 +1,7 @@
 //! A second, plain implementation of the claims table, the load and the
-//! listing of document 01, with what is needed to compare it with another:
-//! a generator of loads, a monitor of runs and a shrinker.
+//! listing of document 01 and of the planner's text, with what is needed to
+//! compare it with another: generators of loads and texts, a monitor of runs
+//! and a shrinker.
 //!
 //! Words of this crate and of document 01: contention is its crowd, start
 //! bound its ceiling, lookup its look, refusal and refused its call turned
