@@ -14,7 +14,7 @@ try "cargo clippy" quiet cargo clippy --offline --release --workspace --all-targ
 
 cargo test --offline --release --workspace --no-fail-fast -- --nocapture >"$log" 2>&1
 status=$?
-grep -E '^(test |test result|error|warning|seed |thread )|FAILED|panicked' "$log" | grep -v ' 0 passed; 0 failed' | cut -c1-300
+grep -E '^(test |test result|error|warning|seed |thread |COMPARE_)|FAILED|panicked' "$log" | grep -v ' 0 passed; 0 failed' | cut -c1-300
 # a line for each set of tests: test result: ok. N passed; M failed; ..
 tests_passed=$(awk '/^test result: / { n += $4 } END { print n + 0 }' "$log")
 tests_failed=$(awk '/^test result: / { n += $6 } END { print n + 0 }' "$log")

@@ -2,7 +2,7 @@
 
 use compare::{output_of, report, seeds};
 use reference::generate;
-use reference::load::{self, Call};
+use reference::load::{self, Call, MAX_LOAD};
 use reference::table::TimedCall;
 use reference::tries::tries;
 
@@ -28,10 +28,20 @@ fn last_lines(answers: [(u8, usize); 4]) -> String {
         .concat()
 }
 
+/// The load of a seed. The time for one grows with the square of its length: of the long ones that read, one in eight
+/// is whole.
+fn load_of(seed: u64) -> Vec<u8> {
+    let mut load = generate::any_load(seed);
+    if load.len() <= MAX_LOAD && !seed.is_multiple_of(8) {
+        load.truncate(12_000);
+    }
+    load
+}
+
 #[test]
 fn reader_and_writer_on_generated_loads() {
-    for seed in seeds("COMPARE_TRIES", 500) {
-        let load = generate::any_load(seed);
+    for seed in seeds("COMPARE_TRIES", 1_000) {
+        let load = load_of(seed);
         if differs(&load) {
             report(seed, &load, differs);
         }
