@@ -1,6 +1,6 @@
 -- Calls and their values, there and back: by one induction over the fields of a row, given that they differ (`proper`).
 use Prim.Native.Nat.{ℕ, zero, suc, _-_, _%_, _^_, _≤_, _<_}
-use mathlib.Core.Bool.{Bool, true, false, _||_}
+use mathlib.Core.Bool.{Bool, true, false, _&&_, _||_}
 use mathlib.Core.List.{List, [], _∷_}
 use mathlib.Core.Path.{_≡_, refl, sym, ap, subst, _∙_}
 use native.Mathlib.Omega.{arith}
@@ -51,14 +51,7 @@ pub no-value : (f : ℕ) (c : Call) → fieldCount ≤ f → (0 ≡ valueOf f c)
 unfolding valueOf numbers fieldWidths
 no-value f c h = (sym (List·getD-eq-default (numbers c) 0 h), one-le-pow (fieldWidth f) 256 (omega arith))
 
--- A value put into a field, as the code does: what goes into the width of field k, the whole where it is within it, and no field.
-module _ (f v : ℕ) (c : Call) where
-  pub with-part : (k : ℕ) (d : Call) → f ≡ k → d ≡ withValue k (v % 256 ^ fieldWidth k) c → d ≡ withValue f (v % 256 ^ fieldWidth f) c
-  with-part k d e h = rw e h
-
-  pub with-whole : (k : ℕ) (d : Call) → f ≡ k → v < 256 ^ fieldWidth k → d ≡ withValue k v c → d ≡ withValue f (v % 256 ^ fieldWidth f) c
-  with-whole k d e l h = rw (e, mod-eq-of-lt l) h
-
+-- A value put into no field.
 pub with-none : (f w : ℕ) (c : Call) → fieldCount ≤ f → c ≡ withValue f w c
 unfolding withValue made numbers fieldWidths
 with-none f w c h = ap made (sym (set-out (numbers c) f w h))
@@ -83,19 +76,9 @@ same-below (suc n) c d h f l = go (eqb f n) refl (both _ _ h) (same-below n c d)
     go false p q ih = let z = eqb-false f n p in ih (q .1) f (omega (arith, z))
 
 -- One number after the other, the last first.
-module _ (n m : ℕ) (c d : Call) (e : n ≡ suc m) (x y : ℕ) (p : x ≡ valueOf m c) (q : y ≡ valueOf m d) where
-  pub same-not : (x ≡ y → ⊥) → false ≡ sameBelow n c d
-  unfolding sameBelow
-  same-not h = rw (e, ← p, ← q, ne-eqb x y h)
-
-  pub same-more : x ≡ y → sameBelow m c d ≡ sameBelow n c d
-  unfolding sameBelow
-  same-more h = rw (e, ← p, ← q, eq-eqb x y h)
-
-pub same-none : (n : ℕ) (c d : Call) → n ≤ 0 → true ≡ sameBelow n c d
+pub same-next : (n m : ℕ) (c d : Call) → n ≡ suc m → (x y : ℕ) → x ≡ valueOf m c → y ≡ valueOf m d → (eqb x y && sameBelow m c d) ≡ sameBelow n c d
 unfolding sameBelow
-same-none zero c d h = refl
-same-none (suc n) c d h = absurd (omega arith)
+same-next n m c d e x y p q = rw (e, p, q)
 
 pub same-call : (c d : Call) → same c d ≡ true → c ≡ d
 same-call c d h = by-values c d (same-below fieldCount c d h)
@@ -153,16 +136,6 @@ module _ (e k : ℕ) (vs : List ℕ) where
     call-carried h =
         let l : ltb 0 (lengthOf e (callOf e k vs .kind)) ≡ true = ap (λ (j : ℕ). ltb 0 (lengthOf e j)) kind-of-call ∙ lt-ltb 0 (lengthOf e k) h in
         rw (l, same-self fieldCount (kept e (callOf e k vs)) (callOf e k vs) kept-call)
-
--- What an edition can carry: the code's tests.
-module _ (e : ℕ) (c : Call) (n : ℕ) (l : n ≡ lengthOf e (c .kind)) where
-  pub carries-not : n ≡ 0 → false ≡ carries e c
-  unfolding carries
-  carries-not z = rw (le-ltb 0 (lengthOf e (c .kind)) (omega arith))
-
-  pub carries-is : (n ≡ 0 → ⊥) → (d : Call) (r : Bool) → d ≡ kept e c → r ≡ same d c → r ≡ carries e c
-  unfolding carries
-  carries-is z d r p q = q ∙ rw (lt-ltb 0 (lengthOf e (c .kind)) (omega (arith, z))) (ap (λ (x : Call). same x c) p)
 
 pub carries-length : (e : ℕ) (c : Call) → carries e c ≡ true → 0 < lengthOf e (c .kind)
 unfolding carries

@@ -31,14 +31,6 @@ below-passes (suc n) f h i l = go (eqb i n) refl (both (f n) (allBelow n f) h) (
     go true p q ih = rw (eqb-true i n p) (q .0)
     go false p q ih = let z = eqb-false i n p in ih (q .1) i (omega (arith, z))
 
--- A number that is none of those below n.
-pub beyond : (n f : ℕ) → allBelow n (λ i. not (eqb f i)) ≡ true → n ≤ f
-beyond n f h = go (ltb f n) refl
-  where
-    go : (b : Bool) → ltb f n ≡ b → n ≤ f
-    go true p = absurd (false≢true (sym (rw (eq-eqb f f refl)) ∙ below-passes n (λ i. not (eqb f i)) h f (ltb-true f n p)))
-    go false p = ltb-false f n p
-
 agree-same : (a b : Bool) → agree a b ≡ true → a ≡ b
 agree-same true true h = refl
 agree-same true false h = sym h

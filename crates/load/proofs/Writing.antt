@@ -24,43 +24,24 @@ use Rattle.load.proofs.Bytes.{record-length}
 use Rattle.load.proofs.Reading.{or-else, or-first, load-known}
 
 -- ── the tests ──
--- In the code's order: kind is the call's, n the length of its record.
-module _ (e size : ℕ) (c : Call) (room : ℕ) where
-  pub grow-place : inPlace (c .kind) size ≡ false → 13 ≡ growNumber e size c room
-  unfolding growNumber
-  grow-place q = rw q
+-- By the length of the grown load and the room.
+module _ (whole room g : ℕ) (s : roomNumber whole room ≡ g) where
+  pub room-long : 65536 < whole → 14 ≡ g
+  unfolding roomNumber
+  room-long l = rw (lt-ltb 65536 whole l) at s
 
-  pub grow-carried : inPlace (c .kind) size ≡ true → carries e c ≡ false → 13 ≡ growNumber e size c room
-  unfolding growNumber
-  grow-carried p q = rw (p, q)
+  pub room-short : whole ≤ 65536 → room < whole → 15 ≡ g
+  unfolding roomNumber
+  room-short l r = rw (le-ltb 65536 whole l, lt-ltb room whole r) at s
 
-  module _ (p : inPlace (c .kind) size ≡ true) (q : carries e c ≡ true) (n : ℕ) (i : n ≡ lengthOf e (c .kind)) where
-    sizes : roomNumber (size + (2 + n)) room ≡ growNumber e size c room
-    unfolding growNumber
-    sizes = rw (p, q, record-length e c (carries-length e c q), ← i)
-
-    pub grow-long : 65536 < size + (2 + n) → 14 ≡ growNumber e size c room
-    unfolding roomNumber
-    grow-long l = rw (lt-ltb 65536 (size + (2 + n)) l) at sizes
-
-    module _ (l : size + (2 + n) ≤ 65536) where
-      pub grow-room : room < size + (2 + n) → 15 ≡ growNumber e size c room
-      unfolding roomNumber
-      grow-room r = rw (le-ltb 65536 (size + (2 + n)) l, lt-ltb room (size + (2 + n)) r) at sizes
-
-      pub grow-good : size + (2 + n) ≤ room → 0 ≡ growNumber e size c room
-      unfolding roomNumber
-      grow-good r = rw (le-ltb 65536 (size + (2 + n)) l, le-ltb room (size + (2 + n)) r) at sizes
+  pub room-good : whole ≤ 65536 → whole ≤ room → 0 ≡ g
+  unfolding roomNumber
+  room-good l r = rw (le-ltb 65536 whole l, le-ltb room whole r) at s
 
 -- Of a load: t is its own number.
-module _ (s : List ℕ) (c : Call) (room t : ℕ) (z : t ≡ loadNumber s) where
-  pub append-load : (t ≡ 0 → ⊥) → t ≡ appendNumber s c room
-  unfolding appendNumber
-  append-load q = or-first (loadNumber s) (growNumber (editionOf s) (length s) c room) t z q
-
-  pub append-grow : t ≡ 0 → growNumber (editionOf s) (length s) c room ≡ appendNumber s c room
-  unfolding appendNumber
-  append-grow o = rw (sym z ∙ o)
+pub append-grow : (s : List ℕ) (c : Call) (room t : ℕ) → t ≡ loadNumber s → t ≡ 0 → growNumber (editionOf s) (length s) c room ≡ appendNumber s c room
+unfolding appendNumber
+append-grow s c room t z o = rw (sym z ∙ o)
 
 -- A call that grows a load: what number 0 says, and what gives it.
 pub record Grows (s : List ℕ) (c : Call) (room : ℕ) : Type 0 where
@@ -100,19 +81,6 @@ append-some s c room k e z = load-known s (append-parts s c room (sym e ∙ z) .
 
 -- ── a load in the buffer ──
 module _ (out : List ℕ) (n : ℕ) (c : Call) where
-  pub held-none : n ≡ 0 → 12 ≡ heldNumber out n c
-  unfolding heldNumber
-  held-none z = rw z
-
-  module _ (z : n ≡ 0 → ⊥) where
-    pub held-short : length out < n → 15 ≡ heldNumber out n c
-    unfolding heldNumber
-    held-short l = rw (ne-eqb n 0 z, lt-ltb (length out) n l)
-
-    pub held-grow : n ≤ length out → growNumber (editionOf out) n c (length out) ≡ heldNumber out n c
-    unfolding heldNumber
-    held-grow l = rw (ne-eqb n 0 z, le-ltb (length out) n l)
-
   pub held-within : heldNumber out n c ≡ 0 → (0 < n) × (n ≤ length out) × (growNumber (editionOf out) n c (length out) ≡ 0)
   unfolding heldNumber
   held-within h = go (eqb n 0) (ltb (length out) n) refl refl h
@@ -136,11 +104,8 @@ module _ (out : List ℕ) (n : ℕ) (c : Call) where
 
     -- Where they read to their end, growing in place is appending.
     pub grows-in-place : loadNumber (take n out) ≡ 0 → (growAnswer out n c ≡ appendAnswer (take n out) c out) × (growOut out n c ≡ appendOut (take n out) c out)
-    unfolding growAnswer growOut appendAnswer appendOut appendNumber
-    grows-in-place o =
-        let k : heldNumber out n c ≡ orElse (loadNumber (take n out)) (growNumber (editionOf (take n out)) (length (take n out)) c (length out))
-        = sym (held-grow (λ z. omega arith) l) ∙ sym first-number ∙ rw o in
-        rw (← k) (refl, refl)
+    unfolding growAnswer growOut appendAnswer appendOut appendNumber heldNumber
+    grows-in-place o = rw (ne-eqb n 0 (λ z. omega arith), le-ltb (length out) n l, o, first-length, first-edition) (refl, refl)
 
   pub held-known : heldNumber out n c ≡ 0 → Grows (take n out) c (length out)
   held-known h = let q = held-within h in grow-known (take n out) c (length out) (first-number (q .0) (q .1) ∙ q .2)

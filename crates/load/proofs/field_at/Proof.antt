@@ -5,11 +5,11 @@ use Rattle.load.proofs.Format.{no-field, row-field}
 use Rattle.load.proofs.field_at.Statement.{statement}
 use Rattle.load.proofs.field_at.Tie as tie
 
-returns : tie.Need-returns
-returns c = no-field _ _ _ (c .if1 .taken)
-
-returns-2 : tie.Need-returns-2
-returns-2 c = row-field _ _ _ (c .row-of .ensures) _ (omega arith)
-
 pub field-at-spec : {M : Type 1} → statement M
-field-at-spec = tie.close (tie.spec returns (λ c κs. search needs) (λ c. search needs) returns-2)
+field-at-spec =
+    tie.close
+    (tie.spec
+    (λ c. no-field _ _ _ (c .if1 .taken))
+    (λ c κs. search needs)
+    (λ c. search needs)
+    (λ c. row-field _ _ _ (c .row-of .ensures) _ (omega arith)))

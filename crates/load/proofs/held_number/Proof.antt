@@ -1,24 +1,18 @@
 -- `load::held_number` meets its contract: each test in turn.
 use native.Mathlib.Omega.{arith}
-use mathlib.Core.Path.{_∙_}
 use borrow.Author.Needs.{needs}
-use Rattle.load.proofs.Writing.{held-none, held-short, held-grow}
+use borrow.Author.Tests.{lt-ltb, le-ltb, eq-eqb, ne-eqb}
+use Rattle.load.specs.Writing.{heldNumber}
 use Rattle.load.proofs.held_number.Statement.{statement}
 use Rattle.load.proofs.held_number.Tie as tie
 
-returns : tie.Need-returns
-returns c = held-none _ _ _ (c .if1 .taken)
-
-returns-2 : tie.Need-returns-2
-returns-2 c = held-short _ _ _ (c .before .if1 .left) (c .if2 .taken)
-
-shared-slice-read-grow-number : tie.Need-shared-slice-read-grow-number
-shared-slice-read-grow-number c = let z = c .before .before .if1 .left in omega (arith, z)
-
-returns-3 : tie.Need-returns-3
-returns-3 c =
-    let e = c .before .before in
-    c .grow-number .ensures ∙ held-grow _ _ _ (e .before .if1 .left) (e .if2 .left)
-
 pub held-number-spec : {M : Type 1} → statement M
-held-number-spec = tie.close (tie.spec returns returns-2 shared-slice-read-grow-number (λ c κs. search needs) returns-3)
+unfolding heldNumber
+held-number-spec =
+    tie.close
+    (tie.spec
+    (λ c. rw (eq-eqb _ 0 (c .if1 .taken)))
+    (λ c. rw (ne-eqb _ 0 (c .before .if1 .left), lt-ltb _ _ (c .if2 .taken)))
+    (λ c. omega (arith, c .before .before .if1 .left))
+    (λ c κs. search needs)
+    (λ c. let e = c .before .before in rw (ne-eqb _ 0 (e .before .if1 .left), le-ltb _ _ (e .if2 .left)) (c .grow-number .ensures)))

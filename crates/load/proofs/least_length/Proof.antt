@@ -5,9 +5,6 @@ use Rattle.load.specs.Format.{leastLength, leastIn, format, lengthIn, to
 use Rattle.load.proofs.least_length.Statement.{statement}
 use Rattle.load.proofs.least_length.Tie as tie
 
-returns : tie.Need-returns
-unfolding leastLength leastIn format lengthIn total fieldWidth fieldWidths
-returns c = (refl, omega arith)
-
 pub least-length-spec : {M : Type 1} → statement M
-least-length-spec = tie.close (tie.spec returns)
+unfolding leastLength leastIn format lengthIn total fieldWidth fieldWidths
+least-length-spec = tie.close (tie.spec (λ c. (refl, omega arith)))

@@ -7,14 +7,6 @@ use borrow.Author.Needs.{needs}
 use Rattle.load.proofs.misfits.Statement.{statement}
 use Rattle.load.proofs.misfits.Tie as tie
 
-returns : tie.Need-returns
-unfolding misfit
-returns c = rw (eq-eqb _ _ (c .if1 .taken))
-
-returns-2 : tie.Need-returns-2
-unfolding misfit
-returns-2 c = let e = c .before .length-of .ensures in rw (ne-eqb _ _ (c .before .before .if1 .left), ne-eqb _ _ (λ z. c .if2 .taken (z ∙ sym e)))
-
 returns-3 : tie.Need-returns-3
 unfolding misfit
 returns-3 c =
@@ -22,4 +14,12 @@ returns-3 c =
     rw (ne-eqb _ _ (n .before .if1 .left), eq-eqb _ _ (c .before .if2 .left ∙ n .length-of .ensures)) (ap not (c .placed .ensures))
 
 pub misfits-spec : {M : Type 1} → statement M
-misfits-spec = tie.close (tie.spec returns (λ c κs. search needs) returns-2 (λ c κs. search needs) returns-3)
+unfolding misfit
+misfits-spec =
+    tie.close
+    (tie.spec
+    (λ c. rw (eq-eqb _ _ (c .if1 .taken)))
+    (λ c κs. search needs)
+    (λ c. rw (ne-eqb _ _ (c .before .before .if1 .left), ne-eqb _ _ (λ z. c .if2 .taken (z ∙ sym (c .before .length-of .ensures)))))
+    (λ c κs. search needs)
+    returns-3)

@@ -6,25 +6,14 @@ use borrow.Author.Needs.{needs}
 use Rattle.load.proofs.open_number.Statement.{statement}
 use Rattle.load.proofs.open_number.Tie as tie
 
-returns : tie.Need-returns
-unfolding openNumber
-returns c = rw (lt-ltb 65536 _ (c .if1 .taken))
-
-returns-2 : tie.Need-returns-2
-unfolding openNumber
-returns-2 c = rw (le-ltb 65536 _ (c .before .if1 .left), eq-eqb _ _ (c .if2 .taken))
-
-returns-3 : tie.Need-returns-3
-unfolding openNumber
-returns-3 c =
-    let e = c .before .before .before in
-    rw (le-ltb 65536 _ (e .before .if1 .left), ne-eqb _ _ (e .if2 .left), sym (c .before .known .ensures) ∙ c .if3 .taken)
-
-returns-4 : tie.Need-returns-4
-unfolding openNumber
-returns-4 c =
-    let e = c .before .before .before in
-    rw (le-ltb 65536 _ (e .before .if1 .left), ne-eqb _ _ (e .if2 .left), sym (c .before .known .ensures) ∙ c .if3 .left)
-
 pub open-number-spec : {M : Type 1} → statement M
-open-number-spec = tie.close (tie.spec returns returns-2 (λ c. search needs) (λ c κs. search needs) returns-3 returns-4)
+unfolding openNumber
+open-number-spec =
+    tie.close
+    (tie.spec
+    (λ c. rw (lt-ltb 65536 _ (c .if1 .taken)))
+    (λ c. rw (le-ltb 65536 _ (c .before .if1 .left), eq-eqb _ _ (c .if2 .taken)))
+    (λ c. search needs)
+    (λ c κs. search needs)
+    (λ c. let e = c .before .before .before in rw (le-ltb 65536 _ (e .before .if1 .left), ne-eqb _ _ (e .if2 .left), sym (c .before .known .ensures) ∙ c .if3 .taken))
+    (λ c. let e = c .before .before .before in rw (le-ltb 65536 _ (e .before .if1 .left), ne-eqb _ _ (e .if2 .left), sym (c .before .known .ensures) ∙ c .if3 .left)))

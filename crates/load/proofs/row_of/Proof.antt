@@ -4,11 +4,10 @@ use Rattle.load.proofs.Format.{no-row, no-edition}
 use Rattle.load.proofs.row_of.Statement.{statement}
 use Rattle.load.proofs.row_of.Tie as tie
 
-returns : tie.Need-returns
-returns c = rw (c .before .match .keys1) (c .edition-1 .ensures)
-
-returns-2 : tie.Need-returns-2
-returns-2 c = no-row _ _ (no-edition _ _ (c .match .rest .1))
-
 pub row-of-spec : {M : Type 1} → statement M
-row-of-spec = tie.close (tie.spec (λ c κs. search needs) returns returns-2)
+row-of-spec =
+    tie.close
+    (tie.spec
+    (λ c κs. search needs)
+    (λ c. rw (c .before .match .keys1) (c .edition-1 .ensures))
+    (λ c. no-row _ _ (no-edition _ _ (c .match .rest .1))))

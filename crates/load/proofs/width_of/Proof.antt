@@ -1,18 +1,16 @@
 -- `load::width_of` meets its contract: each width is the format's.
 use mathlib.Core.Path.{sym}
 use native.Mathlib.Omega.{arith}
-use borrow.Author.Tests.{ne-eqb}
-use Rattle.load.specs.Format.{fieldCount, fieldWidths, fieldWidth}
-use Rattle.load.proofs.Format.{allBelow, beyond, no-width}
+use Rattle.load.specs.Format.{fieldWidths, fieldWidth}
+use Rattle.load.proofs.Format.{no-width}
 use Rattle.load.proofs.width_of.Statement.{statement}
 use Rattle.load.proofs.width_of.Tie as tie
 
 returns-6 : tie.Need-returns-6
-unfolding fieldWidths allBelow
+unfolding fieldWidths
 returns-6 c =
     let r = c .match .rest in
-    let f = c .before .args .field in
-    (sym (no-width _ (beyond fieldCount f (rw (ne-eqb f 4 (r .1), ne-eqb f 3 (r .0 .1), ne-eqb f 2 (r .0 .0 .1), ne-eqb f 1 (r .0 .0 .0 .1), ne-eqb f 0 (r .0 .0 .0 .0 .1))))), omega arith)
+    (sym (no-width _ (omega (arith, r .1, r .0 .1, r .0 .0 .1, r .0 .0 .0 .1, r .0 .0 .0 .0 .1))), omega arith)
 
 pub width-of-spec : {M : Type 1} → statement M
 unfolding fieldWidth fieldWidths
