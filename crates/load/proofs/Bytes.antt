@@ -17,7 +17,7 @@ use Rattle.load.specs.Calls.{numbers, valueOf, valuesIn, valuesOf, carri
 use Rattle.load.specs.Bytes.{big, fieldBytes, fieldValues, recordBytes, recordsBytes, loadBytes}
 use Rattle.load.specs.Reading.{editionOf}
 use Rattle.load.specs.RoundTrip.{Bytes, Typed}
-use Rattle.load.proofs.Format.{has, length-total}
+use Rattle.load.proofs.Format.{either, has, length-total}
 use Rattle.load.proofs.Calls.{carries-none}
 
 -- ── fields ──
@@ -75,21 +75,17 @@ typed-fits e c t = values-typed (fieldsOf e (c .kind)) c t
 fits-at : (fs : List ℕ) (c : Call) (f : ℕ) → Fit (map fieldWidth fs) (valuesIn fs c) → has f fs ≡ true → valueOf f c < 256 ^ fieldWidth f
 unfolding has
 fits-at [] c f Fit.none h = let z : _≡_ {A = ℕ} 0 1 = cc in absurd (omega arith)
-fits-at (g ∷ fs) c f (Fit.one v r) h = go (eqb f g) refl h (fits-at fs c f r)
-  where
-    go : (b : Bool) → eqb f g ≡ b → (b || has f fs) ≡ true → (has f fs ≡ true → valueOf f c < 256 ^ fieldWidth f) → valueOf f c < 256 ^ fieldWidth f
-    go true p h ih = rw (eqb-true f g p) v
-    go false p h ih = ih h
+fits-at (g ∷ fs) c f (Fit.one v r) h =
+    either (eqb f g) (λ p. rw (eqb-true f g p) v) (λ p. fits-at fs c f r (rw p at h))
 
 -- A call that an edition carries is typed if its kind and values are.
 pub fits-typed : (e : ℕ) (c : Call) → c .kind < 256 → carries e c ≡ true → Fit (widths e (c .kind)) (valuesOf e c) → Typed c
 unfolding widths valuesOf valueOf numbers fieldWidth fieldWidths
 fits-typed e c k h t zero = k
-fits-typed e c k h t (suc f) = go (has (suc f) (fieldsOf e (c .kind))) refl
-  where
-    go : (b : Bool) → has (suc f) (fieldsOf e (c .kind)) ≡ b → valueOf (suc f) c < 256 ^ fieldWidth (suc f)
-    go true p = fits-at (fieldsOf e (c .kind)) c (suc f) t p
-    go false p = rw (carries-none e c f h p) (one-le-pow (fieldWidth (suc f)) 256 (omega arith))
+fits-typed e c k h t (suc f) =
+    either (has (suc f) (fieldsOf e (c .kind)))
+    (λ p. fits-at (fieldsOf e (c .kind)) c (suc f) t p)
+    (λ p. rw (carries-none e c f h p) (one-le-pow (fieldWidth (suc f)) 256 (omega arith)))
 
 -- ── records ──
 pub record-length : (e : ℕ) (c : Call) → 0 < lengthOf e (c .kind) → length (recordBytes e c) ≡ 2 + lengthOf e (c .kind)

@@ -13,7 +13,7 @@ use Rattle.load.specs.declared.Call.{Call}
 use Rattle.load.specs.Format.{fieldWidths, fieldCount, fieldWidth, fieldsOf, lengthOf}
 use Rattle.load.specs.Calls.{numbers, made, valueOf, withValue, bare, filled, callOf, valuesIn, valuesOf, sameBelow, same, kept, carries}
 use Rattle.load.specs.RoundTrip.{Typed}
-use Rattle.load.proofs.Format.{both, has, proper, proper-first, proper-once, proper-rest, fields-proper}
+use Rattle.load.proofs.Format.{both, either, or-false, has, proper, proper-parts, fields-proper}
 
 -- ── one field ──
 -- A list is made of what stands at its places.
@@ -69,11 +69,9 @@ by-values c d h = ap made (sym (listed-is (numbers c) (λ f. valueOf f c) (λ f 
 same-below : (n : ℕ) (c d : Call) → sameBelow n c d ≡ true → (f : ℕ) → f < n → valueOf f c ≡ valueOf f d
 unfolding sameBelow
 same-below zero c d h f l = absurd (omega arith)
-same-below (suc n) c d h f l = go (eqb f n) refl (both _ _ h) (same-below n c d)
-  where
-    go : (b : Bool) → eqb f n ≡ b → (eqb (valueOf n c) (valueOf n d) ≡ true) × (sameBelow n c d ≡ true) → (sameBelow n c d ≡ true → (f : ℕ) → f < n → valueOf f c ≡ valueOf f d) → valueOf f c ≡ valueOf f d
-    go true p q ih = rw (eqb-true f n p) (eqb-true (valueOf n c) (valueOf n d) (q .0))
-    go false p q ih = let z = eqb-false f n p in ih (q .1) f (omega (arith, z))
+same-below (suc n) c d h f l =
+    let q = both (eqb (valueOf n c) (valueOf n d)) (sameBelow n c d) h in
+    either (eqb f n) (λ p. rw (eqb-true f n p) (eqb-true (valueOf n c) (valueOf n d) (q .0))) (λ p. same-below n c d (q .1) f (omega (arith, eqb-false f n p)))
 
 -- One number after the other, the last first.
 pub same-next : (n m : ℕ) (c d : Call) → n ≡ suc m → (x y : ℕ) → x ≡ valueOf m c → y ≡ valueOf m d → (eqb x y && sameBelow m c d) ≡ sameBelow n c d
@@ -92,19 +90,15 @@ same-self (suc n) c d e = rw (eq-eqb (valueOf n c) (valueOf n d) (ap (valueOf n)
 no-kind-byte : (fs : List ℕ) → proper fs ≡ true → has 0 fs ≡ false
 unfolding has
 no-kind-byte [] p = refl
-no-kind-byte (f ∷ fs) p = let q = proper-first f fs p in rw (ne-eqb 0 f (λ z. omega (arith, q .0)), no-kind-byte fs (proper-rest f fs p))
+no-kind-byte (f ∷ fs) p = let q = proper-parts f fs p in rw (ne-eqb 0 f (λ z. omega (arith, q .0)), no-kind-byte fs (q .3))
 
 -- A field that is not among them keeps its value.
 pub filled-other : (fs vs : List ℕ) (c : Call) (f : ℕ) → has f fs ≡ false → valueOf f (filled fs vs c) ≡ valueOf f c
 unfolding filled has
 filled-other [] vs c f h = refl
-filled-other (g ∷ fs) vs c f h = go (eqb f g) (has f fs) refl refl h (filled-other fs (drop 1 vs) (withValue g (getD vs 0 0) c) f)
-  where
-    go : (a b : Bool) → eqb f g ≡ a → has f fs ≡ b → (a || b) ≡ false → (has f fs ≡ false → valueOf f (filled fs (drop 1 vs) (withValue g (getD vs 0 0) c)) ≡ valueOf f (withValue g (getD vs 0 0) c))
-        → valueOf f (filled fs (drop 1 vs) (withValue g (getD vs 0 0) c)) ≡ valueOf f c
-    go true b p q h ih = let z : _≡_ {A = ℕ} 0 1 = cc in absurd (omega arith)
-    go false true p q h ih = let z : _≡_ {A = ℕ} 0 1 = cc in absurd (omega arith)
-    go false false p q h ih = ih q ∙ value-other f g (getD vs 0 0) c p
+filled-other (g ∷ fs) vs c f h =
+    let q = or-false (eqb f g) (has f fs) h in
+    filled-other fs (drop 1 vs) (withValue g (getD vs 0 0) c) f (q .1) ∙ value-other f g (getD vs 0 0) c (q .0)
 
 -- Those among them have the values that were put in.
 filled-values : (fs vs : List ℕ) (c : Call) → proper fs ≡ true → length vs ≡ length fs → valuesIn fs (filled fs vs c) ≡ vs
@@ -114,7 +108,8 @@ filled-values [] (v ∷ vs) c p l = absurd (omega arith)
 filled-values (f ∷ fs) [] c p l = absurd (omega arith)
 filled-values (f ∷ fs) (v ∷ vs) c p l =
     let d = withValue f v c in
-    rw (filled-other fs vs d f (proper-once f fs p), value-same f v c (proper-first f fs p .1), filled-values fs vs d (proper-rest f fs p) (omega arith))
+    let q = proper-parts f fs p in
+    rw (filled-other fs vs d f (q .2), value-same f v c (q .1), filled-values fs vs d (q .3) (omega arith))
 
 -- ── a call from its kind and values ──
 module _ (e k : ℕ) (vs : List ℕ) where
@@ -161,11 +156,8 @@ carries-none e c f h n =
 
 -- ── types ──
 pub typed-with : (f v : ℕ) (c : Call) → f < fieldCount → v < 256 ^ fieldWidth f → Typed c → Typed (withValue f v c)
-typed-with f v c l h t g = go (eqb g f) refl
-  where
-    go : (b : Bool) → eqb g f ≡ b → valueOf g (withValue f v c) < 256 ^ fieldWidth g
-    go true p = rw (eqb-true g f p, value-same f v c l) h
-    go false p = rw (value-other g f v c p) (t g)
+typed-with f v c l h t g =
+    either (eqb g f) (λ p. rw (eqb-true g f p, value-same f v c l) h) (λ p. rw (value-other g f v c p) (t g))
 
 -- The numbers of a call in the code go into their widths.
 pub typed-call : (c : Call) → c .kind < 2 ^ 8 → c .clock < 2 ^ 64 → c .groups < 2 ^ 64 → c .length < 2 ^ 32 → c .ticket < 2 ^ 16 → Typed c

@@ -17,6 +17,14 @@ use Rattle.load.specs.Reading.{agree}
 pub both : (a b : Bool) → (a && b) ≡ true → (a ≡ true) × (b ≡ true)
 both a b h = and-eq-true-iff a b .0 h
 
+pub or-false : (a b : Bool) → (a || b) ≡ false → (a ≡ false) × (b ≡ false)
+or-false true b h = absurd (false≢true (sym h))
+or-false false b h = (refl, h)
+
+pub either : {P : Type 0} (b : Bool) → (b ≡ true → P) → (b ≡ false → P) → P
+either true f g = f refl
+either false f g = g refl
+
 -- A test that holds of all numbers below n.
 unfoldable pub allBelow : ℕ → (ℕ → Bool) → Bool
 allBelow zero f = true
@@ -25,11 +33,9 @@ allBelow (suc n) f = f n && allBelow n f
 pub below-passes : (n : ℕ) (f : ℕ → Bool) → allBelow n f ≡ true → (i : ℕ) → i < n → f i ≡ true
 unfolding allBelow
 below-passes zero f h i l = absurd (omega arith)
-below-passes (suc n) f h i l = go (eqb i n) refl (both (f n) (allBelow n f) h) (below-passes n f)
-  where
-    go : (b : Bool) → eqb i n ≡ b → (f n ≡ true) × (allBelow n f ≡ true) → (allBelow n f ≡ true → (j : ℕ) → j < n → f j ≡ true) → f i ≡ true
-    go true p q ih = rw (eqb-true i n p) (q .0)
-    go false p q ih = let z = eqb-false i n p in ih (q .1) i (omega (arith, z))
+below-passes (suc n) f h i l =
+    let q = both (f n) (allBelow n f) h in
+    either (eqb i n) (λ p. rw (eqb-true i n p) (q .0)) (λ p. below-passes n f (q .1) i (omega (arith, eqb-false i n p)))
 
 agree-same : (a b : Bool) → agree a b ≡ true → a ≡ b
 agree-same true true h = refl
@@ -55,14 +61,11 @@ allRows f (r ∷ rs) = f (r .edition) (r .kind) (r .fields) && allRows f rs
 row-passes : (f : ℕ → ℕ → List ℕ → Bool) (rs : List Row) (e k : ℕ) → allRows f rs ≡ true → (rowIn rs e k .fields ≡ []) ⊎ (f e k (rowIn rs e k .fields) ≡ true)
 unfolding rowIn allRows
 row-passes f [] e k h = inl refl
-row-passes f (r ∷ rs) e k h = go (eqb (r .edition) e) (eqb (r .kind) k) refl refl (both _ _ h) (row-passes f rs e k)
-  where
-    go : (a b : Bool) → eqb (r .edition) e ≡ a → eqb (r .kind) k ≡ b → (f (r .edition) (r .kind) (r .fields) ≡ true) × (allRows f rs ≡ true)
-        → (allRows f rs ≡ true → (rowIn rs e k .fields ≡ []) ⊎ (f e k (rowIn rs e k .fields) ≡ true))
-        → (cond (a && b) r (rowIn rs e k) .fields ≡ []) ⊎ (f e k (cond (a && b) r (rowIn rs e k) .fields) ≡ true)
-    go true true p q t ih = inr (ap (λ (x : ℕ). f x k (r .fields)) (sym (eqb-true (r .edition) e p)) ∙ ap (λ (x : ℕ). f (r .edition) x (r .fields)) (sym (eqb-true (r .kind) k q)) ∙ t .0)
-    go true false p q t ih = ih (t .1)
-    go false b p q t ih = ih (t .1)
+row-passes f (r ∷ rs) e k h =
+    let t = both _ _ h in
+    either (eqb (r .edition) e && eqb (r .kind) k)
+    (λ p. let q = both _ _ p in rw p (inr (rw (← (eqb-true (r .edition) e (q .0)), ← (eqb-true (r .kind) k (q .1))) (t .0))))
+    (λ p. rw p (row-passes f rs e k (t .1)))
 
 -- What is tested: the edition is one of these, the kind from 1 to 5, the fields no more than six.
 abbrev pub editions : List ℕ
@@ -136,30 +139,20 @@ length-total e k h = go (fieldsOf e k) h
     go (f ∷ fs) h = omega arith
 
 -- ── the fields of a row, one after the other ──
--- The parts of `proper`.
-module _ (f : ℕ) (fs : List ℕ) (p : proper (f ∷ fs) ≡ true) where
-  pub proper-first : (0 < f) × (f < fieldCount)
-  unfolding proper
-  proper-first =
-      let q = both (ltb 0 f) (ltb f fieldCount) (both (ltb 0 f && ltb f fieldCount) (not (has f fs) && proper fs) p .0) in
-      (ltb-true 0 f (q .0), ltb-true f fieldCount (q .1))
-
-  others : (not (has f fs) ≡ true) × (proper fs ≡ true)
-  unfolding proper
-  others = both (not (has f fs)) (proper fs) (both (ltb 0 f && ltb f fieldCount) (not (has f fs) && proper fs) p .1)
-
-  pub proper-once : has f fs ≡ false
-  proper-once = not-true (has f fs) (others .0)
-
-  pub proper-rest : proper fs ≡ true
-  proper-rest = others .1
+pub proper-parts : (f : ℕ) (fs : List ℕ) → proper (f ∷ fs) ≡ true → (0 < f) × (f < fieldCount) × (has f fs ≡ false) × (proper fs ≡ true)
+unfolding proper
+proper-parts f fs p =
+    let a = both (ltb 0 f && ltb f fieldCount) (not (has f fs) && proper fs) p in
+    let b = both (ltb 0 f) (ltb f fieldCount) (a .0) in
+    let c = both (not (has f fs)) (proper fs) (a .1) in
+    (ltb-true 0 f (b .0), ltb-true f fieldCount (b .1), not-true (has f fs) (c .0), c .1)
 
 -- Whatever stands at a place is the number of a field or 0.
 pub place-under : (fs : List ℕ) (i : ℕ) → proper fs ≡ true → getD fs i 0 < fieldCount
 unfolding fieldWidths
 place-under [] i p = omega arith
-place-under (f ∷ fs) zero p = proper-first f fs p .1
-place-under (f ∷ fs) (suc i) p = place-under fs i (proper-rest f fs p)
+place-under (f ∷ fs) zero p = proper-parts f fs p .1
+place-under (f ∷ fs) (suc i) p = place-under fs i (proper-parts f fs p .3)
 
 -- At place i a field, or none and the row's end.
 pub rest-some : (fs : List ℕ) (i f : ℕ) → f ≡ getD fs i 0 → (f ≡ 0 → ⊥) → (i < length fs) × (drop i fs ≡ f ∷ drop (i + 1) fs)
@@ -172,8 +165,8 @@ rest-some fs i f e h = let r = go fs i e in (r .0, rw add-one (r .1))
 
 pub rest-none : (fs : List ℕ) (i f : ℕ) → proper fs ≡ true → f ≡ getD fs i 0 → f ≡ 0 → drop i fs ≡ []
 rest-none [] i f p e z = drop-nil i
-rest-none (g ∷ fs) zero f p e z = absurd (omega (arith, e, proper-first g fs p .0))
-rest-none (g ∷ fs) (suc i) f p e z = rest-none fs i f (proper-rest g fs p) e z
+rest-none (g ∷ fs) zero f p e z = absurd (omega (arith, e, proper-parts g fs p .0))
+rest-none (g ∷ fs) (suc i) f p e z = rest-none fs i f (proper-parts g fs p .3) e z
 
 -- ── the code's tables ──
 -- An edition has a rig.

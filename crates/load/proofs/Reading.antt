@@ -17,7 +17,7 @@ use Rattle.load.specs.Bytes.{fieldValues, loadBytes}
 use Rattle.load.specs.Answers.{itemValues}
 use Rattle.load.specs.Reading.{inPlace, lengthField, kindField, short, misfit, readAt, editionOf, itemAt, recordNumber, ItemNumbered}
 use Rattle.load.specs.Reading.{openNumber, Walk, ended, onto, follow, walkIn, walk, orElse, unlessRefused, reading, loadNumber, ReadingTested}
-use Rattle.load.proofs.Format.{least-some, length-least}
+use Rattle.load.proofs.Format.{either, least-some, length-least}
 
 -- ── what stands at a position ──
 -- The call that bytes say, where they are a record.
@@ -31,18 +31,12 @@ read-cases : (P : Item → Type 0) (e at : ℕ) (bs : List ℕ)
     → (2 + lengthField bs ≤ length bs → misfit e at (lengthField bs) (kindField bs) ≡ false → P (Record (callIn e bs) (at + (2 + lengthField bs))))
     → P (readAt e at bs)
 unfolding readAt
-read-cases P e at bs end cut bad good = go (eqb (length bs) 0) (short bs) (misfit e at (lengthField bs) (kindField bs)) refl refl refl
-  where
-    go : (a b m : Bool) → eqb (length bs) 0 ≡ a → short bs ≡ b → misfit e at (lengthField bs) (kindField bs) ≡ m
-        → P (cond a End (cond b (Refused 12) (cond m (Refused 13) (Record (callIn e bs) (at + (2 + lengthField bs))))))
-    go true b m p q r = end (eqb-true (length bs) 0 p)
-    go false true m p q r = cut
-    go false false true p q r = bad
-    go false false false p q r = good (ltb-false (length bs) (2 + lengthField bs) q) r
-
-read-end : (e at : ℕ) (bs : List ℕ) → length bs ≡ 0 → readAt e at bs ≡ End
-unfolding readAt
-read-end e at bs h = rw (h)
+read-cases P e at bs end cut bad good =
+    either (eqb (length bs) 0)
+    (λ p. rw p (end (eqb-true (length bs) 0 p)))
+    (λ p. either (short bs)
+      (λ q. rw (p, q) cut)
+      (λ q. either (misfit e at (lengthField bs) (kindField bs)) (λ r. rw (p, q, r) bad) (λ r. rw (p, q, r) (good (ltb-false (length bs) (2 + lengthField bs) q) r))))
 
 pub read-record : (e at : ℕ) (bs : List ℕ) → 2 + lengthField bs ≤ length bs → misfit e at (lengthField bs) (kindField bs) ≡ false
     → readAt e at bs ≡ Record (callIn e bs) (at + (2 + lengthField bs))
@@ -54,15 +48,11 @@ read-record e at bs h m =
 pub item-numbered : ItemNumbered
 unfolding itemAt readAt recordNumber
 item-numbered s at =
-    go (eqb (length (drop at s)) 0) (short (drop at s)) (misfit (editionOf s) at (lengthField (drop at s)) (kindField (drop at s)))
-    (callIn (editionOf s) (drop at s)) (at + (2 + lengthField (drop at s)))
-  where
-    go : (a b m : Bool) (c : Call) (next : ℕ)
-        → _≡_ {A = ℕ} (itemValues at (cond a End (cond b (Refused 12) (cond m (Refused 13) (Record c next)))) .number) (cond a 0 (cond b 12 (cond m 13 0)))
-    go true b m c next = refl
-    go false true m c next = refl
-    go false false true c next = refl
-    go false false false c next = refl
+    either (eqb (length (drop at s)) 0)
+    (λ p. rw p)
+    (λ p. either (short (drop at s))
+      (λ q. rw (p, q))
+      (λ q. either (misfit (editionOf s) at (lengthField (drop at s)) (kindField (drop at s))) (λ r. rw (p, q, r)) (λ r. rw (p, q, r))))
 
 pub with-number : (s : List ℕ) (at : ℕ) (r : Item) → r ≡ itemAt s at → (r ≡ itemAt s at) × (itemValues at r .number ≡ recordNumber s at)
 with-number s at r e = (e, ap (λ (x : Item). itemValues at x .number) e ∙ item-numbered s at)
@@ -119,20 +109,18 @@ step-end s at h =
     nothing (b ∷ bs) h = absurd (omega arith)
 
 pub step-past : (s : List ℕ) (at : ℕ) → length s ≤ at → itemAt s at ≡ End
-unfolding itemAt
-step-past s at h = read-end (editionOf s) at (drop at s) (ap length (drop-of-length-le s {i = at} h))
+unfolding itemAt readAt
+step-past s at h = rw (drop-of-length-le s {i = at} h)
 
 -- A record that fits has the length of its kind, and is in its place.
 pub misfit-not : (e at n k : ℕ) → misfit e at n k ≡ false → (0 < n) × (n ≡ lengthOf e k) × (inPlace k at ≡ true)
 unfolding misfit
-misfit-not e at n k h = go (eqb n 0) (eqb n (lengthOf e k)) (inPlace k at) refl refl refl h
-  where
-    go : (a b c : Bool) → eqb n 0 ≡ a → eqb n (lengthOf e k) ≡ b → inPlace k at ≡ c
-        → (a || (not b || not c)) ≡ false → (0 < n) × (n ≡ lengthOf e k) × (inPlace k at ≡ true)
-    go true b c p q r h = absurd (true≢false h)
-    go false false c p q r h = absurd (true≢false h)
-    go false true false p q r h = absurd (true≢false h)
-    go false true true p q r h = let z = eqb-false n 0 p in (omega (arith, z), eqb-true n (lengthOf e k) q, r)
+misfit-not e at n k h =
+    either (eqb n 0)
+    (λ p. absurd (true≢false (rw p at h)))
+    (λ p. either (eqb n (lengthOf e k))
+      (λ q. either (inPlace k at) (λ r. (omega (arith, eqb-false n 0 p), eqb-true n (lengthOf e k) q, r)) (λ r. absurd (true≢false (rw (p, q, r) at h))))
+      (λ q. absurd (true≢false (rw (p, q) at h))))
 
 pub misfit-none : (e at k : ℕ) → 0 < lengthOf e k → inPlace k at ≡ true → misfit e at (lengthOf e k) k ≡ false
 unfolding misfit
@@ -221,14 +209,12 @@ load-parts s h = or-else (openNumber s) (walk s 1 .stop) h
 -- A load that opens has an edition, and is within its bound.
 pub open-known : (s : List ℕ) → openNumber s ≡ 0 → (0 < length s) × (known (editionOf s) ≡ true) × (length s ≤ 65536)
 unfolding openNumber
-open-known s h = go (ltb 65536 (length s)) (eqb (length s) 0) (known (editionOf s)) refl refl refl h
-  where
-    go : (a b k : Bool) → ltb 65536 (length s) ≡ a → eqb (length s) 0 ≡ b → known (editionOf s) ≡ k
-        → cond {A = ℕ} a 14 (cond b 12 (cond k 0 11)) ≡ 0 → (0 < length s) × (known (editionOf s) ≡ true) × (length s ≤ 65536)
-    go true b k p q r h = absurd (omega arith)
-    go false true k p q r h = absurd (omega arith)
-    go false false false p q r h = absurd (omega arith)
-    go false false true p q r h = let z = eqb-false (length s) 0 q in (omega (arith, z), r, ltb-false 65536 (length s) p)
+open-known s h =
+    either (ltb 65536 (length s))
+    (λ p. absurd (omega (arith, rw p at h)))
+    (λ p. either (eqb (length s) 0)
+      (λ q. absurd (omega (arith, rw (p, q) at h)))
+      (λ q. either (known (editionOf s)) (λ r. (omega (arith, eqb-false (length s) 0 q), r, ltb-false 65536 (length s) p)) (λ r. absurd (omega (arith, rw (p, q, r) at h)))))
 
 pub load-known : (s : List ℕ) → loadNumber s ≡ 0 → (0 < length s) × (known (editionOf s) ≡ true) × (length s ≤ 65536)
 load-known s h = open-known s (load-parts s h .0)
