@@ -13,7 +13,7 @@ use Rattle.load.specs.declared.Call.{Call}
 use Rattle.load.specs.Format.{fieldWidths, fieldCount, fieldWidth, fieldsOf, lengthOf}
 use Rattle.load.specs.Calls.{numbers, made, valueOf, withValue, bare, filled, callOf, valuesIn, valuesOf, sameBelow, same, kept, carries}
 use Rattle.load.specs.RoundTrip.{Typed}
-use Rattle.load.proofs.Format.{both, either, or-false, has, proper, proper-parts, fields-proper}
+use Rattle.load.proofs.Format.{both, either, neither, has, proper, proper-parts, fields-proper}
 
 -- ── one field ──
 -- A list is made of what stands at its places.
@@ -97,7 +97,7 @@ pub filled-other : (fs vs : List ℕ) (c : Call) (f : ℕ) → has f fs ≡ fals
 unfolding filled has
 filled-other [] vs c f h = refl
 filled-other (g ∷ fs) vs c f h =
-    let q = or-false (eqb f g) (has f fs) h in
+    let q = neither (eqb f g) (has f fs) h in
     filled-other fs (drop 1 vs) (withValue g (getD vs 0 0) c) f (q .1) ∙ value-other f g (getD vs 0 0) c (q .0)
 
 -- Those among them have the values that were put in.

@@ -6,7 +6,7 @@ use mathlib.Core.Path.{_≡_, refl, ap, _∙_}
 use native.Mathlib.Omega.{arith}
 use native.Mathlib.Nat.{le-div-iff-mul-le, div-le-self}
 use lib.Dec.{ltb, eqb}
-use borrow.Author.Tests.{ltb-false, eqb-true, eqb-false, le-ltb, eq-eqb, ne-eqb}
+use borrow.Author.Tests.{ltb-false, eqb-true, eqb-false, le-ltb, eq-eqb, ne-eqb, not-false}
 use lib.ListN.{length, drop, length-drop, drop-of-length-le}
 use Rattle.load.specs.declared.Call.{Call}
 use Rattle.load.specs.declared.Item.{Item}
@@ -17,7 +17,7 @@ use Rattle.load.specs.Bytes.{fieldValues, loadBytes}
 use Rattle.load.specs.Answers.{itemValues}
 use Rattle.load.specs.Reading.{inPlace, lengthField, kindField, short, misfit, readAt, editionOf, itemAt, recordNumber, ItemNumbered}
 use Rattle.load.specs.Reading.{openNumber, Walk, ended, onto, follow, walkIn, walk, orElse, unlessRefused, reading, loadNumber, ReadingTested}
-use Rattle.load.proofs.Format.{either, least-some, length-least}
+use Rattle.load.proofs.Format.{neither, passed, either, least-some, length-least}
 
 -- ── what stands at a position ──
 -- The call that bytes say, where they are a record.
@@ -64,15 +64,31 @@ pub record Stands (s : List ℕ) (at : ℕ) (c : Call) (next : ℕ) : Type 0 whe
   pub call : callIn (editionOf s) (drop at s) ≡ c
   pub behind : at + (2 + lengthField (drop at s)) ≡ next
 
-pub stands : (s : List ℕ) (at : ℕ) (c : Call) (next : ℕ) → itemAt s at ≡ Record c next → Stands s at c next
+-- By what stands at a position: a record, nothing left at the end, and a refusal that is no end.
+abbrev Known : List ℕ → ℕ → Item → Type 0
+Known s at (Record c next) = Stands s at c next
+Known s at End = drop at s ≡ []
+Known s at (Refused n) = 0 < n
+
+item-known : (s : List ℕ) (at : ℕ) → Known s at (itemAt s at)
 unfolding itemAt
-stands s at c next h =
-    read-cases (λ x. x ≡ Record c next → Stands s at c next) (editionOf s) at (drop at s)
-    (λ p q. let z : _≡_ {A = ℕ} 0 1 = cc in absurd (omega arith))
-    (λ q. let z : _≡_ {A = ℕ} 0 1 = cc in absurd (omega arith))
-    (λ q. let z : _≡_ {A = ℕ} 0 1 = cc in absurd (omega arith))
-    (λ p r q. record { whole = p; fits = r; call = cc; behind = cc })
-    h
+item-known s at =
+    read-cases (Known s at) (editionOf s) at (drop at s)
+    (nothing (drop at s)) (omega arith) (omega arith)
+    (λ p r. record { whole = p; fits = r; call = refl; behind = refl })
+  where
+    nothing : (bs : List ℕ) → length bs ≡ 0 → bs ≡ []
+    nothing [] h = refl
+    nothing (b ∷ bs) h = absurd (omega arith)
+
+pub stands : (s : List ℕ) (at : ℕ) (c : Call) (next : ℕ) → itemAt s at ≡ Record c next → Stands s at c next
+stands s at c next h = rw h at (item-known s at)
+
+pub step-refused : (s : List ℕ) (at n : ℕ) → itemAt s at ≡ Refused n → 0 < n
+step-refused s at n h = rw h at (item-known s at)
+
+pub step-end : (s : List ℕ) (at : ℕ) → itemAt s at ≡ End → drop at s ≡ []
+step-end s at h = rw h at (item-known s at)
 
 -- A record is after its position and inside the load.
 pub step-next : (s : List ℕ) (at : ℕ) (c : Call) (next : ℕ) → itemAt s at ≡ Record c next → (at < next) × (next ≤ length s)
@@ -80,33 +96,6 @@ step-next s at c next h =
     let r = stands s at c next h in
     let l = length-drop at s in
     (omega (arith, r .whole, r .behind), omega (arith, r .whole, r .behind))
-
--- A refusal is no end.
-pub step-refused : (s : List ℕ) (at n : ℕ) → itemAt s at ≡ Refused n → 0 < n
-unfolding itemAt
-step-refused s at n h =
-    read-cases (λ x. x ≡ Refused n → 0 < n) (editionOf s) at (drop at s)
-    (λ p q. let z : _≡_ {A = ℕ} 0 1 = cc in absurd (omega arith))
-    (λ q. let z : 12 ≡ n = cc in omega arith)
-    (λ q. let z : 13 ≡ n = cc in omega arith)
-    (λ p m q. let z : _≡_ {A = ℕ} 0 1 = cc in absurd (omega arith))
-    h
-
--- At the end nothing is left.
-pub step-end : (s : List ℕ) (at : ℕ) → itemAt s at ≡ End → drop at s ≡ []
-unfolding itemAt
-step-end s at h =
-    nothing (drop at s)
-    (read-cases (λ x. x ≡ End → length (drop at s) ≡ 0) (editionOf s) at (drop at s)
-    (λ p q. p)
-    (λ q. let z : _≡_ {A = ℕ} 0 1 = cc in absurd (omega arith))
-    (λ q. let z : _≡_ {A = ℕ} 0 1 = cc in absurd (omega arith))
-    (λ p m q. let z : _≡_ {A = ℕ} 0 1 = cc in absurd (omega arith))
-    h)
-  where
-    nothing : (bs : List ℕ) → length bs ≡ 0 → bs ≡ []
-    nothing [] h = refl
-    nothing (b ∷ bs) h = absurd (omega arith)
 
 pub step-past : (s : List ℕ) (at : ℕ) → length s ≤ at → itemAt s at ≡ End
 unfolding itemAt readAt
@@ -116,11 +105,9 @@ step-past s at h = rw (drop-of-length-le s {i = at} h)
 pub misfit-not : (e at n k : ℕ) → misfit e at n k ≡ false → (0 < n) × (n ≡ lengthOf e k) × (inPlace k at ≡ true)
 unfolding misfit
 misfit-not e at n k h =
-    either (eqb n 0)
-    (λ p. absurd (true≢false (rw p at h)))
-    (λ p. either (eqb n (lengthOf e k))
-      (λ q. either (inPlace k at) (λ r. (omega (arith, eqb-false n 0 p), eqb-true n (lengthOf e k) q, r)) (λ r. absurd (true≢false (rw (p, q, r) at h))))
-      (λ q. absurd (true≢false (rw (p, q) at h))))
+    let a = neither (eqb n 0) (not (eqb n (lengthOf e k)) || not (inPlace k at)) h in
+    let b = neither (not (eqb n (lengthOf e k))) (not (inPlace k at)) (a .1) in
+    (omega (arith, eqb-false n 0 (a .0)), eqb-true n (lengthOf e k) (not-false _ (b .0)), not-false _ (b .1))
 
 pub misfit-none : (e at k : ℕ) → 0 < lengthOf e k → inPlace k at ≡ true → misfit e at (lengthOf e k) k ≡ false
 unfolding misfit
@@ -210,11 +197,10 @@ load-parts s h = or-else (openNumber s) (walk s 1 .stop) h
 pub open-known : (s : List ℕ) → openNumber s ≡ 0 → (0 < length s) × (known (editionOf s) ≡ true) × (length s ≤ 65536)
 unfolding openNumber
 open-known s h =
-    either (ltb 65536 (length s))
-    (λ p. absurd (omega (arith, rw p at h)))
-    (λ p. either (eqb (length s) 0)
-      (λ q. absurd (omega (arith, rw (p, q) at h)))
-      (λ q. either (known (editionOf s)) (λ r. (omega (arith, eqb-false (length s) 0 q), r, ltb-false 65536 (length s) p)) (λ r. absurd (omega (arith, rw (p, q, r) at h)))))
+    let a = passed (ltb 65536 (length s)) _ _ h in
+    let b = passed (eqb (length s) 0) _ _ (a .1) in
+    let k = either (known (editionOf s)) (λ r. r) (λ r. absurd (omega (arith, rw r at (b .1)))) in
+    (omega (arith, eqb-false (length s) 0 (b .0)), k, ltb-false 65536 (length s) (a .0))
 
 pub load-known : (s : List ℕ) → loadNumber s ≡ 0 → (0 < length s) × (known (editionOf s) ≡ true) × (length s ≤ 65536)
 load-known s h = open-known s (load-parts s h .0)

@@ -5,7 +5,7 @@ use mathlib.Core.List.{List, _∷_, _++_}
 use mathlib.Core.Path.{_≡_, refl, sym, ap, _∙_}
 use native.Mathlib.Omega.{arith}
 use lib.Dec.{ltb, eqb}
-use borrow.Author.Tests.{lt-ltb, le-ltb, ltb-false, eqb-false, ne-eqb}
+use borrow.Author.Tests.{lt-ltb, le-ltb, ltb-false, eqb-false, ne-eqb, not-false}
 use lib.ListN.{length, take, length-append, take-append-drop}
 use lib.Seq.{length-take-le, getD-take}
 use Rattle.numerals.specs.Laid.{behind, laid, Put}
@@ -19,8 +19,7 @@ use Rattle.load.specs.Answers.{writtenValues}
 use Rattle.load.specs.Bytes.{big, fieldBytes, recordBytes}
 use Rattle.load.specs.Reading.{inPlace, editionOf, loadNumber, orElse}
 use Rattle.load.specs.Writing.{grown, roomNumber, growNumber, appendNumber, appendAnswer, appendValues, appendOut, answered, answeredValues, lent, begun, heldNumber, growAnswer, growValues, growOut}
-use Rattle.load.proofs.Calls.{carries-length}
-use Rattle.load.proofs.Bytes.{record-length}
+use Rattle.load.proofs.Format.{neither, passed}
 use Rattle.load.proofs.Reading.{or-else, or-first, load-known}
 
 -- ── the tests ──
@@ -57,15 +56,16 @@ grown-length s c = sym (length-append s (recordBytes (editionOf s) c))
 pub grow-known : (s : List ℕ) (c : Call) (room : ℕ) → growNumber (editionOf s) (length s) c room ≡ 0 → Grows s c room
 unfolding growNumber roomNumber
 grow-known s c room h =
-    go (inPlace (c .kind) (length s)) (carries (editionOf s) c) (ltb 65536 (length (grown s c))) (ltb room (length (grown s c))) refl refl refl refl (rw (grown-length s c) at h)
-  where
-    go : (a b x y : Bool) → inPlace (c .kind) (length s) ≡ a → carries (editionOf s) c ≡ b → ltb 65536 (length (grown s c)) ≡ x → ltb room (length (grown s c)) ≡ y
-        → cond {A = ℕ} (not a || not b) 13 (cond x 14 (cond y 15 0)) ≡ 0 → Grows s c room
-    go false b x y p q u v h = absurd (omega arith)
-    go true false x y p q u v h = absurd (omega arith)
-    go true true true y p q u v h = absurd (omega arith)
-    go true true false true p q u v h = absurd (omega arith)
-    go true true false false p q u v h = record { place = p; carried = q; bounded = ltb-false 65536 (length (grown s c)) u; goes-in = ltb-false room (length (grown s c)) v }
+    let a = passed (not (inPlace (c .kind) (length s)) || not (carries (editionOf s) c)) _ _ (rw (grown-length s c) at h) in
+    let n = neither (not (inPlace (c .kind) (length s))) (not (carries (editionOf s) c)) (a .0) in
+    let b = passed (ltb 65536 (length (grown s c))) _ _ (a .1) in
+    let d = passed (ltb room (length (grown s c))) _ _ (b .1) in
+    record {
+      place = not-false _ (n .0);
+      carried = not-false _ (n .1);
+      bounded = ltb-false 65536 (length (grown s c)) (b .0);
+      goes-in = ltb-false room (length (grown s c)) (d .0);
+    }
 
 pub grows : (s : List ℕ) (c : Call) (room : ℕ) → Grows s c room → growNumber (editionOf s) (length s) c room ≡ 0
 unfolding growNumber roomNumber
@@ -83,13 +83,10 @@ append-some s c room k e z = load-known s (append-parts s c room (sym e ∙ z) .
 module _ (out : List ℕ) (n : ℕ) (c : Call) where
   pub held-within : heldNumber out n c ≡ 0 → (0 < n) × (n ≤ length out) × (growNumber (editionOf out) n c (length out) ≡ 0)
   unfolding heldNumber
-  held-within h = go (eqb n 0) (ltb (length out) n) refl refl h
-    where
-      go : (a b : Bool) → eqb n 0 ≡ a → ltb (length out) n ≡ b → cond {A = ℕ} a 12 (cond b 15 (growNumber (editionOf out) n c (length out))) ≡ 0
-          → (0 < n) × (n ≤ length out) × (growNumber (editionOf out) n c (length out) ≡ 0)
-      go true b p q h = absurd (omega arith)
-      go false true p q h = absurd (omega arith)
-      go false false p q h = let z = eqb-false n 0 p in (omega (arith, z), ltb-false (length out) n q, h)
+  held-within h =
+      let a = passed (eqb n 0) _ _ h in
+      let b = passed (ltb (length out) n) _ _ (a .1) in
+      (omega (arith, eqb-false n 0 (a .0)), ltb-false (length out) n (b .0), b .1)
 
   -- What it is, is the buffer's first bytes.
   module _ (p : 0 < n) (l : n ≤ length out) where
