@@ -4,6 +4,5 @@ pub mod Bytes
 pub mod Reading
 pub mod Loads
 pub mod RoundTrip
-pub mod Decoding
 pub mod Writing
 pub mod Rows

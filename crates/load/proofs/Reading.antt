@@ -2,12 +2,13 @@
 use Prim.Native.Nat.{ℕ, zero, suc, _+_, _-_, _*_, _/_, _≤_, _<_}
 use mathlib.Core.Bool.{Bool, true, false, not, _||_, cond, true≢false}
 use mathlib.Core.List.{List, [], _∷_}
-use mathlib.Core.Path.{_≡_, refl, ap, _∙_}
+use mathlib.Core.Path.{_≡_, refl, sym, ap, _∙_}
 use native.Mathlib.Omega.{arith}
 use native.Mathlib.Nat.{le-div-iff-mul-le, div-le-self}
 use lib.Dec.{ltb, eqb}
-use borrow.Author.Tests.{ltb-false, eqb-true, eqb-false, le-ltb, eq-eqb, ne-eqb, not-false}
-use lib.ListN.{length, drop, length-drop, drop-of-length-le}
+use borrow.Author.Tests.{ltb-false, eqb-true, eqb-false, lt-ltb, le-ltb, eq-eqb, ne-eqb, not-false}
+use lib.ListN.{length, take, drop, getD, length-drop, drop-of-length-le}
+use lib.Seq.{getD-drop, drop-drop, take-all}
 use Rattle.load.specs.declared.Call.{Call}
 use Rattle.load.specs.declared.Item.{Item}
 use Rattle.load.specs.declared.Item.the-variants.{Record, End, Refused}
@@ -35,8 +36,8 @@ read-cases P e at bs end cut bad good =
     either (eqb (length bs) 0)
     (λ p. rw p (end (eqb-true (length bs) 0 p)))
     (λ p. either (short bs)
-      (λ q. rw (p, q) cut)
-      (λ q. either (misfit e at (lengthField bs) (kindField bs)) (λ r. rw (p, q, r) bad) (λ r. rw (p, q, r) (good (ltb-false (length bs) (2 + lengthField bs) q) r))))
+    (λ q. rw (p, q) cut)
+    (λ q. either (misfit e at (lengthField bs) (kindField bs)) (λ r. rw (p, q, r) bad) (λ r. rw (p, q, r) (good (ltb-false (length bs) (2 + lengthField bs) q) r))))
 
 pub read-record : (e at : ℕ) (bs : List ℕ) → 2 + lengthField bs ≤ length bs → misfit e at (lengthField bs) (kindField bs) ≡ false
     → readAt e at bs ≡ Record (callIn e bs) (at + (2 + lengthField bs))
@@ -51,8 +52,8 @@ item-numbered s at =
     either (eqb (length (drop at s)) 0)
     (λ p. rw p)
     (λ p. either (short (drop at s))
-      (λ q. rw (p, q))
-      (λ q. either (misfit (editionOf s) at (lengthField (drop at s)) (kindField (drop at s))) (λ r. rw (p, q, r)) (λ r. rw (p, q, r))))
+    (λ q. rw (p, q))
+    (λ q. either (misfit (editionOf s) at (lengthField (drop at s)) (kindField (drop at s))) (λ r. rw (p, q, r)) (λ r. rw (p, q, r))))
 
 pub with-number : (s : List ℕ) (at : ℕ) (r : Item) → r ≡ itemAt s at → (r ≡ itemAt s at) × (itemValues at r .number ≡ recordNumber s at)
 with-number s at r e = (e, ap (λ (x : Item). itemValues at x .number) e ∙ item-numbered s at)
@@ -114,6 +115,37 @@ unfolding misfit
 misfit-none e at k h q =
     let z : eqb (lengthOf e k) 0 ≡ false = ne-eqb (lengthOf e k) 0 (λ e. omega arith) in
     rw (z, eq-eqb (lengthOf e k) (lengthOf e k) refl, q)
+
+-- The tests as the code makes them at a position.
+pub misfit-empty : (e at n k : ℕ) → n ≡ 0 → misfit e at n k ≡ true
+unfolding misfit
+misfit-empty e at n k p = rw p
+
+module _ (s : List ℕ) (at : ℕ) where
+  pub step-short : at < length s → length s - at < 2 + lengthField (drop at s) → itemAt s at ≡ Refused 12
+  unfolding itemAt readAt
+  step-short h k =
+      let l = length-drop at s in
+      rw (ne-eqb (length (drop at s)) 0 (λ e. omega arith), lt-ltb (length (drop at s)) (2 + lengthField (drop at s)) (omega arith))
+
+  module _ (n : ℕ) (e : n ≡ lengthField (drop at s)) (h : 2 + n ≤ length s - at) where
+    pub step-misfit : misfit (editionOf s) at n (getD s (at + 2) 0) ≡ true → itemAt s at ≡ Refused 13
+    unfolding itemAt readAt
+    step-misfit m =
+        let l = length-drop at s in
+        let q : misfit (editionOf s) at (lengthField (drop at s)) (kindField (drop at s)) ≡ true = rw (← e, getD-drop at s 2 0) m in
+        rw (ne-eqb (length (drop at s)) 0 (λ z. omega arith), le-ltb (length (drop at s)) (2 + lengthField (drop at s)) (omega arith), q)
+
+    pub step-record : (r : Call) → misfit (editionOf s) at n (getD s (at + 2) 0) ≡ false
+        → r ≡ callOf (editionOf s) (getD s (at + 2) 0) (fieldValues (widths (editionOf s) (getD s (at + 2) 0)) (take (length s - (at + 3)) (drop (at + 3) s)))
+        → Record r (at + (2 + n)) ≡ itemAt s at
+    unfolding itemAt
+    step-record r m p =
+        let l = length-drop at s in
+        let d = length-drop (at + 3) s in
+        let q : misfit (editionOf s) at (lengthField (drop at s)) (kindField (drop at s)) ≡ false = rw (← e, getD-drop at s 2 0) m in
+        let t = take-all (length s - (at + 3)) (drop (at + 3) s) (omega arith) in
+        sym (read-record (editionOf s) at (drop at s) (omega arith) q ∙ rw (getD-drop at s 2 0, drop-drop 3 at s, e, p, t))
 
 -- ── walks ──
 walk-in-same : (k j : ℕ) (s : List ℕ) (at : ℕ) → length s < at + k → length s < at + j → walkIn k s at ≡ walkIn j s at

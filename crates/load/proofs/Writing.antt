@@ -76,8 +76,8 @@ pub append-parts : (s : List ℕ) (c : Call) (room : ℕ) → appendNumber s c r
 unfolding appendNumber
 append-parts s c room h = or-else (loadNumber s) (growNumber (editionOf s) (length s) c room) h
 
-pub append-some : (s : List ℕ) (c : Call) (room k : ℕ) → k ≡ appendNumber s c room → k ≡ 0 → 0 < length s
-append-some s c room k e z = load-known s (append-parts s c room (sym e ∙ z) .0) .0
+pub append-grows : (s : List ℕ) (c : Call) (room : ℕ) → appendNumber s c room ≡ 0 → Grows s c room
+append-grows s c room h = grow-known s c room (append-parts s c room h .1)
 
 -- ── a load in the buffer ──
 module _ (out : List ℕ) (n : ℕ) (c : Call) where
@@ -109,39 +109,20 @@ module _ (out : List ℕ) (n : ℕ) (c : Call) where
 
 -- ── the answer and the buffer ──
 -- k is the number, and g the grown load.
-abbrev Answers : List ℕ → List ℕ → ℕ → Written → List ℕ → Type 0
+abbrev pub Answers : List ℕ → List ℕ → ℕ → Written → List ℕ → Type 0
 Answers g out k r p = (r ≡ answered k (length g)) × ((p ≡ lent k (begun g out) out) × (writtenValues r ≡ answeredValues k (length g)))
 
-refused : (g out : List ℕ) (k n : ℕ) → n ≡ k → (n ≡ 0 → ⊥) → Answers g out k (Refusal n) out
+pub refused : (g out : List ℕ) (k n : ℕ) → n ≡ k → (n ≡ 0 → ⊥) → Answers g out k (Refusal n) out
 refused g out zero n p q = absurd (q p)
 refused g out (suc k) n p q = (ap Refusal p, (refl, ap (λ (m : ℕ). writtenValues (Refusal m)) p))
 
-written : (g out : List ℕ) (k : ℕ) (p : List ℕ) (r : ℕ) → k ≡ 0 → length g ≤ 65536 → length g ≤ length out → Put out 0 g r p → Answers g out k (Length r) p
-written g out k p r h b l w =
-    let e = put-short (omega arith) w in
-    rw h (ap Length (e .0), (e .1 ∙ laid-fits out g l, ap (λ (m : ℕ). writtenValues (Length m)) (e .0)))
-
--- Appending.
-abbrev Appends : List ℕ → Call → List ℕ → Written → List ℕ → Type 0
-Appends s c out r p = (r ≡ appendAnswer s c out) × ((p ≡ appendOut s c out) × (writtenValues r ≡ appendValues s c out))
-
-module _ (s : List ℕ) (c : Call) (out : List ℕ) (k : ℕ) (e : k ≡ appendNumber s c (length out)) where
-  pub append-refused : (k ≡ 0 → ⊥) → Appends s c out (Refusal k) out
-  unfolding appendAnswer appendOut appendValues
-  append-refused z = refused (grown s c) out (appendNumber s c (length out)) k e z
-
-  pub append-written : k ≡ 0 → (p : List ℕ) (r : ℕ) → Put out 0 (s ++ recordBytes (editionOf s) c) r p → Appends s c out (Length r) p
-  unfolding appendAnswer appendOut appendValues grown
-  append-written z p r w =
-      let g = grow-known s c (length out) (append-parts s c (length out) (sym e ∙ z) .1) in
-      written (grown s c) out (appendNumber s c (length out)) p r (sym e ∙ z) (g .bounded) (g .goes-in) w
-
--- Growing in place.
-abbrev Grown : List ℕ → ℕ → Call → Written → List ℕ → Type 0
-Grown out n c r p = (r ≡ growAnswer out n c) × ((p ≡ growOut out n c) × (writtenValues r ≡ growValues out n c))
+pub written : (s : List ℕ) (c : Call) (out : List ℕ) (k : ℕ) (p : List ℕ) (r : ℕ) → k ≡ 0 → Grows s c (length out) → Put out 0 (grown s c) r p → Answers (grown s c) out k (Length r) p
+written s c out k p r h g w =
+    let e = put-short (omega (arith, g .bounded)) w in
+    rw h (ap Length (e .0), (e .1 ∙ laid-fits out (grown s c) (g .goes-in), ap (λ (m : ℕ). writtenValues (Length m)) (e .0)))
 
 -- A record laid after the first bytes of a buffer is the grown load laid at its start.
-put-behind : (out : List ℕ) (n : ℕ) (c : Call) (p : List ℕ) (r : ℕ) → length out < 2 ^ 64 → 0 < n → n ≤ length out
+pub put-behind : (out : List ℕ) (n : ℕ) (c : Call) (p : List ℕ) (r : ℕ) → length out < 2 ^ 64 → 0 < n → n ≤ length out
     → (r ≡ behind n (length (recordBytes (editionOf out) c))) × (p ≡ laid out n (recordBytes (editionOf out) c)) → Put out 0 (grown (take n out) c) r p
 unfolding grown
 put-behind out n c p r h z l w =
@@ -151,24 +132,3 @@ put-behind out n c p r h z l w =
       is = sym (laid-fits out (take n out) (omega arith) ∙ rw t (take-append-drop n out));
     } in
     rw (first-edition out n c z l) (put-then out 0 (take n out) (recordBytes (editionOf out) c) n r out p h a (put w))
-
-module _ (out : List ℕ) (n : ℕ) (c : Call) (k : ℕ) (e : k ≡ heldNumber out n c) where
-  pub grow-refused : (k ≡ 0 → ⊥) → Grown out n c (Refusal k) out
-  unfolding growAnswer growOut growValues
-  grow-refused z = refused (grown (take n out) c) out (heldNumber out n c) k e z
-
-  pub grow-some : k ≡ 0 → 0 < length out
-  grow-some z = let q = held-within out n c (sym e ∙ z) in omega (arith, q .0, q .1)
-
-  pub grow-written : k ≡ 0 → length out < 2 ^ 64 → (p : List ℕ) (r : ℕ)
-      → (r ≡ behind n (length (recordBytes (editionOf out) c))) × (p ≡ laid out n (recordBytes (editionOf out) c)) → Grown out n c (Length r) p
-  unfolding growAnswer growOut growValues
-  grow-written z h p r w =
-      let i = held-within out n c (sym e ∙ z) in
-      let g = held-known out n c (sym e ∙ z) in
-      written (grown (take n out) c) out (heldNumber out n c) p r (sym e ∙ z) (g .bounded) (g .goes-in) (put-behind out n c p r h (i .0) (i .1) w)
-
--- ── the pieces of a record ──
-pub record-pieces : (e : ℕ) (c : Call) (n : ℕ) → n ≡ lengthOf e (c .kind) → big 2 n ++ (c .kind ∷ fieldBytes (widths e (c .kind)) (valuesOf e c)) ≡ recordBytes e c
-unfolding recordBytes
-record-pieces e c n p = rw p

@@ -1,29 +1,33 @@
 -- `load::grow` meets its contract: the tests come first; then the record is laid after the load.
 use native.Mathlib.Omega.{arith}
-use Rattle.load.proofs.Writing.{grow-refused, grow-some, grow-written}
+use mathlib.Core.Path.{sym, _∙_}
 use borrow.Author.Needs.{needs}
+use lib.ListN.{take}
+use Rattle.load.specs.Writing.{grown, growAnswer, growValues, growOut}
+use Rattle.load.proofs.Writing.{held-within, held-known, refused, written, put-behind}
 use Rattle.load.proofs.grow.Statement.{statement}
 use Rattle.load.proofs.grow.Tie as tie
 
-returns : tie.Need-returns
-returns c = grow-refused _ _ _ _ (c .before .held-number .ensures) (c .if1 .taken)
-
 slice-read-edition : tie.Need-slice-read-edition
-slice-read-edition c = grow-some _ _ _ _ (c .before .before .held-number .ensures) (c .before .if1 .left)
+slice-read-edition c = let q = held-within _ _ _ (sym (c .before .before .held-number .ensures) ∙ c .before .if1 .left) in omega (arith, q .0, q .1)
 
 returns-2 : tie.Need-returns-2
+unfolding growAnswer growOut growValues
 returns-2 c =
     let r = c .before .before in
     let o = r .before .before .before in
-    grow-written _ _ _ _ (o .before .held-number .ensures) (o .if1 .left) (omega arith) _ _ (r .put-record .ensures)
+    let z = sym (o .before .held-number .ensures) ∙ o .if1 .left in
+    let q = held-within _ _ _ z in
+    written _ _ _ _ _ _ z (held-known _ _ _ z) (put-behind _ _ _ _ _ (omega arith) (q .0) (q .1) (r .put-record .ensures))
 
 pub grow-spec : {M : Type 1} → statement M
+unfolding growAnswer growOut growValues
 grow-spec =
     tie.close
     (tie.spec
     (λ c κs. search needs)
     (λ c. search needs)
-    returns
+    (λ c. let a = c .before .before .before .before .args in refused (grown (take (a .size) (a .out .now)) (a .call)) _ _ _ (c .before .held-number .ensures) (c .if1 .taken))
     slice-read-edition
     (λ c κs. search needs)
     (λ c. search needs)

@@ -1,8 +1,7 @@
 -- `load::record_at` meets its contract: each test of `itemAt` in its order, then the record.
 use native.Mathlib.Omega.{arith}
 use mathlib.Core.Path.{sym, _∙_}
-use Rattle.load.proofs.Reading.{step-past, with-number}
-use Rattle.load.proofs.Decoding.{step-short, step-misfit, step-record, misfit-empty}
+use Rattle.load.proofs.Reading.{step-past, with-number, step-short, step-misfit, step-record, misfit-empty}
 use borrow.Author.Needs.{needs}
 use Rattle.load.proofs.record_at.Statement.{statement}
 use Rattle.load.proofs.record_at.Tie as tie
