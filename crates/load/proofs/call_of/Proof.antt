@@ -1,10 +1,10 @@
 -- `load::call_of` meets its contract: the fields read so far, with those left, give the call.
 use borrow.Author.Needs.{needs}
 use native.Mathlib.Omega.{arith}
-use mathlib.Core.Path.{sym, _∙_}
-use Prim.Native.Nat.{_-_}
-use lib.ListN.{length}
-use Rattle.load.specs.Format.{fieldWidths, fieldsOf}
+use mathlib.Core.Path.{_≡_, sym, _∙_}
+use Prim.Native.Nat.{_-_, _<_}
+use lib.ListN.{length, getD}
+use Rattle.load.specs.Format.{fieldWidths, fieldCount, fieldsOf}
 use Rattle.load.proofs.Format.{row-field, row-under}
 use Rattle.load.proofs.Rows.{Reading, reading-start, reading-early, reading-next, filled-end, row-more}
 use Rattle.load.proofs.call_of.Statement.{statement}
@@ -16,67 +16,48 @@ Inv-loop edition kind fields row ns₀ at₀ i₀ ns at i = Reading edition kind
 abbrev μ-loop : tie.MeasureT-loop
 μ-loop edition kind fields row ns₀ at₀ i₀ ns at i = length (fieldsOf edition kind) - i
 
-loop-holds : tie.Need-loop-holds Inv-loop μ-loop
-unfolding fieldWidths
-loop-holds c = reading-start _ _ _ (search needs)
-
-array-read-f : tie.Need-array-read-f Inv-loop μ-loop
-array-read-f c = omega (arith, reading-early (c .loop .inv))
+-- What the row has at the loop's place.
+field : (l : tie.At-loop Inv-loop μ-loop)
+    → let a = l .before .before .before .args in
+    let f = getD (l .before .row-of .result) (l .loop .i) 0 in
+    (f ≡ getD (fieldsOf (a .edition) (a .kind)) (l .loop .i) 0) × (f < fieldCount) × (l .loop .i < 7)
+field l =
+    let r = l .before .row-of .ensures in
+    let i = reading-early (l .loop .inv) in
+    (row-field _ _ _ r (l .loop .i) i, row-under _ _ _ r (l .loop .i) i, i)
 
 returns : tie.Need-returns Inv-loop μ-loop
 returns c =
     let l = c .before .before in
-    let f = row-field _ _ _ (l .before .row-of .ensures) (l .loop .i) (reading-early (l .loop .inv)) in
-    c .made .ensures ∙ sym (filled-end _ _ _ _ f (c .before .if1 .taken) _ _) ∙ l .loop .inv .call
-
-cast-numbers : tie.Need-cast-numbers Inv-loop μ-loop
-unfolding fieldWidths
-cast-numbers c = let l = c .before .before .before in omega (arith, row-under _ _ _ (l .before .row-of .ensures) _ (reading-early (l .loop .inv)))
-
-mul-numbers : tie.Need-mul-numbers Inv-loop μ-loop
-unfolding fieldWidths
-mul-numbers c = let l = c .before .before .before in omega (arith, row-under _ _ _ (l .before .row-of .ensures) _ (reading-early (l .loop .inv)))
-
-array-write-numbers : tie.Need-array-write-numbers Inv-loop μ-loop
-unfolding fieldWidths
-array-write-numbers c = let l = c .before .before .before in row-under _ _ _ (l .before .row-of .ensures) _ (reading-early (l .loop .inv))
+    c .made .ensures ∙ sym (filled-end _ _ _ _ (field l .0) (c .before .if1 .taken) _ _) ∙ l .loop .inv .call
 
 add-at : tie.Need-add-at Inv-loop μ-loop
-add-at c = let l = c .before .before .before .loop .inv in omega (arith, l .bytes, reading-early l, c .before .width-of .ensures .1)
-
-add-i : tie.Need-add-i Inv-loop μ-loop
-add-i c = omega (arith, reading-early (c .before .before .before .loop .inv))
-
-loop-less : tie.Need-loop-less Inv-loop μ-loop
-loop-less c =
-    let l = c .before .before .before in
-    let f = row-field _ _ _ (l .before .row-of .ensures) (l .loop .i) (reading-early (l .loop .inv)) in
-    omega (arith, row-more _ _ _ _ f (c .before .before .if1 .left))
+add-at c = let l = c .before .before .before in omega (arith, l .loop .inv .bytes, field l .2, c .before .width-of .ensures .1)
 
 loop-again : tie.Need-loop-again Inv-loop μ-loop
 loop-again c =
     let w = c .before .width-of .ensures in
-    let l = c .before .before .before in
-    let f = row-field _ _ _ (l .before .row-of .ensures) (l .loop .i) (reading-early (l .loop .inv)) in
-    reading-next _ _ _ _ f (c .before .before .if1 .left) _ (w .0) _ _ _ _ (w .1) (c .number .ensures) (l .loop .inv)
+    let z = c .before .before in
+    reading-next _ _ _ _ (field (z .before) .0) (z .if1 .left) _ (w .0) _ _ _ _ (w .1) (c .number .ensures) (z .before .loop .inv)
 
 pub call-of-spec : {M : Type 1} → statement M
+unfolding fieldWidths
 call-of-spec =
     tie.close
     (tie.spec
     Inv-loop
     μ-loop
     (λ c κs. search needs)
-    loop-holds
-    array-read-f
+    (λ c. reading-start _ _ _ (search needs))
+    (λ c. omega (arith, field c .2))
     (λ c κs. c .before .loop .inv .typed)
     returns
     (λ c κs. search needs)
     (λ c κs. search needs)
-    cast-numbers
-    mul-numbers
-    array-write-numbers
+    (λ c. omega (arith, field (c .before .before .before) .1))
+    (λ c. omega (arith, field (c .before .before .before) .1))
+    (λ c. field (c .before .before .before) .1)
     add-at
-    add-i
-    loop-less
+    (λ c. omega (arith, field (c .before .before .before) .2))
+    (λ c. let z = c .before .before in omega (arith, row-more _ _ _ _ (field (z .before) .0) (z .if1 .left)))
     loop-again)
