@@ -46,54 +46,31 @@ reading-early {e} {k} r = omega (arith, r .place, fields-few e k)
 
 -- f is what the row has at place i.
 module _ (e k i f : ℕ) (s : f ≡ getD (fieldsOf e k) i 0) where
-  module _ (z : f ≡ 0) where
-    pub row-end : left e k i ≡ []
-    row-end = rest-none (fieldsOf e k) i f (fields-proper e k) s z
-
-    pub filled-end : (vs : List ℕ) (c : Call) → filled (left e k i) vs c ≡ c
-    unfolding filled
-    filled-end vs c = rw row-end
-
-    pub put-end : (o₀ : List ℕ) (at : ℕ) (whole o : List ℕ) (n : ℕ) (c : Call) → Going o₀ at whole o n (bytesLeft e k i c) → Put o₀ at whole n o
-    unfolding fieldBytes
-    put-end o₀ at whole o n c g = going-none o₀ at whole o n (going-as o₀ at whole o n (bytesLeft e k i c) [] (rw row-end) g)
+  pub row-end : f ≡ 0 → left e k i ≡ []
+  row-end z = rest-none (fieldsOf e k) i f (fields-proper e k) s z
 
   module _ (z : f ≡ 0 → ⊥) where
     pub row-more : i < length (fieldsOf e k)
     row-more = rest-some (fieldsOf e k) i f s z .0
 
-    row-next : left e k i ≡ f ∷ left e k (i + 1)
+    pub row-early : i < 7
+    row-early = omega (arith, row-more, fields-few e k)
+
+    pub row-next : left e k i ≡ f ∷ left e k (i + 1)
     row-next = rest-some (fieldsOf e k) i f s z .1
 
-    module _ (w : ℕ) (u : w ≡ fieldWidth f) where
-      reads : (bs : List ℕ) (at v : ℕ) (c d : Call) → w ≤ 8 → v ≡ bigValue (bytesAt bs at w) → d ≡ withValue f v c
-          → readLeft e k (i + 1) (drop (at + w) bs) d ≡ readLeft e k i (drop at bs) c
-      unfolding filled fieldValues
-      reads bs at v c d l p r =
-          let m : min w 8 ≡ w = omega arith in
-          let x : v ≡ bigValue (take (fieldWidth f) (drop at bs)) = p ∙ rw (m, u) in
-          rw (row-next, r, x, ← u, drop-drop w at bs)
-
-      pub reading-next : (bs ns : List ℕ) (at v : ℕ) → w ≤ 8 → (v ≡ bigValue (bytesAt bs at w)) × (v < 256 ^ w) → Reading e k bs ns at i → Reading e k bs (set ns f v) (at + w) (i + 1)
-      reading-next bs ns at v l p r =
-          let d = with-made f v ns (r .full) in
-          let b : f < fieldCount = omega (arith, s, place-under (fieldsOf e k) i (fields-proper e k)) in
-          record {
-            place = omega (arith, row-more);
-            bytes = omega (arith, r .bytes, l);
-            full = length-set ns f v ∙ r .full;
-            typed = rw d (typed-with f v (made ns) b (rw (← u) (p .1)) (r .typed));
-            call = reads bs at v (made ns) (made (set ns f v)) l (p .0) d ∙ r .call;
-          }
-
-      pub puts : (o₀ : List ℕ) (at : ℕ) (whole o : List ℕ) (n v : ℕ) (c : Call) (p : List ℕ) (m : ℕ) → v ≡ valueOf f c
-          → Going o₀ at whole o n (bytesLeft e k i c) → (m ≡ behind n w) × (p ≡ laid o n (big w v)) → Going o₀ at whole p m (bytesLeft e k (i + 1) c)
-      unfolding fieldBytes
-      puts o₀ at whole o n v c p m q g r =
-          let x : bytesLeft e k i c ≡ big w v ++ bytesLeft e k (i + 1) c = rw (row-next, u, q) in
-          going-step o₀ at whole o n (big w v) (bytesLeft e k (i + 1) c) p m (going-as o₀ at whole o n (bytesLeft e k i c) (big w v ++ bytesLeft e k (i + 1) c) x g) (put-digits 256 0 w v r)
-
-    pub keeps : (a c d : Call) (v : ℕ) → v ≡ valueOf f a → v < 256 ^ fieldWidth f → d ≡ withValue f (v % 256 ^ fieldWidth f) c
-        → filled (left e k (i + 1)) (valuesIn (left e k (i + 1)) a) d ≡ filled (left e k i) (valuesIn (left e k i) a) c
-    unfolding filled
-    keeps a c d v p q r = rw (row-next, r, mod-eq-of-lt q, p)
+    pub reading-next : (bs ns : List ℕ) (at w v : ℕ) → (w ≡ fieldWidth f) × (w ≤ 8) → (v ≡ bigValue (bytesAt bs at w)) × (v < 256 ^ w)
+        → Reading e k bs ns at i → Reading e k bs (set ns f v) (at + w) (i + 1)
+    unfolding filled fieldValues
+    reading-next bs ns at w v u p r =
+        let d = with-made f v ns (r .full) in
+        let b : f < fieldCount = omega (arith, s, place-under (fieldsOf e k) i (fields-proper e k)) in
+        let m : min w 8 ≡ w = omega (arith, u .1) in
+        let x : v ≡ bigValue (take (fieldWidth f) (drop at bs)) = p .0 ∙ rw (m, u .0) in
+        record {
+          place = omega (arith, row-more);
+          bytes = omega (arith, r .bytes, u .1);
+          full = length-set ns f v ∙ r .full;
+          typed = rw d (typed-with f v (made ns) b (rw (← (u .0)) (p .1)) (r .typed));
+          call = rw (d, x, u .0, ← (drop-drop (fieldWidth f) at bs)) (rw row-next at (r .call));
+        }

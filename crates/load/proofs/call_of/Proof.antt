@@ -1,12 +1,13 @@
 -- `load::call_of` meets its contract: the fields read so far, with those left, give the call.
 use borrow.Author.Needs.{needs}
 use native.Mathlib.Omega.{arith}
-use mathlib.Core.Path.{_≡_, sym, _∙_}
+use mathlib.Core.Path.{_≡_, _∙_}
 use Prim.Native.Nat.{_-_, _<_}
 use lib.ListN.{length, getD}
 use Rattle.load.specs.Format.{fieldWidths, fieldCount, fieldsOf}
+use Rattle.load.specs.Calls.{filled}
 use Rattle.load.proofs.Format.{row-field, row-under}
-use Rattle.load.proofs.Rows.{Reading, reading-start, reading-early, reading-next, filled-end, row-more}
+use Rattle.load.proofs.Rows.{Reading, reading-start, reading-early, reading-next, row-end, row-more}
 use Rattle.load.proofs.call_of.Statement.{statement}
 use Rattle.load.proofs.call_of.Tie as tie
 
@@ -27,18 +28,16 @@ field l =
     (row-field _ _ _ r (l .loop .i) i, row-under _ _ _ r (l .loop .i) i, i)
 
 returns : tie.Need-returns Inv-loop μ-loop
-returns c =
-    let l = c .before .before in
-    c .made .ensures ∙ sym (filled-end _ _ _ _ (field l .0) (c .before .if1 .taken) _ _) ∙ l .loop .inv .call
+unfolding filled
+returns c = let l = c .before .before in c .made .ensures ∙ rw (row-end _ _ _ _ (field l .0) (c .before .if1 .taken)) at (l .loop .inv .call)
 
 add-at : tie.Need-add-at Inv-loop μ-loop
 add-at c = let l = c .before .before .before in omega (arith, l .loop .inv .bytes, field l .2, c .before .width-of .ensures .1)
 
 loop-again : tie.Need-loop-again Inv-loop μ-loop
 loop-again c =
-    let w = c .before .width-of .ensures in
     let z = c .before .before in
-    reading-next _ _ _ _ (field (z .before) .0) (z .if1 .left) _ (w .0) _ _ _ _ (w .1) (c .number .ensures) (z .before .loop .inv)
+    reading-next _ _ _ _ (field (z .before) .0) (z .if1 .left) _ _ _ _ _ (c .before .width-of .ensures) (c .number .ensures) (z .before .loop .inv)
 
 pub call-of-spec : {M : Type 1} → statement M
 unfolding fieldWidths
