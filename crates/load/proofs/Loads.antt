@@ -20,7 +20,7 @@ use Rattle.load.specs.RoundTrip.{Bytes, Typed}
 use Rattle.load.proofs.Format.{length-small, length-total}
 use Rattle.load.proofs.Calls.{kind-of-call, values-of-call, call-of-values, call-carried, carries-length}
 use Rattle.load.proofs.Bytes.{Fit, bytes-drop, values-of-bytes, bytes-of-values, values-fit, values-length, typed-fits, fits-typed, record-length, record-front}
-use Rattle.load.proofs.Reading.{callIn, read-record, stands, step-next, step-refused, step-end, step-past, misfit-not, misfit-none, walk-record, walk-end, open-known}
+use Rattle.load.proofs.Reading.{callIn, read-record, stands, step-next, step-refused, step-end, step-past, misfit-not, misfit-none, by-item, walk-record, walk-end, open-known}
 
 -- A call that may stand first, or after the first.
 pub record Sound (e : ℕ) (first : Bool) (c : Call) : Type 0 where
@@ -124,15 +124,11 @@ walk-back : (k : ℕ) (s : List ℕ) (at : ℕ) → Bytes s → at ≤ length s 
     → walkIn k s at .stop ≡ 0 → drop at s ≡ recordsBytes (editionOf s) (walkIn k s at .calls)
 unfolding walkIn recordsBytes
 walk-back zero s at b h f z = absurd (omega arith)
-walk-back (suc k) s at b h f z = go (λ n. walk-back k s n b) (itemAt s at) refl z
-  where
-    go : ((n : ℕ) → n ≤ length s → length s < n + k → walkIn k s n .stop ≡ 0 → drop n s ≡ recordsBytes (editionOf s) (walkIn k s n .calls))
-        → (x : Item) → itemAt s at ≡ x → follow (λ n. walkIn k s n) x .stop ≡ 0 → drop at s ≡ recordsBytes (editionOf s) (follow (λ n. walkIn k s n) x .calls)
-    go ih (Refused n) q z = absurd (omega (arith, step-refused s at n q))
-    go ih End q z = step-end s at q
-    go ih (Record c n) q z =
-        let l = step-next s at c n q in
-        step-bytes s at c n b q ∙ ap (λ r. recordBytes (editionOf s) c ++ r) (ih n (l .1) (omega (arith, l .0)) z)
+walk-back (suc k) s at b h f z =
+    by-item (itemAt s at)
+    (λ c n q. let l = step-next s at c n q in rw q (step-bytes s at c n b q ∙ ap (λ r. recordBytes (editionOf s) c ++ r) (walk-back k s n b (l .1) (omega (arith, l .0)) (rw q at z))))
+    (λ q. rw q (step-end s at q))
+    (λ n q. absurd (omega (arith, step-refused s at n q, rw q at z)))
 
 pub is-read : (s : List ℕ) → Bytes s → openNumber s ≡ 0 → walk s 1 .stop ≡ 0 → s ≡ loadBytes (editionOf s) (walk s 1 .calls)
 unfolding walk loadBytes
@@ -143,17 +139,14 @@ is-read (e ∷ s) b o z = ap (λ r. e ∷ r) (walk-back (suc (length (e ∷ s)))
 walk-loadable : (k : ℕ) (s : List ℕ) (at : ℕ) → Bytes s → Loadable (editionOf s) (eqb at 1) (walkIn k s at .calls)
 unfolding walkIn
 walk-loadable zero s at b = Loadable.none
-walk-loadable (suc k) s at b = go (λ n. walk-loadable k s n b) (itemAt s at) refl
-  where
-    go : ((n : ℕ) → Loadable (editionOf s) (eqb n 1) (walkIn k s n .calls))
-        → (x : Item) → itemAt s at ≡ x → Loadable (editionOf s) (eqb at 1) (follow (λ n. walkIn k s n) x .calls)
-    go ih End q = Loadable.none
-    go ih (Refused n) q = Loadable.none
-    go ih (Record c n) q =
-        let x = stands s at c n q in
-        let z : eqb n 1 ≡ false = ne-eqb n 1 (λ e. omega (arith, x .behind)) in
-        let v = sound-call (editionOf s) at (drop at s) (bytes-drop s at b) (x .whole) (x .fits) in
-        Loadable.one (rw (x .call) at v) (rw z at (ih n))
+walk-loadable (suc k) s at b =
+    by-item (itemAt s at)
+    (λ c n q. let x = stands s at c n q in
+      let z : eqb n 1 ≡ false = ne-eqb n 1 (λ e. omega (arith, x .behind)) in
+      let v = sound-call (editionOf s) at (drop at s) (bytes-drop s at b) (x .whole) (x .fits) in
+      rw q (Loadable.one (rw (x .call) at v) (rw z at (walk-loadable k s n b))))
+    (λ q. rw q Loadable.none)
+    (λ n q. rw q Loadable.none)
 
 pub read-loadable : (s : List ℕ) → Bytes s → Loadable (editionOf s) true (walk s 1 .calls)
 unfolding walk

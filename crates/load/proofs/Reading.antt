@@ -117,24 +117,20 @@ misfit-none e at k h q =
     rw (z, eq-eqb (lengthOf e k) (lengthOf e k) refl, q)
 
 -- The tests as the code makes them at a position.
-pub misfit-empty : (e at n k : ℕ) → n ≡ 0 → misfit e at n k ≡ true
-unfolding misfit
-misfit-empty e at n k p = rw p
-
 module _ (s : List ℕ) (at : ℕ) where
-  pub step-short : at < length s → length s - at < 2 + lengthField (drop at s) → itemAt s at ≡ Refused 12
+  pub step-short : at < length s → length s - at < 2 + lengthField (drop at s) → Refused 12 ≡ itemAt s at
   unfolding itemAt readAt
   step-short h k =
       let l = length-drop at s in
       rw (ne-eqb (length (drop at s)) 0 (λ e. omega arith), lt-ltb (length (drop at s)) (2 + lengthField (drop at s)) (omega arith))
 
   module _ (n : ℕ) (e : n ≡ lengthField (drop at s)) (h : 2 + n ≤ length s - at) where
-    pub step-misfit : misfit (editionOf s) at n (getD s (at + 2) 0) ≡ true → itemAt s at ≡ Refused 13
+    pub step-misfit : misfit (editionOf s) at n (getD s (at + 2) 0) ≡ true → Refused 13 ≡ itemAt s at
     unfolding itemAt readAt
     step-misfit m =
         let l = length-drop at s in
-        let q : misfit (editionOf s) at (lengthField (drop at s)) (kindField (drop at s)) ≡ true = rw (← e, getD-drop at s 2 0) m in
-        rw (ne-eqb (length (drop at s)) 0 (λ z. omega arith), le-ltb (length (drop at s)) (2 + lengthField (drop at s)) (omega arith), q)
+        let z = le-ltb (length (drop at s)) (2 + lengthField (drop at s)) (omega arith) in
+        rw (ne-eqb (length (drop at s)) 0 (λ z. omega arith), z, ← e, getD-drop at s 2 0, m)
 
     pub step-record : (r : Call) → misfit (editionOf s) at n (getD s (at + 2) 0) ≡ false
         → r ≡ callOf (editionOf s) (getD s (at + 2) 0) (fieldValues (widths (editionOf s) (getD s (at + 2) 0)) (take (length s - (at + 3)) (drop (at + 3) s)))
@@ -142,24 +138,25 @@ module _ (s : List ℕ) (at : ℕ) where
     unfolding itemAt
     step-record r m p =
         let l = length-drop at s in
-        let d = length-drop (at + 3) s in
-        let q : misfit (editionOf s) at (lengthField (drop at s)) (kindField (drop at s)) ≡ false = rw (← e, getD-drop at s 2 0) m in
-        let t = take-all (length s - (at + 3)) (drop (at + 3) s) (omega arith) in
-        sym (read-record (editionOf s) at (drop at s) (omega arith) q ∙ rw (getD-drop at s 2 0, drop-drop 3 at s, e, p, t))
+        let t = take-all (length s - (at + 3)) (drop (at + 3) s) (omega (arith, length-drop (at + 3) s)) in
+        rw (read-record (editionOf s) at (drop at s) (omega arith) (rw (← e, getD-drop at s 2 0) m), getD-drop at s 2 0, drop-drop 3 at s, ← e, p, t)
 
 -- ── walks ──
+pub by-item : {P : Type 0} (x : Item) → ((c : Call) (n : ℕ) → x ≡ Record c n → P) → (x ≡ End → P) → ((n : ℕ) → x ≡ Refused n → P) → P
+by-item (Record c n) f g h = f c n refl
+by-item End f g h = g refl
+by-item (Refused n) f g h = h n refl
+
 walk-in-same : (k j : ℕ) (s : List ℕ) (at : ℕ) → length s < at + k → length s < at + j → walkIn k s at ≡ walkIn j s at
 unfolding walkIn
 walk-in-same zero zero s at h g = refl
 walk-in-same zero (suc j) s at h g = rw (step-past s at (omega arith))
 walk-in-same (suc k) zero s at h g = rw (step-past s at (omega arith))
-walk-in-same (suc k) (suc j) s at h g = go (λ n. walk-in-same k j s n) (itemAt s at) refl
-  where
-    go : ((n : ℕ) → length s < n + k → length s < n + j → walkIn k s n ≡ walkIn j s n)
-        → (x : Item) → itemAt s at ≡ x → follow (λ n. walkIn k s n) x ≡ follow (λ n. walkIn j s n) x
-    go ih (Record c n) e = let q = step-next s at c n e in ap (onto c) (ih n (omega (arith, q .0)) (omega (arith, q .0)))
-    go ih End e = refl
-    go ih (Refused n) e = refl
+walk-in-same (suc k) (suc j) s at h g =
+    by-item (itemAt s at)
+    (λ c n e. let q = step-next s at c n e in rw e (ap (onto c) (walk-in-same k j s n (omega (arith, q .0)) (omega (arith, q .0)))))
+    (λ e. rw e)
+    (λ n e. rw e)
 
 -- Three laws: nobody else counts the items.
 pub walk-record : (s : List ℕ) (at : ℕ) (c : Call) (next : ℕ) → itemAt s at ≡ Record c next → walk s at ≡ onto c (walk s next)
@@ -188,12 +185,11 @@ record-size s at c next h =
 walk-in-few : (k : ℕ) (s : List ℕ) (at : ℕ) → leastLength * length (walkIn k s at .calls) ≤ length s - at
 unfolding walkIn
 walk-in-few zero s at = omega arith
-walk-in-few (suc k) s at = go (walk-in-few k s) (itemAt s at) refl
-  where
-    go : ((n : ℕ) → leastLength * length (walkIn k s n .calls) ≤ length s - n) → (x : Item) → itemAt s at ≡ x → leastLength * length (follow (λ n. walkIn k s n) x .calls) ≤ length s - at
-    go ih (Record c n) e = omega (arith, ih n, record-size s at c n e, step-next s at c n e .1)
-    go ih End e = omega arith
-    go ih (Refused n) e = omega arith
+walk-in-few (suc k) s at =
+    by-item (itemAt s at)
+    (λ c n e. rw e (omega (arith, walk-in-few k s n, record-size s at c n e, step-next s at c n e .1)))
+    (λ e. rw e (omega arith))
+    (λ n e. rw e (omega arith))
 
 -- A load has no more records than its length has room for.
 pub walk-few : (s : List ℕ) (at : ℕ) → length (walk s at .calls) ≤ length s / leastLength

@@ -1,49 +1,42 @@
 -- `load::record_at` meets its contract: each test of `itemAt` in its order, then the record.
 use native.Mathlib.Omega.{arith}
 use mathlib.Core.Path.{sym, _∙_}
-use Rattle.load.proofs.Reading.{step-past, with-number, step-short, step-misfit, step-record, misfit-empty}
+use Rattle.load.specs.Reading.{misfit}
+use Rattle.load.proofs.Reading.{step-past, with-number, step-short, step-misfit, step-record}
 use borrow.Author.Needs.{needs}
 use Rattle.load.proofs.record_at.Statement.{statement}
 use Rattle.load.proofs.record_at.Tie as tie
 
-returns : tie.Need-returns
-returns c = with-number _ _ _ (sym (step-past _ _ (c .if1 .taken)))
-
-returns-2 : tie.Need-returns-2
-returns-2 c = with-number _ _ _ (sym (step-short _ _ (c .before .if1 .left) (omega (arith, c .if2 .taken))))
-
-returns-3 : tie.Need-returns-3
-returns-3 c =
-    with-number _ _ _ (sym (step-short _ _ (c .before .before .before .if1 .left) (omega (arith, c .if3 .taken, c .before .be16 .ensures, c .before .before .if2 .left))))
-
 returns-4 : tie.Need-returns-4
+unfolding misfit
 returns-4 c =
     let b = c .before .before in
-    with-number _ _ _ (sym (step-misfit _ _ _ (b .be16 .ensures) (omega (arith, c .before .if3 .left, b .before .if2 .left)) (misfit-empty _ _ _ _ (c .if4 .taken))))
+    with-number _ _ _ (step-misfit _ _ _ (b .be16 .ensures) (omega (arith, c .before .if3 .left, b .before .if2 .left)) (rw (c .if4 .taken)))
 
 returns-5 : tie.Need-returns-5
 returns-5 c =
-    let b = c .before .before .before .before .before .before in
-    with-number _ _ _
-    (sym (step-misfit _ _ _ (b .be16 .ensures) (omega (arith, c .before .before .before .before .before .if3 .left, b .before .if2 .left)) (sym (c .before .misfits .ensures) ∙ c .if5 .taken)))
+    let z = c .before .before .before .before .before in
+    let b = z .before in
+    with-number _ _ _ (step-misfit _ _ _ (b .be16 .ensures) (omega (arith, z .if3 .left, b .before .if2 .left)) (sym (c .before .misfits .ensures) ∙ c .if5 .taken))
 
 returns-6 : tie.Need-returns-6
 returns-6 c =
     let m = c .before .before .before in
-    let b = m .before .before .before .before .before in
-    with-number _ _ _
-    (step-record _ _ _ (b .be16 .ensures) (omega (arith, m .before .before .before .before .if3 .left, b .before .if2 .left)) _ (sym (m .misfits .ensures) ∙ c .before .before .if5 .left) (c .call-of .ensures))
+    let z = m .before .before .before .before in
+    let b = z .before in
+    let f = sym (m .misfits .ensures) ∙ c .before .before .if5 .left in
+    with-number _ _ _ (step-record _ _ _ (b .be16 .ensures) (omega (arith, z .if3 .left, b .before .if2 .left)) _ f (c .call-of .ensures))
 
 pub record-at-spec : {M : Type 1} → statement M
 record-at-spec =
     tie.close
     (tie.spec
-    returns
+    (λ c. with-number _ _ _ (sym (step-past _ _ (c .if1 .taken))))
     (λ c. search needs)
-    returns-2
+    (λ c. with-number _ _ _ (step-short _ _ (c .before .if1 .left) (omega (arith, c .if2 .taken))))
     (λ c κs. search needs)
     (λ c. search needs)
-    returns-3
+    (λ c. with-number _ _ _ (step-short _ _ (c .before .before .before .if1 .left) (omega (arith, c .if3 .taken, c .before .be16 .ensures, c .before .before .if2 .left))))
     returns-4
     (λ c. search needs)
     (λ c. search needs)
