@@ -1,12 +1,12 @@
 -- Calls and their values, there and back: by one induction over the fields of a row, given that they differ (`proper`).
-use Prim.Native.Nat.{ℕ, zero, suc, _-_, _%_, _^_, _≤_, _<_}
-use mathlib.Core.Bool.{Bool, true, false, _&&_, _||_}
+use Prim.Native.Nat.{ℕ, zero, suc, _-_, _^_, _≤_, _<_}
+use mathlib.Core.Bool.{true, false, _&&_}
 use mathlib.Core.List.{List, [], _∷_}
 use mathlib.Core.Path.{_≡_, refl, sym, ap, subst, _∙_}
 use native.Mathlib.Omega.{arith}
-use native.Mathlib.Nat.{one-le-pow, mod-eq-of-lt}
+use native.Mathlib.Nat.{one-le-pow}
 use lib.Dec.{ltb, eqb}
-use borrow.Author.Tests.{ltb-true, lt-ltb, le-ltb, eqb-true, eqb-false, eq-eqb, ne-eqb}
+use borrow.Author.Tests.{ltb-true, lt-ltb, eqb-true, eqb-false, eq-eqb, ne-eqb}
 use lib.ListN.{length, drop, getD, set, length-set, replicate, List·getD-eq-default}
 use lib.Seq.{getD-set-same, getD-set-other, set-out}
 use Rattle.load.specs.declared.Call.{Call}
@@ -168,7 +168,3 @@ typed-call c k t g l n (suc (suc zero)) = g
 typed-call c k t g l n (suc (suc (suc zero))) = l
 typed-call c k t g l n (suc (suc (suc (suc zero)))) = n
 typed-call c k t g l n (suc (suc (suc (suc (suc f))))) = omega arith
-
-pub typed-bare : (k : ℕ) → k < 2 ^ 8 → Typed (bare k)
-unfolding bare made
-typed-bare k h = typed-call (bare k) h (omega arith) (omega arith) (omega arith) (omega arith)

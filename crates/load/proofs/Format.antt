@@ -1,12 +1,12 @@
 -- What holds of every row of the format, by one test that is computed over the table; and the fields of a row, one after the other.
-use Prim.Native.Nat.{ℕ, zero, suc, _+_, _-_, _*_, _/_, _%_, _^_, _≤_, _<_}
+use Prim.Native.Nat.{ℕ, zero, suc, _+_, _≤_, _<_}
 use mathlib.Core.Bool.{Bool, true, false, not, _&&_, _||_, cond, false≢true, and-eq-true-iff}
 use mathlib.Core.List.{List, [], _∷_, _++_, map}
 use mathlib.Core.Logic.{_⊎_, inl, inr, ⊎-elim}
 use mathlib.Core.Path.{_≡_, refl, sym, ap, _∙_}
 use native.Mathlib.Omega.{arith}
 use lib.Dec.{ltb, leb, eqb}
-use borrow.Author.Tests.{ltb-true, ltb-false, leb-true, eqb-true, eqb-false, eq-eqb, ne-eqb, not-true}
+use borrow.Author.Tests.{ltb-true, leb-true, eqb-true, eqb-false, ne-eqb, not-true}
 use native.Mathlib.Numerals.{add-one}
 use lib.ListN.{length, drop, getD, replicate, List·getD-eq-default}
 use lib.Seq.{drop-nil}
@@ -43,10 +43,8 @@ below-passes (suc n) f h i l =
     either (eqb i n) (λ p. rw (eqb-true i n p) (q .0)) (λ p. below-passes n f (q .1) i (omega (arith, eqb-false i n p)))
 
 agree-same : (a b : Bool) → agree a b ≡ true → a ≡ b
-agree-same true true h = refl
-agree-same true false h = sym h
-agree-same false true h = h
-agree-same false false h = refl
+agree-same true b h = sym h
+agree-same false b h = sym (not-true b h)
 
 -- ── rows ──
 unfoldable pub has : ℕ → List ℕ → Bool
@@ -120,12 +118,6 @@ fields-few e k = ⊎-elim (λ n. rw n (omega arith)) (λ l. l .few) (lawful e k)
 pub length-few : (e k : ℕ) → lengthOf e k ≤ 255
 unfolding lengthOf lengthIn
 length-few e k = ⊎-elim (λ n. rw n (omega arith)) (λ l. let h = l .short in omega arith) (lawful e k)
-
-pub length-small : (e k : ℕ) → lengthOf e k < 256 ^ 2
-length-small e k = omega (arith, length-few e k)
-
-pub length-under : (e k n : ℕ) → n ≡ lengthOf e k → n ≤ 255
-length-under e k n p = omega (arith, p, length-few e k)
 
 pub least-some : 0 < leastLength
 unfolding leastLength leastIn format lengthIn total fieldWidth fieldWidths

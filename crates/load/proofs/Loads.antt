@@ -10,14 +10,13 @@ use lib.ListN.{length, take, drop, length-append, length-drop, length-map, take-
 use lib.Seq.{drop-at, take-add, drop-cons, drop-drop}
 use Rattle.numerals.proofs.BigEndian.{numeral-digits, digits-numeral}
 use Rattle.load.specs.declared.Call.{Call}
-use Rattle.load.specs.declared.Item.{Item}
-use Rattle.load.specs.declared.Item.the-variants.{Record, End, Refused}
+use Rattle.load.specs.declared.Item.the-variants.{Record}
 use Rattle.load.specs.Format.{fieldWidth, fieldsOf, widths, total, lengthOf}
 use Rattle.load.specs.Calls.{valuesOf, carries}
 use Rattle.load.specs.Bytes.{big, bigValue, fieldBytes, fieldValues, recordBytes, recordsBytes, loadBytes}
-use Rattle.load.specs.Reading.{agree, lengthField, kindField, misfit, readAt, editionOf, itemAt, openNumber, onto, follow, walkIn, walk}
+use Rattle.load.specs.Reading.{agree, lengthField, kindField, misfit, readAt, editionOf, itemAt, openNumber, onto, walkIn, walk}
 use Rattle.load.specs.RoundTrip.{Bytes, Typed}
-use Rattle.load.proofs.Format.{length-small, length-total}
+use Rattle.load.proofs.Format.{length-few, length-total}
 use Rattle.load.proofs.Calls.{kind-of-call, values-of-call, call-of-values, call-carried, carries-length}
 use Rattle.load.proofs.Bytes.{Fit, bytes-drop, values-of-bytes, bytes-of-values, values-fit, values-length, typed-fits, fits-typed, record-length, record-front}
 use Rattle.load.proofs.Reading.{callIn, read-record, stands, step-next, step-refused, step-end, step-past, misfit-not, misfit-none, by-item, walk-record, walk-end, open-known}
@@ -39,7 +38,7 @@ record-reads e at c rest v =
     let h = carries-length e c (v .carried) in
     let l = record-length e c h in
     let r = record-front e c rest in
-    let n : lengthField (recordBytes e c ++ rest) ≡ lengthOf e (c .kind) = ap bigValue (r .0) ∙ numeral-digits 2 (lengthOf e (c .kind)) (length-small e (c .kind)) in
+    let n : lengthField (recordBytes e c ++ rest) ≡ lengthOf e (c .kind) = ap bigValue (r .0) ∙ numeral-digits 2 (lengthOf e (c .kind)) (omega (arith, length-few e (c .kind))) in
     let a = length-append (recordBytes e c) rest in
     let m : misfit e at (lengthField (recordBytes e c ++ rest)) (kindField (recordBytes e c ++ rest)) ≡ false = rw (n, r .1) (misfit-none e at (c .kind) h (v .place)) in
     read-record e at (recordBytes e c ++ rest) (omega arith) m
@@ -50,13 +49,11 @@ abbrev valuesRead : ℕ → List ℕ → List ℕ
 valuesRead e bs = fieldValues (widths e (kindField bs)) (drop 3 bs)
 
 module _ (e at : ℕ) (bs : List ℕ) (s : Bytes bs) (h : 2 + lengthField bs ≤ length bs) (m : misfit e at (lengthField bs) (kindField bs) ≡ false) where
-  has-length : 0 < lengthOf e (kindField bs)
-  has-length = let q = misfit-not e at (lengthField bs) (kindField bs) m in omega (arith, q .0, q .1)
-
-  fields-whole : total (widths e (kindField bs)) ≤ length (drop 3 bs)
-  fields-whole =
+  parts : (0 < lengthOf e (kindField bs)) × (lengthField bs ≡ suc (total (widths e (kindField bs)))) × (total (widths e (kindField bs)) ≤ length (drop 3 bs))
+  parts =
       let q = misfit-not e at (lengthField bs) (kindField bs) m in
-      omega (arith, q .1, length-total e (kindField bs) has-length, length-drop 3 bs)
+      let t = length-total e (kindField bs) (omega (arith, q .0, q .1)) in
+      (omega (arith, q .0, q .1), q .1 ∙ t, omega (arith, q .1, t, length-drop 3 bs))
 
   many : length (valuesRead e bs) ≡ length (fieldsOf e (kindField bs))
   unfolding widths
@@ -73,22 +70,19 @@ module _ (e at : ℕ) (bs : List ℕ) (s : Bytes bs) (h : 2 + lengthField bs ≤
   written-again =
       let k = kindField bs in
       let n = lengthField bs in
-      let q = misfit-not e at n k m in
-      let jj = bytes-of-values (widths e k) (drop 3 bs) fields-whole (bytes-drop bs 3 s) in
-      let nn : n ≡ suc (total (widths e k)) = q .1 ∙ length-total e k has-length in
-      let bb : big 2 (lengthOf e k) ≡ take 2 bs = ap (big 2) (sym (q .1)) ∙ digits-numeral 2 bs (omega arith) s in
-      let e1 : take (2 + n) bs ≡ take 2 bs ++ take n (drop 2 bs) = take-add 2 n bs in
-      let e2 : take n (drop 2 bs) ≡ k ∷ take (total (widths e k)) (drop 3 bs) = rw (nn, drop-cons bs 2 0 (omega arith)) in
+      let jj = bytes-of-values (widths e k) (drop 3 bs) (parts .2) (bytes-drop bs 3 s) in
+      let bb : big 2 (lengthOf e k) ≡ take 2 bs = ap (big 2) (sym (misfit-not e at n k m .1)) ∙ digits-numeral 2 bs (omega (arith, parts .1)) s in
+      let e2 : take n (drop 2 bs) ≡ k ∷ take (total (widths e k)) (drop 3 bs) = rw (parts .1, drop-cons bs 2 0 (omega (arith, parts .1))) in
       ap (λ (j : ℕ). big 2 (lengthOf e j) ++ (j ∷ fieldBytes (widths e j) (valuesOf e (callIn e bs)))) kind-is
-      ∙ rw (values-are, jj, bb) (sym (e1 ∙ ap (λ r. take 2 bs ++ r) e2))
+      ∙ rw (values-are, jj, bb) (sym (take-add 2 n bs ∙ ap (λ r. take 2 bs ++ r) e2))
 
   sound-call : Sound e (eqb at 1) (callIn e bs)
   sound-call =
       let k = kindField bs in
       let c = callIn e bs in
-      let f = values-fit (widths e k) (drop 3 bs) fields-whole (bytes-drop bs 3 s) in
+      let f = values-fit (widths e k) (drop 3 bs) (parts .2) (bytes-drop bs 3 s) in
       let g : Fit (widths e (c .kind)) (valuesOf e c) = subst (λ (j : ℕ). Fit (widths e j) (valuesOf e c)) (sym kind-is) (rw values-are f) in
-      let h = call-carried e k (valuesRead e bs) many has-length in
+      let h = call-carried e k (valuesRead e bs) many (parts .0) in
       let b : c .kind < 256 = omega (arith, kind-is, s 2) in
       record { place = ap (λ (j : ℕ). agree (eqb j 1) (eqb at 1)) kind-is ∙ misfit-not e at (lengthField bs) k m .2; carried = h; typed = fits-typed e c b h g }
 
@@ -142,9 +136,9 @@ walk-loadable zero s at b = Loadable.none
 walk-loadable (suc k) s at b =
     by-item (itemAt s at)
     (λ c n q. let x = stands s at c n q in
-      let z : eqb n 1 ≡ false = ne-eqb n 1 (λ e. omega (arith, x .behind)) in
-      let v = sound-call (editionOf s) at (drop at s) (bytes-drop s at b) (x .whole) (x .fits) in
-      rw q (Loadable.one (rw (x .call) at v) (rw z at (walk-loadable k s n b))))
+    let z : eqb n 1 ≡ false = ne-eqb n 1 (λ e. omega (arith, x .behind)) in
+    let v = sound-call (editionOf s) at (drop at s) (bytes-drop s at b) (x .whole) (x .fits) in
+    rw q (Loadable.one (rw (x .call) at v) (rw z at (walk-loadable k s n b))))
     (λ q. rw q Loadable.none)
     (λ n q. rw q Loadable.none)
 

@@ -1,8 +1,8 @@
 -- Laws of the reader: what stands at a position, by cases; a walk without its count of items; what the tests of a load say.
 use Prim.Native.Nat.{ℕ, zero, suc, _+_, _-_, _*_, _/_, _≤_, _<_}
-use mathlib.Core.Bool.{Bool, true, false, not, _||_, cond, true≢false}
+use mathlib.Core.Bool.{true, false, not, _||_}
 use mathlib.Core.List.{List, [], _∷_}
-use mathlib.Core.Path.{_≡_, refl, sym, ap, _∙_}
+use mathlib.Core.Path.{_≡_, refl, ap}
 use native.Mathlib.Omega.{arith}
 use native.Mathlib.Nat.{le-div-iff-mul-le, div-le-self}
 use lib.Dec.{ltb, eqb}
@@ -17,7 +17,7 @@ use Rattle.load.specs.Calls.{callOf}
 use Rattle.load.specs.Bytes.{fieldValues, loadBytes}
 use Rattle.load.specs.Answers.{itemValues}
 use Rattle.load.specs.Reading.{inPlace, lengthField, kindField, short, misfit, readAt, editionOf, itemAt, recordNumber, ItemNumbered}
-use Rattle.load.specs.Reading.{openNumber, Walk, ended, onto, follow, walkIn, walk, orElse, unlessRefused, reading, loadNumber, ReadingTested}
+use Rattle.load.specs.Reading.{openNumber, Walk, ended, onto, walkIn, walk, orElse, unlessRefused, reading, loadNumber, ReadingTested}
 use Rattle.load.proofs.Format.{neither, passed, either, least-some, length-least}
 
 -- ── what stands at a position ──
@@ -25,38 +25,12 @@ use Rattle.load.proofs.Format.{neither, passed, either, least-some, len
 abbrev pub callIn : ℕ → List ℕ → Call
 callIn e bs = callOf e (kindField bs) (fieldValues (widths e (kindField bs)) (drop 3 bs))
 
-read-cases : (P : Item → Type 0) (e at : ℕ) (bs : List ℕ)
-    → (length bs ≡ 0 → P End)
-    → P (Refused 12)
-    → P (Refused 13)
-    → (2 + lengthField bs ≤ length bs → misfit e at (lengthField bs) (kindField bs) ≡ false → P (Record (callIn e bs) (at + (2 + lengthField bs))))
-    → P (readAt e at bs)
-unfolding readAt
-read-cases P e at bs end cut bad good =
-    either (eqb (length bs) 0)
-    (λ p. rw p (end (eqb-true (length bs) 0 p)))
-    (λ p. either (short bs)
-    (λ q. rw (p, q) cut)
-    (λ q. either (misfit e at (lengthField bs) (kindField bs)) (λ r. rw (p, q, r) bad) (λ r. rw (p, q, r) (good (ltb-false (length bs) (2 + lengthField bs) q) r))))
-
 pub read-record : (e at : ℕ) (bs : List ℕ) → 2 + lengthField bs ≤ length bs → misfit e at (lengthField bs) (kindField bs) ≡ false
     → readAt e at bs ≡ Record (callIn e bs) (at + (2 + lengthField bs))
 unfolding readAt
 read-record e at bs h m =
     let z : eqb (length bs) 0 ≡ false = ne-eqb (length bs) 0 (λ e. omega arith) in
     rw (z, le-ltb (length bs) (2 + lengthField bs) h, m)
-
-pub item-numbered : ItemNumbered
-unfolding itemAt readAt recordNumber
-item-numbered s at =
-    either (eqb (length (drop at s)) 0)
-    (λ p. rw p)
-    (λ p. either (short (drop at s))
-    (λ q. rw (p, q))
-    (λ q. either (misfit (editionOf s) at (lengthField (drop at s)) (kindField (drop at s))) (λ r. rw (p, q, r)) (λ r. rw (p, q, r))))
-
-pub with-number : (s : List ℕ) (at : ℕ) (r : Item) → r ≡ itemAt s at → (r ≡ itemAt s at) × (itemValues at r .number ≡ recordNumber s at)
-with-number s at r e = (e, ap (λ (x : Item). itemValues at x .number) e ∙ item-numbered s at)
 
 -- A record stands at a position.
 pub record Stands (s : List ℕ) (at : ℕ) (c : Call) (next : ℕ) : Type 0 where
@@ -71,25 +45,36 @@ Known s at (Record c next) = Stands s at c next
 Known s at End = drop at s ≡ []
 Known s at (Refused n) = 0 < n
 
-item-known : (s : List ℕ) (at : ℕ) → Known s at (itemAt s at)
-unfolding itemAt
+item-known : (s : List ℕ) (at : ℕ) → Known s at (itemAt s at) × (itemValues at (itemAt s at) .number ≡ recordNumber s at)
+unfolding itemAt readAt recordNumber
 item-known s at =
-    read-cases (Known s at) (editionOf s) at (drop at s)
-    (nothing (drop at s)) (omega arith) (omega arith)
-    (λ p r. record { whole = p; fits = r; call = refl; behind = refl })
+    let bs = drop at s in
+    either (eqb (length bs) 0)
+    (λ p. rw p (nothing bs (eqb-true (length bs) 0 p), refl))
+    (λ p. either (short bs)
+    (λ q. rw (p, q) (omega arith, refl))
+    (λ q. either (misfit (editionOf s) at (lengthField bs) (kindField bs))
+    (λ r. rw (p, q, r) (omega arith, refl))
+    (λ r. rw (p, q, r) (record { whole = ltb-false (length bs) (2 + lengthField bs) q; fits = r; call = refl; behind = refl }, refl))))
   where
     nothing : (bs : List ℕ) → length bs ≡ 0 → bs ≡ []
     nothing [] h = refl
     nothing (b ∷ bs) h = absurd (omega arith)
 
+pub item-numbered : ItemNumbered
+item-numbered s at = item-known s at .1
+
+pub with-number : (s : List ℕ) (at : ℕ) (r : Item) → r ≡ itemAt s at → (r ≡ itemAt s at) × (itemValues at r .number ≡ recordNumber s at)
+with-number s at r e = rw e (refl, item-numbered s at)
+
 pub stands : (s : List ℕ) (at : ℕ) (c : Call) (next : ℕ) → itemAt s at ≡ Record c next → Stands s at c next
-stands s at c next h = rw h at (item-known s at)
+stands s at c next h = rw h at (item-known s at .0)
 
 pub step-refused : (s : List ℕ) (at n : ℕ) → itemAt s at ≡ Refused n → 0 < n
-step-refused s at n h = rw h at (item-known s at)
+step-refused s at n h = rw h at (item-known s at .0)
 
 pub step-end : (s : List ℕ) (at : ℕ) → itemAt s at ≡ End → drop at s ≡ []
-step-end s at h = rw h at (item-known s at)
+step-end s at h = rw h at (item-known s at .0)
 
 -- A record is after its position and inside the load.
 pub step-next : (s : List ℕ) (at : ℕ) (c : Call) (next : ℕ) → itemAt s at ≡ Record c next → (at < next) × (next ≤ length s)

@@ -87,23 +87,18 @@ next-taken e ds c room k l v b h =
     (rw (good-reads e ds s g .0) (grows s c room w), i)
 
 -- .. as in a buffer of just that length.
-append-one : (e : ℕ) (ds : List Call) (c : Call) → known e ≡ true → Loadable e true ds → Sound e (none? ds) c → length (loadBytes e (ds ++ (c ∷ []))) ≤ 65536
-    → Appended e ds (loadBytes e ds) → Appended e (ds ++ (c ∷ [])) (loadBytes e (ds ++ (c ∷ [])))
-unfolding appendAnswer
-append-one e ds c k l v b a =
-    let s = loadBytes e ds in
-    let out = loadBytes e (ds ++ (c ∷ [])) in
-    let n = next-taken e ds c (length out) k l v b (omega arith) in
-    rw (appended-is s c out (n .0) ∙ n .1) at (Appended.one c out (length (grown s c)) a (v .typed) (rw (n .0)))
-
 append-all : (e : ℕ) (cs ds : List Call) → known e ≡ true → Loadable e true (ds ++ cs) → length (loadBytes e (ds ++ cs)) ≤ 65536
     → Appended e ds (loadBytes e ds) → Appended e (ds ++ cs) (loadBytes e (ds ++ cs))
+unfolding appendAnswer
 append-all e [] ds k l b a = rw append-nil a
 append-all e (c ∷ cs) ds k l b a =
     let q = append-assoc ds (c ∷ []) cs in
     let h = loadable-at e true ds c cs l in
-    let n = load-longer e (ds ++ (c ∷ [])) cs in
-    let i = append-one e ds c k (h .0) (h .1) (omega (arith, ap (λ x. length (loadBytes e x)) q, n)) a in
+    let s = loadBytes e ds in
+    let out = loadBytes e (ds ++ (c ∷ [])) in
+    let m : length out ≤ 65536 = omega (arith, ap (λ x. length (loadBytes e x)) q, load-longer e (ds ++ (c ∷ [])) cs) in
+    let n = next-taken e ds c (length out) k (h .0) (h .1) m (omega arith) in
+    let i = rw (appended-is s c out (n .0) ∙ n .1) at (Appended.one c out (length (grown s c)) a (h .1 .typed) (rw (n .0))) in
     rw q at (append-all e cs (ds ++ (c ∷ [])) k (rw q l) (rw q b) i)
 
 pub read-written : ReadWritten

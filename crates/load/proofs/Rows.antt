@@ -1,22 +1,18 @@
 -- Loops over the fields of a row, as the code goes through them: what is left from place i on gives the same as the whole.
-use Prim.Native.Nat.{ℕ, _+_, _-_, _*_, _%_, _^_, _≤_, _<_, min}
-use mathlib.Core.List.{List, [], _∷_, _++_, map}
+use Prim.Native.Nat.{ℕ, _+_, _-_, _*_, _^_, _≤_, _<_, min}
+use mathlib.Core.List.{List, [], _∷_, map}
 use mathlib.Core.Path.{_≡_, refl, _∙_}
 use native.Mathlib.Omega.{arith}
-use native.Mathlib.Nat.{mod-eq-of-lt}
 use lib.ListN.{length, take, drop, getD, set, replicate, length-set}
 use lib.Seq.{drop-drop}
 use Rattle.numerals.specs.Digits.{bytesAt}
-use Rattle.numerals.specs.Laid.{behind, laid, Put}
-use Rattle.numerals.proofs.Laying.{put-digits}
-use Rattle.numerals.proofs.Going.{Going, going-step, going-as, going-none}
 use Rattle.load.specs.declared.Call.{Call}
 use Rattle.load.specs.Format.{fieldWidths, fieldCount, fieldWidth, fieldsOf, widths}
-use Rattle.load.specs.Calls.{valueOf, made, withValue, bare, filled, callOf, valuesIn}
-use Rattle.load.specs.Bytes.{big, bigValue, fieldBytes, fieldValues}
+use Rattle.load.specs.Calls.{made, bare, filled, callOf, valuesIn}
+use Rattle.load.specs.Bytes.{bigValue, fieldBytes, fieldValues}
 use Rattle.load.specs.RoundTrip.{Typed}
 use Rattle.load.proofs.Format.{fields-proper, fields-few, place-under, rest-some, rest-none}
-use Rattle.load.proofs.Calls.{with-made, typed-with, typed-bare}
+use Rattle.load.proofs.Calls.{with-made, typed-with, typed-call}
 
 -- The fields from place i on, in bytes.
 abbrev pub left : ℕ → ℕ → ℕ → List ℕ
@@ -39,7 +35,7 @@ pub record Reading (e k : ℕ) (bs ns : List ℕ) (at i : ℕ) : Type 0 where
 
 pub reading-start : (e k : ℕ) (bs : List ℕ) → k < 2 ^ 8 → Reading e k bs (k ∷ replicate (fieldCount - 1) 0) 0 0
 unfolding callOf widths made bare fieldWidths
-reading-start e k bs h = record { place = omega arith; bytes = omega arith; full = refl; typed = typed-bare k h; call = refl }
+reading-start e k bs h = record { place = omega arith; bytes = omega arith; full = refl; typed = typed-call (bare k) h (omega arith) (omega arith) (omega arith) (omega arith); call = refl }
 
 pub reading-early : {e k : ℕ} {bs ns : List ℕ} {at i : ℕ} → Reading e k bs ns at i → i < 7
 reading-early {e} {k} r = omega (arith, r .place, fields-few e k)

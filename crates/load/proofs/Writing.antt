@@ -1,7 +1,7 @@
 -- The writer's definitions as the code meets them: the tests in its order, the answer, and the pieces of a record.
 use Prim.Native.Nat.{ℕ, zero, suc, _+_, _^_, _≤_, _<_}
-use mathlib.Core.Bool.{Bool, true, false, not, _||_, cond}
-use mathlib.Core.List.{List, _∷_, _++_}
+use mathlib.Core.Bool.{true, not, _||_}
+use mathlib.Core.List.{List}
 use mathlib.Core.Path.{_≡_, refl, sym, ap, _∙_}
 use native.Mathlib.Omega.{arith}
 use lib.Dec.{ltb, eqb}
@@ -13,14 +13,13 @@ use Rattle.numerals.proofs.Laying.{behind-small, laid-fits, put, put-then, put-
 use Rattle.load.specs.declared.Call.{Call}
 use Rattle.load.specs.declared.Written.{Written}
 use Rattle.load.specs.declared.Written.the-variants.{Length, Refusal}
-use Rattle.load.specs.Format.{widths, lengthOf}
-use Rattle.load.specs.Calls.{valuesOf, carries}
+use Rattle.load.specs.Calls.{carries}
 use Rattle.load.specs.Answers.{writtenValues}
-use Rattle.load.specs.Bytes.{big, fieldBytes, recordBytes}
-use Rattle.load.specs.Reading.{inPlace, editionOf, loadNumber, orElse}
-use Rattle.load.specs.Writing.{grown, roomNumber, growNumber, appendNumber, appendAnswer, appendValues, appendOut, answered, answeredValues, lent, begun, heldNumber, growAnswer, growValues, growOut}
+use Rattle.load.specs.Bytes.{recordBytes}
+use Rattle.load.specs.Reading.{inPlace, editionOf, loadNumber}
+use Rattle.load.specs.Writing.{grown, roomNumber, growNumber, appendNumber, appendAnswer, appendOut, answered, answeredValues, lent, begun, heldNumber, growAnswer, growOut}
 use Rattle.load.proofs.Format.{neither, passed}
-use Rattle.load.proofs.Reading.{or-else, or-first, load-known}
+use Rattle.load.proofs.Reading.{or-else}
 
 -- ── the tests ──
 -- By the length of the grown load and the room.
@@ -96,16 +95,13 @@ module _ (out : List ℕ) (n : ℕ) (c : Call) where
     first-edition : editionOf (take n out) ≡ editionOf out
     first-edition = getD-take n out 0 0 p
 
-    first-number : growNumber (editionOf (take n out)) (length (take n out)) c (length out) ≡ growNumber (editionOf out) n c (length out)
-    first-number = rw (first-length, first-edition)
-
     -- Where they read to their end, growing in place is appending.
     pub grows-in-place : loadNumber (take n out) ≡ 0 → (growAnswer out n c ≡ appendAnswer (take n out) c out) × (growOut out n c ≡ appendOut (take n out) c out)
     unfolding growAnswer growOut appendAnswer appendOut appendNumber heldNumber
     grows-in-place o = rw (ne-eqb n 0 (λ z. omega arith), le-ltb (length out) n l, o, first-length, first-edition) (refl, refl)
 
   pub held-known : heldNumber out n c ≡ 0 → Grows (take n out) c (length out)
-  held-known h = let q = held-within h in grow-known (take n out) c (length out) (first-number (q .0) (q .1) ∙ q .2)
+  held-known h = let q = held-within h in grow-known (take n out) c (length out) (rw (first-length (q .0) (q .1), first-edition (q .0) (q .1)) (q .2))
 
 -- ── the answer and the buffer ──
 -- k is the number, and g the grown load.

@@ -5,7 +5,7 @@ use mathlib.Core.Path.{_≡_, sym, _∙_}
 use borrow.Author.Needs.{needs}
 use borrow.Author.Tests.{not-true, not-false}
 use Rattle.load.specs.Writing.{roomNumber, growNumber}
-use Rattle.load.proofs.Format.{length-under}
+use Rattle.load.proofs.Format.{length-few}
 use Rattle.load.proofs.Calls.{carries-length}
 use Rattle.load.proofs.Bytes.{record-length}
 use Rattle.load.proofs.Writing.{room-long, room-short, room-good}
@@ -24,7 +24,7 @@ sizes c =
     let a = p .before .args in
     let q = sym (k .carries .ensures) ∙ not-false _ (c .before .if2 .left) in
     let r = record-length (a .edition) (a .call) (carries-length _ _ q) in
-    (rw (sym (p .placed .ensures) ∙ not-false _ (k .before .if1 .left), q, r, ← (c .length-of .ensures)), length-under _ _ _ (c .length-of .ensures))
+    (rw (sym (p .placed .ensures) ∙ not-false _ (k .before .if1 .left), q, r, ← (c .length-of .ensures)), omega (arith, c .length-of .ensures, length-few (a .edition) (a .call .kind)))
 
 pub grow-number-spec : {M : Type 1} → statement M
 unfolding growNumber
