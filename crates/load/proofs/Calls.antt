@@ -6,9 +6,9 @@ use mathlib.Core.Path.{_≡_, refl, sym, ap, subst, _∙_}
 use native.Mathlib.Omega.{arith}
 use native.Mathlib.Nat.{one-le-pow}
 use lib.Dec.{ltb, eqb}
-use borrow.Author.Tests.{ltb-true, lt-ltb, eqb-true, eqb-false, eq-eqb, ne-eqb}
-use lib.ListN.{length, drop, getD, set, length-set, replicate, List·getD-eq-default}
-use lib.Seq.{getD-set-same, getD-set-other, set-out}
+use borrow.Author.Tests.{ltb-true, ltb-false, lt-ltb, eqb-true, eqb-false, eq-eqb, ne-eqb}
+use lib.ListN.{length, drop, getD, set, length-set, replicate, getD-replicate, List·getD-eq-default}
+use lib.Seq.{getD-set-same, getD-set-other, set-out, ext-getD}
 use Rattle.load.specs.declared.Call.{Call}
 use Rattle.load.specs.Format.{fieldWidths, fieldCount, fieldWidth, fieldsOf, lengthOf}
 use Rattle.load.specs.Calls.{numbers, made, valueOf, withValue, bare, filled, callOf, valuesIn, valuesOf, sameBelow, same, kept, carries}
@@ -21,31 +21,27 @@ listed : (ℕ → ℕ) → ℕ → List ℕ
 listed f zero = []
 listed f (suc n) = f 0 ∷ listed (λ i. f (suc i)) n
 
-listed-is : (xs : List ℕ) (f : ℕ → ℕ) → ((i : ℕ) → i < length xs → f i ≡ getD xs i 0) → listed f (length xs) ≡ xs
+listed-is : (xs : List ℕ) → listed (λ i. getD xs i 0) (length xs) ≡ xs
 unfolding listed
-listed-is [] f h = refl
-listed-is (x ∷ xs) f h = rw (h 0 (omega arith), listed-is xs (λ i. f (suc i)) (λ i l. h (suc i) (omega arith)))
+listed-is [] = refl
+listed-is (x ∷ xs) = ap (λ r. x ∷ r) (listed-is xs)
 
 -- A call made of as many numbers as there are fields has them at their places.
 numbers-made : (ns : List ℕ) → length ns ≡ fieldCount → numbers (made ns) ≡ ns
 unfolding numbers made listed fieldWidths
-numbers-made ns h = subst (λ (n : ℕ). listed (λ i. getD ns i 0) n ≡ ns) h (listed-is ns (λ i. getD ns i 0) (λ i l. refl))
+numbers-made ns h = subst (λ (n : ℕ). listed (λ i. getD ns i 0) n ≡ ns) h (listed-is ns)
 
-made-has : (ns : List ℕ) → length ns ≡ fieldCount → (f : ℕ) → valueOf f (made ns) ≡ getD ns f 0
-unfolding valueOf
-made-has ns h f = ap (λ (xs : List ℕ). getD xs f 0) (numbers-made ns h)
-
-set-length : (f v : ℕ) (c : Call) → length (set (numbers c) f v) ≡ fieldCount
-unfolding numbers fieldWidths
-set-length f v c = length-set (numbers c) f v
+with-numbers : (f v : ℕ) (c : Call) → numbers (withValue f v c) ≡ set (numbers c) f v
+unfolding withValue numbers fieldWidths
+with-numbers f v c = numbers-made (set (numbers c) f v) (length-set (numbers c) f v)
 
 pub value-same : (f v : ℕ) (c : Call) → f < fieldCount → valueOf f (withValue f v c) ≡ v
-unfolding withValue numbers fieldWidths
-value-same f v c h = made-has (set (numbers c) f v) (set-length f v c) f ∙ getD-set-same (numbers c) f v 0 h
+unfolding valueOf numbers fieldWidths
+value-same f v c h = ap (λ (xs : List ℕ). getD xs f 0) (with-numbers f v c) ∙ getD-set-same (numbers c) f v 0 h
 
 pub value-other : (f g v : ℕ) (c : Call) → eqb f g ≡ false → valueOf f (withValue g v c) ≡ valueOf f c
-unfolding withValue valueOf
-value-other f g v c h = made-has (set (numbers c) g v) (set-length g v c) f ∙ getD-set-other (numbers c) g f v 0 (eqb-false f g h)
+unfolding valueOf
+value-other f g v c h = ap (λ (xs : List ℕ). getD xs f 0) (with-numbers g v c) ∙ getD-set-other (numbers c) g f v 0 (eqb-false f g h)
 
 pub no-value : (f : ℕ) (c : Call) → fieldCount ≤ f → (0 ≡ valueOf f c) × (0 < 256 ^ fieldWidth f)
 unfolding valueOf numbers fieldWidths
@@ -61,11 +57,6 @@ pub with-made : (f v : ℕ) (ns : List ℕ) → length ns ≡ fieldCount → mad
 unfolding withValue
 with-made f v ns h = ap (λ (xs : List ℕ). made (set xs f v)) (sym (numbers-made ns h))
 
--- Two calls with the same values are one.
-pub by-values : (c d : Call) → ((f : ℕ) → f < fieldCount → valueOf f c ≡ valueOf f d) → c ≡ d
-unfolding valueOf made numbers listed fieldWidths
-by-values c d h = ap made (sym (listed-is (numbers c) (λ f. valueOf f c) (λ f l. refl)) ∙ listed-is (numbers d) (λ f. valueOf f c) h)
-
 same-below : (n : ℕ) (c d : Call) → sameBelow n c d ≡ true → (f : ℕ) → f < n → valueOf f c ≡ valueOf f d
 unfolding sameBelow
 same-below zero c d h f l = absurd (omega arith)
@@ -78,8 +69,10 @@ pub same-next : (n m : ℕ) (c d : Call) → n ≡ suc m → (x y : ℕ) → x �
 unfolding sameBelow
 same-next n m c d e x y p q = rw (e, p, q)
 
+-- Two calls with the same values are one.
 pub same-call : (c d : Call) → same c d ≡ true → c ≡ d
-same-call c d h = by-values c d (same-below fieldCount c d h)
+unfolding valueOf made numbers fieldWidths
+same-call c d h = ap made (ext-getD 0 (numbers c) (numbers d) refl (same-below fieldCount c d h))
 
 same-self : (n : ℕ) (c d : Call) → c ≡ d → sameBelow n c d ≡ true
 unfolding sameBelow
@@ -144,15 +137,11 @@ call-of-values e c h = same-call (kept e c) c (both (ltb 0 (lengthOf e (c .kind)
 pub carries-none : (e : ℕ) (c : Call) (f : ℕ) → carries e c ≡ true → has (suc f) (fieldsOf e (c .kind)) ≡ false → valueOf (suc f) c ≡ 0
 unfolding callOf valueOf numbers bare made fieldWidths
 carries-none e c f h n =
-    ap (valueOf (suc f)) (sym (call-of-values e c h)) ∙ filled-other (fieldsOf e (c .kind)) (valuesOf e c) (bare (c .kind)) (suc f) n ∙ bare-none (c .kind) f
-  where
-    none : (n i : ℕ) → getD (replicate {A = ℕ} n 0) i 0 ≡ 0
-    none zero i = refl
-    none (suc n) zero = refl
-    none (suc n) (suc i) = none n i
-
-    bare-none : (k f : ℕ) → valueOf (suc f) (bare k) ≡ 0
-    bare-none k f = none (fieldCount - 1) f
+    let k = c .kind in
+    ap (valueOf (suc f)) (sym (call-of-values e c h)) ∙ filled-other (fieldsOf e k) (valuesOf e c) (bare k) (suc f) n
+    ∙ either (ltb f (fieldCount - 1))
+    (λ p. getD-replicate (fieldCount - 1) f 0 0 (ltb-true f (fieldCount - 1) p))
+    (λ p. List·getD-eq-default (replicate (fieldCount - 1) 0) 0 (ltb-false f (fieldCount - 1) p))
 
 -- ── types ──
 pub typed-with : (f v : ℕ) (c : Call) → f < fieldCount → v < 256 ^ fieldWidth f → Typed c → Typed (withValue f v c)

@@ -3,10 +3,10 @@ use Prim.Native.Nat.{ℕ, zero, suc, _+_, _≤_, _<_}
 use mathlib.Core.Bool.{Bool, true, false, not, _&&_, _||_, cond, false≢true, and-eq-true-iff}
 use mathlib.Core.List.{List, [], _∷_, _++_, map}
 use mathlib.Core.Logic.{_⊎_, inl, inr, ⊎-elim}
-use mathlib.Core.Path.{_≡_, refl, sym, ap, _∙_}
+use mathlib.Core.Path.{_≡_, refl, sym, ap}
 use native.Mathlib.Omega.{arith}
 use lib.Dec.{ltb, leb, eqb}
-use borrow.Author.Tests.{ltb-true, leb-true, eqb-true, eqb-false, ne-eqb, not-true}
+use borrow.Author.Tests.{ltb-true, leb-true, eqb-true, eqb-false, not-true}
 use native.Mathlib.Numerals.{add-one}
 use lib.ListN.{length, drop, getD, replicate, List·getD-eq-default}
 use lib.Seq.{drop-nil}
@@ -70,62 +70,33 @@ row-passes f (r ∷ rs) e k h =
     (λ p. let q = both _ _ p in rw p (inr (rw (← (eqb-true (r .edition) e (q .0)), ← (eqb-true (r .kind) k (q .1))) (t .0))))
     (λ p. rw p (row-passes f rs e k (t .1)))
 
--- What is tested: the edition is one of these, the kind from 1 to 5, the fields no more than six.
-abbrev pub editions : List ℕ
-editions = 1 ∷ []
+-- A test that is computed over the table.
+tested : (f : ℕ → ℕ → List ℕ → Bool) (e k : ℕ) → allRows f format ≡ true → (fieldsOf e k ≡ []) ⊎ (f e k (fieldsOf e k) ≡ true)
+unfolding fieldsOf
+tested f e k h = row-passes f format e k h
 
-test : ℕ → ℕ → List ℕ → Bool
-test e k fs = has e editions && ((ltb 0 k && ltb k 6) && (ltb (length fs) 7 && (proper fs && (leb leastLength (2 + lengthIn fs) && ltb (lengthIn fs) 256))))
-
-pub record Lawful (e k : ℕ) (fs : List ℕ) : Type 0 where
-  pub edition : has e editions ≡ true
-  pub kind : (0 < k) × (k < 6)
-  pub few : length fs < 7
-  pub fields : proper fs ≡ true
-  pub least : leastLength ≤ 2 + lengthIn fs
-  pub short : lengthIn fs < 256
-
-tested : (e k : ℕ) (fs : List ℕ) → test e k fs ≡ true → Lawful e k fs
-unfolding test
-tested e k fs h =
-    let a = both _ _ h in
-    let b = both _ _ (a .1) in
-    let c = both _ _ (b .1) in
-    let d = both _ _ (c .1) in
-    let f = both _ _ (d .1) in
-    record {
-      edition = a .0;
-      kind = (ltb-true 0 k (both (ltb 0 k) (ltb k 6) (b .0) .0), ltb-true k 6 (both (ltb 0 k) (ltb k 6) (b .0) .1));
-      few = ltb-true (length fs) 7 (c .0);
-      fields = d .0;
-      least = leb-true leastLength (2 + lengthIn fs) (f .0);
-      short = ltb-true (lengthIn fs) 256 (f .1);
-    }
-
-pub lawful : (e k : ℕ) → (fieldsOf e k ≡ []) ⊎ Lawful e k (fieldsOf e k)
-unfolding fieldsOf format proper has lengthIn total fieldWidths fieldWidth leastLength leastIn test allRows
-lawful e k = ⊎-elim (λ n. inl n) (λ t. inr (tested e k (fieldsOf e k) t)) (row-passes test format e k refl)
-
--- ── lengths ──
 pub fields-proper : (e k : ℕ) → proper (fieldsOf e k) ≡ true
-unfolding proper
-fields-proper e k = ⊎-elim (λ n. rw n) (λ l. l .fields) (lawful e k)
+unfolding allRows format proper has fieldWidths
+fields-proper e k = ⊎-elim (λ n. rw n) (λ t. t) (tested (λ e k fs. proper fs) e k refl)
 
 pub fields-few : (e k : ℕ) → length (fieldsOf e k) < 7
-fields-few e k = ⊎-elim (λ n. rw n (omega arith)) (λ l. l .few) (lawful e k)
+unfolding allRows format
+fields-few e k = ⊎-elim (λ n. rw n (omega arith)) (λ t. ltb-true (length (fieldsOf e k)) 7 t) (tested (λ e k fs. ltb (length fs) 7) e k refl)
 
+-- ── lengths ──
 -- No record is long, so its length goes into two bytes.
 pub length-few : (e k : ℕ) → lengthOf e k ≤ 255
-unfolding lengthOf lengthIn
-length-few e k = ⊎-elim (λ n. rw n (omega arith)) (λ l. let h = l .short in omega arith) (lawful e k)
+unfolding allRows format lengthOf lengthIn total fieldWidth fieldWidths
+length-few e k = ⊎-elim (λ n. rw n (omega arith)) (λ t. leb-true (lengthOf e k) 255 t) (tested (λ e k fs. leb (lengthIn fs) 255) e k refl)
 
 pub least-some : 0 < leastLength
 unfolding leastLength leastIn format lengthIn total fieldWidth fieldWidths
 least-some = omega arith
 
 pub length-least : (e k : ℕ) → 0 < lengthOf e k → leastLength ≤ 2 + lengthOf e k
-unfolding lengthOf lengthIn
-length-least e k h = ⊎-elim (λ n. let z = ap lengthIn n in absurd (omega arith)) (λ l. l .least) (lawful e k)
+unfolding allRows format lengthOf lengthIn total fieldWidth fieldWidths leastLength leastIn
+length-least e k h =
+    ⊎-elim (λ n. let z = ap lengthIn n in absurd (omega arith)) (λ t. leb-true leastLength (2 + lengthOf e k) t) (tested (λ e k fs. leb leastLength (2 + lengthIn fs)) e k refl)
 
 pub length-total : (e k : ℕ) → 0 < lengthOf e k → lengthOf e k ≡ suc (total (widths e k))
 unfolding lengthOf lengthIn widths total fieldWidth fieldWidths
@@ -202,11 +173,15 @@ unfolding rowOf padded lengthOf lengthIn
 no-row e k n = rw n
 
 pub no-edition : (e k : ℕ) → (e ≡ 1 → ⊥) → fieldsOf e k ≡ []
-unfolding has
-no-edition e k h = ⊎-elim (λ n. n) (λ l. absurd (false≢true (sym (rw (ne-eqb e 1 h)) ∙ l .edition))) (lawful e k)
+unfolding allRows format
+no-edition e k h = ⊎-elim (λ n. n) (λ t. absurd (h (eqb-true e 1 t))) (tested (λ e k fs. eqb e 1) e k refl)
 
 pub no-kind : (e k : ℕ) → (0 < k → 5 < k) → fieldsOf e k ≡ []
-no-kind e k h = ⊎-elim (λ n. n) (λ l. let o = h (l .kind .0) in absurd (omega (arith, l .kind .1))) (lawful e k)
+unfolding allRows format
+no-kind e k h =
+    ⊎-elim (λ n. n)
+    (λ t. let q = both (ltb 0 k) (ltb k 6) t in absurd (omega (arith, h (ltb-true 0 k (q .0)), ltb-true k 6 (q .1))))
+    (tested (λ e k fs. ltb 0 k && ltb k 6) e k refl)
 
 pub no-field : (e k i : ℕ) → 6 < i → 0 ≡ getD (fieldsOf e k) i 0
 no-field e k i h = sym (List·getD-eq-default (fieldsOf e k) 0 (omega (arith, fields-few e k)))

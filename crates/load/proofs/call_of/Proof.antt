@@ -31,9 +31,6 @@ returns : tie.Need-returns Inv-loop μ-loop
 unfolding filled
 returns c = let l = c .before .before in c .made .ensures ∙ rw (row-end _ _ _ _ (field l .0) (c .before .if1 .taken)) at (l .loop .inv .call)
 
-add-at : tie.Need-add-at Inv-loop μ-loop
-add-at c = let l = c .before .before .before in omega (arith, l .loop .inv .bytes, field l .2, c .before .width-of .ensures .1)
-
 loop-again : tie.Need-loop-again Inv-loop μ-loop
 loop-again c =
     let z = c .before .before in
@@ -56,7 +53,7 @@ call-of-spec =
     (λ c. omega (arith, field (c .before .before .before) .1))
     (λ c. omega (arith, field (c .before .before .before) .1))
     (λ c. field (c .before .before .before) .1)
-    add-at
+    (λ c. let l = c .before .before .before in omega (arith, l .loop .inv .bytes, field l .2, c .before .width-of .ensures .1))
     (λ c. omega (arith, field (c .before .before .before) .2))
     (λ c. let z = c .before .before in omega (arith, row-more _ _ _ _ (field (z .before) .0) (z .if1 .left)))
     loop-again)

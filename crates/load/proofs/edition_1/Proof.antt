@@ -5,9 +5,6 @@ use Rattle.load.proofs.Format.{no-row, no-kind}
 use Rattle.load.proofs.edition_1.Statement.{statement}
 use Rattle.load.proofs.edition_1.Tie as tie
 
-returns-6 : tie.Need-returns-6
-returns-6 c = let r = c .match .rest in no-row _ _ (no-kind _ _ (λ z. omega (arith, r .0 .0 .0 .0 .1, r .0 .0 .0 .1, r .0 .0 .1, r .0 .1, r .1)))
-
 pub edition-1-spec : {M : Type 1} → statement M
 unfolding rowOf padded fieldsOf rowIn format lengthOf lengthIn total fieldWidth fieldWidths
 edition-1-spec =
@@ -18,4 +15,4 @@ edition-1-spec =
     (λ c. rw (c .match .keys3))
     (λ c. rw (c .match .keys4))
     (λ c. rw (c .match .keys5))
-    returns-6)
+    (λ c. let r = c .match .rest in no-row 1 (c .before .args .kind) (no-kind 1 (c .before .args .kind) (λ z. omega (arith, r .0 .0 .0 .0 .1, r .0 .0 .0 .1, r .0 .0 .1, r .0 .1, r .1)))))

@@ -8,9 +8,6 @@ use Rattle.load.proofs.Writing.{held-within, held-known, refused, writt
 use Rattle.load.proofs.grow.Statement.{statement}
 use Rattle.load.proofs.grow.Tie as tie
 
-slice-read-edition : tie.Need-slice-read-edition
-slice-read-edition c = let q = held-within _ _ _ (sym (c .before .before .held-number .ensures) ∙ c .before .if1 .left) in omega (arith, q .0, q .1)
-
 returns-2 : tie.Need-returns-2
 unfolding growAnswer growOut growValues
 returns-2 c =
@@ -28,7 +25,7 @@ grow-spec =
     (λ c κs. search needs)
     (λ c. search needs)
     (λ c. let a = c .before .before .before .before .args in refused (grown (take (a .size) (a .out .now)) (a .call)) _ _ _ (c .before .held-number .ensures) (c .if1 .taken))
-    slice-read-edition
+    (λ c. let q = held-within _ _ _ (sym (c .before .before .held-number .ensures) ∙ c .before .if1 .left) in omega (arith, q .0, q .1))
     (λ c κs. search needs)
     (λ c. search needs)
     returns-2)

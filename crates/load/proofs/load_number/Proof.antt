@@ -15,11 +15,6 @@ Inv-loop load «open» at₀ at = walk load at .stop ≡ walk load 1 .stop
 abbrev μ-loop : tie.MeasureT-loop
 μ-loop load «open» at₀ at = length load - at
 
-loop-less : tie.Need-loop-less Inv-loop μ-loop
-loop-less c =
-    let q = step-next _ _ _ _ (sym (c .before .before .before .record-at .ensures .0) ∙ c .before .-c .given .1) in
-    omega (arith, q .0, q .1)
-
 loop-again : tie.Need-loop-again Inv-loop μ-loop
 loop-again c =
     let r = c .before .before .before in
@@ -51,7 +46,7 @@ load-number-spec =
     (λ c. refl)
     (λ c κs. search needs)
     (λ c. search needs)
-    loop-less
+    (λ c. let q = step-next _ _ _ _ (sym (c .before .before .before .record-at .ensures .0) ∙ c .before .-c .given .1) in omega (arith, q .0, q .1))
     loop-again
     (λ c. search needs)
     returns-2

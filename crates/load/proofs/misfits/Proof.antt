@@ -7,12 +7,6 @@ use borrow.Author.Needs.{needs}
 use Rattle.load.proofs.misfits.Statement.{statement}
 use Rattle.load.proofs.misfits.Tie as tie
 
-returns-3 : tie.Need-returns-3
-unfolding misfit
-returns-3 c =
-    let n = c .before .before in
-    rw (ne-eqb _ _ (n .before .if1 .left), eq-eqb _ _ (c .before .if2 .left ∙ n .length-of .ensures)) (ap not (c .placed .ensures))
-
 pub misfits-spec : {M : Type 1} → statement M
 unfolding misfit
 misfits-spec =
@@ -22,4 +16,4 @@ misfits-spec =
     (λ c κs. search needs)
     (λ c. rw (ne-eqb _ _ (c .before .before .if1 .left), ne-eqb _ _ (λ z. c .if2 .taken (z ∙ sym (c .before .length-of .ensures)))))
     (λ c κs. search needs)
-    returns-3)
+    (λ c. let n = c .before .before in rw (ne-eqb _ _ (n .before .if1 .left), eq-eqb _ _ (c .before .if2 .left ∙ n .length-of .ensures)) (ap not (c .placed .ensures))))

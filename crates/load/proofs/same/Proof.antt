@@ -25,12 +25,8 @@ loop-again c =
     let a = c .before .before in
     rw (eq-eqb _ _ (c .if1 .left)) at (same-next _ _ _ _ (omega arith) _ _ (a .value-of .ensures .0) (c .before .value-of2 .ensures .0) ∙ a .before .before .loop .inv)
 
-returns-2 : tie.Need-returns-2 Inv-loop μ-loop
-unfolding sameBelow
-returns-2 c = let z : c .before .loop .f ≡ 0 = omega arith in rw z at (c .before .loop .inv)
-
 pub same-spec : {M : Type 1} → statement M
-unfolding fieldWidths
+unfolding fieldWidths sameBelow
 same-spec =
     tie.close
     (tie.spec
@@ -43,4 +39,4 @@ same-spec =
     returns
     (λ c. omega arith)
     loop-again
-    returns-2)
+    (λ c. let z : c .before .loop .f ≡ 0 = omega arith in rw z at (c .before .loop .inv)))

@@ -6,12 +6,6 @@ use Rattle.load.proofs.Format.{no-width}
 use Rattle.load.proofs.width_of.Statement.{statement}
 use Rattle.load.proofs.width_of.Tie as tie
 
-returns-6 : tie.Need-returns-6
-unfolding fieldWidths
-returns-6 c =
-    let r = c .match .rest in
-    (sym (no-width _ (omega (arith, r .1, r .0 .1, r .0 .0 .1, r .0 .0 .0 .1, r .0 .0 .0 .0 .1))), omega arith)
-
 pub width-of-spec : {M : Type 1} → statement M
 unfolding fieldWidth fieldWidths
 width-of-spec =
@@ -22,4 +16,4 @@ width-of-spec =
     (λ c. (rw (c .match .keys3), omega arith))
     (λ c. (rw (c .match .keys4), omega arith))
     (λ c. (rw (c .match .keys5), omega arith))
-    returns-6)
+    (λ c. let r = c .match .rest in (sym (no-width (c .before .args .field) (omega (arith, r .1, r .0 .1, r .0 .0 .1, r .0 .0 .0 .1, r .0 .0 .0 .0 .1))), omega arith)))

@@ -9,10 +9,6 @@ use Rattle.load.proofs.Calls.{with-none}
 use Rattle.load.proofs.with_value.Statement.{statement}
 use Rattle.load.proofs.with_value.Tie as tie
 
-returns-6 : tie.Need-returns-6
-unfolding fieldWidths
-returns-6 c = let r = c .match .rest in with-none _ _ _ (omega (arith, r .1, r .0 .1, r .0 .0 .1, r .0 .0 .0 .1, r .0 .0 .0 .0 .1))
-
 pub with-value-spec : {M : Type 1} → statement M
 unfolding withValue made numbers fieldWidth fieldWidths
 with-value-spec =
@@ -26,4 +22,4 @@ with-value-spec =
     (λ c. rw (c .match .keys3, mod-eq-of-lt {n = c .before .args .value} {m = 256 ^ 8} (search needs)))
     (λ c. rw (c .match .keys4))
     (λ c. rw (c .match .keys5))
-    returns-6)
+    (λ c. let r = c .match .rest in with-none (c .before .args .field) _ _ (omega (arith, r .1, r .0 .1, r .0 .0 .1, r .0 .0 .0 .1, r .0 .0 .0 .0 .1))))
