@@ -9,7 +9,6 @@ use lib.Dec.{eqb}
 use borrow.Author.Tests.{eqb-true}
 use lib.ListN.{length, take, drop, getD, length-append, length-drop}
 use lib.Seq.{take-at, drop-at, take-add, getD-drop}
-use Rattle.numerals.specs.Digits.{digits}
 use Rattle.numerals.proofs.BigEndian.{digits-length, numeral-digits, digits-numeral, numeral-below}
 use Rattle.load.specs.declared.Call.{Call}
 use Rattle.load.specs.Format.{fieldWidths, fieldWidth, fieldsOf, widths, total, lengthOf}
@@ -91,14 +90,6 @@ fits-typed e c k h t (suc f) =
 pub record-length : (e : ℕ) (c : Call) → 0 < lengthOf e (c .kind) → length (recordBytes e c) ≡ 2 + lengthOf e (c .kind)
 unfolding recordBytes
 record-length e c h = let t = length-total e (c .kind) h in simp (length-append, digits-length, field-bytes-length) (omega arith)
-
--- Length, kind and fields of a record, whatever stands after it.
-pub record-front : (e : ℕ) (c : Call) (rest : List ℕ)
-    → (take 2 (recordBytes e c ++ rest) ≡ big 2 (lengthOf e (c .kind)))
-    × (getD (recordBytes e c ++ rest) 2 0 ≡ c .kind)
-    × (drop 3 (recordBytes e c ++ rest) ≡ fieldBytes (widths e (c .kind)) (valuesOf e c) ++ rest)
-unfolding recordBytes digits
-record-front e c rest = (refl, refl, refl)
 
 -- ── loads ──
 records-append : (e : ℕ) (cs ds : List Call) → recordsBytes e (cs ++ ds) ≡ recordsBytes e cs ++ recordsBytes e ds

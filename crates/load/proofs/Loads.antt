@@ -8,17 +8,18 @@ use lib.Dec.{eqb}
 use borrow.Author.Tests.{ne-eqb}
 use lib.ListN.{length, take, drop, length-append, length-drop, length-map, take-append-drop}
 use lib.Seq.{drop-at, take-add, drop-cons, drop-drop}
+use Rattle.numerals.specs.Digits.{digits}
 use Rattle.numerals.proofs.BigEndian.{numeral-digits, digits-numeral}
 use Rattle.load.specs.declared.Call.{Call}
 use Rattle.load.specs.declared.Item.the-variants.{Record}
 use Rattle.load.specs.Format.{fieldWidth, fieldsOf, widths, total, lengthOf}
 use Rattle.load.specs.Calls.{valuesOf, carries}
-use Rattle.load.specs.Bytes.{big, bigValue, fieldBytes, fieldValues, recordBytes, recordsBytes, loadBytes}
+use Rattle.load.specs.Bytes.{big, fieldBytes, fieldValues, recordBytes, recordsBytes, loadBytes}
 use Rattle.load.specs.Reading.{agree, lengthField, kindField, misfit, readAt, editionOf, itemAt, openNumber, onto, walkIn, walk}
 use Rattle.load.specs.RoundTrip.{Bytes, Typed}
 use Rattle.load.proofs.Format.{length-few, length-total}
 use Rattle.load.proofs.Calls.{kind-of-call, values-of-call, call-of-values, call-carried, carries-length}
-use Rattle.load.proofs.Bytes.{Fit, bytes-drop, values-of-bytes, bytes-of-values, values-fit, values-length, typed-fits, fits-typed, record-length, record-front}
+use Rattle.load.proofs.Bytes.{Fit, bytes-drop, values-of-bytes, bytes-of-values, values-fit, values-length, typed-fits, fits-typed, record-length}
 use Rattle.load.proofs.Reading.{callIn, read-record, stands, step-next, step-refused, step-end, step-past, misfit-not, misfit-none, by-item, walk-record, walk-end, open-known}
 
 -- A call that may stand first, or after the first.
@@ -34,15 +35,15 @@ pub data Loadable (e : ℕ) : Bool → List Call → Type 0 where
 
 -- ── one record, there and back ──
 record-reads : (e at : ℕ) (c : Call) (rest : List ℕ) → Sound e (eqb at 1) c → readAt e at (recordBytes e c ++ rest) ≡ Record c (at + length (recordBytes e c))
+unfolding recordBytes digits
 record-reads e at c rest v =
     let h = carries-length e c (v .carried) in
     let l = record-length e c h in
-    let r = record-front e c rest in
-    let n : lengthField (recordBytes e c ++ rest) ≡ lengthOf e (c .kind) = ap bigValue (r .0) ∙ numeral-digits 2 (lengthOf e (c .kind)) (omega (arith, length-few e (c .kind))) in
+    let n : lengthField (recordBytes e c ++ rest) ≡ lengthOf e (c .kind) = numeral-digits 2 (lengthOf e (c .kind)) (omega (arith, length-few e (c .kind))) in
     let a = length-append (recordBytes e c) rest in
-    let m : misfit e at (lengthField (recordBytes e c ++ rest)) (kindField (recordBytes e c ++ rest)) ≡ false = rw (n, r .1) (misfit-none e at (c .kind) h (v .place)) in
+    let m : misfit e at (lengthField (recordBytes e c ++ rest)) (kindField (recordBytes e c ++ rest)) ≡ false = rw n (misfit-none e at (c .kind) h (v .place)) in
     read-record e at (recordBytes e c ++ rest) (omega arith) m
-    ∙ rw (n, r .1, r .2, values-of-bytes (typed-fits e c (v .typed)) rest, call-of-values e c (v .carried), l)
+    ∙ rw (n, values-of-bytes (typed-fits e c (v .typed)) rest, call-of-values e c (v .carried), l)
 
 -- Bytes that are a record.
 abbrev valuesRead : ℕ → List ℕ → List ℕ

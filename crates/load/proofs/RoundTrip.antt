@@ -1,39 +1,33 @@
--- The round trip: the claims of specs/RoundTrip. A load that the writer makes is `Good`: it is the bytes of calls that make a load.
+-- The round trip: the claims of specs/RoundTrip. A load that the writer makes is the bytes of `Good` calls.
 use Prim.Native.Nat.{ℕ, zero, suc, _≤_}
 use mathlib.Core.Bool.{true}
 use mathlib.Core.List.{List, [], _∷_, _++_, append-assoc, append-nil}
 use mathlib.Core.Path.{_≡_, refl, sym, ap, _∙_}
 use native.Mathlib.Omega.{arith}
-use lib.Dec.{eqb}
 use lib.ListN.{length, take, drop}
 use lib.Seq.{take-at}
 use Rattle.load.specs.declared.Call.{Call}
 use Rattle.load.specs.declared.Written.the-variants.{Length}
 use Rattle.load.specs.Format.{known}
-use Rattle.load.specs.Bytes.{recordBytes, recordsBytes, loadBytes}
-use Rattle.load.specs.Reading.{editionOf, openNumber, walk, loadNumber}
-use Rattle.load.specs.Writing.{grown, growNumber, appendNumber, answered, appendAnswer, appendOut}
+use Rattle.load.specs.Bytes.{recordsBytes, loadBytes}
+use Rattle.load.specs.Reading.{editionOf, walk, loadNumber}
+use Rattle.load.specs.Writing.{grown, appendNumber, answered, appendAnswer, appendOut}
 use Rattle.load.specs.RoundTrip.{Typed, Appended, WrittenReads, ReadWritten, ReadBounded}
 use Rattle.load.proofs.Bytes.{load-append, load-longer, load-edition}
 use Rattle.load.proofs.Reading.{load-parts, load-known, opens}
 use Rattle.load.proofs.Loads.{Sound, Loadable, reads-back, is-read, read-loadable, none?, loadable-more, loadable-at, alone}
-use Rattle.load.proofs.Writing.{Grows, grow-known, grows, append-parts}
+use Rattle.load.proofs.Writing.{Grows, grows, append-grows}
 
 -- ── what the writer makes reads as its calls ──
--- What holds of every load that the writer makes.
-record Good (e : ℕ) (cs : List Call) (s : List ℕ) : Type 0 where
+-- What holds of the calls of every load that the writer makes.
+record Good (e : ℕ) (cs : List Call) : Type 0 where
   pub edition : known e ≡ true
-  pub is : s ≡ loadBytes e cs
   pub calls : Loadable e true cs
-  pub bound : length s ≤ 65536
+  pub bound : length (loadBytes e cs) ≤ 65536
 
-good-reads : (e : ℕ) (cs : List Call) (s : List ℕ) → Good e cs s → (loadNumber s ≡ 0) × (walk s 1 ≡ record { calls = cs; stop = 0 })
+good-reads : (e : ℕ) (cs : List Call) → Good e cs → (loadNumber (loadBytes e cs) ≡ 0) × (walk (loadBytes e cs) 1 ≡ record { calls = cs; stop = 0 })
 unfolding loadNumber
-good-reads e cs s g =
-    let q = g .is in
-    let o : openNumber s ≡ 0 = rw q (opens e cs (g .edition) (rw q at (g .bound))) in
-    let w : walk s 1 ≡ record { calls = cs; stop = 0 } = rw q (reads-back e cs (g .calls)) in
-    (rw (o, w), w)
+good-reads e cs g = rw (opens e cs (g .edition) (g .bound), reads-back e cs (g .calls)) (refl, refl)
 
 -- A buffer that begins with the grown load gives it back.
 appended-is : (s : List ℕ) (c : Call) (out : List ℕ) → appendNumber s c (length out) ≡ 0 → take (length (grown s c)) (appendOut s c out) ≡ grown s c
@@ -44,34 +38,26 @@ answer-length : (k m n : ℕ) → answered k m ≡ Length n → (k ≡ 0) × (m 
 answer-length zero m n h = (refl, cc)
 answer-length (suc k) m n h = let z : _≡_ {A = ℕ} 0 1 = cc in absurd (omega arith)
 
-module _ (e : ℕ) (cs : List Call) (s : List ℕ) (g : Good e cs s) where
-  edition-is : editionOf s ≡ e
-  edition-is = ap editionOf (g .is) ∙ load-edition e cs
+grown-is : (e : ℕ) (cs : List Call) (c : Call) → grown (loadBytes e cs) c ≡ loadBytes e (cs ++ (c ∷ []))
+unfolding grown
+grown-is e cs c = rw (load-edition e cs) (sym (load-append e cs c))
 
-  first-is : eqb (length s) 1 ≡ none? cs
-  first-is = ap (λ (x : List ℕ). eqb (length x) 1) (g .is) ∙ alone e true cs (g .calls)
+good-grown : (e : ℕ) (cs : List Call) (c : Call) (room : ℕ) → Good e cs → Typed c → Grows (loadBytes e cs) c room → Good e (cs ++ (c ∷ []))
+good-grown e cs c room g t k =
+    let v : Sound e (none? cs) c = record { place = rw (alone e true cs (g .calls)) at (k .place); carried = rw (load-edition e cs) at (k .carried); typed = t } in
+    record { edition = g .edition; calls = loadable-more e true cs c (g .calls) v; bound = rw (grown-is e cs c) at (k .bounded) }
 
-  grown-is : (c : Call) → grown s c ≡ loadBytes e (cs ++ (c ∷ []))
-  unfolding grown
-  grown-is c = ap (λ k. s ++ recordBytes k c) edition-is ∙ ap (λ (x : List ℕ). x ++ recordBytes e c) (g .is) ∙ sym (load-append e cs c)
-
-  good-grown : (c : Call) (room : ℕ) → Typed c → growNumber (editionOf s) (length s) c room ≡ 0 → Good e (cs ++ (c ∷ [])) (grown s c)
-  good-grown c room t h =
-      let k = grow-known s c room h in
-      let v : Sound e (none? cs) c = record { place = rw first-is at (k .place); carried = rw edition-is at (k .carried); typed = t } in
-      record { edition = g .edition; is = grown-is c; calls = loadable-more e true cs c (g .calls) v; bound = k .bounded }
-
-appended-good : (e : ℕ) (cs : List Call) (s : List ℕ) → Appended e cs s → Good e cs s
+appended-good : (e : ℕ) (cs : List Call) (s : List ℕ) → Appended e cs s → (s ≡ loadBytes e cs) × Good e cs
 unfolding loadBytes recordsBytes appendAnswer
-appended-good e cs s (Appended.none k) = record { edition = k; is = refl; calls = Loadable.none; bound = omega arith }
+appended-good e cs s (Appended.none k) = (refl, record { edition = k; calls = Loadable.none; bound = omega arith })
 appended-good e cs s (Appended.one {cs = ds} {s = r} c out n a t h) =
     let q = answer-length (appendNumber r c (length out)) (length (grown r c)) n h in
-    let k = append-parts r c (length out) (q .0) in
+    let p = appended-good e ds r a in
     let i : take n (appendOut r c out) ≡ grown r c = rw (← (q .1)) (appended-is r c out (q .0)) in
-    rw i (good-grown e ds r (appended-good e ds r a) c (length out) t (k .1))
+    (i ∙ ap (λ x. grown x c) (p .0) ∙ grown-is e ds c, good-grown e ds c (length out) (p .1) t (rw (p .0) at (append-grows r c (length out) (q .0))))
 
 pub written-reads : WrittenReads
-written-reads e cs s a = good-reads e cs s (appended-good e cs s a)
+written-reads e cs s a = let g = appended-good e cs s a in rw (g .0) (good-reads e cs (g .1))
 
 -- ── a load that reads to its end is what the writer makes ──
 -- One call more is one that the writer takes, where there is room for it.
@@ -81,10 +67,10 @@ pub next-taken : (e : ℕ) (ds : List Call) (c : Call) (room : ℕ) → known e 
 unfolding appendNumber
 next-taken e ds c room k l v b h =
     let s = loadBytes e ds in
-    let g : Good e ds s = record { edition = k; is = refl; calls = l; bound = omega (arith, load-longer e ds (c ∷ [])) } in
-    let i : grown s c ≡ loadBytes e (ds ++ (c ∷ [])) = grown-is e ds s g c in
-    let w : Grows s c room = record { place = rw (first-is e ds s g) (v .place); carried = rw (edition-is e ds s g) (v .carried); bounded = rw i b; goes-in = rw i h } in
-    (rw (good-reads e ds s g .0) (grows s c room w), i)
+    let g : Good e ds = record { edition = k; calls = l; bound = omega (arith, load-longer e ds (c ∷ [])) } in
+    let i : grown s c ≡ loadBytes e (ds ++ (c ∷ [])) = grown-is e ds c in
+    let w : Grows s c room = record { place = rw (alone e true ds l) (v .place); carried = rw (load-edition e ds) (v .carried); bounded = rw i b; goes-in = rw i h } in
+    (rw (good-reads e ds g .0) (grows s c room w), i)
 
 -- .. as in a buffer of just that length.
 append-all : (e : ℕ) (cs ds : List Call) → known e ≡ true → Loadable e true (ds ++ cs) → length (loadBytes e (ds ++ cs)) ≤ 65536
