@@ -91,7 +91,7 @@ fn the_reasons() {
     }
 }
 
-/// Each byte between words, inside them and at both ends of a line.
+/// Each byte between words, inside them, at both ends of a line and before a comment.
 #[test]
 fn every_byte_in_every_place() {
     for byte in 0..=255 {
@@ -99,6 +99,8 @@ fn every_byte_in_every_place() {
             &b"?rig F"[..],
             b"rig?F\n",
             b"rig F?\n",
+            b"rig F?\r\n",
+            b"rig F?# x\n",
             b"r?ig F\n",
             b"edition?1\nrig F",
             b"rig F\nclock 1?\nclock 2\n",
