@@ -157,3 +157,7 @@ typed-call c k t g l n (suc (suc zero)) = g
 typed-call c k t g l n (suc (suc (suc zero))) = l
 typed-call c k t g l n (suc (suc (suc (suc zero)))) = n
 typed-call c k t g l n (suc (suc (suc (suc (suc f))))) = omega arith
+
+pub typed-bare : (k : ℕ) → k < 2 ^ 8 → Typed (bare k)
+unfolding bare made
+typed-bare k h = typed-call (bare k) h (omega arith) (omega arith) (omega arith) (omega arith)

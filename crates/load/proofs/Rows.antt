@@ -12,7 +12,7 @@ use Rattle.load.specs.Calls.{made, bare, filled, callOf, valuesIn}
 use Rattle.load.specs.Bytes.{bigValue, fieldBytes, fieldValues}
 use Rattle.load.specs.RoundTrip.{Typed}
 use Rattle.load.proofs.Format.{fields-proper, fields-few, place-under, rest-some, rest-none}
-use Rattle.load.proofs.Calls.{with-made, typed-with, typed-call}
+use Rattle.load.proofs.Calls.{with-made, typed-with, typed-bare}
 
 -- The fields from place i on, in bytes.
 abbrev pub left : ℕ → ℕ → ℕ → List ℕ
@@ -35,7 +35,7 @@ pub record Reading (e k : ℕ) (bs ns : List ℕ) (at i : ℕ) : Type 0 where
 
 pub reading-start : (e k : ℕ) (bs : List ℕ) → k < 2 ^ 8 → Reading e k bs (k ∷ replicate (fieldCount - 1) 0) 0 0
 unfolding callOf widths made bare fieldWidths
-reading-start e k bs h = record { place = omega arith; bytes = omega arith; full = refl; typed = typed-call (bare k) h (omega arith) (omega arith) (omega arith) (omega arith); call = refl }
+reading-start e k bs h = record { place = omega arith; bytes = omega arith; full = refl; typed = typed-bare k h; call = refl }
 
 pub reading-early : {e k : ℕ} {bs ns : List ℕ} {at i : ℕ} → Reading e k bs ns at i → i < 7
 reading-early {e} {k} r = omega (arith, r .place, fields-few e k)
