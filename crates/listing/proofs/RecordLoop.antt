@@ -1,6 +1,6 @@
 -- A turn of the listing's loop: one record, and the ways out; then the whole.
 use mathlib.Core.Path.{_≡_, refl, sym, ap, _∙_}
-use mathlib.Core.Bool.{Bool, true, false, cond}
+use mathlib.Core.Bool.{true, false}
 use mathlib.Core.List.{List, [], _++_}
 use mathlib.Core.Logic.{_⊎_, ⊎-elim}
 use Prim.Native.Nat.{ℕ, zero, suc, _+_, _^_, _≤_, _<_}
@@ -9,7 +9,7 @@ use lib.ListN.{length, take}
 use lib.Dec.{leb, eqb}
 use borrow.Author.Tests.{leb-true, eqb-false, eq-eqb, ne-eqb}
 use Rattle.rules.specs.declared.Table.{Table}
-use Rattle.rules.specs.Calls.{Model, claim, release, withdraw, clock, step, blank, new}
+use Rattle.rules.specs.Calls.{Model, claim, clock, step, blank, new}
 use Rattle.rules.specs.Tables.{model}
 use Rattle.numerals.specs.Laid.{laid, lentOut, Put}
 use Rattle.numerals.proofs.Laying.{laid-fits}
@@ -20,6 +20,7 @@ use Rattle.table.proofs.Promised.{Promised, by-call, by-new, outcome-model, out
 use Rattle.load.specs.declared.Call.{Call}
 use Rattle.load.specs.declared.Item.the-variants.{Record, End, Refused}
 use Rattle.load.specs.Reading.{itemAt, walk, openNumber}
+use Rattle.load.proofs.Format.{either}
 use Rattle.load.proofs.Reading.{walk-record, walk-end, walk-refused, step-refused, step-next}
 use Rattle.listing.specs.Lines.{header, lineOf, onLines, stopLine}
 use Rattle.listing.specs.Text.{saysCall, stepOf, entryOf, ending, stopOr, linesFrom, linesOf, listingOf, answerOf}
@@ -32,11 +33,7 @@ shown k o = lineOf k (o .number) (o .ticket) (o .start) ++ onLines (o .table .cl
 -- What a record does is what a call promises.
 pub record-promised : (m : Model) (c : Call) → Promised m (stepOf m c)
 unfolding stepOf
-record-promised m c = go (eqb (c .kind) 1)
-  where
-    go : (b : Bool) → Promised m (cond b (new (c .groups)) (step m (saysCall c)))
-    go true = by-new (c .groups)
-    go false = by-call (saysCall c)
+record-promised m c = either (eqb (c .kind) 1) (λ e. rw e (by-new (c .groups))) (λ e. rw e (by-call (saysCall c)))
 
 -- By its kind.
 module _ (m : Model) (c : Call) where
@@ -51,13 +48,9 @@ module _ (m : Model) (c : Call) where
   -- A release and a withdrawal are one call of the table.
   pub step-leave : 3 ≤ c .kind → c .kind ≤ 4 → step m (leaving (eqb (c .kind) 3) (c .clock) (c .ticket)) ≡ stepOf m c
   unfolding stepOf saysCall
-  step-leave h l = rw (ne-eqb (c .kind) 1 (λ z. omega arith), ne-eqb (c .kind) 2 (λ z. omega arith)) (ap (step m) (go (eqb (c .kind) 3) (eqb (c .kind) 4) refl refl))
-    where
-      go : (a b : Bool) → eqb (c .kind) 3 ≡ a → eqb (c .kind) 4 ≡ b
-          → leaving a (c .clock) (c .ticket) ≡ cond a (release (c .clock) (c .ticket)) (cond b (withdraw (c .clock) (c .ticket)) (clock (c .clock)))
-      go true b x y = refl
-      go false true x y = refl
-      go false false x y = let p = eqb-false (c .kind) 3 x in let q = eqb-false (c .kind) 4 y in absurd (omega (arith, p, q))
+  step-leave h l =
+      rw (ne-eqb (c .kind) 1 (λ z. omega arith), ne-eqb (c .kind) 2 (λ z. omega arith))
+      (either (eqb (c .kind) 3) (λ x. rw x) (λ x. rw (x, eq-eqb (c .kind) 4 (omega (arith, eqb-false (c .kind) 3 x)))))
 
   pub step-clock : (c .kind < 1) ⊎ (5 ≤ c .kind) → step m (clock (c .clock)) ≡ stepOf m c
   unfolding stepOf saysCall
@@ -172,8 +165,5 @@ listing-all x out e r p w = rw e (w .0, w .1 ∙ laid-fits out x (leb-true (leng
 -- The answer is a count of the buffer's bytes, where it has 15.
 pub answer-within : (x out p : List ℕ) (r : ℕ) → r ≡ answerOf x out → length p ≡ length out → 15 ≤ length out → r ≤ length p
 unfolding answerOf
-answer-within x out p r e l h = go (leb (length x) (length out)) (leb-true (length x) (length out)) e
-  where
-    go : (b : Bool) → (b ≡ true → length x ≤ length out) → r ≡ cond b (length x) 15 → r ≤ length p
-    go true f e = omega (arith, f refl)
-    go false f e = omega arith
+answer-within x out p r e l h =
+    either (leb (length x) (length out)) (λ b. omega (arith, leb-true (length x) (length out) b, rw b at e)) (λ b. omega (arith, rw b at e))

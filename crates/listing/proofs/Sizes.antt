@@ -1,7 +1,7 @@
 -- No listing is longer than its load's length allows: it has few records (`walk-few`), a record's line has 84 bytes at most, an `on` line 45,
 -- and over a load there are no more `on` lines than tickets issued, one a record at most.
-use mathlib.Core.Path.{_≡_, refl, sym}
-use mathlib.Core.Bool.{Bool, true, false, cond}
+use mathlib.Core.Path.{_≡_, sym}
+use mathlib.Core.Bool.{true, cond}
 use mathlib.Core.List.{List, [], _∷_, _++_}
 use Prim.Native.Nat.{ℕ, zero, suc, _+_, _*_, _/_, _^_, _≤_, _<_}
 use native.Mathlib.Omega.{arith}
@@ -14,6 +14,7 @@ use Rattle.table.proofs.Promised.{waiting, none-waits, granted-once, issues-few
 use Rattle.load.specs.declared.Call.{Call}
 use Rattle.load.specs.Format.{known, leastLength}
 use Rattle.load.specs.Reading.{editionOf, walk, openNumber}
+use Rattle.load.proofs.Format.{either}
 use Rattle.load.proofs.Reading.{walk-few}
 use Rattle.listing.specs.Lines.{lineOf, onLines, stopLine}
 use Rattle.listing.specs.Text.{stepOf, entryOf, ending, stopOr, linesFrom, linesOf, listingOf}
@@ -49,25 +50,23 @@ lines-length k m (c ∷ cs) n =
 
 pub listing-bounded : (s : List ℕ) → length (listingOf s) ≤ roomFor (length s)
 unfolding listingOf linesOf roomFor openNumber
-listing-bounded s = go (ltb 65536 (length s)) refl
-  where
-    go : (b : Bool) → ltb 65536 (length s) ≡ b → length (listingOf s) ≤ roomFor (length s)
-    go true e = rw e (omega (arith, stop-length 14 0 47 [] (omega arith) (omega arith)))
-    go false e =
-        let rest = linesFrom 1 (blank 0) (walk s 1 .calls) (walk s 1 .stop) in
-        let c = walk-few s 1 in
-        let l = lines-length 1 (blank 0) (walk s 1 .calls) (walk s 1 .stop) in
-        let b : length rest ≤ 47 + 129 * (length s / leastLength) = omega (arith, none-waits 0) in
-        rw e (omega (arith, stop-length (cond (eqb (length s) 0) 12 (cond (known (editionOf s)) 0 11)) 0 (47 + 129 * (length s / leastLength)) rest b (omega arith)))
+listing-bounded s =
+    let rest = linesFrom 1 (blank 0) (walk s 1 .calls) (walk s 1 .stop) in
+    let c = walk-few s 1 in
+    let l = lines-length 1 (blank 0) (walk s 1 .calls) (walk s 1 .stop) in
+    let b : length rest ≤ 47 + 129 * (length s / leastLength) = omega (arith, none-waits 0) in
+    either (ltb 65536 (length s))
+    (λ e. rw e (omega (arith, stop-length 14 0 47 [] (omega arith) (omega arith))))
+    (λ e. rw e (omega (arith, stop-length (cond (eqb (length s) 0) 12 (cond (known (editionOf s)) 0 11)) 0 (47 + 129 * (length s / leastLength)) rest b (omega arith))))
 
 -- So its length is a usize.
 pub listing-short : (s : List ℕ) → length (listingOf s) < 2 ^ 64
 unfolding roomFor
-listing-short s = go (ltb 65536 (length s)) refl (listing-bounded s)
-  where
-    go : (b : Bool) → ltb 65536 (length s) ≡ b → length (listingOf s) ≤ cond b 71 (71 + 129 * (length s / leastLength)) → length (listingOf s) < 2 ^ 64
-    go true e h = omega arith
-    go false e h = omega (arith, ltb-false 65536 (length s) e, div-le-self (length s) leastLength)
+listing-short s =
+    let h = listing-bounded s in
+    either (ltb 65536 (length s))
+    (λ e. omega (arith, rw e at h))
+    (λ e. omega (arith, rw e at h, ltb-false 65536 (length s) e, div-le-self (length s) leastLength))
 
 -- Where the room is that much, the listing goes in.
 pub goes-surely : (s : List ℕ) (n room : ℕ) → n ≡ roomFor (length s) → n ≤ room → true ≡ leb (length (listingOf s)) room

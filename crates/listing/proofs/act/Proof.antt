@@ -1,3 +1,4 @@
+-- `listing::act` meets its contract: each kind of record is its call of the table.
 use borrow.Author.Needs.{needs}
 use mathlib.Core.Logic.{inl, inr, ⊎-elim}
 use mathlib.Core.Path.{ap, _∙_}

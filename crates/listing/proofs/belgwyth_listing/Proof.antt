@@ -1,3 +1,4 @@
+-- `listing::belgwyth_listing` meets its contract: the listing where it goes in, else 15.
 use mathlib.Core.Path.{sym, _∙_}
 use Rattle.listing.proofs.RecordLoop.{listing-none, listing-all}
 use borrow.Author.Needs.{needs}

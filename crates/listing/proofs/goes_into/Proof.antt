@@ -1,3 +1,4 @@
+-- `listing::goes_into` meets its contract: the room that surely suffices, else the listing's own length.
 use mathlib.Core.Path.{ap}
 use lib.Dec.{leb}
 use Rattle.listing.proofs.Sizes.{goes-surely}

@@ -1,3 +1,4 @@
+-- `listing::put_entry` meets its contract: the record's line, then the lines of the grants.
 use native.Mathlib.Omega.{arith}
 use Rattle.numerals.proofs.Laying.{put-then}
 use borrow.Author.Needs.{needs}

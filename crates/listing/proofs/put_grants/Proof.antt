@@ -1,3 +1,4 @@
+-- `listing::put_grants` meets its contract: the lines laid so far, with those left, are all of them.
 use lib.ListN.{length, take, drop}
 use borrow.Author.Needs.{needs}
 use native.Mathlib.Omega.{arith}
@@ -5,7 +6,7 @@ use mathlib.Core.Path.{_≡_}
 use Rattle.listing.specs.Lines.{onLines}
 use Prim.Native.Nat.{_-_, _≤_}
 use Rattle.listing.proofs.Lines.{ons-step, ons-end}
-use Rattle.numerals.proofs.Going.{Going, going-start, going-step, going-as, going-none}
+use Rattle.numerals.proofs.Going.{Going, going-start, going-step, going-none}
 use Rattle.listing.proofs.put_grants.Statement.{statement}
 use Rattle.listing.proofs.put_grants.Tie as tie
 
@@ -15,9 +16,6 @@ Inv-loop out₀ at clock granted grants n₀ i₀ out n i = (i ≤ granted) × G
 abbrev μ-loop : tie.MeasureT-loop
 μ-loop out₀ at clock granted grants n₀ i₀ out n i = granted - i
 
-loop-holds : tie.Need-loop-holds Inv-loop μ-loop
-loop-holds c = (omega arith, going-start _ _ _ (omega arith) (omega arith))
-
 loop-again : tie.Need-loop-again Inv-loop μ-loop
 loop-again c =
     let l = c .before .before .before .before .before in
@@ -25,16 +23,13 @@ loop-again c =
     let w = c .before .before .put-grant .ensures in
     let s : length (a .t4) ≡ 64 = search needs in
     let e = ons-step (a .clock) (a .t4) (a .granted) (l .loop .i) (c .before .before .before .before .loop-test .taken) (omega arith) in
-    (omega arith, going-step _ _ _ _ _ _ _ _ _ (going-as _ _ _ _ _ _ _ e (l .loop .inv .1)) w)
-
-same-length : tie.Need-same-length Inv-loop μ-loop
-same-length c = c .before .loop .inv .1 .size
+    (omega arith, going-step _ _ _ _ _ _ _ _ _ (rw e at (l .loop .inv .1)) w)
 
 returns : tie.Need-returns Inv-loop μ-loop
 returns c =
     let l = c .before .loop in
     let a = c .before .before .before .args in
-    going-none _ _ _ _ _ (going-as _ _ _ _ _ _ _ (ons-end (a .clock) (a .t4) (a .granted) (l .i) (c .loop-test .left)) (l .inv .1))
+    going-none _ _ _ _ _ (rw (ons-end (a .clock) (a .t4) (a .granted) (l .i) (c .loop-test .left)) at (l .inv .1))
 
 pub put-grants-spec : {M : Type 1} → statement M
 put-grants-spec =
@@ -42,12 +37,12 @@ put-grants-spec =
     (tie.spec
     Inv-loop
     μ-loop
-    loop-holds
+    (λ c. (omega arith, going-start _ _ _ (omega arith) (omega arith)))
     (λ c. omega arith)
     (λ c. omega arith)
     (λ c κs. search needs)
     (λ c. omega arith)
     (λ c. omega arith)
     loop-again
-    same-length
+    (λ c. c .before .loop .inv .1 .size)
     returns)

@@ -1,3 +1,4 @@
+-- `listing::records` meets its contract: a turn for each record, up to the end or the record that stops.
 use borrow.Author.Needs.{needs}
 use native.Mathlib.Omega.{arith}
 use mathlib.Core.Path.{sym, _∙_}
@@ -14,28 +15,11 @@ Inv-loop load out₀ from o₀ at₀ k₀ n₀ out o at k n = Turn load out₀ f
 abbrev μ-loop : tie.MeasureT-loop
 μ-loop load out₀ from o₀ at₀ k₀ n₀ out o at k n = length load - at
 
-loop-holds : tie.Need-loop-holds Inv-loop μ-loop
-loop-holds c = turn-start _ _ _ _ (omega arith) (omega arith) (c .new .ensures .0) (c .new .ensures .1)
-
-act-requires : tie.Need-act-requires Inv-loop μ-loop
-act-requires c κs = c .before .before .before .before .loop .inv .valid
-
-same-length : tie.Need-same-length Inv-loop μ-loop
-same-length c = c .before .before .put-stop .kept .0 ∙ c .before .before .before .before .before .before .before .before .before .before .before .loop .inv .going .size
-
 returns : tie.Need-returns Inv-loop μ-loop
 returns c =
     let e = c .before .before .before .before .before in
     let l = e .before .before .before .before .before in
     run-stop _ _ _ _ _ _ _ _ _ (l .before .loop .inv .going) _ _ (sym (l .record-at .ensures .0) ∙ e .before .before .before .call .given .1) _ (e .before .act .ensures .0) _ (e .ending-of .ensures) _ _ (c .before .before .before .before .if1 .taken) (c .before .before .put-stop .ensures)
-
-put-entry-requires : tie.Need-put-entry-requires Inv-loop μ-loop
-put-entry-requires c κs =
-    let a = c .before .before .before .act .ensures in
-    few-granted _ _ _ (a .0) (a .1)
-
-add-k : tie.Need-add-k Inv-loop μ-loop
-add-k c = let i = c .before .before .before .before .before .before .before .before .before .before .before .loop .inv in omega (arith, i .few, i .inside)
 
 loop-less : tie.Need-loop-less Inv-loop μ-loop
 loop-less c =
@@ -50,15 +34,6 @@ loop-again c =
     let a = e .before .act .ensures in
     turn-more _ _ _ _ _ _ _ _ (l .before .loop .inv) (l .before .before .before .before .before .pre) _ _ (sym (l .record-at .ensures .0) ∙ e .before .before .before .call .given .1) _ (a .0) (a .1) _ (e .ending-of .ensures) (c .before .before .before .before .if1 .left) _ _ (c .before .before .put-entry .ensures)
 
-same-length-2 : tie.Need-same-length-2 Inv-loop μ-loop
-same-length-2 c = c .before .before .before .loop .inv .going .size
-
-returns-2 : tie.Need-returns-2 Inv-loop μ-loop
-returns-2 c = run-end _ _ _ _ _ _ _ _ _ (c .before .before .before .loop .inv .going) (sym (c .before .before .record-at .ensures .0) ∙ c .enum-told .given .1)
-
-same-length-3 : tie.Need-same-length-3 Inv-loop μ-loop
-same-length-3 c = c .before .before .put-stop2 .kept .0 ∙ c .before .before .before .before .before .before .before .before .loop .inv .going .size
-
 returns-3 : tie.Need-returns-3 Inv-loop μ-loop
 returns-3 c =
     let l = c .before .before .before .before .before .before .before in
@@ -71,22 +46,22 @@ records-spec =
     Inv-loop
     μ-loop
     (λ c κs. search needs)
-    loop-holds
+    (λ c. turn-start _ _ _ _ (omega arith) (omega arith) (c .new .ensures .0) (c .new .ensures .1))
     (λ c κs. search needs)
     (λ c. search needs)
-    act-requires
+    (λ c κs. c .before .before .before .before .loop .inv .valid)
     (λ c κs. search needs)
     (λ c κs. search needs)
-    same-length
+    (λ c. c .before .before .put-stop .kept .0 ∙ c .before .before .before .before .before .before .before .before .before .before .before .loop .inv .going .size)
     returns
-    put-entry-requires
-    add-k
+    (λ c κs. let a = c .before .before .before .act .ensures in few-granted _ _ _ (a .0) (a .1))
+    (λ c. let i = c .before .before .before .before .before .before .before .before .before .before .before .loop .inv in omega (arith, i .few, i .inside))
     loop-less
     loop-again
     (λ c. search needs)
-    same-length-2
-    returns-2
+    (λ c. c .before .before .before .loop .inv .going .size)
+    (λ c. run-end _ _ _ _ _ _ _ _ _ (c .before .before .before .loop .inv .going) (sym (c .before .before .record-at .ensures .0) ∙ c .enum-told .given .1))
     (λ c. search needs)
     (λ c κs. search needs)
-    same-length-3
+    (λ c. c .before .before .put-stop2 .kept .0 ∙ c .before .before .before .before .before .before .before .before .loop .inv .going .size)
     returns-3)

@@ -1,3 +1,4 @@
+-- `listing::room_for` meets its contract: the bound of its specification, within a usize.
 use borrow.Author.Tests.{lt-ltb, le-ltb}
 use mathlib.Core.Path.{ap}
 use Prim.Native.Nat.{ℕ, _+_, _*_, _/_}

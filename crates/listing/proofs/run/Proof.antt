@@ -1,3 +1,4 @@
+-- `listing::run` meets its contract: the header, then the number of a load that does not open, or its records.
 use native.Mathlib.Omega.{arith}
 use mathlib.Core.Path.{sym, _∙_}
 use Rattle.numerals.proofs.Laying.{put, put-then, put-as, put-short}
