@@ -6,7 +6,7 @@ use mathlib.Core.Logic.{_⊎_, inl, inr, ⊎-elim}
 use mathlib.Core.Path.{_≡_, refl, sym, ap}
 use native.Mathlib.Omega.{arith}
 use lib.Dec.{ltb, leb, eqb}
-use borrow.Author.Tests.{ltb-true, leb-true, eqb-true, eqb-false, not-true}
+use borrow.Author.Tests.{ltb-true, ltb-false, leb-true, eqb-true, eqb-false, not-true}
 use native.Mathlib.Numerals.{add-one}
 use lib.ListN.{length, drop, getD, replicate, List·getD-eq-default}
 use lib.Seq.{drop-nil}
@@ -189,3 +189,9 @@ no-field e k i h = sym (List·getD-eq-default (fieldsOf e k) 0 (omega (arith, fi
 pub no-width : (f : ℕ) → fieldCount ≤ f → fieldWidth f ≡ 0
 unfolding fieldWidth
 no-width f h = List·getD-eq-default fieldWidths 0 h
+
+pub width-most : (f : ℕ) → fieldWidth f ≤ 8
+unfolding fieldWidth fieldWidths allBelow
+width-most f =
+    either (ltb f fieldCount) (λ h. leb-true (fieldWidth f) 8 (below-passes fieldCount (λ i. leb (fieldWidth i) 8) refl f (ltb-true f fieldCount h)))
+    (λ h. omega (arith, no-width f (ltb-false f fieldCount h)))

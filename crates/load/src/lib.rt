@@ -36,7 +36,8 @@ pub enum Written {
 }
 
 // ---- the format
-// A field is named by a number: kind 0, clock 1, groups 2, length 3, ticket 4.
+// A field is named by a number: kind 0, clock 1, groups 2, length 3, ticket 4. Their widths in bytes:
+const WIDTHS: [u8; 5] = [1, 8, 8, 4, 2];
 
 // A row of the format: the fields of a kind in their order, 0 after the last; at place 7 the length of a record, its kind byte and its
 // fields. All 0 for a kind that the edition lacks.
@@ -90,14 +91,10 @@ pub fn length_of(edition: u8, kind: u8) -> usize
 pub fn width_of(field: u8) -> usize
     ensures { λ r. ⌜ (r ≡ fieldWidth field) × (r ≤ 8) ⌝ }
 {
-    match field {
-        0 => 1,
-        1 => 8,
-        2 => 8,
-        3 => 4,
-        4 => 2,
-        _ => 0,
+    if field < 5 {
+        return WIDTHS[field as usize] as usize;
     }
+    0
 }
 
 // The value of a field; 0 where there is no such field.

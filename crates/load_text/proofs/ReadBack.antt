@@ -11,11 +11,11 @@ use lib.ListN.{length, getD, length-append}
 use borrow.Author.Tests.{eqb-true, ltb-true, leb-false, leb-true, lt-ltb, le-ltb, le-leb, lt-leb, not-true}
 use Rattle.numerals.specs.Digits.{digits, widthUpTo, widthOf, decimalOf, column}
 use Rattle.load.specs.declared.Call.{Call}
-use Rattle.load.specs.Format.{theGroups, fieldWidth, Row, format, known, rowIn, nameOf, fieldsOf, lengthIn, lengthOf, fieldCount, fieldWidths}
+use Rattle.load.specs.Format.{theGroups, fieldWidth, Row, format, known, rowIn, nameOf, fieldsOf, lengthIn, lengthOf}
 use Rattle.load.specs.Calls.{valueOf, withValue, bare, filled, callOf, valuesIn, valuesOf, carries}
 use Rattle.load.specs.Reading.{editionOf, walk}
 use Rattle.load.specs.RoundTrip.{Typed}
-use Rattle.load.proofs.Format.{both, allBelow, below-passes, no-width}
+use Rattle.load.proofs.Format.{both, width-most}
 use Rattle.load.proofs.Calls.{carries-length, call-of-values}
 use Rattle.load.proofs.Reading.{load-parts, load-known}
 use Rattle.load.proofs.Loads.{Loadable, read-loadable}
@@ -190,10 +190,6 @@ hex-says (suc k) v h =
     (λ q. rw (le-ltb v 16 q) (says-more 16 (v / 16) v (glyphOf v) (hexUpTo k (v / 16)) s (omega (arith, glyph v)) (omega (arith, glyph v))))
 
 -- ── a value as a word ──
-width-most : (f : ℕ) → fieldWidth f ≤ 8
-unfolding fieldWidth fieldWidths allBelow
-width-most f = below f fieldCount (λ h. leb-true (fieldWidth f) 8 (below-passes fieldCount (λ i. leb (fieldWidth i) 8) refl f h)) (λ h. omega (arith, no-width f h))
-
 module _ (f v : ℕ) (h : v < 256 ^ fieldWidth f) where
   in-word : v < 2 ^ 64
   in-word = let wide : 256 ^ fieldWidth f ≤ 256 ^ 8 = pow-le-pow-right (omega arith) (width-most f) in omega arith

@@ -1,8 +1,9 @@
--- `load::width_of` meets its contract: each width is the format's.
-use mathlib.Core.Path.{sym}
+-- `load::width_of` meets its contract: the code's widths are the format's.
+use mathlib.Core.Path.{refl, sym}
 use native.Mathlib.Omega.{arith}
+use borrow.Author.Needs.{needs}
 use Rattle.load.specs.Format.{fieldWidths, fieldWidth}
-use Rattle.load.proofs.Format.{no-width}
+use Rattle.load.proofs.Format.{width-most, no-width}
 use Rattle.load.proofs.width_of.Statement.{statement}
 use Rattle.load.proofs.width_of.Tie as tie
 
@@ -11,9 +12,7 @@ unfolding fieldWidth fieldWidths
 width-of-spec =
     tie.close
     (tie.spec
-    (λ c. (rw (c .match .keys1), omega arith))
-    (λ c. (rw (c .match .keys2), omega arith))
-    (λ c. (rw (c .match .keys3), omega arith))
-    (λ c. (rw (c .match .keys4), omega arith))
-    (λ c. (rw (c .match .keys5), omega arith))
-    (λ c. let r = c .match .rest in (sym (no-width (c .before .args .field) (omega (arith, r .1, r .0 .1, r .0 .0 .1, r .0 .0 .0 .1, r .0 .0 .0 .0 .1))), omega arith)))
+    (λ c. search needs)
+    (λ c. omega (arith, width-most (c .before .args .field)))
+    (λ c. (refl, width-most (c .before .args .field)))
+    (λ c. (sym (no-width (c .before .args .field) (omega arith)), omega arith)))
