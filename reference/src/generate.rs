@@ -2,6 +2,7 @@
 //! loads. The same seed gives the same bytes everywhere.
 
 use crate::load::{self, Call, MAX_LOAD};
+use crate::monitor::RunCall;
 use crate::table::{Claim, State, Table, TimedCall, MAX_CLOCK, MAX_LENGTH, MAX_PENDING};
 
 /// A small generator of numbers (splitmix64).
@@ -224,6 +225,39 @@ pub fn run_of(shape: Shape, seed: u64) -> Run {
         rig,
         calls: build.calls,
     }
+}
+
+/// The calls of a run with lookups of one ticket and of two between them.
+pub fn with_lookups(run: &Run, seed: u64) -> Vec<RunCall> {
+    let mut prng = Prng::new(seed ^ 0x1005_0B07);
+    let mut table = Table::new(run.rig).0;
+    let mut calls = Vec::new();
+    for &call in &run.calls {
+        table.call(call);
+        calls.push(RunCall::Timed(call));
+        if prng.one_in(8) {
+            calls.push(RunCall::Lookup(lookup_ticket(&mut prng, &table)));
+        }
+        if prng.one_in(2) {
+            let first = lookup_ticket(&mut prng, &table);
+            let second = lookup_ticket(&mut prng, &table);
+            calls.push(RunCall::Common(first, second));
+        }
+    }
+    calls
+}
+
+/// A ticket to look up: mostly one that is pending, else one that left or was
+/// never issued.
+pub fn lookup_ticket(prng: &mut Prng, table: &Table) -> u16 {
+    let issued = table.issued();
+    let claims = table.claims();
+    if !claims.is_empty() && !prng.one_in(6) {
+        return prng.pick(claims).ticket;
+    }
+    let some = prng.below(u64::from(issued) + 1) as u16;
+    let random = prng.draw() as u16;
+    prng.pick(&[0, some, some, some, issued.wrapping_add(1), 65_535, random])
 }
 
 /// A good load of exactly this many bytes; none if it is too small for that.

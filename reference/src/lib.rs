@@ -1,7 +1,7 @@
 //! A second, plain implementation of the claims table, the load and the
-//! listing of document 01 and of the planner's text, with what is needed to
-//! compare it with another: generators of loads and texts, a monitor of runs
-//! and a shrinker.
+//! listing of documents 01 and 02, of the planner's text and of questions about
+//! a load, with what is needed to compare it with another: generators of loads,
+//! texts and questions, a monitor of runs and a shrinker.
 //!
 //! Words of this crate and of document 01: contention is its crowd, start
 //! bound its ceiling, lookup its look, refusal and refused its call turned
@@ -10,7 +10,9 @@
 #![deny(unsafe_code)]
 
 pub mod answers;
+pub mod ask;
 pub mod generate;
+pub mod generate_question;
 pub mod generate_text;
 pub mod listing;
 pub mod load;

@@ -61,7 +61,7 @@ fn line(out: &mut String, record: usize, answer: &Answer, clock: u64) {
 }
 
 /// The line of an early end.
-fn stop(out: &mut String, refusal: Refusal, record: usize) {
+pub(crate) fn stop(out: &mut String, refusal: Refusal, record: usize) {
     out.push_str(&format!("stop {} {}\n", refusal.number(), record));
 }
 

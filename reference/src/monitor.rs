@@ -4,7 +4,8 @@
 //! In every run:
 //! - holders share no group;
 //! - a first planned start is within its start bound;
-//! - a lookup says what calls and answers say.
+//! - a lookup says what calls and answers say, one of two tickets the lowest
+//!   group that both claims asked for.
 //!
 //! While no accepted call bears a clock past the promised end of a claim held
 //! when it comes:
@@ -14,7 +15,22 @@
 
 use std::collections::{BTreeMap, BTreeSet};
 
-use crate::table::{Answer, Lookup, Table, TimedCall};
+use crate::table::{Answer, Common, Lookup, Table, TimedCall};
+
+/// One call of a run's list.
+#[derive(Clone, Copy, PartialEq, Eq, Debug)]
+pub enum RunCall {
+    Timed(TimedCall),
+    Lookup(u16),
+    /// A lookup of two tickets.
+    Common(u16, u16),
+}
+
+impl From<TimedCall> for RunCall {
+    fn from(call: TimedCall) -> RunCall {
+        RunCall::Timed(call)
+    }
+}
 
 /// One call of a run, with its answer.
 #[derive(Clone, PartialEq, Eq, Debug)]
@@ -22,6 +38,8 @@ pub enum Asked {
     Timed(TimedCall, Answer),
     /// A lookup that stands in the list itself.
     Lookup(u16, Lookup),
+    /// A lookup of two tickets.
+    Common(u16, u16, Common),
 }
 
 /// One call of a run and what lookups say after it: of every pending ticket,
@@ -135,6 +153,7 @@ impl Monitor {
                 }
             }
             Asked::Lookup(ticket, lookup) => self.lookup(*ticket, *lookup)?,
+            Asked::Common(first, second, said) => self.common(*first, *second, *said)?,
         }
         self.holders()?;
         let mut asked = BTreeSet::new();
@@ -309,6 +328,26 @@ impl Monitor {
         }
     }
 
+    /// A lookup of two pending tickets gives the lowest group that the calls
+    /// which issued them both asked for, or none.
+    fn common(&self, first: u16, second: u16, said: Common) -> Verdict {
+        let pending = (self.pending.get(&first), self.pending.get(&second));
+        let expected = match pending {
+            (Some(one), Some(other)) => match one.groups & other.groups {
+                0 => Common::None,
+                shared => Common::Group(shared.trailing_zeros() as u8),
+            },
+            _ => Common::Unknown,
+        };
+        if said == expected {
+            return Ok(());
+        }
+        against(
+            Rule::Lookup,
+            format!("lookup gives {said:?} for tickets {first} and {second}, not {expected:?}"),
+        )
+    }
+
     /// After an accepted call in a run in time, no claim waits past its first
     /// planned start.
     fn waits(&self, clock: u64) -> Verdict {
@@ -334,6 +373,7 @@ impl Monitor {
 pub trait ClaimsTable {
     fn call(&mut self, call: TimedCall) -> Answer;
     fn lookup(&self, ticket: u16) -> Lookup;
+    fn common(&self, first: u16, second: u16) -> Common;
 }
 
 impl ClaimsTable for Table {
@@ -344,30 +384,41 @@ impl ClaimsTable for Table {
     fn lookup(&self, ticket: u16) -> Lookup {
         Table::lookup(self, ticket)
     }
+
+    fn common(&self, first: u16, second: u16) -> Common {
+        Table::common(self, first, second)
+    }
 }
 
 /// Runs the calls on a new table. After each, a lookup is asked of every ticket
 /// that is pending by calls and answers, of ticket 0, of the next one, and of
 /// the last few that left.
-pub fn run(table: &mut dyn ClaimsTable, calls: &[TimedCall]) -> Vec<Step> {
+pub fn run<C: Copy + Into<RunCall>>(table: &mut dyn ClaimsTable, calls: &[C]) -> Vec<Step> {
     let mut pending: BTreeSet<u16> = BTreeSet::new();
     let mut left: Vec<u16> = Vec::new();
     let mut last = 0;
     let mut steps = Vec::new();
     for &call in calls {
-        let answer = table.call(call);
-        if answer.accepted() {
-            match call {
-                TimedCall::Claim { .. } => {
-                    pending.insert(answer.ticket);
-                    last = last.max(answer.ticket);
-                }
-                TimedCall::Release { ticket, .. } | TimedCall::Withdraw { ticket, .. } => {
-                    pending.remove(&ticket);
-                    left.push(ticket);
-                }
-                TimedCall::Clock { .. } => {}
+        let asked = match call.into() {
+            RunCall::Timed(call) => Asked::Timed(call, table.call(call)),
+            RunCall::Lookup(ticket) => Asked::Lookup(ticket, table.lookup(ticket)),
+            RunCall::Common(first, second) => {
+                Asked::Common(first, second, table.common(first, second))
             }
+        };
+        match &asked {
+            Asked::Timed(TimedCall::Claim { .. }, answer) if answer.accepted() => {
+                pending.insert(answer.ticket);
+                last = last.max(answer.ticket);
+            }
+            Asked::Timed(
+                TimedCall::Release { ticket, .. } | TimedCall::Withdraw { ticket, .. },
+                answer,
+            ) if answer.accepted() => {
+                pending.remove(ticket);
+                left.push(*ticket);
+            }
+            _ => {}
         }
         let mut tickets: Vec<u16> = pending.iter().copied().collect();
         tickets.push(0);
@@ -377,10 +428,7 @@ pub fn run(table: &mut dyn ClaimsTable, calls: &[TimedCall]) -> Vec<Step> {
             .into_iter()
             .map(|ticket| (ticket, table.lookup(ticket)))
             .collect();
-        steps.push(Step {
-            asked: Asked::Timed(call, answer),
-            lookups,
-        });
+        steps.push(Step { asked, lookups });
     }
     steps
 }

@@ -1,7 +1,8 @@
 //! Makes a load smaller while a difference that it shows stays: drops records,
 //! then lowers the values of fields. Makes a text smaller: drops lines, then
-//! bytes.
+//! bytes. Makes a question about a load smaller with the load: lowers tickets.
 
+use crate::ask::{self, Question};
 use crate::load::{self, Call};
 use crate::table::{Table, TimedCall};
 
@@ -179,7 +180,8 @@ fn drop_records(parts: &mut Parts, holds: &mut Holds) {
             if attempt(parts, moved, holds) || attempt(parts, plain, holds) {
                 tickets = parts.tickets();
             }
-            to = from;
+            // Releases before these records may have gone with them.
+            to = from.min(parts.records.len());
         }
         size /= 2;
     }
@@ -305,6 +307,50 @@ pub fn shrink_text(text: &[u8], mut still_differs: impl FnMut(&[u8]) -> bool) ->
     let mut bytes = lines.concat();
     drop_runs(&mut bytes, still_differs);
     bytes
+}
+
+/// A load and a question about it for which `still_differs` holds, if it holds
+/// for the given ones; else the given ones.
+pub fn shrink_question(
+    load: &[u8],
+    question: &[u8],
+    mut still_differs: impl FnMut(&[u8], &[u8]) -> bool,
+) -> (Vec<u8>, Vec<u8>) {
+    let mut question = shrink_text(question, |question| still_differs(load, question));
+    let load = shrink(load, |load| {
+        let mut lines = lower_tickets(&question).into_iter();
+        match lines.find(|line| still_differs(load, line)) {
+            Some(line) => {
+                question = line;
+                true
+            }
+            None => false,
+        }
+    });
+    (load, question)
+}
+
+/// The question, and the same about tickets one lower, as they are where a
+/// claim is dropped.
+fn lower_tickets(question: &[u8]) -> Vec<Vec<u8>> {
+    let mut lines = vec![question.to_vec()];
+    let down = |ticket: u16| ticket.saturating_sub(1);
+    match ask::read(question) {
+        Some(Question::Lookup(ticket)) => {
+            lines.push(format!("lookup {}", down(ticket)).into_bytes());
+        }
+        Some(Question::Common(first, second)) => {
+            for (one, other) in [
+                (down(first), down(second)),
+                (down(first), second),
+                (first, down(second)),
+            ] {
+                lines.push(format!("common {one} {other}").into_bytes());
+            }
+        }
+        None => {}
+    }
+    lines
 }
 
 /// Drops runs of items, from long ones to single ones; of very many items only

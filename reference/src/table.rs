@@ -1,4 +1,5 @@
-//! The claims table of document 01, in the plainest way.
+//! The claims table of document 01, in the plainest way, and what document 02
+//! adds to it.
 
 use crate::refusal::Refusal;
 
@@ -10,6 +11,8 @@ pub const MAX_LENGTH: u32 = 3_600_000;
 pub const MAX_PENDING: usize = 64;
 /// The last ticket that a table issues.
 pub const MAX_TICKET: u16 = 65_535;
+/// How many groups there can be: 0 to 63.
+pub const GROUPS: u8 = 64;
 
 /// Document 01: "either waiting, with a planned start, or on, with the clock
 /// of its grant".
@@ -33,19 +36,29 @@ pub struct Claim {
 }
 
 impl Claim {
+    /// Document 02, P1: the lowest group that the claim has in common with
+    /// these, or none.
+    pub fn common(&self, groups: u64) -> Option<u8> {
+        let both = self.groups & groups;
+        if both == 0 {
+            return None;
+        }
+        (0..GROUPS).find(|group| both >> group & 1 == 1)
+    }
+
     /// Document 01: "conflict", sharing a group.
     pub fn conflicts(&self, groups: u64) -> bool {
-        self.groups & groups != 0
+        self.common(groups).is_some()
     }
 
     /// Document 01: "precedes" (the paragraph on order).
     pub fn precedes(&self, other: &Claim) -> bool {
-        self.conflicts(other.groups)
-            && match (self.state, other.state) {
-                (State::On(_), State::Waiting(_)) => true,
-                (State::Waiting(mine), State::Waiting(its)) => mine < its,
-                (_, State::On(_)) => false,
-            }
+        let earlier = match (self.state, other.state) {
+            (State::On(_), State::Waiting(_)) => true,
+            (State::Waiting(mine), State::Waiting(its)) => mine < its,
+            (_, State::On(_)) => false,
+        };
+        earlier && self.conflicts(other.groups)
     }
 
     /// Document 01: "promised end", of an on claim.
@@ -160,6 +173,27 @@ impl Lookup {
         match self {
             Lookup::Waiting(_) | Lookup::On(_) => 0,
             Lookup::Unknown => Refusal::Unknown.number(),
+        }
+    }
+}
+
+/// The answer of a lookup of two tickets (document 02, P1).
+#[derive(Clone, Copy, PartialEq, Eq, Debug)]
+pub enum Common {
+    /// The lowest group that both have.
+    Group(u8),
+    /// They have no group in common.
+    None,
+    /// One of them is not pending: number 8.
+    Unknown,
+}
+
+impl Common {
+    /// 0, or 8 for a ticket that is not pending.
+    pub fn number(self) -> u8 {
+        match self {
+            Common::Group(_) | Common::None => 0,
+            Common::Unknown => Refusal::Unknown.number(),
         }
     }
 }
@@ -313,6 +347,18 @@ impl Table {
                 State::Waiting(start) => Lookup::Waiting(start),
                 State::On(grant) => Lookup::On(grant + u64::from(claim.length)),
             },
+        }
+    }
+
+    /// Document 02, P1: the lowest group that the claims of two tickets have
+    /// in common. It changes nothing.
+    pub fn common(&self, first: u16, second: u16) -> Common {
+        match (self.find(first), self.find(second)) {
+            (Some(one), Some(other)) => match one.common(other.groups) {
+                Some(group) => Common::Group(group),
+                None => Common::None,
+            },
+            _ => Common::Unknown,
         }
     }
 

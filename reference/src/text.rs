@@ -207,7 +207,7 @@ fn add(load: &mut Vec<u8>, call: Call) -> Result<(), Reason> {
 
 /// The number that digits in a base stand for, or one over every limit here;
 /// none for anything but digits.
-fn number(word: &[u8], base: u32) -> Option<u128> {
+pub(crate) fn number(word: &[u8], base: u32) -> Option<u128> {
     let mut number: u128 = 0;
     for &byte in word {
         let digit = char::from(byte).to_digit(base)?;

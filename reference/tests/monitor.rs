@@ -6,12 +6,19 @@ mod common;
 use common::{claim, clock, for_seeds, release, withdraw};
 use reference::generate::{self, Shape};
 use reference::listing::listing;
-use reference::monitor::{judge, run, Asked, ClaimsTable, Rule, Step, Summary, Violation};
-use reference::table::{Answer, Lookup, Table, TimedCall};
+use reference::monitor::{judge, run, Asked, ClaimsTable, Rule, RunCall, Step, Summary, Violation};
+use reference::table::{Answer, Common, Lookup, Table, TimedCall};
 use reference::table::{MAX_CLOCK, MAX_LENGTH};
 
-fn judge_table(rig: u64, calls: &[TimedCall]) -> Result<Summary, Violation> {
+fn judge_table<C: Copy + Into<RunCall>>(rig: u64, calls: &[C]) -> Result<Summary, Violation> {
     judge(&run(&mut Table::new(rig).0, calls))
+}
+
+/// The rig of a generated run and its list: at most so many timed calls, and
+/// lookups between them.
+fn list(mut made: generate::Run, seed: u64, most: usize) -> (u64, Vec<RunCall>) {
+    made.calls.truncate(most);
+    (made.rig, generate::with_lookups(&made, seed))
 }
 
 #[test]
@@ -20,8 +27,8 @@ fn no_violation_on_runs_in_time() {
     let mut waited = 0;
     let mut late_grants = 0;
     for_seeds(0..2_000, |seed| {
-        let run = generate::run_of(Shape::InTime, seed);
-        let summary = judge_table(run.rig, &run.calls).unwrap();
+        let (rig, calls) = list(generate::run_of(Shape::InTime, seed), seed, 200);
+        let summary = judge_table(rig, &calls).unwrap();
         assert!(summary.in_time);
         accepted += summary.accepted;
         waited += summary.waited;
@@ -37,9 +44,8 @@ fn no_violation_on_runs_in_time() {
 fn no_violation_on_other_runs() {
     let mut overrun = 0;
     for_seeds(0..700, |seed| {
-        let run = generate::run(seed);
-        let cut = run.calls.len().min(200);
-        let summary = judge_table(run.rig, &run.calls[..cut]).unwrap();
+        let (rig, calls) = list(generate::run(seed), seed, 200);
+        let summary = judge_table(rig, &calls).unwrap();
         overrun += u64::from(!summary.in_time);
     });
     assert!(overrun > 150, "{overrun}");
@@ -113,6 +119,11 @@ enum Flaw {
     TestsGroupsFirst,
     /// A clock past a promised end takes the holder for released.
     ReleasesOverrun,
+    /// The common group of two tickets is the highest.
+    CommonGivesHighest,
+    /// Of two tickets only the first is tested; a second that is not pending
+    /// has no groups.
+    CommonTestsFirst,
 }
 
 #[derive(Clone, Copy)]
@@ -385,14 +396,36 @@ impl ClaimsTable for Double {
             },
         }
     }
+
+    fn common(&self, first: u16, second: u16) -> Common {
+        let groups = |ticket| {
+            let entry = self.entries.iter().find(|entry| entry.ticket == ticket);
+            entry.map(|entry| entry.groups)
+        };
+        let second = match groups(second) {
+            None if self.flaw == Flaw::CommonTestsFirst => Some(0),
+            groups => groups,
+        };
+        let (Some(first), Some(second)) = (groups(first), second) else {
+            return Common::Unknown;
+        };
+        match first & second {
+            0 => Common::None,
+            shared if self.flaw == Flaw::CommonGivesHighest => Common::Group(shared.ilog2() as u8),
+            shared => Common::Group(shared.trailing_zeros() as u8),
+        }
+    }
 }
 
-fn judge_double(flaw: Flaw, rig: u64, calls: &[TimedCall]) -> Result<Summary, Violation> {
+fn judge_double<C>(flaw: Flaw, rig: u64, calls: &[C]) -> Result<Summary, Violation>
+where
+    C: Copy + Into<RunCall>,
+{
     judge(&run(&mut Double::new(flaw, rig), calls))
 }
 
 /// The rule that the double with this flaw first violates in some calls.
-fn rule(flaw: Flaw, calls: &[TimedCall]) -> Option<Rule> {
+fn rule<C: Copy + Into<RunCall>>(flaw: Flaw, calls: &[C]) -> Option<Rule> {
     judge_table(0xF, calls).expect("the table itself keeps demand 3");
     judge_double(flaw, 0xF, calls)
         .err()
@@ -427,6 +460,32 @@ fn flaws_are_caught_in_small_runs() {
 }
 
 #[test]
+fn flaws_in_lookups_of_two_tickets_are_caught() {
+    let with = |first, second| {
+        let calls = [claim(0, 0xE, 10), claim(0, 0x7, 10)];
+        let mut calls = calls.map(RunCall::Timed).to_vec();
+        calls.push(RunCall::Common(first, second));
+        calls
+    };
+    for (flaw, caught) in [
+        (Flaw::CommonGivesHighest, [(1, 2), (2, 1), (1, 1), (2, 2)]),
+        (Flaw::CommonTestsFirst, [(1, 0), (1, 3), (2, 0), (2, 3)]),
+    ] {
+        for first in 0..=3 {
+            for second in 0..=3 {
+                let expected = caught.contains(&(first, second)).then_some(Rule::Lookup);
+                assert_eq!(rule(flaw, &with(first, second)), expected);
+            }
+        }
+    }
+    // One that has left is as unknown as one never issued.
+    let mut calls = with(2, 1);
+    calls.insert(2, RunCall::Timed(release(3, 1)));
+    assert_eq!(rule(Flaw::CommonTestsFirst, &calls), Some(Rule::Lookup));
+    assert_eq!(rule(Flaw::CommonGivesHighest, &calls), None);
+}
+
+#[test]
 fn flaws_are_caught_in_generated_runs() {
     for flaw in [
         Flaw::GrantsConflicting,
@@ -437,11 +496,13 @@ fn flaws_are_caught_in_generated_runs() {
         Flaw::NeverGrants,
         Flaw::LookupKeepsLeft,
         Flaw::PacksLate,
+        Flaw::CommonGivesHighest,
+        Flaw::CommonTestsFirst,
     ] {
         let caught = (0..60)
             .filter(|&seed| {
-                let run = generate::run_of(Shape::InTime, seed);
-                judge_double(flaw, run.rig, &run.calls).is_err()
+                let (rig, calls) = list(generate::run_of(Shape::InTime, seed), seed, 200);
+                judge_double(flaw, rig, &calls).is_err()
             })
             .count();
         assert!(caught >= 3, "{flaw:?}: {caught} of 60");
@@ -509,6 +570,45 @@ fn lookups_in_the_list_are_judged_too() {
 }
 
 #[test]
+fn lookups_of_two_tickets_in_the_list_are_judged_too() {
+    let calls = [claim(0, 0x9, 10), claim(0, 0xD, 10), claim(0, 0x6, 10)];
+    let mut steps = run(&mut Table::new(0xF).0, &calls);
+    let lookups = steps[2].lookups.clone();
+    let common = |first, second, said| Step {
+        asked: Asked::Common(first, second, said),
+        lookups: lookups.clone(),
+    };
+    let right = [
+        (1, 2, Common::Group(0)),
+        (2, 1, Common::Group(0)),
+        (2, 3, Common::Group(2)),
+        (1, 3, Common::None),
+        (3, 3, Common::Group(1)),
+        (0, 1, Common::Unknown),
+        (1, 0, Common::Unknown),
+        (4, 4, Common::Unknown),
+    ];
+    steps.extend(right.map(|(first, second, said)| common(first, second, said)));
+    assert!(judge(&steps).is_ok());
+    for (first, second, said) in right {
+        for wrong in [
+            Common::Group(0),
+            Common::Group(1),
+            Common::Group(2),
+            Common::Group(3),
+            Common::None,
+            Common::Unknown,
+        ] {
+            if wrong != said {
+                let mut steps = steps.clone();
+                steps.push(common(first, second, wrong));
+                assert_eq!(judge(&steps).unwrap_err().rule, Rule::Lookup);
+            }
+        }
+    }
+}
+
+#[test]
 fn answers_that_make_no_run_are_caught() {
     let steps = run(&mut Table::new(1).0, &[claim(0, 1, 10), claim(0, 1, 10)]);
     let with = |change: &dyn Fn(&mut Step)| {
@@ -543,11 +643,9 @@ fn answers_that_make_no_run_are_caught() {
 #[test]
 fn the_double_without_a_flaw_is_the_table() {
     for_seeds(0..250, |seed| {
-        let made = generate::run(seed);
-        let cut = made.calls.len().min(120);
-        let calls = &made.calls[..cut];
-        let double = run(&mut Double::new(Flaw::Nothing, made.rig), calls);
-        let table = run(&mut Table::new(made.rig).0, calls);
+        let (rig, calls) = list(generate::run(seed), seed, 120);
+        let double = run(&mut Double::new(Flaw::Nothing, rig), &calls);
+        let table = run(&mut Table::new(rig).0, &calls);
         assert_eq!(double, table);
     });
 }
@@ -574,15 +672,15 @@ fn generated_runs_tell_every_flaw_from_the_table() {
         Flaw::FullEarly,
         Flaw::TestsGroupsFirst,
         Flaw::ReleasesOverrun,
+        Flaw::CommonGivesHighest,
+        Flaw::CommonTestsFirst,
     ];
-    let mut told = [0; 19];
+    let mut told = [0; 21];
     for_seeds(0..120, |seed| {
-        let made = generate::run(seed);
-        let cut = made.calls.len().min(120);
-        let calls = &made.calls[..cut];
-        let table = run(&mut Table::new(made.rig).0, calls);
+        let (rig, calls) = list(generate::run(seed), seed, 120);
+        let table = run(&mut Table::new(rig).0, &calls);
         for (flaw, told) in flaws.iter().zip(&mut told) {
-            let double = run(&mut Double::new(*flaw, made.rig), calls);
+            let double = run(&mut Double::new(*flaw, rig), &calls);
             *told += usize::from(double != table);
         }
     });

@@ -2,10 +2,11 @@
 
 mod common;
 
-use common::{claim, for_seeds, listing, load_of, release, withdraw};
+use common::{claim, clock, for_seeds, listing, load_of, release, withdraw};
+use reference::ask::ask;
 use reference::generate::{self, Shape};
 use reference::load::{self, Call};
-use reference::shrink::{shrink, shrink_text};
+use reference::shrink::{shrink, shrink_question, shrink_text};
 use reference::table::{Table, TimedCall};
 
 /// Whether some line of the listing has this answer.
@@ -81,6 +82,16 @@ fn tickets_move_down_with_the_claims_dropped() {
 }
 
 #[test]
+fn releases_before_a_dropped_claim_go_with_it() {
+    let mut calls = vec![clock(0); 2];
+    calls.extend([release(0, 1); 6]);
+    calls.push(claim(0, 1, 1));
+    let three = |load: &[u8]| load::read_all(load).is_ok_and(|calls| calls.len() >= 3);
+    let small = shrink(&load_of(1, &calls), three);
+    assert_eq!(small, load_of(0, &[clock(0), clock(0)]));
+}
+
+#[test]
 fn damaged_loads_shrink_too() {
     let good = generate::run_of(Shape::Accepted, 3).load();
     let mut load = good.clone();
@@ -129,4 +140,36 @@ fn texts_shrink_to_the_bytes_that_differ() {
     let long = b"\n".repeat(50_000);
     let small = shrink_text(&long, |text| text.len() > 30_000);
     assert!((30_001..31_000).contains(&small.len()));
+}
+
+#[test]
+fn questions_shrink_with_their_loads() {
+    let says = |load: &[u8], question: &[u8], words: &str| {
+        let said = String::from_utf8(ask(question, load).0).expect("plain text");
+        said.contains(words)
+    };
+    let calls: Vec<TimedCall> = (0..40).map(|n| claim(n, 0x5 << (n % 7), 9)).collect();
+    let load = load_of(u64::MAX, &calls);
+    for (question, words, records, small) in [
+        ("common 12 19", "share group", 2, "common 1 1"),
+        ("common 22 30", "share no", 3, "common 1 2"),
+        (" lookup\t0038", "waits", 3, "lookup 2"),
+    ] {
+        let differs = |load: &[u8], question: &[u8]| says(load, question, words);
+        assert!(differs(&load, question.as_bytes()));
+        let (load, question) = shrink_question(&load, question.as_bytes(), differs);
+        assert_eq!(question, small.as_bytes());
+        assert_eq!(load::read_all(&load).map(|calls| calls.len()), Ok(records));
+        assert!(differs(&load, &question));
+    }
+    // A wrong question is shrunk as a text.
+    let wrong = |load: &[u8], question: &[u8]| !ask(question, load).1.is_empty();
+    assert_eq!(
+        shrink_question(&load, b"look 3", wrong),
+        (Vec::new(), Vec::new())
+    );
+    assert_eq!(
+        shrink_question(&load, b"lookup 3", |_, _| false),
+        (load.clone(), b"lookup 3".to_vec())
+    );
 }

@@ -5,7 +5,7 @@ mod common;
 
 use common::for_seeds;
 use reference::generate::{self, Shape};
-use reference::table::{Answer, Claim, Lookup, State, Table, TimedCall};
+use reference::table::{Answer, Claim, Common, Lookup, State, Table, TimedCall};
 use reference::table::{MAX_CLOCK, MAX_LENGTH};
 
 fn new_table(rig: u64) -> Table {
@@ -179,6 +179,73 @@ fn starts_may_pass_the_greatest_clock() {
     assert_eq!(number(&table.claim(MAX_CLOCK, 1, MAX_LENGTH)), 6);
 }
 
+#[test]
+fn two_tickets_share_their_lowest_common_group() {
+    let mut table = new_table(u64::MAX);
+    for groups in [0xC, 0x6, 0x9, 1 << 63, u64::MAX, 0x8000_0000_0000_0001] {
+        table.claim(0, groups, 10);
+    }
+    for (first, second, said) in [
+        (1, 2, Common::Group(2)),
+        (1, 3, Common::Group(3)),
+        (2, 3, Common::None),
+        (1, 4, Common::None),
+        (4, 5, Common::Group(63)),
+        (4, 6, Common::Group(63)),
+        (3, 6, Common::Group(0)),
+        (5, 2, Common::Group(1)),
+        (1, 1, Common::Group(2)),
+        (4, 4, Common::Group(63)),
+        (6, 6, Common::Group(0)),
+    ] {
+        assert_eq!(table.common(first, second), said);
+        assert_eq!(table.common(second, first), said);
+        assert_eq!(said.number(), 0);
+    }
+}
+
+#[test]
+fn a_ticket_that_is_not_pending_shares_nothing() {
+    let mut table = new_table(0xF);
+    table.claim(0, 0xF, 10);
+    table.claim(0, 0xF, 10);
+    table.claim(0, 0xF, 10);
+    assert_eq!(table.common(1, 2), Common::Group(0));
+    table.release(1, 1);
+    table.withdraw(1, 3);
+    let before = table.clone();
+    for ticket in [0, 1, 3, 4, 65_535] {
+        for other in [0, 1, 2, 3, 4, 65_535] {
+            assert_eq!(table.common(ticket, other), Common::Unknown);
+            assert_eq!(table.common(other, ticket), Common::Unknown);
+        }
+    }
+    assert_eq!(Common::Unknown.number(), 8);
+    assert_eq!(table.common(2, 2), Common::Group(0));
+    assert_eq!(table, before);
+}
+
+/// Every pair of single groups, and of sets that begin at one.
+#[test]
+fn every_group_can_be_the_lowest() {
+    for one in 0..64 {
+        for other in 0..64 {
+            let (mut table, _) = Table::new(u64::MAX);
+            table.claim(0, 1 << one, 1);
+            table.claim(0, 1 << other, 1);
+            table.claim(0, u64::MAX << one, 1);
+            table.claim(0, u64::MAX << other, 1);
+            let single = if one == other {
+                Common::Group(one)
+            } else {
+                Common::None
+            };
+            assert_eq!(table.common(1, 2), single);
+            assert_eq!(table.common(3, 4), Common::Group(one.max(other)));
+        }
+    }
+}
+
 /// Whether a claim may start here, by the words of document 01.
 fn fits(table: &Table, groups: u64, length: u32, start: u64) -> bool {
     table.claims().iter().all(|claim| {
@@ -206,6 +273,17 @@ fn check_laws(table: &Table) {
         assert_eq!(start, ends.fold(table.now(), u64::max), "packed");
         assert!(!before.is_empty(), "a waiting claim has one before it");
         for other in claims {
+            let both = other.groups & claim.groups;
+            let shared = table.common(claim.ticket, other.ticket);
+            match shared {
+                Common::Group(group) => {
+                    assert_eq!(both >> group & 1, 1);
+                    assert_eq!(both % (1 << group), 0, "the lowest");
+                }
+                Common::None => assert_eq!(both, 0),
+                Common::Unknown => unreachable!("both are pending"),
+            }
+            assert_eq!(shared, table.common(other.ticket, claim.ticket));
             if other.ticket != claim.ticket && other.conflicts(claim.groups) {
                 assert!(other.precedes(claim) != claim.precedes(other));
             }

@@ -10,7 +10,7 @@ use lib.Dec.{eqb, ltb}
 use lib.Pow.{shr-shr}
 use borrow.Author.Tests.{eqb-true, eqb-false, ltb-true, ltb-false}
 use Rattle.groups.specs.declared.MaybeGroup.the-variants.{Group, NoGroup}
-use Rattle.groups.specs.Groups.{has, someFrom, someGroup, shares, setFrom, setWhere, union, without, lowestFrom, lowest, others}
+use Rattle.groups.specs.Groups.{has, someFrom, someGroup, common, found, shares, setFrom, setWhere, union, without, lowestFrom, lowest, others}
 
 -- Group j + 1 from g on is group j from the next one on.
 next : (g j : ℕ) → g + suc j ≡ suc g + j
@@ -64,6 +64,27 @@ from-or (suc k) g p q = rw (from-or k (suc g) p q) (go (p g) (q g) (someFrom k (
     go true b c = refl
     go false true c = sym (or-true c)
     go false false c = refl
+
+-- One passes exactly where the lowest that does is not none.
+found-from : (k g : ℕ) (p : ℕ → Bool) → found (lowestFrom k g p) ≡ someFrom k g p
+unfolding lowestFrom someFrom
+found-from zero g p = refl
+found-from (suc k) g p = go (found-from k (suc g) p) (p g)
+  where
+    go : found (lowestFrom k (suc g) p) ≡ someFrom k (suc g) p → (t : Bool) → found (cond t (Group g) (lowestFrom k (suc g) p)) ≡ (t || someFrom k (suc g) p)
+    go later true = refl
+    go later false = later
+
+-- Tests that agree at each of the k groups have the same lowest.
+pub lowest-same : (k g : ℕ) (p q : ℕ → Bool) → ((h : ℕ) → h < g + k → p h ≡ q h) → lowestFrom k g p ≡ lowestFrom k g q
+unfolding lowestFrom
+lowest-same zero g p q s = refl
+lowest-same (suc k) g p q s = rw (s g (omega arith), lowest-same k (suc g) p q (λ h l. s h (omega arith)))
+
+-- Two sets share a group exactly where some group is in both.
+pub shares-some : (a b : ℕ) → shares a b ≡ someGroup (λ g. has a g && has b g)
+unfolding shares common
+shares-some a b = found-from 64 0 (λ g. has a g && has b g)
 
 -- Where some group passes p, there is such a group.
 pub some-elim : (p : ℕ → Bool) → someGroup p ≡ true → (g : ℕ) × (g < 64) × (p g ≡ true)
@@ -123,27 +144,29 @@ pub has-set : (p : ℕ → Bool) (g : ℕ) → g < 64 → has (setWhere p) g ≡
 has-set p g h = from-has _ 0 p g (omega arith) ∙ ap p (zero-add g)
 
 -- Sharing a group does not depend on the order.
+pub common-sym : (a b : ℕ) → common a b ≡ common b a
+unfolding common
+common-sym a b = lowest-same _ 0 _ _ (λ g h. and-comm (has a g) (has b g))
+
 pub shares-sym : (a b : ℕ) → shares a b ≡ shares b a
 unfolding shares
-shares-sym a b = from-same _ 0 _ _ (λ g h. and-comm (has a g) (has b g))
+shares-sym a b = ap found (common-sym a b)
 
 -- Two sets that share a group have a group in both.
 pub shares-elim : (a b : ℕ) → shares a b ≡ true → (g : ℕ) × (g < 64) × (has a g ≡ true) × (has b g ≡ true)
-unfolding shares
 shares-elim a b e =
-    let r = some-elim _ e in
+    let r = some-elim _ (sym (shares-some a b) ∙ e) in
     let both = and-eq-true-iff (has a (r .0)) (has b (r .0)) .0 (r .2) in
     (r .0, r .1, both .0, both .1)
 
 -- Two sets with a group in both share a group.
 pub shares-intro : (a b g : ℕ) → g < 64 → has a g ≡ true → has b g ≡ true → shares a b ≡ true
-unfolding shares
-shares-intro a b g h p q = some-intro _ g h (rw (p, q))
+shares-intro a b g h p q = shares-some a b ∙ some-intro _ g h (rw (p, q))
 
 -- A union shares a group with x exactly where one of its two sets does.
 pub union-shares : (a b x : ℕ) → shares (union a b) x ≡ (shares a x || shares b x)
-unfolding shares union
-union-shares a b x = from-same _ 0 _ _ at-group ∙ from-or _ 0 _ _
+unfolding union
+union-shares a b x = rw (shares-some (union a b) x, shares-some a x, shares-some b x) (from-same _ 0 _ _ at-group ∙ from-or _ 0 _ _)
   where
     at-group : (g : ℕ) → g < 64 → (has (union a b) g && has x g) ≡ (has a g && has x g || has b g && has x g)
     at-group g h = rw (has-set _ g h) (and-or-distrib-right (has a g) (has b g) (has x g))

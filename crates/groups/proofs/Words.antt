@@ -13,8 +13,8 @@ use lib.Dec.{eqb}
 use lib.Pow.{shr-shr}
 use borrow.Author.Tests.{eq-eqb, ne-eqb, eqb-true, eqb-false}
 use Rattle.groups.specs.declared.MaybeGroup.the-variants.{Group, NoGroup}
-use Rattle.groups.specs.Groups.{has, someFrom, someGroup, shares, empty, within, setFrom, union, without, lowestFrom, lowest, others}
-use Rattle.groups.proofs.Groups.{one-add, from-same, from-next, set-same, lowest-in}
+use Rattle.groups.specs.Groups.{has, someFrom, someGroup, common, shares, empty, within, setFrom, union, without, lowestFrom, lowest, others}
+use Rattle.groups.proofs.Groups.{one-add, from-same, from-next, lowest-same, shares-some, none-intro, set-same, lowest-in}
 
 -- The digit of x that stands for group g.
 abbrev digit : ℕ → ℕ → ℕ
@@ -75,19 +75,17 @@ and-digit a b g = rw and-shr (omega (arith, and-step (a / 2 ^ g) (b / 2 ^ g)))
 no-digit : (g : ℕ) → digit 0 g ≡ 0
 no-digit g = rw (zero-div (2 ^ g))
 
--- Two sets share a group exactly where `a & b` is not 0.
-pub shares-word : (a b : ℕ) → a < 2 ^ 64 → shares a b ≡ not (eqb (bitAnd a b) 0)
-unfolding shares
-shares-word a b h = some-differ _ (bitAnd a b) 0 (omega (arith, and-le-l a b)) (omega arith) at-group
-  where
-    at-group : (g : ℕ) → (has a g && has b g) ≡ differ (bitAnd a b) 0 g
-    at-group g =
-        rw (and-digit, no-digit)
-        (four (λ u v. (eqb u 1 && eqb v 1) ≡ not (eqb (min u v) 0)) refl refl refl refl (a / 2 ^ g) (b / 2 ^ g))
+and-has : (a b g : ℕ) → has (bitAnd a b) g ≡ (has a g && has b g)
+and-has a b g = rw and-digit (four (λ u v. eqb (min u v) 1 ≡ (eqb u 1 && eqb v 1)) refl refl refl refl (a / 2 ^ g) (b / 2 ^ g))
+
+-- The lowest common group of two sets is the lowest of `a & b`.
+pub common-word : (a b : ℕ) → lowest (bitAnd a b) ≡ common a b
+unfolding lowest common
+common-word a b = lowest-same 64 0 _ _ (λ g h. and-has a b g)
 
 -- The word 0 shares no group.
 pub zero-shares : (b : ℕ) → shares 0 b ≡ false
-zero-shares b = shares-word 0 b (omega arith)
+zero-shares b = shares-some 0 b ∙ none-intro _ (λ g h. rw no-digit)
 
 -- A set is empty exactly where its word is 0.
 pub empty-word : (a : ℕ) → a < 2 ^ 64 → empty a ≡ eqb a 0

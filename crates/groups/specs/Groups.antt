@@ -1,6 +1,6 @@
 -- Sets of groups. Document 01: "Groups are numbered 0 to 63; a set of groups is a 64-bit number, group g standing for 2^g."
 -- What is said here is said of the groups 0 to 63, one by one; that the code may work on all bits at once is proved.
-use mathlib.Core.Bool.{Bool, false, not, _&&_, _||_, cond}
+use mathlib.Core.Bool.{Bool, true, false, not, _&&_, _||_, cond}
 use Prim.Native.Nat.{ℕ, zero, suc, _+_, _*_, _/_, _%_, _^_}
 use lib.Dec.{eqb}
 use Rattle.groups.specs.declared.MaybeGroup.{MaybeGroup}
@@ -10,6 +10,24 @@ use Rattle.groups.specs.declared.MaybeGroup.the-variants.{Group, NoGroup
 abbrev pub has : ℕ → ℕ → Bool
 has s g = eqb (s / 2 ^ g % 2) 1
 
+-- Not none.
+abbrev pub found : MaybeGroup → Bool
+found (Group g) = true
+found NoGroup = false
+
+-- The lowest of the k groups from g on that passes p, or none.
+unfoldable pub lowestFrom : ℕ → ℕ → (ℕ → Bool) → MaybeGroup
+lowestFrom zero g p = NoGroup
+lowestFrom (suc k) g p = cond (p g) (Group g) (lowestFrom k (suc g) p)
+
+-- "the lowest common group number, or none": the first from group 0 up that is in both sets.
+unfoldable pub common : ℕ → ℕ → MaybeGroup
+common a b = lowestFrom 64 0 (λ g. has a g && has b g)
+
+-- "share a group": yes or no of that.
+unfoldable pub shares : ℕ → ℕ → Bool
+shares a b = found (common a b)
+
 -- One of the k groups from g on passes p.
 unfoldable pub someFrom : ℕ → ℕ → (ℕ → Bool) → Bool
 someFrom zero g p = false
@@ -18,10 +36,6 @@ someFrom (suc k) g p = p g || someFrom k (suc g) p
 -- One of the groups 0 to 63 passes p.
 abbrev pub someGroup : (ℕ → Bool) → Bool
 someGroup p = someFrom 64 0 p
-
--- "share a group": some group is in both.
-unfoldable pub shares : ℕ → ℕ → Bool
-shares a b = someGroup (λ g. has a g && has b g)
 
 -- "no group in" the set.
 unfoldable pub empty : ℕ → Bool
@@ -47,11 +61,6 @@ union a b = setWhere (λ g. has a g || has b g)
 -- The groups of a that are not in b.
 unfoldable pub without : ℕ → ℕ → ℕ
 without a b = setWhere (λ g. has a g && not (has b g))
-
--- The lowest of the k groups from g on that passes p, or none.
-unfoldable pub lowestFrom : ℕ → ℕ → (ℕ → Bool) → MaybeGroup
-lowestFrom zero g p = NoGroup
-lowestFrom (suc k) g p = cond (p g) (Group g) (lowestFrom k (suc g) p)
 
 -- The lowest group of a set, or none.
 unfoldable pub lowest : ℕ → MaybeGroup

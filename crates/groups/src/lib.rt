@@ -1,7 +1,7 @@
 // Sets of groups as 64-bit words: each question is answered for all 64 groups at once.
 // What is asked is defined in specs/Groups.antt; proofs/Groups.antt has its laws, and proofs/Words.antt what joins it to words.
 ghost use mathlib.Core.Path.{_≡_};
-ghost use Rattle.groups.specs.Groups.{shares, empty, within, union, without, lowest, others};
+ghost use Rattle.groups.specs.Groups.{common, shares, empty, within, union, without, lowest, others};
 
 // What a search for a group gives.
 pub enum MaybeGroup {
@@ -9,11 +9,21 @@ pub enum MaybeGroup {
     NoGroup,
 }
 
-// Whether two sets have a group in common. Cost: one instruction on 64 bits.
+// The lowest group that two sets have in common, or none. Cost: an instruction on 64 bits, a comparison and one more instruction.
+pub fn common(a: u64, b: u64) -> MaybeGroup
+    ensures { λ r. ⌜ r ≡ common a b ⌝ }
+{
+    lowest(a & b)
+}
+
+// Whether two sets have a group in common. Cost: an instruction on 64 bits and a comparison: the compiler leaves out the search.
 pub fn shares(a: u64, b: u64) -> bool
     ensures { λ r. ⌜ r ≡ shares a b ⌝ }
 {
-    a & b != 0
+    match common(a, b) {
+        MaybeGroup::Group(_g) => true,
+        MaybeGroup::NoGroup => false,
+    }
 }
 
 // Whether no group is in a set. Cost: one comparison.

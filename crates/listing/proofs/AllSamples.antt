@@ -1,7 +1,7 @@
 -- Every load of specs/Samples has the listing that document 01 gives, by computation from the rules and the load format.
 use mathlib.Core.Path.{_≡_, refl}
 use mathlib.Core.List.{map}
-use Rattle.groups.specs.Groups.{someFrom, shares, empty, within}
+use Rattle.groups.specs.Groups.{someFrom, lowestFrom, common, shares, empty, within}
 use Rattle.rules.specs.Lists.{greatest, least, sum, all, any, keep}
 use Rattle.rules.specs.Claims.{heldUntil, endOf, remaining}
 use Rattle.rules.specs.Order.{precedes, before}
@@ -20,5 +20,5 @@ use Rattle.listing.specs.Text.{saysCall, stepOf, entryOf, ending, linesF
 use Rattle.listing.specs.Samples.{samples, given, expected}
 
 pub all-samples : map given samples ≡ map expected samples
-unfolding someFrom shares empty within greatest least sum all any keep heldUntil endOf remaining precedes before startFor moved ahead startWithin packedStart pack clear fits seek place contention startBound goes granted grant grants firstOf tests advance finish join remove admit act step new numeral digits widthUpTo widthOf decimalOf fieldWidths fieldWidth format knownIn known rowIn fieldsOf widths total lengthIn lengthOf numbers made valueOf withValue bare filled callOf valuesOf fieldBytes fieldValues recordBytes recordsBytes loadBytes misfit readAt itemAt openNumber walkIn walk column pair lineOf onLine onLines stopLine saysCall stepOf entryOf ending linesFrom linesOf listingOf samples
+unfolding someFrom lowestFrom common shares empty within greatest least sum all any keep heldUntil endOf remaining precedes before startFor moved ahead startWithin packedStart pack clear fits seek place contention startBound goes granted grant grants firstOf tests advance finish join remove admit act step new numeral digits widthUpTo widthOf decimalOf fieldWidths fieldWidth format knownIn known rowIn fieldsOf widths total lengthIn lengthOf numbers made valueOf withValue bare filled callOf valuesOf fieldBytes fieldValues recordBytes recordsBytes loadBytes misfit readAt itemAt openNumber walkIn walk column pair lineOf onLine onLines stopLine saysCall stepOf entryOf ending linesFrom linesOf listingOf samples
 all-samples = refl

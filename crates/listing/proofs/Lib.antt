@@ -1,4 +1,5 @@
 pub mod AllSamples
 pub mod Lines
 pub mod RecordLoop
+pub mod Replaying
 pub mod Sizes

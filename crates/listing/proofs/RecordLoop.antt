@@ -63,6 +63,10 @@ module _ (m : Model) (c : Call) (o : Outcome) (p : o ≡ outcome (stepOf m c)) w
   pub few-granted : Valid (o .table) → o .granted ≤ 64
   few-granted v = granted-few (record-promised m c) o p v
 
+  -- The number by which it ends the listing is the step's.
+  pub ends-as : (k n : ℕ) → n ≡ ending k (o .number) → n ≡ ending k (stepOf m c .answer .number)
+  ends-as k n q = q ∙ ap (λ (x : Outcome). ending k (x .number)) p
+
   entry-is : (k : ℕ) → entryOf k (stepOf m c) ≡ shown k o
   unfolding entryOf
   entry-is k =
@@ -90,16 +94,13 @@ module _ (s : List ℕ) (at : ℕ) (m : Model) (k : ℕ) where
   lines-refused n e = rw (walk-refused s at n e) (stop-some n k [] (λ z. omega (arith, step-refused s at n e)))
 
   module _ (c : Call) (next : ℕ) (e : itemAt s at ≡ Record c next) (o : Outcome) (p : o ≡ outcome (stepOf m c)) (n : ℕ) (q : n ≡ ending k (o .number)) where
-    ends-as : n ≡ ending k (stepOf m c .answer .number)
-    ends-as = q ∙ ap (λ (x : Outcome). ending k (x .number)) p
-
     lines-stop : (n ≡ 0 → ⊥) → linesOf k m (walk s at) ≡ stopLine n k
     unfolding linesOf linesFrom
-    lines-stop z = rw (walk-record s at c next e, sym ends-as) (stop-some n k _ z)
+    lines-stop z = rw (walk-record s at c next e, sym (ends-as m c o p k n q)) (stop-some n k _ z)
 
     lines-record : n ≡ 0 → linesOf k m (walk s at) ≡ shown k o ++ linesOf (k + 1) (model (o .table)) (walk s next)
     unfolding linesOf linesFrom
-    lines-record z = rw (walk-record s at c next e, sym ends-as, outcome-model o (stepOf m c) p, sym (entry-is m c o p k)) (stop-none n k _ z)
+    lines-record z = rw (walk-record s at c next e, sym (ends-as m c o p k n q), outcome-model o (stepOf m c) p, sym (entry-is m c o p k)) (stop-none n k _ z)
 
   module _ (o₀ : List ℕ) (at₀ : ℕ) (w out : List ℕ) (n : ℕ) (g : Going o₀ at₀ w out n (linesOf k m (walk s at))) where
     pub run-end : itemAt s at ≡ End → Put o₀ at₀ w n out
@@ -116,31 +117,42 @@ module _ (s : List ℕ) (at : ℕ) (m : Model) (k : ℕ) where
       run-record y z = going-step o₀ at₀ w out n (shown k o) _ p r (going-as o₀ at₀ w out n _ _ (lines-record c next e o h x q y) g) z
 
 -- ── the loop's invariant ──
-pub record Turn (s o₀ : List ℕ) (from : ℕ) (o : List ℕ) (t : Table) (at k n : ℕ) : Type 0 where
+-- Where a loop over the records stands: before record k, at a position, with a table.
+pub record Reached (t : Table) (at k : ℕ) : Type 0 where
   pub valid : Valid t
   pub inside : at ≤ 65536
   pub few : k ≤ at
+
+pub reached-start : (t : Table) → Valid t → Reached t 1 1
+reached-start t v = record { valid = v; inside = omega arith; few = omega arith }
+
+pub reached-more : (s : List ℕ) (t u : Table) (at k : ℕ) → Reached t at k → length s ≤ 65536
+    → (c : Call) (next : ℕ) → itemAt s at ≡ Record c next → Valid u → Reached u next (k + 1)
+reached-more s t u at k w l c next e v =
+    let i = step-next s at c next e in
+    record { valid = v; inside = omega (arith, i .1); few = omega (arith, i .0, w .few) }
+
+-- The table before the first record.
+pub first-table : (r : Outcome) → r ≡ outcome (new 0) → model (r .table) ≡ blank 0
+first-table r e = outcome-model r (new 0) e ∙ new-none
+
+pub record Turn (s o₀ : List ℕ) (from : ℕ) (o : List ℕ) (t : Table) (at k n : ℕ) : Type 0 where
+  pub reached : Reached t at k
   pub going : Going o₀ from (linesOf 1 (blank 0) (walk s 1)) o n (linesOf k (model t) (walk s at))
 
 pub turn-start : (s o : List ℕ) (from : ℕ) (r : Outcome) → length o < 2 ^ 64 → from < 2 ^ 64 → r ≡ outcome (new 0) → Valid (r .table) → Turn s o from o (r .table) 1 1 from
 turn-start s o from r h k e v =
-    let q : model (r .table) ≡ blank 0 = outcome-model r (new 0) e ∙ new-none in
     record {
-      valid = v;
-      inside = omega arith;
-      few = omega arith;
-      going = going-as o from _ o from _ _ (ap (λ (x : Model). linesOf 1 x (walk s 1)) (sym q)) (going-start o from (linesOf 1 (blank 0) (walk s 1)) h k);
+      reached = reached-start (r .table) v;
+      going = going-as o from _ o from _ _ (ap (λ (x : Model). linesOf 1 x (walk s 1)) (sym (first-table r e))) (going-start o from (linesOf 1 (blank 0) (walk s 1)) h k);
     }
 
 pub turn-more : (s o₀ : List ℕ) (from : ℕ) (out : List ℕ) (t : Table) (at k n : ℕ) → Turn s o₀ from out t at k n → length s ≤ 65536
     → (c : Call) (next : ℕ) → itemAt s at ≡ Record c next → (o : Outcome) → o ≡ outcome (stepOf (model t) c) → Valid (o .table)
     → (x : ℕ) → x ≡ ending k (o .number) → x ≡ 0 → (r : ℕ) (p : List ℕ) → Put out n (shown k o) r p → Turn s o₀ from p (o .table) next (k + 1) r
 turn-more s o₀ from out t at k n u l c next e o h v x q y r p z =
-    let i = step-next s at c next e in
     record {
-      valid = v;
-      inside = omega (arith, i .1);
-      few = omega (arith, i .0, u .few);
+      reached = reached-more s t (o .table) at k (u .reached) l c next e v;
       going = run-record s at (model t) k o₀ from (linesOf 1 (blank 0) (walk s 1)) out n (u .going) c next e o h x q r p y z;
     }
 

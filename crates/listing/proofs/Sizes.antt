@@ -24,7 +24,7 @@ use Rattle.numerals.proofs.Laying.{pair-length}
 use Rattle.listing.proofs.Lines.{line-length, ons-length}
 
 -- ── lines ──
-stop-length : (n k b : ℕ) (lines : List ℕ) → length lines ≤ b → 47 ≤ b → length (stopOr n k lines) ≤ b
+pub stop-length : (n k b : ℕ) (lines : List ℕ) → length lines ≤ b → 47 ≤ b → length (stopOr n k lines) ≤ b
 unfolding stopLine
 stop-length zero k b lines h g = h
 stop-length (suc n) k b lines h g = omega (arith, pair-length (suc n) k 10)

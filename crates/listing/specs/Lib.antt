@@ -1,4 +1,5 @@
 pub mod Lines
 pub mod Text
 pub mod Room
+pub mod Replay
 pub mod Samples

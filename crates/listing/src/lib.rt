@@ -1,4 +1,4 @@
-// The listing of a load: the player's call. A load's records run on a table, and each prints what it answers.
+// The listing of a load: the player's call. A load's records run on a table, and each prints what it answers. And the table that they leave.
 ghost use mathlib.Core.Path.{_≡_};
 ghost use mathlib.Core.List.{_++_};
 ghost use Prim.Native.Nat.{_≤_};
@@ -12,6 +12,7 @@ ghost use Rattle.load.specs.Reading.{walk};
 ghost use Rattle.table.specs.Valid.{Valid};
 ghost use Rattle.table.specs.Outcomes.{outcome};
 ghost use Rattle.listing.specs.Lines.{lineOf, onLine, onLines, stopLine};
+ghost use Rattle.listing.specs.Replay.{replayIn, replayOf, replayed};
 ghost use Rattle.listing.specs.Room.{roomFor};
 ghost use Rattle.listing.specs.Text.{stepOf, ending, linesOf, listingOf, answerOf};
 use load::Call;
@@ -36,7 +37,7 @@ fn put_grant(out: &mut [u8], at: usize, clock: u64, ticket: u16) -> usize
     numerals::put_pair(out, m, ticket as u64, clock, 10)
 }
 
-fn put_stop(out: &mut [u8], at: usize, number: u8, k: u64) -> usize
+pub fn put_stop(out: &mut [u8], at: usize, number: u8, k: u64) -> usize
     ensures { λ r. ⌜ Put (now (out .entry)) at (stopLine number k) r (now (out .exit)) ⌝ }
 {
     let m = numerals::put_bytes(out, at, b"stop ");
@@ -183,4 +184,73 @@ pub extern "C" fn belgwyth_listing(load: &[u8], out: &mut [u8]) -> usize
         return run(load, out);
     }
     numbers::NO_SPACE as usize
+}
+
+// ── the table that a load leaves ──
+
+// That table, and the number and the record of the listing's stop: 0 and 0 for a load that is read to its end.
+pub struct Replayed {
+    pub table: Table,
+    pub stop: u8,
+    pub at: u64,
+}
+
+// The records of a load that opens.
+fn replay_records(load: &[u8]) -> Replayed
+    requires { ⌜ length (now load) ≤ mostBytes ⌝ }
+    ensures { λ r. ⌜ (r ≡ replayed (replayIn 1 (blank 0) (walk (now (load .entry)) 1))) × Valid (r .table) ⌝ }
+{
+    let none = table::new(0);
+    let mut t = none.table;
+    let mut at: usize = 1;
+    let mut nth: u64 = 1;
+    loop {
+        match load::record_at(load, at) {
+            Item::Record(call, next) => {
+                let o = act(t, call);
+                let stop = ending_of(nth, o.number);
+                if stop != 0 {
+                    return Replayed {
+                        table: t,
+                        stop: stop,
+                        at: nth,
+                    };
+                }
+                t = o.table;
+                at = next;
+                nth += 1;
+            }
+            Item::End => {
+                return Replayed {
+                    table: t,
+                    stop: 0,
+                    at: 0,
+                };
+            }
+            Item::Refused(r) => {
+                return Replayed {
+                    table: t,
+                    stop: r,
+                    at: nth,
+                };
+            }
+        }
+    }
+}
+
+// What a load leaves. Cost: one call of the table for each record, and two copies of it.
+pub fn replay(load: &[u8]) -> Replayed
+    ensures { λ r. ⌜ (r ≡ replayed (replayOf (now (load .entry)))) × Valid (r .table) ⌝ }
+{
+    let number = load::open_number(load);
+    if number != 0 {
+        let none = table::new(0);
+        let t = none.table;
+        return Replayed {
+            table: t,
+            stop: number,
+            at: 0,
+        };
+    }
+    replay_records(load)
 }

@@ -11,7 +11,7 @@ mod print;
 mod reasons;
 mod sets;
 mod texts;
-mod words;
+pub mod words;
 
 use load::Written;
 use parse::Head;

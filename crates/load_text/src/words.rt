@@ -85,7 +85,7 @@ pub(crate) fn lacks(text: &[u8], mark: Mark) -> bool
 }
 
 // The next word from a place on.
-pub(crate) fn next_word(line: &[u8], at: usize) -> Word
+pub fn next_word(line: &[u8], at: usize) -> Word
     ensures { λ r. ⌜ FirstWord (now (line .entry)) at (r .from) (r .to) ⌝ }
 {
     let from = place(line, Mark::Full, at);
@@ -115,7 +115,7 @@ fn value(word: &[u8], base: u64, most: u64, large: u8) -> Field
 }
 
 // The number that a word says: `none` where it says none, which goes before `large`, where it is over `most`.
-pub(crate) fn number(word: &[u8], base: u64, most: u64, none: u8, large: u8) -> Field
+pub fn number(word: &[u8], base: u64, most: u64, none: u8, large: u8) -> Field
     ensures { λ r. ⌜ r ≡ numberIn base most none large (now (word .entry)) ⌝ }
 {
     if (0 < word.len()) & lacks(word, Mark::NoDigit(base)) {

@@ -14,15 +14,16 @@ use Rattle.rules.specs.declared.Request.{Request}
 use Rattle.rules.specs.declared.Phase.the-variants.{On}
 use Rattle.rules.specs.Lists.{_∈_, any, keep}
 use Rattle.rules.specs.declared.Setting.{Setting}
-use Rattle.rules.specs.Claims.{on, at, withPhase, conflicts, heldUntil, endOf, remaining}
+use Rattle.rules.specs.Claims.{on, at, withPhase, rival, heldUntil, endOf, remaining}
 use Rattle.rules.specs.Order.{rivals}
 use Rattle.rules.specs.Packing.{packedStart, moved, pack}
 use Rattle.rules.specs.Placing.{place, contention, startBound}
 use Rattle.rules.specs.Granting.{goes, granted, grant, grants}
+use Rattle.rules.specs.declared.Common.the-variants.{Unknown}
 use Rattle.rules.specs.declared.Standing.the-variants.{Waits, Holds}
 use Rattle.rules.specs.Tests.{named}
 use Rattle.rules.specs.declared.Reply.{Reply}
-use Rattle.rules.specs.Calls.{Model, settingOf, plain, placing, ruled, Call, claim, release, withdraw, clock, timed, Answer, Step, unchanged, advance, finish, join, remove, fresh, admit, step, standing, standingOf, blank, new, after}
+use Rattle.rules.specs.Calls.{Model, settingOf, plain, placing, ruled, Call, claim, release, withdraw, clock, timed, Answer, Step, unchanged, advance, finish, join, remove, fresh, admit, step, standing, standingOf, between, commonOf, blank, new, after}
 use Rattle.rules.specs.Plans.{Ascending}
 use Rattle.rules.specs.Invariants.{IsSpaced, Invariant}
 use Rattle.rules.proofs.Bools.{split, clash, and-i}
@@ -34,7 +35,7 @@ use Rattle.rules.proofs.Granting.{granted-cases, granted-at}
 use Rattle.rules.proofs.Invariants.{spaced-packs}
 use Rattle.rules.proofs.Calls.{Clocked, Admissible, advance-packed, finish-invariant, advance-same, finish-e, finish-clock, placed, join-spaced, Leaves, by-release, by-withdraw, by-clock, leaves-spaced, leaves-old, leaves-clock, join-old, Idle, step-cases, blank-invariant, new-cases}
 use Rattle.rules.proofs.NoOverrun.{NoOverrunAt, no-overrun-no-later}
-use Rattle.rules.proofs.Lookup.{lookup-absent, lookup-found, lookup-waits}
+use Rattle.rules.proofs.Lookup.{lookup-absent, none-named, lookup-found, one-named, lookup-waits}
 use Rattle.promises.specs.Ledger.{Turn, turns, tableAfter, Entry, promised, Ledger, opening, issues, without, stay, hold, marked, noted, notedAll, ledgerOf, NoOverrun, NoOverruns, NoOverrunIn, ruledBy, remainingOf, rivalsOf, boundOn}
 use Rattle.promises.specs.Demand3.{TicketsAscend, Now, Next, tells, Demand3}
 use Rattle.promises.proofs.Matching.{Match, m-nil, m-cons, match-map, match-left, match-weaken, match-snoc, match-none, match-keep, match-length, match-sum, partner, partner-of, named-keep}
@@ -63,7 +64,12 @@ entries-ascend : (P : Type 0) {ps : List Claim} {l : List Entry} → Match (Trac
 entries-ascend P m-nil a = tt
 entries-ascend P (m-cons r m) a = (λ f i. (let p = partner m i in omega (arith, a .0 (p .0) (p .1), p .2 .ticket, r .ticket)), entries-ascend P m (a .1))
 
+no-second : (cs : List Claim) → between cs [] ≡ Unknown
+no-second [] = refl
+no-second (c ∷ cs) = refl
+
 now-of : (P : Type 0) (l : Ledger) (m : Model) → Story P l m → Now P l (tells m)
+unfolding commonOf
 now-of P l m s = record {
   tickets-ascend = entries-ascend P (s .match) (s .inv .spaced .ascending);
   lookup-agrees = λ k. record {
@@ -76,6 +82,13 @@ now-of P l m s = record {
         (at (p .0), found k e i q ∙ ap (λ (b : Bool). cond b (Holds (at (p .0) + p .0 .length)) (Waits (at (p .0)))) (p .2 .held ∙ h));
     unknown = λ h. lookup-absent k (m .pending) (λ c i q. (let p = partner-of (s .match) i in h (p .0) (p .1) (sym (p .2 .ticket) ∙ q)));
   };
+  common-agrees = λ j k. record {
+    pending = λ e f i i′ q q′.
+        let p = partner (s .match) i in
+        let r = partner (s .match) i′ in
+        rw (claimed j e i q, claimed k f i′ q′, p .2 .groups, r .2 .groups);
+    unknown = λ h. either j k h;
+  };
   holders-apart = λ e f i j n p q. apart e f i j n p q (split (shares (e .asked .groups) (f .asked .groups)));
   no-wait-past = λ p e i o.
       let r = partner (s .match) i in
@@ -87,6 +100,18 @@ now-of P l m s = record {
     found k e i q =
         let p = partner (s .match) i in
         ap (λ (x : ℕ). standingOf x (m .pending)) (sym q ∙ sym (p .2 .ticket)) ∙ lookup-found (m .pending) (s .inv .spaced .ascending) (p .0) (p .1)
+
+    claimed : (k : ℕ) (e : Entry) (i : e ∈ l .claims) → e .ticket ≡ k → keep (named k) (m .pending) ≡ partner (s .match) i .0 ∷ []
+    claimed k e i q =
+        let p = partner (s .match) i in
+        ap (λ (x : ℕ). keep (named x) (m .pending)) (sym q ∙ sym (p .2 .ticket)) ∙ one-named (m .pending) (s .inv .spaced .ascending) (p .0) (p .1)
+
+    none : (k : ℕ) → ((e : Entry) → e ∈ l .claims → e .ticket ≢ k) → keep (named k) (m .pending) ≡ []
+    none k h = none-named k (m .pending) (λ c i q. (let p = partner-of (s .match) i in h (p .0) (p .1) (sym (p .2 .ticket) ∙ q)))
+
+    either : (j k : ℕ) → ((e : Entry) → e ∈ l .claims → e .ticket ≢ j) ⊎ ((e : Entry) → e ∈ l .claims → e .ticket ≢ k) → commonOf j k (m .pending) ≡ Unknown
+    either j k (inl h) = rw (none j h)
+    either j k (inr h) = rw (none k h) (no-second (keep (named j) (m .pending)))
 
     apart : (e f : Entry) → e ∈ l .claims → f ∈ l .claims → e .ticket ≢ f .ticket → e .held ≡ true → f .held ≡ true
         → (shares (e .asked .groups) (f .asked .groups) ≡ true) ⊎ (shares (e .asked .groups) (f .asked .groups) ≡ false) → shares (e .asked .groups) (f .asked .groups) ≡ false
@@ -264,7 +289,7 @@ bound-is : (P : Type 0) (v : Setting) (ps : List Claim) (l : List Entry) (w : Cl
     → startBound v ps w ≡ boundOn v l ask
 unfolding startBound contention boundOn
 bound-is P v ps l w ask g n m =
-    let rs : Match (Tracks P) (rivals ps w) (rivalsOf l ask) = match-keep (λ c. conflicts c w) (λ e. shares (e .asked .groups) (ask .groups)) (λ c e r. rw (r .groups, g)) m in
+    let rs : Match (Tracks P) (rivals ps w) (rivalsOf l ask) = match-keep (λ c. rival c w) (λ e. shares (e .asked .groups) (ask .groups)) (λ c e r. rw (r .groups, g)) m in
     cc (match-sum (remaining v) (remainingOf v) (remaining-is P v) rs, match-length rs, n)
 
 -- ── one call ──

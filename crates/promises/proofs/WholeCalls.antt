@@ -10,13 +10,13 @@ use Rattle.rules.specs.declared.Claim.{Claim}
 use Rattle.rules.specs.declared.Request.{Request}
 use Rattle.rules.specs.Lists.{_∈_}
 use Rattle.rules.specs.declared.Setting.{Setting}
-use Rattle.rules.specs.Claims.{on, at, withPhase, conflicts, endOf}
+use Rattle.rules.specs.Claims.{on, at, withPhase, rival, endOf}
 use Rattle.rules.specs.declared.Phase.the-variants.{On}
 use Rattle.rules.specs.Order.{precedes}
 use Rattle.rules.specs.Packing.{packedStart, moved, pack}
 use Rattle.rules.specs.Granting.{goes, granted, grant}
 use Rattle.rules.specs.declared.Reply.{Reply}
-use Rattle.rules.specs.Calls.{Model, settingOf, plain, ruled, Call, claim, release, withdraw, clock, lookup, timed, clockOf, Step, advance, finish, join, admit, step, new, after}
+use Rattle.rules.specs.Calls.{Model, settingOf, plain, ruled, Call, claim, release, withdraw, clock, lookup, common, timed, clockOf, Step, advance, finish, join, admit, step, new, after}
 use Rattle.rules.specs.Invariants.{IsSpaced, IsPacked, Still, Invariant}
 use Rattle.rules.proofs.Bools.{clash}
 use Rattle.rules.proofs.Lists.{here, map-e}
@@ -150,7 +150,7 @@ module _ (m : Model) (i : Invariant m) (t : ℕ) (ask : Request) (a : Admissible
       go (inl k) = stays d k
       go (inr k) = absurd (ne (ap (λ (c : Claim). c .ticket) (List·Memᴰ·eq-of-singleton k)))
 
-  clear-of : (d : Claim) → d ∈ last → d .ticket ≢ w .ticket → conflicts d w ≡ true
+  clear-of : (d : Claim) → d ∈ last → d .ticket ≢ w .ticket → rival d w ≡ true
       → (let v : Setting = ruled m t in (endOf v d ≤ at w) ⊎ ((on d ≡ false) × (endOf v w ≤ at d)))
   unfolding admit finish join advance
   clear-of d j ne h = go (spaced-clear _ v _ (admit-invariant first ask (a .long) spare packed .spaced) d w j new-last ne h)
@@ -193,6 +193,7 @@ OfClaim m (release t k) s = Unit {0}
 OfClaim m (withdraw t k) s = Unit {0}
 OfClaim m (clock t) s = Unit {0}
 OfClaim m (lookup k) s = Unit {0}
+OfClaim m (common j k) s = Unit {0}
 
 pub of-claim : (m : Model) → Invariant m → (t : ℕ) (ask : Request) → step m (claim t ask) .answer .number ≡ 0 → ClaimCall m t ask (step m (claim t ask))
 unfolding OfClaim

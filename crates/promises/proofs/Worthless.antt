@@ -4,7 +4,7 @@ use mathlib.Core.Bool.{false}
 use mathlib.Core.List.{List, [], _∷_, List·Memᴰ·eq-of-singleton}
 use Prim.Native.Nat.{ℕ, _≤_}
 use native.Mathlib.Omega.{arith}
-use Rattle.groups.specs.Groups.{someFrom, shares, empty, within}
+use Rattle.groups.specs.Groups.{someFrom, lowestFrom, common, shares, empty, within}
 use Rattle.rules.specs.Lists.{_∈_, greatest, least, sum, all, any, keep}
 use Rattle.rules.specs.Claims.{heldUntil, endOf, remaining}
 use Rattle.rules.specs.Order.{precedes, before}
@@ -20,7 +20,7 @@ use Rattle.promises.specs.Ledger.{Entry, turns, tableAfter, issues, stay
 use Rattle.promises.specs.Worthless.{claim, neverGrants, untouched, echoes, AllRefused}
 
 pub all-refused : AllRefused
-unfolding someFrom shares empty within greatest least sum all any keep heldUntil endOf remaining precedes before startFor moved ahead startWithin packedStart pack clear fits seek place contention startBound goes granted grant grants firstOf tests advance finish join remove admit act step new standingOf turns tableAfter issues stay marked notedAll neverGrants untouched echoes
+unfolding someFrom lowestFrom common shares empty within greatest least sum all any keep heldUntil endOf remaining precedes before startFor moved ahead startWithin packedStart pack clear fits seek place contention startBound goes granted grant grants firstOf tests advance finish join remove admit act step new standingOf turns tableAfter issues stay marked notedAll neverGrants untouched echoes
 all-refused = (
   λ d.
       let calls : List Call = claim 0 0x1 10 ∷ clock 1 ∷ [] in

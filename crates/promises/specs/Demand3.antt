@@ -1,16 +1,18 @@
 -- Demand 3: one statement about a list of calls, "any number, even zero, in any order, with any values, those turned down too". Its words
 -- go by the calls, their answers and lookup. proofs/Demand3 has the theorem: it holds for every rig and every list.
 use mathlib.Core.Path.{_≡_}
-use mathlib.Core.Logic.{_≢_}
+use mathlib.Core.Logic.{_⊎_, _≢_}
 use mathlib.Core.Bool.{true, false}
 use mathlib.Core.List.{List, [], _∷_, _++_}
 use Prim.Native.Nat.{ℕ, _+_, _≤_, _<_}
-use Rattle.groups.specs.Groups.{shares}
+use Rattle.groups.specs.Groups.{common, shares}
 use Rattle.rules.specs.declared.Request.{Request}
 use Rattle.rules.specs.Lists.{_∈_}
+use Rattle.rules.specs.declared.Common.{Common}
+use Rattle.rules.specs.declared.Common.the-variants.{Unknown}
 use Rattle.rules.specs.declared.Standing.{Standing}
 use Rattle.rules.specs.declared.Standing.the-variants.{NotPending, Waits, Holds}
-use Rattle.rules.specs.Calls.{Model, Call, claim, standingOf, step, new}
+use Rattle.rules.specs.Calls.{Model, Call, claim, standingOf, shared, commonOf, step, new}
 use Rattle.promises.specs.Ledger.{Turn, Steps, turns, tableAfter, Entry, promised, Ledger, noted, ledgerOf, NoOverrun, NoOverrunIn, ruledBy, boundOn}
 
 -- "Look, asked after any call of the list, says the same: waiting, on with that promised end, or 8."
@@ -19,36 +21,48 @@ pub record Agrees (l : List Entry) (k : ℕ) (told : Standing) : Type 0 where
   pub waiting : (e : Entry) → e ∈ l → e .ticket ≡ k → e .held ≡ false → (s : ℕ) × (told ≡ Waits s)
   pub unknown : ((e : Entry) → e ∈ l → e .ticket ≢ k) → told ≡ NotPending
 
+-- What lookup tells of two tickets agrees with the groups that their calls named: "the lowest common group number, or none"; "a ticket that
+-- isn't pending answers 8".
+pub record AgreesOnTwo (l : List Entry) (j k : ℕ) (told : Common) : Type 0 where
+  pub pending : (e f : Entry) → e ∈ l → f ∈ l → e .ticket ≡ j → f .ticket ≡ k → told ≡ shared (common (e .asked .groups) (f .asked .groups))
+  pub unknown : ((e : Entry) → e ∈ l → e .ticket ≢ j) ⊎ ((e : Entry) → e ∈ l → e .ticket ≢ k) → told ≡ Unknown
+
+-- What lookup tells: of each ticket, and of each two.
+pub record Told : Type 0 where
+  pub one : ℕ → Standing
+  pub two : ℕ → ℕ → Common
+
 -- The tickets of the pending claims are in ascending order.
 abbrev pub TicketsAscend : List Entry → Type 0
 TicketsAscend [] = Unit {0}
 TicketsAscend (e ∷ l) = ((f : Entry) → f ∈ l → e .ticket < f .ticket) × TicketsAscend l
 
 -- After any number of the calls. P: so far no accepted call bore a clock past the promised end of a claim held when it came.
-pub record Now (P : Type 0) (l : Ledger) (told : ℕ → Standing) : Type 0 where
+pub record Now (P : Type 0) (l : Ledger) (told : Told) : Type 0 where
   -- A ticket stands once.
   pub tickets-ascend : TicketsAscend (l .claims)
-  pub lookup-agrees : (k : ℕ) → Agrees (l .claims) k (told k)
+  pub lookup-agrees : (k : ℕ) → Agrees (l .claims) k (told .one k)
+  pub common-agrees : (j k : ℕ) → AgreesOnTwo (l .claims) j k (told .two j k)
   -- Holders share no group.
   pub holders-apart : (e f : Entry) → e ∈ l .claims → f ∈ l .claims → e .ticket ≢ f .ticket → e .held ≡ true → f .held ≡ true → shares (e .asked .groups) (f .asked .groups) ≡ false
   -- Nobody waits past the first planned start.
   pub no-wait-past : P → (e : Entry) → e ∈ l .claims → e .held ≡ false → l .clock ≤ e .first
 
 -- Of one call, with what lookup told before and tells after it.
-pub record Next (P : Type 0) (l : Ledger) (t : Turn) (before after : ℕ → Standing) : Type 0 where
+pub record Next (P : Type 0) (l : Ledger) (t : Turn) (before after : Told) : Type 0 where
   -- "Tickets are issued 1, 2, 3 .. and never again": that of an accepted claim is one more than the count of claims accepted before it.
   pub ticket-next : (u : ℕ) (ask : Request) → t .call ≡ claim u ask → t .answer .number ≡ 0 → t .answer .ticket ≡ l .issued + 1
   -- A first planned start is within its bound.
   pub start-bounded : (u : ℕ) (ask : Request) → t .call ≡ claim u ask → t .answer .number ≡ 0 → t .answer .start ≤ boundOn (ruledBy l u) (l .claims) ask
   -- No start is raised. "A call raises it if the claim waits before the call and after it waits with a greater start, or is on with a
   -- grant greater than that start."
-  pub never-raised : P → NoOverrun l t → (k s : ℕ) → before k ≡ Waits s
-      → ((r : ℕ) → after k ≡ Waits r → r ≤ s)
+  pub never-raised : P → NoOverrun l t → (k s : ℕ) → before .one k ≡ Waits s
+      → ((r : ℕ) → after .one k ≡ Waits r → r ≤ s)
       × ((e : Entry) → e ∈ noted l t .claims → e .ticket ≡ k → e .held ≡ true → e .grant ≤ s)
 
--- What lookup tells of each ticket.
-abbrev pub tells : Model → ℕ → Standing
-tells m k = standingOf k (m .pending)
+-- What it tells of a table.
+abbrev pub tells : Model → Told
+tells m = record { one = λ k. standingOf k (m .pending); two = λ j k. commonOf j k (m .pending) }
 
 -- "The list begins with the table that the call for a new one gave, whatever the rig." The calls are run by `step`.
 pub record Demand3Of (step : Steps) (rig : ℕ) (calls : List Call) : Type 0 where

@@ -11,7 +11,7 @@ use Rattle.rules.specs.declared.Request.{Request}
 use Rattle.rules.specs.Lists.{_∈_, sum, any, keep}
 use Rattle.rules.specs.declared.Setting.{Setting}
 use Rattle.rules.specs.Claims.{heldUntil}
-use Rattle.rules.specs.Calls.{Model, Call, claim, release, withdraw, clock, lookup, timed, clockOf, Answer, Step}
+use Rattle.rules.specs.Calls.{Model, Call, claim, release, withdraw, clock, lookup, common, timed, clockOf, Answer, Step}
 
 -- A call with its answer.
 pub record Turn : Type 0 where
@@ -65,6 +65,7 @@ issues (release t k) a = []
 issues (withdraw t k) a = []
 issues (clock t) a = []
 issues (lookup k) a = []
+issues (common j k) a = []
 
 -- "until an accepted release or withdrawal takes it away": what an accepted call leaves of the pending claims.
 abbrev pub without : ℕ → List Entry → List Entry
@@ -76,6 +77,7 @@ stay (release t k) l = without k l
 stay (withdraw t k) l = without k l
 stay (clock t) l = l
 stay (lookup k) l = l
+stay (common j k) l = l
 
 -- "from the call whose answer names its ticket as granted, that call included .. Its grant is that call's clock"
 abbrev pub hold : Entry → ℕ → Entry

@@ -10,7 +10,7 @@ use Rattle.rules.specs.declared.Phase.the-variants.{On}
 use Rattle.rules.specs.declared.Request.{Request}
 use Rattle.rules.specs.Lists.{_∈_, greatest, keep}
 use Rattle.rules.specs.declared.Setting.{Setting}
-use Rattle.rules.specs.Claims.{on, at, withPhase, conflicts, endOf}
+use Rattle.rules.specs.Claims.{on, at, withPhase, rival, endOf}
 use Rattle.rules.specs.Order.{precedes}
 use Rattle.rules.specs.Calls.{Model, settingOf, ruled, Call, claim, clock, timed, clockOf, Step, advance, step}
 
@@ -28,7 +28,7 @@ pub record TimedCall (m : Model) (c : Call) (s : Step) : Type 0 where
   pub starts-packed : (w : Claim) → w ∈ s .model .pending → on w ≡ false
       → at w ≡ greatest (endOf (settingOf (s .model))) (s .model .clock) (keep (λ d. precedes d w) (s .model .pending))
   -- "Of two conflicting waiting claims the one with the smaller planned start precedes. Packing never changes this."
-  pub order-kept : (d d′ w w′ : Claim) → Becomes m (s .model) d d′ → Becomes m (s .model) w w′ → conflicts d w ≡ true
+  pub order-kept : (d d′ w w′ : Claim) → Becomes m (s .model) d d′ → Becomes m (s .model) w w′ → rival d w ≡ true
       → on d ≡ false → on w ≡ false → on d′ ≡ false → on w′ ≡ false → at d < at w → at d′ < at w′
   -- Whoever goes on: what precedes a waiting claim w before the call precedes it after, for as long as both are pending, and w still waits.
   pub none-overtaken : (d d′ w w′ : Claim) → Becomes m (s .model) d d′ → Becomes m (s .model) w w′ → on w ≡ false → precedes d w ≡ true
@@ -49,7 +49,7 @@ pub record ClaimCall (m : Model) (t : ℕ) (ask : Request) (s : Step) : Type 0 w
   pub start : at new ≡ s .answer .start
   -- "for each conflicting on claim s ≥ its end, and for each conflicting waiting claim either s ≥ its end or s + length ≤ its planned
   -- start": it overlaps no claim.
-  pub overlaps-none : (d : Claim) → d ∈ s .model .pending → d .ticket ≢ new .ticket → conflicts d new ≡ true
+  pub overlaps-none : (d : Claim) → d ∈ s .model .pending → d .ticket ≢ new .ticket → rival d new ≡ true
       → (let v : Setting = ruled m t in (endOf v d ≤ at new) ⊎ ((on d ≡ false) × (endOf v new ≤ at d)))
   -- It pushes none back: every other claim is where setting the clock and packing put it, or was granted there,
   pub pushes-none : (d : Claim) → d ∈ s .model .pending → d .ticket ≢ new .ticket → (x : Claim) × x ∈ advance m t .pending × Stays t x d

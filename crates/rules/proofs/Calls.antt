@@ -21,7 +21,7 @@ use Rattle.rules.specs.Placing.{place}
 use Rattle.rules.specs.Granting.{granted, grant}
 use Rattle.rules.specs.Tests.{Test, firstOf, late, backward, dark, offRig, badLength, full, ticketless, named}
 use Rattle.rules.specs.declared.Reply.{Reply}
-use Rattle.rules.specs.Calls.{Model, settingOf, ruled, Call, claim, release, withdraw, clock, lookup, timed, clockOf, Step, tests, unchanged, advance, plain, finish, join, remove, fresh, admit, act, unless, step, blank, new, after}
+use Rattle.rules.specs.Calls.{Model, settingOf, ruled, Call, claim, release, withdraw, clock, lookup, common, timed, clockOf, Step, tests, unchanged, advance, plain, finish, join, remove, fresh, admit, act, unless, step, blank, new, after}
 use Rattle.rules.specs.Plans.{Fits, Sane}
 use Rattle.rules.specs.Invariants.{IsSpaced, IsPacked, Invariant}
 use Rattle.rules.proofs.Bools.{by-test, or-fl, or-fr}
@@ -205,6 +205,7 @@ step-cases P m no! yes-claim yes-left c = by-tests (P c) m (firstOf (tests m c))
     accepted (withdraw t k) e = yes-left (withdraw t k) t k (remove (advance m t) k) (clock-passes m t _ e .0) (by-withdraw t k)
     accepted (clock t) e = yes-left (clock t) t 0 (advance m t) (clock-passes m t _ e .0) (by-clock t)
     accepted (lookup k) e = no! (lookup k) 0 (inl refl)
+    accepted (common j k) e = no! (common j k) 0 (inl refl)
 
 -- A clock call whose clock is neither late nor backward is accepted.
 pub clock-accepted : (m : Model) (t : ℕ) → Clocked m t → step m (clock t) ≡ finish (advance m t) (plain 0 t)

@@ -8,10 +8,10 @@ use Rattle.rules.specs.declared.Claim.{Claim}
 use Rattle.rules.specs.declared.Phase.{Phase}
 use Rattle.rules.specs.declared.Phase.the-variants.{Waiting, On}
 use Rattle.rules.specs.declared.Setting.{Setting}
-use Rattle.rules.specs.Claims.{isOn, mark, on, at, withPhase, conflicts, heldUntil, endOf, remaining}
+use Rattle.rules.specs.Claims.{isOn, mark, on, at, withPhase, rival, heldUntil, endOf, remaining}
 use Rattle.rules.proofs.Bools.{by-test, clash}
 
-pub conflicts-sym : (c d : Claim) → conflicts c d ≡ true → conflicts d c ≡ true
+pub conflicts-sym : (c d : Claim) → rival c d ≡ true → rival d c ≡ true
 conflicts-sym c d h = shares-sym (d .groups) (c .groups) ∙ h
 
 -- A waiting claim is its start.

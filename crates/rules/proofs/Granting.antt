@@ -12,7 +12,7 @@ use Rattle.rules.specs.declared.Claim.{Claim}
 use Rattle.rules.specs.declared.Phase.the-variants.{On}
 use Rattle.rules.specs.Lists.{_∈_, any}
 use Rattle.rules.specs.declared.Setting.{Setting}
-use Rattle.rules.specs.Claims.{on, at, withPhase, conflicts, endOf}
+use Rattle.rules.specs.Claims.{on, at, withPhase, rival, endOf}
 use Rattle.rules.specs.Order.{before, precedes}
 use Rattle.rules.specs.Granting.{goes, granted, grant}
 use Rattle.rules.specs.Plans.{Ascending, Sane, Apart, Separated, StartsFrom, HeldUp, Tight, Blocked}
@@ -74,13 +74,13 @@ module _ (v : Setting) (ps : List Claim) (low : StartsFrom (v .clock) ps) (tight
       (tight c m (goes-wait ps c e))
 
   -- Who goes on: whose start is the clock, where no holder conflicts. So one pass over the holders tells it of all.
-  pub goes-quick : (c : Claim) → c ∈ ps → goes ps c ≡ (not (on c) && (eqb (at c) (v .clock) && not (any (λ d. on d && conflicts d c) ps)))
+  pub goes-quick : (c : Claim) → c ∈ ps → goes ps c ≡ (not (on c) && (eqb (at c) (v .clock) && not (any (λ d. on d && rival d c) ps)))
   goes-quick c m = both-ways _ _ there′ back
     where
-      free : goes ps c ≡ true → (d : Claim) → d ∈ ps → (on d && conflicts d c) ≡ false
-      free e d k = by-test (on d && conflicts d c) (λ z. clash (precedes-on d c (and-r (on d) _ z) (and-l (on d) _ z)) (goes-free ps c e d k)) (λ z. z)
+      free : goes ps c ≡ true → (d : Claim) → d ∈ ps → (on d && rival d c) ≡ false
+      free e d k = by-test (on d && rival d c) (λ z. clash (precedes-on d c (and-r (on d) _ z) (and-l (on d) _ z)) (goes-free ps c e d k)) (λ z. z)
 
-      none-precedes : (d : Claim) → d ∈ ps → at c ≡ v .clock → (on d && conflicts d c) ≡ false → precedes d c ≡ false
+      none-precedes : (d : Claim) → d ∈ ps → at c ≡ v .clock → (on d && rival d c) ≡ false → precedes d c ≡ false
       none-precedes d k a n =
           by-test (precedes d c)
           (λ p. by-test (on d)
@@ -88,17 +88,17 @@ module _ (v : Setting) (ps : List Claim) (low : StartsFrom (v .clock) ps) (tight
           (λ q. ⊎-elim (λ z. clash z q) (λ z. absurd (omega (arith, low d k q))) (precedes-e d c p)))
           (λ p. p)
 
-      there′ : goes ps c ≡ true → (not (on c) && (eqb (at c) (v .clock) && not (any (λ d. on d && conflicts d c) ps))) ≡ true
+      there′ : goes ps c ≡ true → (not (on c) && (eqb (at c) (v .clock) && not (any (λ d. on d && rival d c) ps))) ≡ true
       there′ e =
-          rw (goes-wait ps c e, eq-eqb (at c) (v .clock) (goes-at c m e), any-false (λ d. on d && conflicts d c) ps (free e))
+          rw (goes-wait ps c e, eq-eqb (at c) (v .clock) (goes-at c m e), any-false (λ d. on d && rival d c) ps (free e))
 
-      back : (not (on c) && (eqb (at c) (v .clock) && not (any (λ d. on d && conflicts d c) ps))) ≡ true → goes ps c ≡ true
+      back : (not (on c) && (eqb (at c) (v .clock) && not (any (λ d. on d && rival d c) ps))) ≡ true → goes ps c ≡ true
       back e =
           let o = not-true (on c) (and-l (not (on c)) _ e) in
           let r = and-r (not (on c)) _ e in
           let a = eqb-true (at c) (v .clock) (and-l (eqb (at c) (v .clock)) _ r) in
-          let n = not-true (any (λ d. on d && conflicts d c) ps) (and-r (eqb (at c) (v .clock)) _ r) in
-          goes-i ps c o (λ d k. none-precedes d k a (any-none (λ d. on d && conflicts d c) n k))
+          let n = not-true (any (λ d. on d && rival d c) ps) (and-r (eqb (at c) (v .clock)) _ r) in
+          goes-i ps c o (λ d k. none-precedes d k a (any-none (λ d. on d && rival d c) n k))
 
   -- One waiting claim more, at the clock or later, changes nothing for the others.
   pub grant-snoc : (w : Claim) → on w ≡ false → v .clock ≤ at w → grant v (ps ++ (w ∷ [])) ≡ grant v ps ++ (granted v (ps ++ (w ∷ [])) w ∷ [])
@@ -146,7 +146,7 @@ module _ (v : Setting) (ps : List Claim) (holders : Apart ps) (fit : Separated v
   end-granted c m e = omega (arith, end-no-overrun v (withPhase c (On (v .clock))) refl (omega arith), end-wait v c (goes-wait ps c e), goes-at v ps low tight sane c m e)
 
   -- Of two conflicting waiting claims the one that goes on is before.
-  goes-first : (c d : Claim) → c ∈ ps → d ∈ ps → goes ps c ≡ true → on d ≡ false → c .ticket ≢ d .ticket → conflicts c d ≡ true → before c d ≡ true
+  goes-first : (c d : Claim) → c ∈ ps → d ∈ ps → goes ps c ≡ true → on d ≡ false → c .ticket ≢ d .ticket → rival c d ≡ true → before c d ≡ true
   goes-first c d m k g o n h =
       ⊎-elim (λ b. b)
       (λ b. clash (before-precedes v ps fit d c (sane d k) k m (goes-wait ps c g) b (conflicts-sym c d h)) (goes-free ps c g d k))
@@ -156,12 +156,12 @@ module _ (v : Setting) (ps : List Claim) (holders : Apart ps) (fit : Separated v
   unfolding grant
   grant-apart = record {
     apart =
-        map-each2 (λ (c d : Claim). c .ticket ≢ d .ticket → conflicts c d ≡ true → on c ≡ true → on d ≡ true → ⊥) (granted v ps) ps
-        (λ c d m k. granted-cases (λ (x : Claim). x .ticket ≢ granted v ps d .ticket → conflicts x (granted v ps d) ≡ true → on x ≡ true → on (granted v ps d) ≡ true → ⊥) v ps c
-        (λ p. granted-cases (λ (y : Claim). c .ticket ≢ y .ticket → conflicts c y ≡ true → true ≡ true → on y ≡ true → ⊥) v ps d
+        map-each2 (λ (c d : Claim). c .ticket ≢ d .ticket → rival c d ≡ true → on c ≡ true → on d ≡ true → ⊥) (granted v ps) ps
+        (λ c d m k. granted-cases (λ (x : Claim). x .ticket ≢ granted v ps d .ticket → rival x (granted v ps d) ≡ true → on x ≡ true → on (granted v ps d) ≡ true → ⊥) v ps c
+        (λ p. granted-cases (λ (y : Claim). c .ticket ≢ y .ticket → rival c y ≡ true → true ≡ true → on y ≡ true → ⊥) v ps d
         (λ q n h a b. clash (before-precedes v ps fit c d (sane c m) m k (goes-wait ps d q) (goes-first c d m k p (goes-wait ps d q) n h) h) (goes-free ps d q c m))
         (λ q n h a b. clash (precedes-on d c (conflicts-sym c d h) b) (goes-free ps c p d k)))
-        (λ p. granted-cases (λ (y : Claim). c .ticket ≢ y .ticket → conflicts c y ≡ true → on c ≡ true → on y ≡ true → ⊥) v ps d
+        (λ p. granted-cases (λ (y : Claim). c .ticket ≢ y .ticket → rival c y ≡ true → on c ≡ true → on y ≡ true → ⊥) v ps d
         (λ q n h a b. clash (precedes-on c d h a) (goes-free ps d q c m))
         (λ q. holders .apart c d m k)));
   }
@@ -170,16 +170,16 @@ module _ (v : Setting) (ps : List Claim) (holders : Apart ps) (fit : Separated v
   unfolding grant
   grant-separates = record {
     behind = λ c w mc mw o b p.
-        map-each2 (λ (c w : Claim). on w ≡ false → before c w ≡ true → conflicts c w ≡ true → endOf v c ≤ at w) (granted v ps) ps
-        (λ c w m k. granted-cases (λ (y : Claim). on y ≡ false → before (granted v ps c) y ≡ true → conflicts (granted v ps c) y ≡ true → endOf v (granted v ps c) ≤ at y) v ps w
+        map-each2 (λ (c w : Claim). on w ≡ false → before c w ≡ true → rival c w ≡ true → endOf v c ≤ at w) (granted v ps) ps
+        (λ c w m k. granted-cases (λ (y : Claim). on y ≡ false → before (granted v ps c) y ≡ true → rival (granted v ps c) y ≡ true → endOf v (granted v ps c) ≤ at y) v ps w
         (λ p q. clash refl q)
-        (λ p q. granted-cases (λ (x : Claim). before x w ≡ true → conflicts x w ≡ true → endOf v x ≤ at w) v ps c
+        (λ p q. granted-cases (λ (x : Claim). before x w ≡ true → rival x w ≡ true → endOf v x ≤ at w) v ps c
         (λ a b e. rw (end-granted c m a) (more c w m k a p q e (same? (c .ticket) (w .ticket))))
         (λ a b e. fit .behind c w m k q b e)))
         c w mc mw o b p;
   }
     where
-      more : (c w : Claim) → c ∈ ps → w ∈ ps → goes ps c ≡ true → goes ps w ≡ false → on w ≡ false → conflicts c w ≡ true
+      more : (c w : Claim) → c ∈ ps → w ∈ ps → goes ps c ≡ true → goes ps w ≡ false → on w ≡ false → rival c w ≡ true
           → (c .ticket ≡ w .ticket) ⊎ (c .ticket ≢ w .ticket) → endOf v c ≤ at w
       more c w m k a p q h (inl e) = clash (subst (λ (x : Claim). goes ps x ≡ true) (ascending-same ps ascending c w m k e) a) p
       more c w m k a p q h (inr n) = fit .behind c w m k q (goes-first c w m k a q n h) h
@@ -200,7 +200,7 @@ module _ (v : Setting) (ps : List Claim) (holders : Apart ps) (fit : Separated v
       hold w h = (
         granted v ps (h .0),
         map-i (granted v ps) (h .1),
-        granted-cases (λ (x : Claim). conflicts x w ≡ true) v ps (h .0) (λ g. h .2) (λ g. h .2),
+        granted-cases (λ (x : Claim). rival x w ≡ true) v ps (h .0) (λ g. h .2) (λ g. h .2),
         granted-cases (λ (x : Claim). endOf v x ≡ at w) v ps (h .0) (λ g. end-granted (h .0) (h .1) g ∙ h .3) (λ g. h .3),
       )
 

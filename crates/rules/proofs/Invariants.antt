@@ -9,7 +9,7 @@ use Rattle.rules.specs.declared.Claim.{Claim}
 use Rattle.rules.specs.declared.Phase.the-variants.{Waiting, On}
 use Rattle.rules.specs.Lists.{_∈_, greatest, keep}
 use Rattle.rules.specs.declared.Setting.{Setting}
-use Rattle.rules.specs.Claims.{on, at, withPhase, conflicts, endOf}
+use Rattle.rules.specs.Claims.{on, at, withPhase, rival, endOf}
 use Rattle.rules.specs.Order.{before, precedes}
 use Rattle.rules.specs.Packing.{packedStart, moved, pack}
 use Rattle.rules.specs.Granting.{granted, grant}
@@ -65,7 +65,7 @@ grant-settles k v ps f =
 
 -- ── what the invariant says of two claims, and of a start ──
 -- Of two conflicting claims one waits, and the other ends at its start or sooner.
-pub spaced-clear : (k : ℕ) (v : Setting) (ps : List Claim) → Spaced k v ps → (c w : Claim) → c ∈ ps → w ∈ ps → c .ticket ≢ w .ticket → conflicts c w ≡ true
+pub spaced-clear : (k : ℕ) (v : Setting) (ps : List Claim) → Spaced k v ps → (c w : Claim) → c ∈ ps → w ∈ ps → c .ticket ≢ w .ticket → rival c w ≡ true
     → ((on w ≡ false) × (endOf v c ≤ at w)) ⊎ ((on c ≡ false) × (endOf v w ≤ at c))
 spaced-clear k v ps f c w m n d h =
     by-test (on w)
@@ -128,7 +128,7 @@ module _ (k : ℕ) (v : Setting) (ps : List Claim) (w : Claim) (sane : Sane w) (
   pub separated-snoc : Each Sane ps → Separated v ps → Separated v (ps ++ (w ∷ []))
   separated-snoc sanes p = record {
     behind =
-        snoc-each2 (λ (c d : Claim). on d ≡ false → before c d ≡ true → conflicts c d ≡ true → endOf v c ≤ at d) ps w
+        snoc-each2 (λ (c d : Claim). on d ≡ false → before c d ≡ true → rival c d ≡ true → endOf v c ≤ at d) ps w
         (p .behind)
         (λ c m q b h. ⊎-elim (λ r. r) (λ r. absurd (omega (arith, before-lt c w b (r .0), r .1, sane .long, sane .small))) (fit .room c m h))
         (λ c m q b h.
@@ -148,7 +148,7 @@ module _ (k : ℕ) (v : Setting) (ps : List Claim) (w : Claim) (sane : Sane w) (
     ascending = ascending-snoc ps w (p .ascending) (λ c m. omega (arith, p .proper c m .issued));
     holders = record {
       apart =
-          snoc-each2 (λ (c d : Claim). c .ticket ≢ d .ticket → conflicts c d ≡ true → on c ≡ true → on d ≡ true → ⊥) ps w
+          snoc-each2 (λ (c d : Claim). c .ticket ≢ d .ticket → rival c d ≡ true → on c ≡ true → on d ≡ true → ⊥) ps w
           (p .holders .apart) (λ c m a b q r. clash r waits) (λ c m a b q r. clash q waits) (λ a b q r. clash q waits);
     };
     fit = separated-snoc (λ c m. p .proper c m .sane) (p .fit);

@@ -9,7 +9,7 @@ use borrow.Author.Tests.{ltb-true, ltb-false, lt-ltb}
 use Rattle.rules.specs.declared.Claim.{Claim}
 use Rattle.rules.specs.Lists.{_∈_, keep}
 use Rattle.rules.specs.declared.Setting.{Setting}
-use Rattle.rules.specs.Claims.{on, at, conflicts, endOf}
+use Rattle.rules.specs.Claims.{on, at, rival, endOf}
 use Rattle.rules.specs.Order.{key, before, precedes}
 use Rattle.rules.specs.Plans.{Ascending, Sane, Separated}
 use Rattle.rules.proofs.Bools.{and-l, and-r, and-i, or-e, or-l, or-r, or-fl, or-fr, clash, by-test}
@@ -51,21 +51,21 @@ by-key P ps h w m o = go (suc (key w)) w m o (omega arith)
     go (suc j) w m o l = h w m o (λ c k q b. let z = before-lt c w b q in go j c k q (omega arith))
 
 -- ── precedes ──
-pub precedes-conflicts : (c w : Claim) → precedes c w ≡ true → conflicts c w ≡ true
+pub precedes-conflicts : (c w : Claim) → precedes c w ≡ true → rival c w ≡ true
 unfolding precedes
-precedes-conflicts c w e = and-l (conflicts c w) _ e
+precedes-conflicts c w e = and-l (rival c w) _ e
 
 pub precedes-e : (c w : Claim) → precedes c w ≡ true → (on c ≡ true) ⊎ (at c < at w)
 unfolding precedes
-precedes-e c w e = ⊎-elim inl (λ p. inr (ltb-true (at c) (at w) p)) (or-e (on c) _ (and-r (conflicts c w) _ e))
+precedes-e c w e = ⊎-elim inl (λ p. inr (ltb-true (at c) (at w) p)) (or-e (on c) _ (and-r (rival c w) _ e))
 
-pub precedes-on : (c w : Claim) → conflicts c w ≡ true → on c ≡ true → precedes c w ≡ true
+pub precedes-on : (c w : Claim) → rival c w ≡ true → on c ≡ true → precedes c w ≡ true
 unfolding precedes
-precedes-on c w h o = and-i (conflicts c w) _ h (or-l (on c) _ o)
+precedes-on c w h o = and-i (rival c w) _ h (or-l (on c) _ o)
 
-pub precedes-lt : (c w : Claim) → conflicts c w ≡ true → at c < at w → precedes c w ≡ true
+pub precedes-lt : (c w : Claim) → rival c w ≡ true → at c < at w → precedes c w ≡ true
 unfolding precedes
-precedes-lt c w h l = and-i (conflicts c w) _ h (or-r (on c) _ (lt-ltb (at c) (at w) l))
+precedes-lt c w h l = and-i (rival c w) _ h (or-r (on c) _ (lt-ltb (at c) (at w) l))
 
 pub precedes-before : (c w : Claim) → Sane c → precedes c w ≡ true → before c w ≡ true
 precedes-before c w s e = ⊎-elim (before-on c w) (λ l. before-key c w (omega (arith, s .small))) (precedes-e c w e)
@@ -74,12 +74,12 @@ precedes-before c w s e = ⊎-elim (before-on c w) (λ l. before-key c w (omega 
 pub ends-before : (v : Setting) (c w : Claim) → Sane c → endOf v c ≤ at w → before c w ≡ true
 ends-before v c w s l = by-test (on c) (before-on c w) (λ o. before-key c w (omega (arith, end-wait v c o, s .long, s .small)))
 
-pub ends-precedes : (v : Setting) (c w : Claim) → Sane c → conflicts c w ≡ true → endOf v c ≤ at w → precedes c w ≡ true
+pub ends-precedes : (v : Setting) (c w : Claim) → Sane c → rival c w ≡ true → endOf v c ≤ at w → precedes c w ≡ true
 ends-precedes v c w s h l = by-test (on c) (precedes-on c w h) (λ o. precedes-lt c w h (omega (arith, end-wait v c o, s .long)))
 
 -- Where nobody overlaps, a conflicting claim before w precedes it.
 pub before-precedes : (v : Setting) (ps : List Claim) → Separated v ps → (c w : Claim) → Sane c → c ∈ ps → w ∈ ps → on w ≡ false → before c w ≡ true
-    → conflicts c w ≡ true → precedes c w ≡ true
+    → rival c w ≡ true → precedes c w ≡ true
 before-precedes v ps f c w s m k o b h = ends-precedes v c w s h (f .behind c w m k o b h)
 
 -- ── tickets ──

@@ -11,7 +11,7 @@ use Rattle.rules.specs.declared.Claim.{Claim}
 use Rattle.rules.specs.declared.Phase.the-variants.{Waiting}
 use Rattle.rules.specs.Lists.{_∈_, greatest, keep}
 use Rattle.rules.specs.declared.Setting.{Setting}
-use Rattle.rules.specs.Claims.{on, at, withPhase, conflicts, endOf}
+use Rattle.rules.specs.Claims.{on, at, withPhase, rival, endOf}
 use Rattle.rules.specs.Order.{key, before, precedes, rivals}
 use Rattle.rules.specs.Packing.{startFor, moved, ahead, startWithin, packedStart, pack, Packs}
 use Rattle.rules.specs.Plans.{Ascending, Sane, Apart, Separated, StartsFrom, HeldUp, Tight, Behind, Earliest}
@@ -28,19 +28,19 @@ module _ (v : Setting) (qs : List Claim) (w : Claim) where
 
   pub for-behind : Behind v qs w (startFor v qs w)
   unfolding startFor
-  for-behind = record { after = λ c m p. greatest-ge (endOf v) (v .clock) (keep-i (λ c. conflicts c w) p m) }
+  for-behind = record { after = λ c m p. greatest-ge (endOf v) (v .clock) (keep-i (λ c. rival c w) p m) }
 
   pub for-least : (s : ℕ) → v .clock ≤ s → Behind v qs w s → startFor v qs w ≤ s
   unfolding startFor
   for-least s h k =
       greatest-le (endOf v) (v .clock) (rivals qs w) s h
-      (λ c m. let r = keep-e (λ c. conflicts c w) qs m in k .after c (r .0) (r .1))
+      (λ c m. let r = keep-e (λ c. rival c w) qs m in k .after c (r .0) (r .1))
 
   -- It is the clock, or the end of a conflicting claim.
-  pub for-is : (startFor v qs w ≡ v .clock) ⊎ ((c : Claim) × c ∈ qs × (conflicts c w ≡ true) × (endOf v c ≡ startFor v qs w))
+  pub for-is : (startFor v qs w ≡ v .clock) ⊎ ((c : Claim) × c ∈ qs × (rival c w ≡ true) × (endOf v c ≡ startFor v qs w))
   unfolding startFor
   for-is =
-      ⊎-elim inl (λ r. let k = keep-e (λ c. conflicts c w) qs (r .1) in inr (r .0, k .0, k .1, r .2))
+      ⊎-elim inl (λ r. let k = keep-e (λ c. rival c w) qs (r .1) in inr (r .0, k .0, k .1, r .2))
       (greatest-is (endOf v) (v .clock) (rivals qs w))
 
 -- ── a claim at a new start ──
@@ -65,8 +65,8 @@ moved-at f c o = moved-cases (λ (x : Claim). at x ≡ f c) f c (λ q. clash q o
 pub moved-phase : (f : Claim → ℕ) (c : Claim) → on (moved f c) ≡ on c
 moved-phase f c = moved-cases (λ (x : Claim). on x ≡ on c) f c (λ q. refl) (λ q. sym q)
 
-pub moved-conflicts : (f : Claim → ℕ) (c w : Claim) → conflicts (moved f c) w ≡ conflicts c w
-moved-conflicts f c w = moved-cases (λ (x : Claim). conflicts x w ≡ conflicts c w) f c (λ q. refl) (λ q. refl)
+pub moved-conflicts : (f : Claim → ℕ) (c w : Claim) → rival (moved f c) w ≡ rival c w
+moved-conflicts f c w = moved-cases (λ (x : Claim). rival x w ≡ rival c w) f c (λ q. refl) (λ q. refl)
 
 moved-cong : (f g : Claim → ℕ) (c : Claim) → (on c ≡ false → f c ≡ g c) → moved f c ≡ moved g c
 moved-cong f g c h =
@@ -127,7 +127,7 @@ start-eq v ps w =
 -- ── packing is what document 01 says ──
 -- No two conflicting waiting claims have the same start.
 abbrev pub Untied : List Claim → Type 0
-Untied ps = Each2 (λ c w. on c ≡ false → on w ≡ false → c .ticket ≢ w .ticket → conflicts c w ≡ true → at c ≢ at w) ps
+Untied ps = Each2 (λ c w. on c ≡ false → on w ≡ false → c .ticket ≢ w .ticket → rival c w ≡ true → at c ≢ at w) ps
 
 pub separated-untied : (v : Setting) (ps : List Claim) → Each Sane ps → Separated v ps → Untied ps
 separated-untied v ps sane f c w m k oc ow n h e = go (either-before c w (sane c m) (sane w k) n)
@@ -137,7 +137,7 @@ separated-untied v ps sane f c w m k oc ow n h e = go (either-before c w (sane c
     go (inr b) = omega (arith, f .behind w c k m oc b (conflicts-sym c w h), end-wait v w ow, sane w k .long)
 
 module _ (v : Setting) (ps : List Claim) (sane : Each Sane ps) (ascending : Ascending ps) (untied : Untied ps) where
-  first-precedes : (c w : Claim) → c ∈ ps → w ∈ ps → on w ≡ false → before c w ≡ true → conflicts c w ≡ true → precedes c w ≡ true
+  first-precedes : (c w : Claim) → c ∈ ps → w ∈ ps → on w ≡ false → before c w ≡ true → rival c w ≡ true → precedes c w ≡ true
   first-precedes c w m k o b h =
       by-test (on c) (precedes-on c w h)
       (λ q.
@@ -156,7 +156,7 @@ module _ (v : Setting) (ps : List Claim) (sane : Each Sane ps) (ascending : Asce
       le = for-least v (ahead f ps w) w _ (greatest-base _ (v .clock) (keep (λ c. precedes c w) ps)) (record {
         after = λ d i h.
             let a = ahead-e f ps w i in
-            let q : conflicts (a .0) w ≡ true = sym (moved-conflicts f (a .0) w) ∙ sym (ap (λ (x : Claim). conflicts x w) (a .3)) ∙ h in
+            let q : rival (a .0) w ≡ true = sym (moved-conflicts f (a .0) w) ∙ sym (ap (λ (x : Claim). rival x w) (a .3)) ∙ h in
             let p = first-precedes (a .0) w (a .1) k o (a .2) q in
             omega (arith, ap (endOf v) (a .3), greatest-ge (λ c. endOf v (moved f c)) (v .clock) (keep-i (λ c. precedes c w) p (a .1)));
       })
@@ -186,12 +186,12 @@ module _ (v : Setting) (ps : List Claim) where
   start-behind : (w : Claim) → Behind v (ahead (packedStart v ps) ps w) w (packedStart v ps w)
   start-behind w = subst (Behind v (ahead (packedStart v ps) ps w) w) (sym (start-eq v ps w)) (for-behind v (ahead (packedStart v ps) ps w) w)
 
-  start-on : (c w : Claim) → c ∈ ps → conflicts c w ≡ true → on c ≡ true → endOf v c ≤ packedStart v ps w
+  start-on : (c w : Claim) → c ∈ ps → rival c w ≡ true → on c ≡ true → endOf v c ≤ packedStart v ps w
   start-on c w m p o =
       start-behind w .after c (subst (λ (x : Claim). x ∈ ahead (packedStart v ps) ps w) (moved-on (packedStart v ps) c o) (ahead-i (packedStart v ps) ps w m (before-on c w o))) p
 
   -- Order is kept: what was before w, and conflicts with it, ends at its new start or sooner.
-  pub pack-keeps-order : (c w : Claim) → c ∈ ps → conflicts c w ≡ true → on c ≡ false → before c w ≡ true → packedStart v ps c + c .length ≤ packedStart v ps w
+  pub pack-keeps-order : (c w : Claim) → c ∈ ps → rival c w ≡ true → on c ≡ false → before c w ≡ true → packedStart v ps c + c .length ≤ packedStart v ps w
   unfolding new
   pack-keeps-order c w m p o b =
       omega (
@@ -216,10 +216,10 @@ module _ (v : Setting) (ps : List Claim) where
         s .long,
       )))
     where
-      h : conflicts (moved (packedStart v ps) c) (moved (packedStart v ps) w) ≡ true
+      h : rival (moved (packedStart v ps) c) (moved (packedStart v ps) w) ≡ true
       h =
           moved-conflicts (packedStart v ps) c (moved (packedStart v ps) w)
-          ∙ moved-cases (λ (x : Claim). conflicts c x ≡ conflicts c w) (packedStart v ps) w (λ q. refl) (λ q. refl)
+          ∙ moved-cases (λ (x : Claim). rival c x ≡ rival c w) (packedStart v ps) w (λ q. refl) (λ q. refl)
           ∙ precedes-conflicts c w p
 
   pub pack-length : length (pack v ps) ≡ length ps
@@ -241,7 +241,7 @@ module _ (v : Setting) (ps : List Claim) where
     where
       go : (w : Claim)
           → (startFor v (ahead (packedStart v ps) ps w) w ≡ v .clock)
-          ⊎ ((c : Claim) × c ∈ ahead (packedStart v ps) ps w × (conflicts c w ≡ true) × (endOf v c ≡ startFor v (ahead (packedStart v ps) ps w) w))
+          ⊎ ((c : Claim) × c ∈ ahead (packedStart v ps) ps w × (rival c w ≡ true) × (endOf v c ≡ startFor v (ahead (packedStart v ps) ps w) w))
           → (startFor v (ahead (packedStart v ps) ps w) w ≡ v .clock) ⊎ HeldUp v (map (moved (packedStart v ps)) ps) (withPhase w (Waiting (startFor v (ahead (packedStart v ps) ps w) w)))
       go w (inl e) = inl e
       go w (inr r) =
@@ -252,9 +252,9 @@ module _ (v : Setting) (ps : List Claim) where
   unfolding pack
   pack-apart h = record {
     apart =
-        map-each2 (λ (c d : Claim). c .ticket ≢ d .ticket → conflicts c d ≡ true → on c ≡ true → on d ≡ true → ⊥) (moved (packedStart v ps)) ps
-        (λ c d m k. moved-cases (λ (x : Claim). x .ticket ≢ moved (packedStart v ps) d .ticket → conflicts x (moved (packedStart v ps) d) ≡ true → on x ≡ true → on (moved (packedStart v ps) d) ≡ true → ⊥) (packedStart v ps) c
-        (λ p. moved-cases (λ (y : Claim). c .ticket ≢ y .ticket → conflicts c y ≡ true → on c ≡ true → on y ≡ true → ⊥) (packedStart v ps) d (λ q. h .apart c d m k) (λ q a b e f. clash f refl))
+        map-each2 (λ (c d : Claim). c .ticket ≢ d .ticket → rival c d ≡ true → on c ≡ true → on d ≡ true → ⊥) (moved (packedStart v ps)) ps
+        (λ c d m k. moved-cases (λ (x : Claim). x .ticket ≢ moved (packedStart v ps) d .ticket → rival x (moved (packedStart v ps) d) ≡ true → on x ≡ true → on (moved (packedStart v ps) d) ≡ true → ⊥) (packedStart v ps) c
+        (λ p. moved-cases (λ (y : Claim). c .ticket ≢ y .ticket → rival c y ≡ true → on c ≡ true → on y ≡ true → ⊥) (packedStart v ps) d (λ q. h .apart c d m k) (λ q a b e f. clash f refl))
         (λ p a b e f. clash e refl));
   }
 
@@ -262,16 +262,16 @@ module _ (v : Setting) (ps : List Claim) where
   unfolding pack new
   pack-separates sane ascending = record {
     behind = λ c w mc mw o b p.
-        map-each2 (λ (c w : Claim). on w ≡ false → before c w ≡ true → conflicts c w ≡ true → endOf v c ≤ at w) (moved (packedStart v ps)) ps
-        (λ c w m k. moved-cases (λ (y : Claim). on y ≡ false → before (moved (packedStart v ps) c) y ≡ true → conflicts (moved (packedStart v ps) c) y ≡ true → endOf v (moved (packedStart v ps) c) ≤ at y) (packedStart v ps) w
+        map-each2 (λ (c w : Claim). on w ≡ false → before c w ≡ true → rival c w ≡ true → endOf v c ≤ at w) (moved (packedStart v ps)) ps
+        (λ c w m k. moved-cases (λ (y : Claim). on y ≡ false → before (moved (packedStart v ps) c) y ≡ true → rival (moved (packedStart v ps) c) y ≡ true → endOf v (moved (packedStart v ps) c) ≤ at y) (packedStart v ps) w
         (λ p q. clash p q)
-        (λ p q. moved-cases (λ (x : Claim). before x (new w) ≡ true → conflicts x (new w) ≡ true → endOf v x ≤ packedStart v ps w) (packedStart v ps) c
+        (λ p q. moved-cases (λ (x : Claim). before x (new w) ≡ true → rival x (new w) ≡ true → endOf v x ≤ packedStart v ps w) (packedStart v ps) c
         (λ a b e. start-on c w m e a)
         (λ a b e. both c w m k a p (before-lt (new c) (new w) b refl) e (same? (c .ticket) (w .ticket)))))
         c w mc mw o b p;
   }
     where
-      both : (c w : Claim) → c ∈ ps → w ∈ ps → on c ≡ false → on w ≡ false → key (new c) < key (new w) → conflicts c w ≡ true
+      both : (c w : Claim) → c ∈ ps → w ∈ ps → on c ≡ false → on w ≡ false → key (new c) < key (new w) → rival c w ≡ true
           → (c .ticket ≡ w .ticket) ⊎ (c .ticket ≢ w .ticket) → endOf v (new c) ≤ packedStart v ps w
       both c w m k a b l p (inl e) = let z = ap (λ (x : Claim). key (new x)) (ascending-same ps ascending c w m k e) in absurd (omega arith)
       both c w m k a b l p (inr n) = go (either-before c w (sane c m) (sane w k) n)
@@ -286,7 +286,7 @@ module _ (v : Setting) (ps : List Claim) where
       → Behind v (ahead g ps w) w s → Behind v (ahead f ps w) w s
   behind-mono f g w s h k = record {
     after =
-        ahead-each (λ (d : Claim). conflicts d w ≡ true → endOf v d ≤ s) f ps w
+        ahead-each (λ (d : Claim). rival d w ≡ true → endOf v d ≤ s) f ps w
         (λ c m b o p. k .after c (subst (λ (x : Claim). x ∈ ahead g ps w) (moved-on g c o) (ahead-i g ps w m b)) p)
         (λ c m b o p.
         omega (
@@ -312,7 +312,7 @@ module _ (v : Setting) (ps : List Claim) where
       after = λ d i p.
           let a = ahead-e at ps w i in
           let e : d ≡ a .0 = a .3 ∙ moved-same at (a .0) (λ o. refl) in
-          subst (λ (x : Claim). conflicts x w ≡ true → endOf v x ≤ at w) (sym e) (f .behind (a .0) w (a .1) m o (a .2)) p;
+          subst (λ (x : Claim). rival x w ≡ true → endOf v x ≤ at w) (sym e) (f .behind (a .0) w (a .1) m o (a .2)) p;
     },
   ))
 
@@ -346,7 +346,7 @@ module _ (v : Setting) (ps : List Claim) where
           in-pack : (d : Claim) → d ∈ ahead (packedStart v ps) ps w → d ∈ map (moved (packedStart v ps)) ps
           in-pack d i = let a = ahead-e (packedStart v ps) ps w i in subst (λ (x : Claim). x ∈ map (moved (packedStart v ps)) ps) (sym (a .3)) (map-i (moved (packedStart v ps)) (a .1))
 
-          first : (d : Claim) → d ∈ ahead (packedStart v ps) ps w → conflicts d w ≡ true → before d (new w) ≡ true
+          first : (d : Claim) → d ∈ ahead (packedStart v ps) ps w → rival d w ≡ true → before d (new w) ≡ true
           first d i p = ends-before v d (new w) good (start-behind w .after d i p)
             where
               good : Sane d

@@ -10,20 +10,20 @@ use borrow.Author.Tests.{leb-true, leb-false, le-leb, not-true, not-false}
 use Rattle.rules.specs.declared.Claim.{Claim}
 use Rattle.rules.specs.Lists.{_∈_, greatest}
 use Rattle.rules.specs.declared.Setting.{Setting}
-use Rattle.rules.specs.Claims.{on, at, conflicts, endOf}
+use Rattle.rules.specs.Claims.{on, at, rival, endOf}
 use Rattle.rules.specs.Placing.{clear, fits, candidates, seek, place}
 use Rattle.rules.specs.Plans.{Room, Fits}
 use Rattle.rules.proofs.Bools.{by-test, and-l, and-r, or-e, or-r, or-fl, or-fr}
 use Rattle.rules.proofs.Lists.{Each, here, there, greatest-base, greatest-ge, greatest-le, greatest-is, all-e, all-i, map-i, map-each, least-le, least-passes, least-low}
 
 -- A claim that leaves no room at s conflicts with w and ends after s; if it waits, w would still run at its start.
-pub barred : (v : Setting) (w : Claim) (s : ℕ) (c : Claim) → clear v w s c ≡ false → (conflicts c w ≡ true) × (s < endOf v c) × (on c ≡ false → at c < s + w .length)
+pub barred : (v : Setting) (w : Claim) (s : ℕ) (c : Claim) → clear v w s c ≡ false → (rival c w ≡ true) × (s < endOf v c) × (on c ≡ false → at c < s + w .length)
 unfolding clear
 barred v w s c e =
     let waits = not (on c) && leb (s + w .length) (at c) in
-    let r = or-fr (not (conflicts c w)) (leb (endOf v c) s || waits) e in
+    let r = or-fr (not (rival c w)) (leb (endOf v c) s || waits) e in
     let q = or-fr (leb (endOf v c) s) waits r in (
-      not-false (conflicts c w) (or-fl (not (conflicts c w)) _ e),
+      not-false (rival c w) (or-fl (not (rival c w)) _ e),
       leb-false _ _ (or-fl (leb (endOf v c) s) _ r),
       λ o. leb-false _ _ (rw o at q),
     )
@@ -106,7 +106,7 @@ module _ (v : Setting) (matters : Claim → Bool) (ps : List Claim) (p : ℕ →
           )
 
 -- ── what fits ──
-clear-e : (v : Setting) (w : Claim) (s : ℕ) (c : Claim) → clear v w s c ≡ true → conflicts c w ≡ true → Room v w s c
+clear-e : (v : Setting) (w : Claim) (s : ℕ) (c : Claim) → clear v w s c ≡ true → rival c w ≡ true → Room v w s c
 unfolding clear
 clear-e v w s c e h =
     let r : (leb (endOf v c) s || (not (on c) && leb (s + w .length) (at c))) ≡ true = rw h at e in
@@ -115,10 +115,10 @@ clear-e v w s c e h =
     (λ p. inr (not-true (on c) (and-l (not (on c)) _ p), leb-true _ _ (and-r (not (on c)) _ p)))
     (or-e (leb (endOf v c) s) _ r)
 
-clear-i : (v : Setting) (w : Claim) (s : ℕ) (c : Claim) → (conflicts c w ≡ true → Room v w s c) → clear v w s c ≡ true
+clear-i : (v : Setting) (w : Claim) (s : ℕ) (c : Claim) → (rival c w ≡ true → Room v w s c) → clear v w s c ≡ true
 unfolding clear
 clear-i v w s c h =
-    by-test (conflicts c w)
+    by-test (rival c w)
     (λ e. rw e (⊎-elim
     (λ p. rw (le-leb (endOf v c) s p))
     (λ p. rw (p .0, le-leb (s + w .length) (at c) (p .1)) (or-r (leb (endOf v c) s) true refl))
@@ -135,32 +135,32 @@ fits-i v ps w s h = all-i (clear v w s) ps (λ c m. clear-i v w s c (h .room c m
 
 -- ── the planned start ──
 module _ (v : Setting) (ps : List Claim) (w : Claim) where
-  rival : Claim → Bool
-  rival c = conflicts c w
+  against : Claim → Bool
+  against c = rival c w
 
   last : fits v ps w (greatest (endOf v) (v .clock) ps) ≡ true
   last = fits-i v ps w _ (record { room = λ c m e. inl (greatest-ge (endOf v) (v .clock) m) })
 
-  down : (s : ℕ) → v .clock ≤ s → fits v ps w s ≡ true → fits v ps w (anchor v rival ps s) ≡ true
-  unfolding rival
+  down : (s : ℕ) → v .clock ≤ s → fits v ps w s ≡ true → fits v ps w (anchor v against ps s) ≡ true
+  unfolding against
   down s h e = fits-i v ps w _ (record {
     room = λ c m q.
-        ⊎-elim (λ r. inl (anchor-ge v rival ps s c m q r)) (λ r. inr (r .0, omega (arith, r .1, anchor-le v rival ps s h))) (fits-e v ps w s e .room c m q);
+        ⊎-elim (λ r. inl (anchor-ge v against ps s c m q r)) (λ r. inr (r .0, omega (arith, r .1, anchor-le v against ps s h))) (fits-e v ps w s e .room c m q);
   })
 
   pub place-low : v .clock ≤ place v ps w
   unfolding place
-  place-low = seek-low v rival ps (fits v ps w) last down
+  place-low = seek-low v against ps (fits v ps w) last down
 
   pub place-fits : Fits v ps w (place v ps w)
   unfolding place
-  place-fits = fits-e v ps w _ (seek-passes v rival ps (fits v ps w) last down)
+  place-fits = fits-e v ps w _ (seek-passes v against ps (fits v ps w) last down)
 
   -- The least of all numbers not below the clock that fit.
   pub place-least : (s : ℕ) → v .clock ≤ s → Fits v ps w s → place v ps w ≤ s
   unfolding place
-  place-least s h f = seek-least v rival ps (fits v ps w) last down s h (fits-i v ps w s f)
+  place-least s h f = seek-least v against ps (fits v ps w) last down s h (fits-i v ps w s f)
 
-  pub place-is : (place v ps w ≡ v .clock) ⊎ ((c : Claim) × c ∈ ps × (conflicts c w ≡ true) × (endOf v c ≡ place v ps w))
-  unfolding place rival
-  place-is = seek-is v rival ps (fits v ps w) last down
+  pub place-is : (place v ps w ≡ v .clock) ⊎ ((c : Claim) × c ∈ ps × (rival c w ≡ true) × (endOf v c ≡ place v ps w))
+  unfolding place against
+  place-is = seek-is v against ps (fits v ps w) last down

@@ -10,7 +10,7 @@ use Rattle.rules.specs.declared.Claim.{Claim}
 use Rattle.rules.specs.declared.Phase.the-variants.{Waiting}
 use Rattle.rules.specs.Lists.{_∈_, keep}
 use Rattle.rules.specs.declared.Setting.{Setting}
-use Rattle.rules.specs.Claims.{on, withPhase, conflicts, endOf}
+use Rattle.rules.specs.Claims.{on, withPhase, rival, endOf}
 use Rattle.rules.specs.Order.{key, before}
 use Rattle.rules.specs.Packing.{startFor, moved, ahead, packedStart, pack}
 use Rattle.rules.specs.Plans.{Ascending, Sane}
@@ -32,7 +32,7 @@ moved-twice f g h c e =
 
 -- At the starts g, conflicting claims stand in the order in which they stood.
 abbrev KeepsOrder : (Claim → ℕ) → List Claim → Type 0
-KeepsOrder g ps = (c w : Claim) → c ∈ ps → w ∈ ps → on w ≡ false → conflicts c w ≡ true → before (moved g c) (moved g w) ≡ before c w
+KeepsOrder g ps = (c w : Claim) → c ∈ ps → w ∈ ps → on w ≡ false → rival c w ≡ true → before (moved g c) (moved g w) ≡ before c w
 
 module _ (v : Setting) (g : Claim → ℕ) (ps : List Claim) (order : KeepsOrder g ps) where
   qs : List Claim
@@ -63,26 +63,26 @@ module _ (v : Setting) (g : Claim → ℕ) (ps : List Claim) (order : KeepsOrder
                 let x = ahead-e (packedStart v (map (moved g) ps)) (map (moved g) ps) (moved g w) i in
                 let y = map-e (moved g) ps (x .1) in
                 let e : d ≡ moved (packedStart v (map (moved g) ps)) (moved g (y .0)) = x .3 ∙ ap (moved (packedStart v (map (moved g) ps))) (y .2) in
-                let h′ : conflicts (y .0) w ≡ true = meets (y .0) d e h in
+                let h′ : rival (y .0) w ≡ true = meets (y .0) d e h in
                 let q : before (y .0) w ≡ true = sym (order (y .0) w (y .1) m o h′) ∙ ap (λ (z : Claim). before z (moved g w)) (sym (y .2)) ∙ x .2 in
                 let r = for-behind v b w .after (moved (packedStart v ps) (y .0)) (ahead-i (packedStart v ps) ps w (y .1) q) (moved-conflicts (packedStart v ps) (y .0) w ∙ h′) in
                 omega (arith, ap (endOf v) (e ∙ one (y .0) (y .1) q));
           })
             where
-              meets : (c d : Claim) → d ≡ moved (packedStart v (map (moved g) ps)) (moved g c) → conflicts d (moved g w) ≡ true → conflicts c w ≡ true
+              meets : (c d : Claim) → d ≡ moved (packedStart v (map (moved g) ps)) (moved g c) → rival d (moved g w) ≡ true → rival c w ≡ true
               meets c d e h =
-                  sym (moved-conflicts g c w) ∙ sym (moved-conflicts (packedStart v (map (moved g) ps)) (moved g c) w) ∙ ap (λ (z : Claim). conflicts z w) (sym e)
-                  ∙ moved-cases (λ (z : Claim). conflicts d w ≡ conflicts d z) g w (λ q. refl) (λ q. refl) ∙ h
+                  sym (moved-conflicts g c w) ∙ sym (moved-conflicts (packedStart v (map (moved g) ps)) (moved g c) w) ∙ ap (λ (z : Claim). rival z w) (sym e)
+                  ∙ moved-cases (λ (z : Claim). rival d w ≡ rival d z) g w (λ q. refl) (λ q. refl) ∙ h
 
           ge : startFor v b w ≤ startFor v a (moved g w)
           ge = for-least v b w _ (for-low v a (moved g w)) (record {
             after = λ d i h.
                 let x = ahead-e (packedStart v ps) ps w i in
-                let h′ : conflicts (x .0) w ≡ true = sym (moved-conflicts (packedStart v ps) (x .0) w) ∙ ap (λ (z : Claim). conflicts z w) (sym (x .3)) ∙ h in
+                let h′ : rival (x .0) w ≡ true = sym (moved-conflicts (packedStart v ps) (x .0) w) ∙ ap (λ (z : Claim). rival z w) (sym (x .3)) ∙ h in
                 let q : before (moved g (x .0)) (moved g w) ≡ true = order (x .0) w (x .1) m o h′ ∙ x .2 in
-                let k : conflicts (moved (packedStart v (map (moved g) ps)) (moved g (x .0))) (moved g w) ≡ true =
+                let k : rival (moved (packedStart v (map (moved g) ps)) (moved g (x .0))) (moved g w) ≡ true =
                 moved-conflicts (packedStart v (map (moved g) ps)) (moved g (x .0)) (moved g w) ∙ moved-conflicts g (x .0) (moved g w)
-                ∙ moved-cases (λ (z : Claim). conflicts (x .0) z ≡ conflicts (x .0) w) g w (λ q. refl) (λ q. refl) ∙ h′ in
+                ∙ moved-cases (λ (z : Claim). rival (x .0) z ≡ rival (x .0) w) g w (λ q. refl) (λ q. refl) ∙ h′ in
                 let r = for-behind v a (moved g w) .after _ (ahead-i (packedStart v (map (moved g) ps)) (map (moved g) ps) (moved g w) (map-i (moved g) (x .1)) q) k in
                 omega (arith, ap (endOf v) (x .3 ∙ sym (one (x .0) (x .1) (x .2))));
           })

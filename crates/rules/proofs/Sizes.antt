@@ -12,7 +12,7 @@ use Rattle.rules.specs.declared.Claim.{Claim}
 use Rattle.rules.specs.declared.Phase.the-variants.{Waiting}
 use Rattle.rules.specs.Lists.{_∈_, sum}
 use Rattle.rules.specs.declared.Setting.{Setting}
-use Rattle.rules.specs.Claims.{on, withPhase, conflicts, endOf}
+use Rattle.rules.specs.Claims.{on, withPhase, rival, endOf}
 use Rattle.rules.specs.Order.{key, before}
 use Rattle.rules.specs.Packing.{startFor, ahead, packedStart}
 use Rattle.rules.proofs.Lists.{sum-le, sum-gap}
@@ -49,7 +49,7 @@ start-cap v B ps h k w m o = omega (arith, near w m o, sum-le (sooner w) (λ (c 
       where
         go : (w : Claim) → ((c : Claim) → c ∈ ps → on c ≡ false → before c w ≡ true → packedStart v ps c ≤ B + sum (sooner c) ps)
             → (startFor v (ahead (packedStart v ps) ps w) w ≡ v .clock)
-            ⊎ ((c : Claim) × c ∈ ahead (packedStart v ps) ps w × (conflicts c w ≡ true) × (endOf v c ≡ startFor v (ahead (packedStart v ps) ps w) w))
+            ⊎ ((c : Claim) × c ∈ ahead (packedStart v ps) ps w × (rival c w ≡ true) × (endOf v c ≡ startFor v (ahead (packedStart v ps) ps w) w))
             → startFor v (ahead (packedStart v ps) ps w) w ≤ B + sum (sooner w) ps
         go w ih (inl e) = omega arith
         go w ih (inr r) =

@@ -8,7 +8,7 @@ use native.Mathlib.Omega.{arith}
 use Rattle.rules.specs.declared.Claim.{Claim}
 use Rattle.rules.specs.Lists.{_∈_, sum}
 use Rattle.rules.specs.declared.Setting.{Setting}
-use Rattle.rules.specs.Claims.{on, at, conflicts, endOf, remaining}
+use Rattle.rules.specs.Claims.{on, at, rival, endOf, remaining}
 use Rattle.rules.specs.Order.{rivals}
 use Rattle.rules.specs.Placing.{clear, fits, place, contention, startBound}
 use Rattle.rules.proofs.Bools.{by-test}
@@ -40,7 +40,7 @@ module _ (v : Setting) (ps : List Claim) (w : Claim) where
   from : Claim → ℕ
   from c = cond (on c) (v .clock) (suc (at c) - w .length)
 
-  ruled-by : (x : ℕ) → v .clock ≤ x → (c : Claim) → clear v w x c ≡ false → (conflicts c w ≡ true) × (from c ≤ x) × (x < endOf v c)
+  ruled-by : (x : ℕ) → v .clock ≤ x → (c : Claim) → clear v w x c ≡ false → (rival c w ≡ true) × (from c ≤ x) × (x < endOf v c)
   unfolding from
   ruled-by x h c e =
       let b = barred v w x c e in
@@ -51,7 +51,7 @@ module _ (v : Setting) (ps : List Claim) (w : Claim) where
   ruled-out x h e =
       let r = all-not (clear v w x) ps e in
       let q = ruled-by x h (r .0) (r .2) in
-      (r .0, keep-i (λ c. conflicts c w) (q .0) (r .1), q .1, q .2)
+      (r .0, keep-i (λ c. rival c w) (q .0) (r .1), q .1, q .2)
 
   -- So many it rules out.
   count : (c : Claim) → endOf v c - from c ≤ remaining v c + (w .length - 1)

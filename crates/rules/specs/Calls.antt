@@ -4,16 +4,20 @@ use mathlib.Core.List.{List, [], _∷_, _++_}
 use Prim.Native.Nat.{ℕ, zero, suc, _+_}
 use lib.ListN.{length}
 use Rattle.numbers.specs.Numbers.{darkNumber, unknownNumber}
+use Rattle.groups.specs.declared.MaybeGroup.{MaybeGroup}
+use Rattle.groups.specs.declared.MaybeGroup.the-variants.{Group, NoGroup}
 use Rattle.groups.specs.Groups.{empty}
 use Rattle.rules.specs.declared.Claim.{Claim}
 use Rattle.rules.specs.declared.Request.{Request}
 use Rattle.rules.specs.declared.Reply.{Reply}
 use Rattle.rules.specs.declared.Setting.{Setting}
 use Rattle.rules.specs.declared.Phase.the-variants.{Waiting}
+use Rattle.rules.specs.declared.Common.{Common}
+use Rattle.rules.specs.declared.Common.the-variants.{Unknown, Shared, Apart}
 use Rattle.rules.specs.declared.Standing.{Standing}
 use Rattle.rules.specs.declared.Standing.the-variants.{NotPending, Waits, Holds}
 use Rattle.rules.specs.Lists.{keep}
-use Rattle.rules.specs.Claims.{on, at, withPhase}
+use Rattle.rules.specs.Claims.{on, at, withPhase, conflicts}
 use Rattle.rules.specs.Packing.{pack}
 use Rattle.rules.specs.Placing.{place, contention, startBound}
 use Rattle.rules.specs.Granting.{grant, grants}
@@ -46,13 +50,14 @@ settingOf m = ruled m (m .clock)
 abbrev pub asking : ℕ → ℕ → Request
 asking g n = record { groups = g; length = n }
 
--- The calls of a run: clock and what is asked for, clock and ticket, clock, ticket. (Document 01: look is our lookup.)
+-- The calls of a run: clock and what is asked for, clock and ticket, clock, ticket, two tickets. (Document 01: look is our lookup.)
 pub data Call : Type 0 where
   claim : ℕ → Request → Call
   release : ℕ → ℕ → Call
   withdraw : ℕ → ℕ → Call
   clock : ℕ → Call
   lookup : ℕ → Call
+  common : ℕ → ℕ → Call
 
 -- "Every accepted timed call (claim, release, withdraw, clock)"
 abbrev pub timed : Call → Bool
@@ -61,6 +66,7 @@ timed (release t k) = true
 timed (withdraw t k) = true
 timed (clock t) = true
 timed (lookup k) = false
+timed (common j k) = false
 
 -- The clock that a timed call bears.
 abbrev pub clockOf : Call → ℕ
@@ -69,6 +75,7 @@ clockOf (release t k) = t
 clockOf (withdraw t k) = t
 clockOf (clock t) = t
 clockOf (lookup k) = 0
+clockOf (common j k) = 0
 
 -- What a call answers: 0 or the refusal's number; ticket; start; contention and start bound; "the answer names those tickets".
 pub record Answer : Type 0 where
@@ -94,6 +101,7 @@ tests m (release t k) = late t ∷ backward (m .clock) t ∷ unknown (m .pending
 tests m (withdraw t k) = late t ∷ backward (m .clock) t ∷ unknown (m .pending) k ∷ alreadyOn (m .pending) k ∷ []
 tests m (clock t) = late t ∷ backward (m .clock) t ∷ []
 tests m (lookup k) = unknown (m .pending) k ∷ []
+tests m (common j k) = unknown (m .pending) j ∷ unknown (m .pending) k ∷ []
 
 -- "A call turned down answers its number, with ticket, start, crowd and ceiling 0 and no grants; the table is the one handed in"
 abbrev pub unchanged : Model → ℕ → Step
@@ -150,6 +158,7 @@ act m (release t k) = finish (remove (advance m t) k) (plain k t)
 act m (withdraw t k) = finish (remove (advance m t) k) (plain k t)
 act m (clock t) = finish (advance m t) (plain 0 t)
 act m (lookup k) = unchanged m 0
+act m (common j k) = unchanged m 0
 
 -- The call's own step, or the refusal.
 abbrev pub unless : Model → ℕ → Step → Step
@@ -185,6 +194,30 @@ standing c = cond (on c) (Holds (at c + c .length)) (Waits (at c))
 unfoldable pub standingOf : ℕ → List Claim → Standing
 standingOf k [] = NotPending
 standingOf k (c ∷ cs) = cond (named k c) (standing c) (standingOf k cs)
+
+-- "A new look takes two tickets and gives that group; a ticket that isn't pending answers 8."
+-- In numbers: the refusal's, 0 for none; the lowest group that both claims have, where there is one.
+pub record CommonValues : Type 0 where
+  pub number : ℕ
+  pub groups : List ℕ
+
+abbrev pub commonValues : Common → CommonValues
+commonValues Unknown = record { number = unknownNumber; groups = [] }
+commonValues (Shared g) = record { number = 0; groups = g ∷ [] }
+commonValues Apart = record { number = 0; groups = [] }
+
+abbrev pub shared : MaybeGroup → Common
+shared (Group g) = Shared g
+shared NoGroup = Apart
+
+-- Of the claims of two tickets, each a claim or none.
+abbrev pub between : List Claim → List Claim → Common
+between (c ∷ cs) (d ∷ ds) = shared (conflicts c d)
+between (c ∷ cs) [] = Unknown
+between [] ds = Unknown
+
+unfoldable pub commonOf : ℕ → ℕ → List Claim → Common
+commonOf j k ps = between (keep (named j) ps) (keep (named k) ps)
 
 -- The table after a list of calls.
 unfoldable pub after : Model → List Call → Model

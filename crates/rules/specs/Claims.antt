@@ -1,7 +1,8 @@
 -- A claim, its phase and its end. Quotations are from document 01.
 use mathlib.Core.Bool.{Bool, true, false, cond}
 use Prim.Native.Nat.{ℕ, _+_, _-_, max}
-use Rattle.groups.specs.Groups.{shares}
+use Rattle.groups.specs.declared.MaybeGroup.{MaybeGroup}
+use Rattle.groups.specs.Groups.{common, shares}
 use Rattle.rules.specs.declared.Claim.{Claim}
 use Rattle.rules.specs.declared.Phase.{Phase}
 use Rattle.rules.specs.declared.Setting.{Setting}
@@ -26,9 +27,13 @@ at c = mark (c .phase)
 abbrev pub withPhase : Claim → Phase → Claim
 withPhase c p = record { groups = c .groups; phase = p; length = c .length; ticket = c .ticket }
 
--- "Two claims conflict if they share a group."
-abbrev pub conflicts : Claim → Claim → Bool
-conflicts c d = shares (c .groups) (d .groups)
+-- "The test of two claims for a common group .. answers the lowest common group number, or none".
+abbrev pub conflicts : Claim → Claim → MaybeGroup
+conflicts c d = common (c .groups) (d .groups)
+
+-- "Two claims conflict if they share a group": yes or no of that.
+abbrev pub rival : Claim → Claim → Bool
+rival c d = shares (c .groups) (d .groups)
 
 -- The end of an on claim with promised end p: "the greater of promised end and the table's clock".
 unfoldable pub heldUntil : Setting → ℕ → ℕ

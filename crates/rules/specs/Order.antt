@@ -5,12 +5,12 @@ use Prim.Native.Nat.{ℕ, _+_, _*_}
 use lib.Dec.{ltb}
 use Rattle.rules.specs.declared.Claim.{Claim}
 use Rattle.rules.specs.Lists.{keep}
-use Rattle.rules.specs.Claims.{on, at, conflicts}
+use Rattle.rules.specs.Claims.{on, at, rival}
 
 -- Of a waiting claim w: "An on claim precedes every waiting claim it conflicts with. Of two conflicting waiting claims the one with the
 -- smaller planned start precedes."
 unfoldable pub precedes : Claim → Claim → Bool
-precedes c w = conflicts c w && (on c || ltb (at c) (at w))
+precedes c w = rival c w && (on c || ltb (at c) (at w))
 
 -- Start, then ticket, as one number: tickets are below 65,536.
 abbrev pub key : Claim → ℕ
@@ -22,4 +22,4 @@ before c w = on c || ltb (key c) (key w)
 
 -- Those of the claims that conflict with w.
 abbrev pub rivals : List Claim → Claim → List Claim
-rivals ps w = keep (λ c. conflicts c w) ps
+rivals ps w = keep (λ c. rival c w) ps

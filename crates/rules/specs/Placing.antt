@@ -8,12 +8,12 @@ use lib.ListN.{length}
 use Rattle.rules.specs.declared.Claim.{Claim}
 use Rattle.rules.specs.Lists.{greatest, least, sum, all}
 use Rattle.rules.specs.declared.Setting.{Setting}
-use Rattle.rules.specs.Claims.{on, at, conflicts, endOf, remaining}
+use Rattle.rules.specs.Claims.{on, at, rival, endOf, remaining}
 use Rattle.rules.specs.Order.{rivals}
 
 -- The claim c leaves room for w at s.
 unfoldable pub clear : Setting → Claim → ℕ → Claim → Bool
-clear v w s c = not (conflicts c w) || (leb (endOf v c) s || (not (on c) && leb (s + w .length) (at c)))
+clear v w s c = not (rival c w) || (leb (endOf v c) s || (not (on c) && leb (s + w .length) (at c)))
 
 unfoldable pub fits : Setting → List Claim → Claim → ℕ → Bool
 fits v ps w s = all (clear v w s) ps

@@ -7,7 +7,7 @@ use Prim.Native.Nat.{ℕ, _+_, _≤_, _<_}
 use Rattle.rules.specs.declared.Claim.{Claim}
 use Rattle.rules.specs.Lists.{_∈_, keep}
 use Rattle.rules.specs.declared.Setting.{Setting}
-use Rattle.rules.specs.Claims.{on, at, conflicts, endOf}
+use Rattle.rules.specs.Claims.{on, at, rival, endOf}
 use Rattle.rules.specs.Order.{before}
 
 -- Tickets ascend, so no ticket stands twice.
@@ -22,11 +22,11 @@ pub record Sane (c : Claim) : Type 0 where
 
 -- No two holders share a group.
 pub record Apart (ps : List Claim) : Type 0 where
-  pub apart : (c d : Claim) → c ∈ ps → d ∈ ps → c .ticket ≢ d .ticket → conflicts c d ≡ true → on c ≡ true → on d ≡ true → ⊥
+  pub apart : (c d : Claim) → c ∈ ps → d ∈ ps → c .ticket ≢ d .ticket → rival c d ≡ true → on c ≡ true → on d ≡ true → ⊥
 
 -- A waiting claim starts at or after the end of each conflicting claim before it.
 pub record Separated (v : Setting) (ps : List Claim) : Type 0 where
-  pub behind : (c w : Claim) → c ∈ ps → w ∈ ps → on w ≡ false → before c w ≡ true → conflicts c w ≡ true → endOf v c ≤ at w
+  pub behind : (c w : Claim) → c ∈ ps → w ∈ ps → on w ≡ false → before c w ≡ true → rival c w ≡ true → endOf v c ≤ at w
 
 -- No planned start is below t.
 abbrev pub StartsFrom : ℕ → List Claim → Type 0
@@ -34,7 +34,7 @@ StartsFrom t ps = (w : Claim) → w ∈ ps → on w ≡ false → t ≤ at w
 
 -- A conflicting claim ends as w starts.
 abbrev pub HeldUp : Setting → List Claim → Claim → Type 0
-HeldUp v ps w = (c : Claim) × c ∈ ps × (conflicts c w ≡ true) × (endOf v c ≡ at w)
+HeldUp v ps w = (c : Claim) × c ∈ ps × (rival c w ≡ true) × (endOf v c ≡ at w)
 
 -- Each planned start is the clock or such an end.
 abbrev pub Tight : Setting → List Claim → Type 0
@@ -46,7 +46,7 @@ Blocked v ps = (w : Claim) → w ∈ ps → on w ≡ false → HeldUp v ps w
 
 -- w may start at s behind the claims qs.
 pub record Behind (v : Setting) (qs : List Claim) (w : Claim) (s : ℕ) : Type 0 where
-  pub after : (c : Claim) → c ∈ qs → conflicts c w ≡ true → endOf v c ≤ s
+  pub after : (c : Claim) → c ∈ qs → rival c w ≡ true → endOf v c ≤ s
 
 -- No waiting claim could start sooner behind the claims before it.
 abbrev pub Earliest : Setting → List Claim → Type 0
@@ -57,4 +57,4 @@ abbrev pub Room : Setting → Claim → ℕ → Claim → Type 0
 Room v w s c = (endOf v c ≤ s) ⊎ ((on c ≡ false) × (s + w .length ≤ at c))
 
 pub record Fits (v : Setting) (ps : List Claim) (w : Claim) (s : ℕ) : Type 0 where
-  pub room : (c : Claim) → c ∈ ps → conflicts c w ≡ true → Room v w s c
+  pub room : (c : Claim) → c ∈ ps → rival c w ≡ true → Room v w s c

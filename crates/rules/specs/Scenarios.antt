@@ -1,11 +1,13 @@
 -- The starred plots of document 01 ("Plots to try") as one table, and two cases more: what the first packing of a call is for, and the
--- order of grants.
+-- order of grants. Then what lookup tells of two tickets.
 -- proofs/AllScenarios has the theorem that covers the table.
 use mathlib.Core.List.{List, [], _∷_, map}
 use Prim.Native.Nat.{ℕ}
+use Rattle.rules.specs.declared.Common.{Common}
+use Rattle.rules.specs.declared.Common.the-variants.{Unknown, Shared, Apart}
 use Rattle.rules.specs.declared.Standing.{Standing}
 use Rattle.rules.specs.declared.Standing.the-variants.{NotPending, Waits, Holds}
-use Rattle.rules.specs.Calls.{asking, Call, release, withdraw, clock, Answer, Model, standingOf, new, after, answers}
+use Rattle.rules.specs.Calls.{asking, Call, release, withdraw, clock, Answer, Model, standingOf, commonOf, new, after, answers}
 
 -- Calls made before, calls made now, their answers, and what lookup then tells of tickets 1 to 4.
 pub record Scenario : Type 0 where
@@ -96,3 +98,35 @@ outcome x =
 -- What the paper gives.
 abbrev pub expected : Scenario → Outcome
 expected x = record { answers = x .answers; standings = x .standings }
+
+-- Two tickets of the plots, and what lookup tells of the two.
+pub record Pair : Type 0 where
+  pub calls : List Call
+  pub first : ℕ
+  pub second : ℕ
+  pub told : Common
+
+abbrev pub pair : List Call → ℕ → ℕ → Common → Pair
+pair calls first second told = record { calls = calls; first = first; second = second; told = told }
+
+unfoldable pub pairs : List Pair
+pairs =
+    -- claims of 8, C and 6 hex: "tickets 1 and 2 (group 3), 2 and 3 (group 2), 1 and 3 (none)", in either order
+    pair S 1 2 (Shared 3)
+    ∷ pair S 2 1 (Shared 3)
+    ∷ pair S 2 3 (Shared 2)
+    ∷ pair S 1 3 Apart
+    -- a ticket with itself: its own lowest group
+    ∷ pair S 2 2 (Shared 2)
+    ∷ pair S 3 3 (Shared 1)
+    -- either not pending: never issued, or taken away
+    ∷ pair S 1 4 Unknown
+    ∷ pair S 4 1 Unknown
+    ∷ pair S 4 4 Unknown
+    ∷ pair (claim 0 0x8 10 ∷ claim 0 0xC 10 ∷ release 4 1 ∷ []) 1 2 Unknown
+    -- group 0 is a group
+    ∷ pair (claim 0 0x1 10 ∷ claim 0 0x3 10 ∷ []) 1 2 (Shared 0)
+    ∷ []
+
+unfoldable pub toldOf : Pair → Common
+toldOf p = commonOf (p .first) (p .second) (after rigF (p .calls) .pending)

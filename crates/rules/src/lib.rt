@@ -52,6 +52,13 @@ pub enum Standing {
     Holds(u64),
 }
 
+// What a lookup tells of two tickets: one of them is not pending (8), the lowest group that both their claims have, or none.
+pub enum Common {
+    Unknown,
+    Shared(usize),
+    Apart,
+}
+
 // A request of groups for a length of time, and nothing else.
 pub fn asking(groups: u64, length: u32) -> Request
     ensures { λ r. ⌜ r ≡ asking groups length ⌝ }

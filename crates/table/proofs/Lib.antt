@@ -7,6 +7,7 @@ pub mod PackingLoop
 pub mod PlacingLoop
 pub mod GrantingLoop
 pub mod Tests
+pub mod Finding
 pub mod RemovalLoop
 pub mod Steps
 pub mod Promised

@@ -10,7 +10,7 @@ use lib.ListN.{take}
 use Rattle.rules.specs.declared.Claim.{Claim}
 use Rattle.rules.specs.Lists.{_∈_, sum, keep}
 use Rattle.rules.specs.declared.Setting.{Setting}
-use Rattle.rules.specs.Claims.{on, at, conflicts, endOf, remaining}
+use Rattle.rules.specs.Claims.{on, at, rival, endOf, remaining}
 use Rattle.rules.specs.Order.{rivals}
 use Rattle.rules.specs.Placing.{clear, fits, place, contention, startBound}
 use Rattle.rules.proofs.Placing.{barred, fits-e, place-fits, place-least}
@@ -41,14 +41,14 @@ count-none {v} {l} n w r = record { number = omega arith; total = omega arith; f
 
 module _ {v : Setting} {w : Claim} {ps : List Claim} where
   module _ {c : Claim} {rest : List Claim} {count time : ℕ} (k : Counted v w ps (c ∷ rest) count time) where
-    pub count-rival : conflicts c w ≡ true → Counted v w ps rest (count + 1) (time + remaining v c)
+    pub count-rival : rival c w ≡ true → Counted v w ps rest (count + 1) (time + remaining v c)
     unfolding contention keep sum
     count-rival e =
         let p = rw e at (k .number) in
         let q = rw e at (k .total) in
         record { number = omega arith; total = omega arith; few = k .few; short = k .short }
 
-    pub count-other : conflicts c w ≡ false → Counted v w ps rest count time
+    pub count-other : rival c w ≡ false → Counted v w ps rest count time
     unfolding contention keep
     count-other e = record { number = rw e at (k .number); total = rw e at (k .total); few = k .few; short = k .short }
 

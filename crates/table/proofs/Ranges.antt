@@ -13,7 +13,7 @@ use Rattle.rules.specs.declared.Phase.the-variants.{On, Waiting}
 use Rattle.rules.specs.declared.Table.{Table}
 use Rattle.rules.specs.declared.Reply.{Reply}
 use Rattle.rules.specs.declared.Setting.{Setting}
-use Rattle.rules.specs.Claims.{on, withPhase, endOf, at, conflicts, remaining}
+use Rattle.rules.specs.Claims.{on, withPhase, endOf, at, rival, remaining}
 use Rattle.rules.specs.Packing.{packedStart, moved, pack}
 use Rattle.rules.specs.Granting.{granted, grant}
 use Rattle.rules.specs.Tests.{named}
@@ -66,14 +66,14 @@ remaining-short v c s = omega (arith, remaining-le v c (s .aged), s .short)
 module _ (v : Setting) (l : List Claim) (n : ℕ) (w : Claim) (r : Row (v .clock) l n) where
   pub rivals-few : contention (take n l) w ≤ 64
   unfolding contention
-  rivals-few = omega (arith, keep-length (λ c. conflicts c w) (take n l), length-take n l, r .few)
+  rivals-few = omega (arith, keep-length (λ c. rival c w) (take n l), length-take n l, r .few)
 
   pub time-short : sum (remaining v) (rivals (take n l) w) ≤ 230400000
   unfolding contention
   time-short = omega (arith, rivals-few, sum-le-each (remaining v) mostLength (rivals (take n l) w) short)
     where
       short : Each (λ c. remaining v c ≤ mostLength) (rivals (take n l) w)
-      short c m = remaining-short v c (r .sized c (keep-e (λ d. conflicts d w) (take n l) m .0))
+      short c m = remaining-short v c (r .sized c (keep-e (λ d. rival d w) (take n l) m .0))
 
   pub bound-small : Sized (v .clock) w → startBound v (take n l) w ≤ 2000000000000
   unfolding startBound

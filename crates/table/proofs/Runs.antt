@@ -3,19 +3,18 @@ use mathlib.Core.Path.{_≡_, refl, sym, _∙_, ap, subst}
 use mathlib.Core.List.{List, _∷_}
 use Prim.Native.Nat.{ℕ}
 use Rattle.rules.specs.declared.Table.{Table}
-use Rattle.rules.specs.declared.Standing.{Standing}
-use Rattle.rules.specs.Calls.{Model, Call, lookup, Answer, Step, step, unchanged, standingOf, new}
+use Rattle.rules.specs.Calls.{Model, Call, lookup, common, Answer, Step, step, standingOf, commonOf, new}
 use Rattle.rules.specs.Tables.{model}
 use Rattle.promises.specs.Ledger.{Turn, turns, tableAfter}
-use Rattle.promises.specs.Demand3.{tells}
+use Rattle.promises.specs.Demand3.{Told, tells}
 use Rattle.promises.proofs.Demand3.{table-after, demand-3}
 use Rattle.promises.specs.WholeCalls.{WholeCalls}
 use Rattle.promises.proofs.WholeCalls.{whole-calls-after}
 use Rattle.table.specs.declared.Outcome.{Outcome}
 use Rattle.table.specs.Outcomes.{outcome}
-use Rattle.table.specs.Runs.{answered, looked, Made, by-timed, by-lookup, Run, done, then, Looks, CodeDemand3, CodeWholeCalls}
+use Rattle.table.specs.Runs.{answered, looked, Made, by-timed, by-lookup, by-common, Run, done, then, Looks, CodeDemand3, CodeWholeCalls}
 use Rattle.table.proofs.Promised.{outcome-model, outcome-grants}
-use Rattle.table.proofs.Tests.{lookup-told, lookup-answer, lookup-idle}
+use Rattle.table.proofs.Tests.{Looking, of-one, of-two, look-answer, look-idle, lookup-told, common-told}
 
 -- ── one answer ──
 answer-of : (r : Outcome) (s : Step) → r ≡ outcome s → answered r ≡ s .answer
@@ -25,13 +24,14 @@ answer-of r s e =
     ∙ ap (λ (g : List ℕ). record { number = a .number; ticket = a .ticket; start = a .start; contention = a .contention; bound = a .bound; grants = g })
     (outcome-grants (outcome s) s refl)
 
-looked-is : (m : Model) (k : ℕ) (s : Standing) → s ≡ (standingOf k (m .pending)) → looked s ≡ step m (lookup k) .answer
-looked-is m k s e = ap (λ (n : ℕ). unchanged m n .answer) (lookup-told m k s e .1) ∙ lookup-answer m k
+looked-is : (m : Model) (c : Call) → Looking c → (n : ℕ) → n ≡ step m c .answer .number → looked n ≡ step m c .answer
+looked-is m c h n e = ap looked e ∙ look-answer m c h
 
 -- ── a run is the rules' run ──
 made-is : {t u : Table} {c : Call} {a : Answer} → Made t c a u → (a ≡ step (model t) c .answer) × (model u ≡ step (model t) c .model)
 made-is {t} (by-timed c h r e) = (answer-of r (step (model t) c) e, outcome-model r (step (model t) c) e)
-made-is {t} (by-lookup k s e) = (looked-is (model t) k s e, sym (lookup-idle (model t) k))
+made-is {t} (by-lookup k s e) = (looked-is (model t) (lookup k) (of-one k) _ (lookup-told (model t) k s e .1), sym (look-idle (model t) (lookup k) (of-one k)))
+made-is {t} (by-common j k s e) = (looked-is (model t) (common j k) (of-two j k) _ (common-told (model t) j k s e .1), sym (look-idle (model t) (common j k) (of-two j k)))
 
 run-is : {t u : Table} {cs : List Call} {ts : List Turn} → Run t cs ts u → (ts ≡ turns step (model t) cs) × (model u ≡ tableAfter step (model t) cs)
 unfolding turns tableAfter
@@ -45,11 +45,14 @@ run-is (then {t} {u} {w} {c} {a} {cs} {ts} one p) =
     )
 
 -- What lookup shows of a table is what the rules tell of its model.
-shows-is : (t : Table) (m : Model) (shows : ℕ → Standing) → model t ≡ m → Looks t shows → shows ≡ tells m
-shows-is t m shows e h = λ i k. each k i
+shows-is : (t : Table) (m : Model) (shows : Told) → model t ≡ m → Looks t shows → shows ≡ tells m
+shows-is t m shows e h = λ i. record { one = λ k. one k i; two = λ j k. two j k i }
   where
-    each : (k : ℕ) → shows k ≡ standingOf k (m .pending)
-    each k = h k ∙ ap (λ (x : Model). standingOf k (x .pending)) e
+    one : (k : ℕ) → shows .one k ≡ standingOf k (m .pending)
+    one k = h .0 k ∙ ap (λ (x : Model). standingOf k (x .pending)) e
+
+    two : (j k : ℕ) → shows .two j k ≡ commonOf j k (m .pending)
+    two j k = h .1 j k ∙ ap (λ (x : Model). commonOf j k (x .pending)) e
 
 -- The turns and the table of a run from a new table.
 module _ (rig : ℕ) (before : List Call) (first : Outcome) (q : first ≡ outcome (new rig)) (ts : List Turn) (t : Table) (p : Run (first .table) before ts t) where

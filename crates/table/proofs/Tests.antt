@@ -10,12 +10,15 @@ use lib.ListN.{length}
 use borrow.Author.Tests.{eqb-true, ne-eqb}
 use Rattle.numbers.specs.Numbers.{mostClock}
 use Rattle.rules.specs.declared.Claim.{Claim}
-use Rattle.rules.specs.Lists.{any}
-use Rattle.rules.specs.Claims.{on, at}
+use Rattle.rules.specs.Lists.{any, keep}
+use Rattle.rules.specs.Claims.{on, at, conflicts}
+use Rattle.groups.specs.declared.MaybeGroup.{MaybeGroup}
+use Rattle.groups.specs.declared.MaybeGroup.the-variants.{Group, NoGroup}
+use Rattle.rules.specs.declared.Common.{Common}
 use Rattle.rules.specs.declared.Standing.{Standing}
 use Rattle.rules.specs.declared.Standing.the-variants.{Waits, Holds}
 use Rattle.rules.specs.Tests.{Test, test, firstOf, named, late, backward}
-use Rattle.rules.specs.Calls.{Model, Call, Step, clock, lookup, tests, unchanged, act, step, unless, standingOf, standingValues}
+use Rattle.rules.specs.Calls.{Model, Call, Step, clock, lookup, tests, unchanged, act, step, unless, standingOf, standingValues, common, shared, between, commonOf, commonValues}
 use Rattle.rules.specs.Plans.{Ascending}
 use Rattle.rules.proofs.Bools.{by-test}
 use Rattle.rules.proofs.Lists.{Each, any-false}
@@ -107,22 +110,62 @@ unfolding any standingOf
 number-first k [] = refl
 number-first k (c ∷ ps) = by-test (named k c) (λ e. rw e (by-test (on c) (λ o. rw o) (λ o. rw o))) (λ e. rw e (number-first k ps))
 
--- A lookup changes nothing, and its answer has nothing but the number.
-lookup-step : (m : Model) (k : ℕ) → step m (lookup k) ≡ unchanged m (firstOf (tests m (lookup k)))
+-- Lookups change nothing, and their answer has nothing but the number.
+pub data Looking : Call → Type 0 where
+  of-one : (k : ℕ) → Looking (lookup k)
+  of-two : (j k : ℕ) → Looking (common j k)
+
+look-step : (m : Model) (c : Call) → Looking c → step m c ≡ unchanged m (firstOf (tests m c))
 unfolding step act
-lookup-step m k = go (firstOf (tests m (lookup k)))
+look-step m c h = go h (firstOf (tests m c))
   where
-    go : (n : ℕ) → unless m n (unchanged m 0) ≡ unchanged m n
-    go zero = refl
-    go (suc n) = refl
+    idle : (n : ℕ) → unless m n (unchanged m 0) ≡ unchanged m n
+    idle zero = refl
+    idle (suc n) = refl
 
-pub lookup-idle : (m : Model) (k : ℕ) → step m (lookup k) .model ≡ m
-lookup-idle m k = ap (λ (s : Step). s .model) (lookup-step m k)
+    go : {c : Call} → Looking c → (n : ℕ) → unless m n (act m c) ≡ unchanged m n
+    go (of-one k) n = idle n
+    go (of-two j k) n = idle n
 
-pub lookup-answer : (m : Model) (k : ℕ) → unchanged m (step m (lookup k) .answer .number) .answer ≡ step m (lookup k) .answer
-lookup-answer m k = rw (lookup-step m k)
+pub look-idle : (m : Model) (c : Call) → Looking c → step m c .model ≡ m
+look-idle m c h = ap (λ (s : Step). s .model) (look-step m c h)
+
+pub look-answer : (m : Model) (c : Call) → Looking c → unchanged m (step m c .answer .number) .answer ≡ step m c .answer
+look-answer m c h = rw (look-step m c h)
 
 pub lookup-told : (m : Model) (k : ℕ) (s : Standing) → s ≡ standingOf k (m .pending)
     → (s ≡ standingOf k (m .pending)) × (standingValues s .number ≡ step m (lookup k) .answer .number)
 unfolding tests firstOf
-lookup-told m k s e = (e, ap (λ (x : Standing). standingValues x .number) e ∙ number-first k (m .pending) ∙ sym (ap (λ (x : Step). x .answer .number) (lookup-step m k)))
+lookup-told m k s e = (e, ap (λ (x : Standing). standingValues x .number) e ∙ number-first k (m .pending) ∙ sym (ap (λ (x : Step). x .answer .number) (look-step m (lookup k) (of-one k))))
+
+-- A ticket is pending exactly where a claim has it.
+some : List Claim → Bool
+some [] = false
+some (c ∷ cs) = true
+
+any-keep : (k : ℕ) (ps : List Claim) → any (named k) ps ≡ some (keep (named k) ps)
+unfolding any keep some
+any-keep k [] = refl
+any-keep k (c ∷ ps) = go (named k c) (any-keep k ps)
+  where
+    go : (x : Bool) → any (named k) ps ≡ some (keep (named k) ps) → (x || any (named k) ps) ≡ some (cond x (c ∷ keep (named k) ps) (keep (named k) ps))
+    go true ih = refl
+    go false ih = ih
+
+between-number : (cs ds : List Claim) → commonValues (between cs ds) .number ≡ cond (not (some cs)) 8 (cond (not (some ds)) 8 0)
+unfolding some
+between-number [] ds = refl
+between-number (c ∷ cs) [] = refl
+between-number (c ∷ cs) (d ∷ ds) = go (conflicts c d)
+  where
+    go : (g : MaybeGroup) → commonValues (shared g) .number ≡ 0
+    go (Group g) = refl
+    go NoGroup = refl
+
+pub common-told : (m : Model) (j k : ℕ) (s : Common) → s ≡ commonOf j k (m .pending)
+    → (s ≡ commonOf j k (m .pending)) × (commonValues s .number ≡ step m (common j k) .answer .number)
+unfolding tests firstOf commonOf
+common-told m j k s e =
+    let n = between-number (keep (named j) (m .pending)) (keep (named k) (m .pending)) in
+    let t = ap (λ (x : Step). x .answer .number) (look-step m (common j k) (of-two j k)) in
+    (e, ap (λ (x : Common). commonValues x .number) e ∙ n ∙ sym (t ∙ rw (any-keep j (m .pending), any-keep k (m .pending))))

@@ -1,9 +1,10 @@
 -- What the calls hand back, by the rules.
 use mathlib.Core.Bool.{Bool, true, false, not, _&&_}
 use mathlib.Core.List.{List, [], _∷_}
-use Prim.Native.Nat.{ℕ, zero, suc, _+_}
+use Prim.Native.Nat.{ℕ, zero, suc, _+_, _≤_, _<_}
 use lib.Dec.{ltb}
-use lib.ListN.{length, replicate}
+use mathlib.Core.Path.{_≡_}
+use lib.ListN.{length, getD, replicate}
 use Rattle.rules.specs.declared.Claim.{Claim}
 use Rattle.rules.specs.declared.Table.{Table}
 use Rattle.rules.specs.declared.Standing.{Standing}
@@ -13,7 +14,7 @@ use Rattle.rules.specs.Tests.{firstOf, late, backward, named}
 use Rattle.rules.specs.Calls.{Call, release, withdraw, Step}
 use Rattle.rules.specs.Lists.{keep}
 use Rattle.rules.specs.Claims.{on, at}
-use Rattle.rules.specs.Tables.{encode, pad}
+use Rattle.rules.specs.Tables.{vacant, encode, model, pad}
 use Rattle.table.specs.declared.Outcome.{Outcome}
 
 -- A step's table and answer; the grants in the first places, 0 after them.
@@ -34,6 +35,13 @@ outcome s =
 -- The table handed in, and a number.
 abbrev pub unchangedIn : Table → ℕ → Outcome
 unchangedIn t n = record { table = t; number = n; ticket = 0; start = 0; contention = 0; bound = 0; granted = 0; grants = replicate 64 0 }
+
+-- ── lookup ──
+-- Place r of a table is that of the claim of ticket k; the count where there is none.
+pub record Found (t : Table) (k r : ℕ) : Type 0 where
+  pub within : r ≤ t .count
+  pub here : r < t .count → keep (named k) (model t .pending) ≡ getD (t .claims) r vacant ∷ []
+  pub none : r ≡ t .count → keep (named k) (model t .pending) ≡ []
 
 -- ── the tests 5 and 4, and those of a release and a withdrawal ──
 unfoldable pub timeNumber : ℕ → ℕ → ℕ

@@ -5,11 +5,12 @@ use mathlib.Core.List.{List, [], _∷_, _++_}
 use Prim.Native.Nat.{ℕ}
 use lib.ListN.{take}
 use Rattle.rules.specs.declared.Table.{Table}
+use Rattle.rules.specs.declared.Common.{Common}
 use Rattle.rules.specs.declared.Standing.{Standing}
-use Rattle.rules.specs.Calls.{Call, lookup, timed, Answer, step, standingOf, standingValues, new}
+use Rattle.rules.specs.Calls.{Call, lookup, common, timed, Answer, step, standingOf, standingValues, commonOf, commonValues, new}
 use Rattle.rules.specs.Tables.{model}
 use Rattle.promises.specs.Ledger.{Turn, ledgerOf, NoOverrunIn}
-use Rattle.promises.specs.Demand3.{Now, Next}
+use Rattle.promises.specs.Demand3.{Told, Now, Next}
 use Rattle.promises.specs.WholeCalls.{WholeCalls}
 use Rattle.table.specs.declared.Outcome.{Outcome}
 use Rattle.table.specs.Outcomes.{outcome}
@@ -26,14 +27,15 @@ answered r =
       grants = take (r .granted) (r .grants);
     }
 
-abbrev pub looked : Standing → Answer
-looked s = record { number = standingValues s .number; ticket = 0; start = 0; contention = 0; bound = 0; grants = [] }
+abbrev pub looked : ℕ → Answer
+looked n = record { number = n; ticket = 0; start = 0; contention = 0; bound = 0; grants = [] }
 
 -- A call made of table t, by kind: what the code answers, and the table it leaves. Claim, release, withdraw and clock promise an
--- `outcome (step ..)`, lookup a `standingOf ..`.
+-- `outcome (step ..)`, lookup a `standingOf ..`, common a `commonOf ..`.
 pub data Made (t : Table) : Call → Answer → Table → Type 0 where
   by-timed : (c : Call) → timed c ≡ true → (r : Outcome) → r ≡ outcome (step (model t) c) → Made t c (answered r) (r .table)
-  by-lookup : (k : ℕ) (s : Standing) → s ≡ standingOf k (model t .pending) → Made t (lookup k) (looked s) t
+  by-lookup : (k : ℕ) (s : Standing) → s ≡ standingOf k (model t .pending) → Made t (lookup k) (looked (standingValues s .number)) t
+  by-common : (j k : ℕ) (s : Common) → s ≡ commonOf j k (model t .pending) → Made t (common j k) (looked (commonValues s .number)) t
 
 -- Calls made one after the other from table t, with their answers, and the table they left.
 pub data Run : Table → List Call → List Turn → Table → Type 0 where
@@ -41,20 +43,20 @@ pub data Run : Table → List Call → List Turn → Table → Type 0 where
   then : {t u w : Table} {c : Call} {a : Answer} {cs : List Call} {ts : List Turn} → Made t c a u → Run u cs ts w
       → Run t (c ∷ cs) (record { call = c; answer = a } ∷ ts) w
 
--- What lookup answers of each ticket, asked of table t.
-abbrev pub Looks : Table → (ℕ → Standing) → Type 0
-Looks t shows = (k : ℕ) → shows k ≡ standingOf k (model t .pending)
+-- What lookup and common answer, asked of table t.
+abbrev pub Looks : Table → Told → Type 0
+Looks t shows = ((k : ℕ) → shows .one k ≡ standingOf k (model t .pending)) × ((j k : ℕ) → shows .two j k ≡ commonOf j k (model t .pending))
 
 -- Of every list of calls that begins with a table from `new`: what `promises` says of the rules, of the answers given and what lookup shows.
 pub record CodeDemand3 (rig : ℕ) (calls : List Call) : Type 0 where
   pub at-any-time : (before rest : List Call) → before ++ rest ≡ calls
       → (first : Outcome) → first ≡ outcome (new rig) → (ts : List Turn) (t : Table) → Run (first .table) before ts t
-      → (shows : ℕ → Standing) → Looks t shows
+      → (shows : Told) → Looks t shows
       → Now (NoOverrunIn ts) (ledgerOf ts) shows
   pub at-any-call : (before : List Call) (c : Call) (rest : List Call) → before ++ (c ∷ rest) ≡ calls
       → (first : Outcome) → first ≡ outcome (new rig) → (ts : List Turn) (t : Table) → Run (first .table) before ts t
       → (a : Answer) (u : Table) → Made t c a u
-      → (old new : ℕ → Standing) → Looks t old → Looks u new
+      → (old new : Told) → Looks t old → Looks u new
       → Next (NoOverrunIn ts) (ledgerOf ts) (record { call = c; answer = a }) old new
 
 -- What `promises` says of whole calls, of every table that such a list of calls left.

@@ -1,4 +1,4 @@
-// The claims table: new, claim, release, withdraw, clock, lookup. Each call takes a table by value and hands one back with its answer;
+// The claims table: new, claim, release, withdraw, clock, lookup, common. Each call takes a table by value and hands one back with its answer;
 // each packs once at most: a claim and a clock call only where a holder overruns, a release and a withdrawal only where somebody waits.
 // Packing n claims costs at most n² / 2 tests of two words and two steps for each group of each claim, the search for a claim's start n²
 // tests of two sets, everything else a few passes.
@@ -7,18 +7,20 @@ ghost use Prim.Native.Nat.{_+_, _≤_, _<_};
 ghost use Rattle.numbers.specs.Numbers.{mostClock, mostLength, mostPending, mostTickets};
 ghost use Rattle.rules.specs.Claims.{at};
 ghost use Rattle.rules.specs.Tests.{firstOf};
-ghost use Rattle.rules.specs.Calls.{Call, step, tests, advance, finish, remove, admit, new, standing, standingOf, standingValues};
+ghost use Rattle.rules.specs.Calls.{Call, step, tests, advance, finish, remove, admit, new, standing, standingOf, standingValues, commonOf, commonValues};
 ghost use Rattle.rules.specs.Tables.{encode, model};
 ghost use Rattle.rules.specs.Invariants.{Still};
 ghost use Rattle.table.specs.Valid.{Formed, Valid};
-ghost use Rattle.table.specs.Outcomes.{outcome, unchangedIn, timeNumber, pastEnd, phaseNumber, leaving};
+ghost use Rattle.table.specs.Outcomes.{outcome, unchangedIn, Found, timeNumber, pastEnd, phaseNumber, leaving};
 
 mod claims;
 mod granting;
 mod packing;
 mod placing;
 
+use groups::MaybeGroup;
 use rules::Claim;
+use rules::Common;
 use rules::Phase;
 use rules::Reply;
 use rules::Request;
@@ -107,6 +109,44 @@ pub fn lookup(t: Table, ticket: u16) -> Standing
         i += 1;
     }
     Standing::NotPending
+}
+
+// The place of the claim of a ticket; that of no claim, the count, where it is not pending. Cost: one pass at most.
+fn find(t: Table, ticket: u16) -> usize
+    requires { ⌜ Valid t ⌝ }
+    ensures { λ r. ⌜ Found t ticket r ⌝ }
+{
+    let count = t.count;
+    let mut i: usize = 0;
+    while i < count {
+        let c = t.claims[i];
+        if c.ticket == ticket {
+            return i;
+        }
+        i += 1;
+    }
+    count
+}
+
+// Which group the claims of two tickets share: 8 if either is not pending. Cost: two passes at most.
+pub fn common(t: Table, first: u16, second: u16) -> Common
+    requires { ⌜ Valid t ⌝ }
+    ensures { λ r. ⌜ (r ≡ commonOf first second (model t .pending)) × (commonValues r .number ≡ step (model t) (Call.common first second) .answer .number) ⌝ }
+{
+    let i = find(t, first);
+    let j = find(t, second);
+    if i == t.count {
+        return Common::Unknown;
+    }
+    if j == t.count {
+        return Common::Unknown;
+    }
+    let c = t.claims[i];
+    let d = t.claims[j];
+    match groups::common(c.groups, d.groups) {
+        MaybeGroup::Group(g) => Common::Shared(g),
+        MaybeGroup::NoGroup => Common::Apart,
+    }
 }
 
 // ── the parts of a call ──

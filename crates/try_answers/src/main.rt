@@ -1,8 +1,9 @@
 // Prints whole answers, for comparison with the second program: for each record of a load on standard input its number, ticket, start,
-// contention and start bound, and then how each pending ticket stands. A listing prints less.
-ghost use Prim.Native.Nat.{_≤_};
+// contention and start bound, then how each pending ticket stands, and which group two of them share. A listing prints less.
+ghost use Prim.Native.Nat.{_≤_, _<_};
 ghost use Rattle.table.specs.Valid.{Valid};
 use load::Item;
+use rules::Common;
 use rules::Standing;
 use rules::Table;
 use table::Outcome;
@@ -42,6 +43,94 @@ fn put_standings(out: &mut [u8], from: usize, t: Table) -> usize
     n
 }
 
+fn put_common(out: &mut [u8], at: usize, first: u16, second: u16, s: Common) -> usize {
+    let a = numerals::put_bytes(out, at, b"common ");
+    let b = numerals::put_pair(out, a, first as u64, second as u64, 32);
+    match s {
+        Common::Unknown => numerals::put_bytes(out, b, b"unknown\n"),
+        Common::Shared(g) => numerals::put_column(out, b, g as u64, 10),
+        Common::Apart => numerals::put_bytes(out, b, b"none\n"),
+    }
+}
+
+// Whether the claims at two places are asked about: all of a small table; of others each with itself and the next, and the first with all.
+fn asked(count: usize, i: usize, j: usize) -> bool {
+    if count <= 8 {
+        return true;
+    }
+    if i == 0 {
+        return true;
+    }
+    if j < i {
+        return false;
+    }
+    j - i <= 1
+}
+
+fn put_pair(out: &mut [u8], at: usize, t: Table, first: u16, second: u16) -> usize
+    requires { ⌜ Valid t ⌝ }
+{
+    let s = table::common(t, first, second);
+    put_common(out, at, first, second, s)
+}
+
+// The claims at places i and j, where they are pending and asked about.
+fn put_places(out: &mut [u8], at: usize, t: Table, i: usize, j: usize) -> usize
+    requires { ⌜ Valid t × (i < 64) × (j < 64) ⌝ }
+{
+    if t.count <= i {
+        return at;
+    }
+    if t.count <= j {
+        return at;
+    }
+    if asked(t.count, i, j) {
+        let c = t.claims[i];
+        let d = t.claims[j];
+        return put_pair(out, at, t, c.ticket, d.ticket);
+    }
+    at
+}
+
+// The claim at place i with all of them.
+fn put_pairs_of(out: &mut [u8], from: usize, t: Table, i: usize) -> usize
+    requires { ⌜ Valid t × (i < 64) ⌝ }
+{
+    let mut n = from;
+    let mut j: usize = 0;
+    while j < 64 {
+        n = put_places(out, n, t, i, j);
+        j += 1;
+    }
+    n
+}
+
+// A ticket that is never pending, before, after and with itself; then every claim.
+fn put_pairs(out: &mut [u8], t: Table) -> usize
+    requires { ⌜ Valid t ⌝ }
+{
+    let last = t.issued;
+    let a = put_pair(out, 0, t, 0, last);
+    let b = put_pair(out, a, t, last, 0);
+    let mut n = put_pair(out, b, t, 0, 0);
+    let mut i: usize = 0;
+    while i < 64 {
+        n = put_pairs_of(out, n, t, i);
+        i += 1;
+    }
+    n
+}
+
+// At most 193 pairs, a line of 23 bytes for each, go into this room.
+fn print_pairs(t: Table, mut room: [u8; 8192])
+    requires { ⌜ Valid t ⌝ }
+{
+    let n = put_pairs(&mut room, t);
+    if n <= 8192 {
+        io::write_all(1, &room[..n]);
+    }
+}
+
 // A record's lines: at most 64 tickets are pending, so they go into this room.
 fn print(k: u64, o: Outcome, mut room: [u8; 4096])
     requires { ⌜ Valid (o .table) ⌝ }
@@ -66,6 +155,7 @@ fn records(load: &[u8]) {
             Item::Record(call, next) => {
                 let o = listing::act(t, call);
                 print(k, o, [0; 4096]);
+                print_pairs(o.table, [0; 8192]);
                 if k == 1 && o.number != 0 {
                     return;
                 }

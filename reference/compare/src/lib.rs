@@ -3,8 +3,10 @@
 
 use reference::load::Reader;
 use reference::{shrink, text};
+use std::ffi::OsStr;
 use std::io::Write;
 use std::ops::Range;
+use std::os::unix::ffi::OsStrExt;
 use std::path::PathBuf;
 use std::process::{Command, Stdio};
 use std::thread;
@@ -58,7 +60,13 @@ pub fn program(name: &str) -> PathBuf {
 /// What a program writes to standard output and to standard error when it is given these bytes. Behind the latter
 /// comes an exit status other than 0, with which no comparison is good.
 pub fn outputs_of(name: &str, input: &[u8]) -> (Vec<u8>, Vec<u8>) {
+    outputs_with(name, &[], input)
+}
+
+/// The same of a program that is given these arguments, too.
+pub fn outputs_with(name: &str, arguments: &[&[u8]], input: &[u8]) -> (Vec<u8>, Vec<u8>) {
     let mut child = Command::new(program(name))
+        .args(arguments.iter().map(|bytes| OsStr::from_bytes(bytes)))
         .stdin(Stdio::piped())
         .stdout(Stdio::piped())
         .stderr(Stdio::piped())
@@ -135,5 +143,20 @@ pub fn report_text(seed: u64, text: &[u8], differ: impl FnMut(&[u8]) -> bool) ->
     panic!(
         "seed {seed}: differs; shrunk to\n\"{}\"",
         small.escape_ascii()
+    );
+}
+
+/// Fails with the seed and the smallest load and question found on which the two still differ.
+pub fn report_question(
+    seed: u64,
+    load: &[u8],
+    question: &[u8],
+    differ: impl FnMut(&[u8], &[u8]) -> bool,
+) -> ! {
+    let (load, question) = shrink::shrink_question(load, question, differ);
+    panic!(
+        "seed {seed}: differs; shrunk to \"{}\" on\n{}",
+        question.escape_ascii(),
+        shown(&load)
     );
 }

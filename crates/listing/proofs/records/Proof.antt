@@ -49,13 +49,13 @@ records-spec =
     (λ c. turn-start _ _ _ _ (omega arith) (omega arith) (c .new .ensures .0) (c .new .ensures .1))
     (λ c κs. search needs)
     (λ c. search needs)
-    (λ c κs. c .before .before .before .before .loop .inv .valid)
+    (λ c κs. c .before .before .before .before .loop .inv .reached .valid)
     (λ c κs. search needs)
     (λ c κs. search needs)
     (λ c. c .before .before .put-stop .kept .0 ∙ c .before .before .before .before .before .before .before .before .before .before .before .loop .inv .going .size)
     returns
     (λ c κs. let a = c .before .before .before .act .ensures in few-granted _ _ _ (a .0) (a .1))
-    (λ c. let i = c .before .before .before .before .before .before .before .before .before .before .before .loop .inv in omega (arith, i .few, i .inside))
+    (λ c. let i = c .before .before .before .before .before .before .before .before .before .before .before .loop .inv .reached in omega (arith, i .few, i .inside))
     loop-less
     loop-again
     (λ c. search needs)

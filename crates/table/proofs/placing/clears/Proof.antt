@@ -5,7 +5,7 @@ use lib.Dec.{leb}
 use native.Mathlib.Omega.{arith}
 use borrow.Author.Needs.{needs}
 use borrow.Author.Tests.{not-true, not-false, le-leb, lt-leb}
-use Rattle.rules.specs.Claims.{conflicts, endOf}
+use Rattle.rules.specs.Claims.{rival, endOf}
 use Rattle.rules.specs.Placing.{clear}
 use Rattle.table.proofs.placing.clears.Statement.{statement}
 use Rattle.table.proofs.placing.clears.Tie as tie
@@ -13,7 +13,7 @@ use Rattle.table.proofs.placing.clears.Tie as tie
 -- Behind the first two tests, the claim conflicts and ends after s.
 barring : (c : tie.Else2) →
     let a = c .before .before .before .before .args in
-    (conflicts (a .c) (a .w) ≡ true) × (leb (endOf (a .v) (a .c)) (a .s) ≡ false)
+    (rival (a .c) (a .w) ≡ true) × (leb (endOf (a .v) (a .c)) (a .s) ≡ false)
 barring c =
     let z = c .before .before in
     let a = z .before .before .args in

@@ -1,0 +1,21 @@
+-- The line is a part of its buffer.
+use lib.ListN.{length-take}
+use native.Mathlib.Omega.{arith}
+use borrow.Author.Needs.{needs}
+use Rattle.ask.proofs.main.Statement.{statement}
+use Rattle.ask.proofs.main.Tie as tie
+
+slice-aggregate-run : tie.Need-slice-aggregate-run
+slice-aggregate-run c = simp length-take (omega (arith, c .before .before .joined .ensures))
+
+pub main-spec : {M : Type 1} → statement M
+main-spec =
+    tie.close
+    (tie.spec
+    (λ c κs. search needs)
+    (λ c. search needs)
+    (λ c κs. search needs)
+    (λ c. search needs)
+    slice-aggregate-run
+    (λ c κs. search needs)
+    (λ c. search needs))

@@ -1,0 +1,61 @@
+-- The table that a load leaves: its records are run as the listing runs them, up to the load's end or to the record that ends the listing.
+use mathlib.Core.Path.{_≡_}
+use mathlib.Core.List.{List, [], _∷_, _++_}
+use Prim.Native.Nat.{ℕ, zero, suc, _+_}
+use Rattle.rules.specs.Calls.{Model, Step, blank}
+use Rattle.rules.specs.Tables.{encode}
+use Rattle.load.specs.declared.Call.{Call}
+use Rattle.load.specs.Reading.{Walk, walk, openNumber}
+use Rattle.listing.specs.declared.Replayed.{Replayed}
+use Rattle.listing.specs.Lines.{header}
+use Rattle.listing.specs.Text.{stepOf, entryOf, ending, stopOr, listingOf}
+
+-- The table that is left, and the number and the record of the listing's stop: 0 and 0 for a load that is read to its end.
+pub record Replay : Type 0 where
+  pub left : Model
+  pub stop : ℕ
+  pub at : ℕ
+
+abbrev pub stoppedAt : ℕ → ℕ → Model → Replay
+stoppedAt n k m = record { left = m; stop = n; at = k }
+
+-- A replay; or where a number is not 0 table m, stopped by it at record k.
+abbrev pub stoppedOr : ℕ → ℕ → Model → Replay → Replay
+stoppedOr zero k m r = r
+stoppedOr (suc n) k m r = stoppedAt (suc n) k m
+
+-- From record k on, in table m: the records cs, then the stop by what follows them (0: the load ends there). The record that ends the
+-- listing leaves the table as it was before it.
+unfoldable pub replayFrom : ℕ → Model → List Call → ℕ → Replay
+replayFrom k m [] n = stoppedOr n k m (stoppedAt 0 0 m)
+replayFrom k m (c ∷ cs) n =
+    let s = stepOf m c in
+    stoppedOr (ending k (s .answer .number)) k m (replayFrom (k + 1) (s .model) cs n)
+
+unfoldable pub replayIn : ℕ → Model → Walk → Replay
+replayIn k m w = replayFrom k m (w .calls) (w .stop)
+
+-- A load that does not open leaves a table without groups.
+unfoldable pub replayOf : List ℕ → Replay
+replayOf load = stoppedOr (openNumber load) 0 (blank 0) (replayIn 1 (blank 0) (walk load 1))
+
+-- As the code's struct.
+abbrev pub replayed : Replay → Replayed
+replayed r = record { table = encode (r .left); stop = r .stop; at = r .at }
+
+-- ── with the listing ──
+-- The lines of steps, from record k on; and the table after them.
+unfoldable pub entriesFrom : ℕ → List Step → List ℕ
+entriesFrom k [] = []
+entriesFrom k (s ∷ ss) = entryOf k s ++ entriesFrom (k + 1) ss
+
+unfoldable pub modelAfter : Model → List Step → Model
+modelAfter m [] = m
+modelAfter m (s ∷ ss) = modelAfter (s .model) ss
+
+-- The listing of a load is the header, the lines of the steps that were run, and the replay's stop line, if it has a stop; the table left
+-- is that after those steps. (Proved in proofs/Replaying: listing-replayed.)
+pub record ListingReplayed (load : List ℕ) : Type 0 where
+  pub ran : List Step
+  pub lines : listingOf load ≡ header ++ (entriesFrom 1 ran ++ stopOr (replayOf load .stop) (replayOf load .at) [])
+  pub left : replayOf load .left ≡ modelAfter (blank 0) ran

@@ -1,0 +1,174 @@
+-- Laws of what is answered: no text is long, the table that a load leaves is the one asked about, and what goes into a buffer.
+use mathlib.Core.Bool.{Bool, true, false, cond}
+use mathlib.Core.List.{List, [], _∷_, _++_}
+use mathlib.Core.Path.{_≡_, refl, sym, ap, _∙_}
+use Prim.Native.Nat.{ℕ, zero, suc, _+_, _^_, _≤_, _<_}
+use native.Mathlib.Omega.{arith}
+use lib.Dec.{leb}
+use lib.ListN.{length, length-append}
+use Rattle.numerals.specs.Digits.{decimalOf}
+use Rattle.numerals.specs.Laid.{spaceNumber, lentOut, Put}
+use Rattle.numerals.proofs.Laying.{decimal-length, width-small, put-short, put-as, lent-all, lent-none, lent-known}
+use Rattle.rules.specs.declared.Common.{Common as Share}
+use Rattle.rules.specs.declared.Common.the-variants.{Unknown, Shared, Apart}
+use Rattle.rules.specs.declared.Standing.{Standing}
+use Rattle.rules.specs.declared.Standing.the-variants.{NotPending, Waits, Holds}
+use Rattle.rules.specs.Calls.{Model, standingOf, commonOf}
+use Rattle.rules.specs.Tables.{model}
+use Rattle.listing.specs.declared.Replayed.{Replayed}
+use Rattle.listing.specs.Lines.{stopLine}
+use Rattle.listing.specs.Text.{stopOr}
+use Rattle.listing.specs.Replay.{replayOf, replayed}
+use Rattle.listing.proofs.Replaying.{replayed-left}
+use Rattle.listing.proofs.Sizes.{stop-length}
+use Rattle.question.specs.declared.questions.Question.{Question}
+use Rattle.question.specs.declared.questions.Question.the-variants.{Lookup, Common, NoQuestion}
+use Rattle.question.specs.declared.Asked.{Asked}
+use Rattle.question.specs.declared.Asked.the-variants.{Written, NoSuch, NoRoom}
+use Rattle.question.specs.Questions.{questionOf, isQuestion}
+use Rattle.question.specs.Answers.{ticketWord, ticketsWord, andWord, waitsWords, onWords, apartWords, shareWords, worded, standingText, lookupText, ticketsText, absentOf, commonText, sentenceOf, answerOf, textOf, usageText, askedValues, writtenAs, written, askedOf, askedOut}
+
+-- ── lengths ──
+worded-length : (w : List ℕ) (v : ℕ) → length (worded w v) ≤ length w + 20
+unfolding worded
+worded-length w v = omega (arith, length-append w (decimalOf v), decimal-length v, width-small v)
+
+standing-length : (s : Standing) → length (standingText s) ≤ 41
+standing-length NotPending = omega arith
+standing-length (Waits s) = omega (arith, worded-length waitsWords s)
+standing-length (Holds e) = omega (arith, worded-length onWords e)
+
+lookup-length : (k : ℕ) (s : Standing) → length (lookupText k s) ≤ 68
+unfolding lookupText
+lookup-length k s = omega (arith, length-append (worded ticketWord k) (standingText s), worded-length ticketWord k, standing-length s)
+
+tickets-length : (j k : ℕ) → length (ticketsText j k) ≤ 53
+unfolding ticketsText
+tickets-length j k = omega (arith, length-append (worded ticketsWord j) (worded andWord k), worded-length ticketsWord j, worded-length andWord k)
+
+common-length : (j k : ℕ) (s : Standing) (c : Share) → length (commonText j k s c) ≤ 86
+common-length j k s Unknown = omega (arith, lookup-length (absentOf j k s) NotPending)
+common-length j k s (Shared g) = omega (arith, length-append (ticketsText j k) (worded shareWords g), tickets-length j k, worded-length shareWords g)
+common-length j k s Apart = omega (arith, length-append (ticketsText j k) apartWords, tickets-length j k)
+
+sentence-length : (m : Model) (q : Question) → length (sentenceOf m q) ≤ 86
+sentence-length m (Lookup k) = omega (arith, lookup-length k (standingOf k (m .pending)))
+sentence-length m (Common j k) = common-length j k (standingOf j (m .pending)) (commonOf j k (m .pending))
+sentence-length m NoQuestion = omega arith
+
+-- What is printed goes into 134 bytes.
+pub text-length : (load : List ℕ) (q : Question) → length (textOf load q) ≤ 134
+unfolding textOf answerOf
+text-length load q =
+    let r = replayOf load in
+    let a = sentenceOf (r .left) q in
+    omega (arith, length-append (stopOr (r .stop) (r .at) []) (a ++ (10 ∷ [])), length-append a (10 ∷ []), sentence-length (r .left) q, stop-length (r .stop) (r .at) 47 [] (omega arith) (omega arith))
+
+pub usage-length : length usageText ≤ 64
+unfolding usageText
+usage-length = omega arith
+
+-- ── pieces by cases, as the code lays them ──
+module _ {o : List ℕ} {at r : ℕ} {p : List ℕ} where
+  pub standing-is : (s x : Standing) → s ≡ x → Put o at (standingText x) r p → Put o at (standingText s) r p
+  standing-is s x e w = put-as _ _ (ap standingText (sym e)) w
+
+  pub common-is : (j k : ℕ) (s : Standing) (c x : Share) → c ≡ x → Put o at (commonText j k s x) r p → Put o at (commonText j k s c) r p
+  common-is j k s c x e w = put-as _ _ (ap (commonText j k s) (sym e)) w
+
+  pub common-unknown : (j k : ℕ) (s : Standing) (c : Share) → c ≡ Unknown → (n : ℕ) → n ≡ absentOf j k s → Put o at (lookupText n NotPending) r p
+      → Put o at (commonText j k s c) r p
+  common-unknown j k s c e n i w = common-is j k s c Unknown e (put-as _ _ (ap (λ x. lookupText x NotPending) i) w)
+
+  module _ (m : Model) (q : Question) where
+    pub sentence-lookup : (k : ℕ) → q ≡ Lookup k → (s : Standing) → s ≡ standingOf k (m .pending) → Put o at (lookupText k s) r p → Put o at (sentenceOf m q) r p
+    sentence-lookup k e s i w = put-as _ _ (ap (lookupText k) i ∙ ap (sentenceOf m) (sym e)) w
+
+    pub sentence-common : (j k : ℕ) → q ≡ Common j k → (s : Standing) → s ≡ standingOf j (m .pending) → (c : Share) → c ≡ commonOf j k (m .pending)
+        → Put o at (commonText j k s c) r p → Put o at (sentenceOf m q) r p
+    sentence-common j k e s i c l w =
+        put-as _ _ (ap (λ x. commonText j k x c) i ∙ ap (commonText j k (standingOf j (m .pending))) l ∙ ap (sentenceOf m) (sym e)) w
+
+    pub sentence-none : q ≡ NoQuestion → Put o at [] r p → Put o at (sentenceOf m q) r p
+    sentence-none e w = put-as _ _ (ap (sentenceOf m) (sym e)) w
+
+  pub stop-none : (n k : ℕ) → n ≡ 0 → Put o at [] r p → Put o at (stopOr n k []) r p
+  stop-none zero k e w = w
+  stop-none (suc n) k e w = absurd (omega arith)
+
+  pub stop-some : (n k : ℕ) → (n ≡ 0 → ⊥) → Put o at (stopLine n k) r p → Put o at (stopOr n k []) r p
+  stop-some zero k e w = absurd (e refl)
+  stop-some (suc n) k e w = w
+
+-- ── what is printed for a load, from what the code has of it ──
+pub text-is : (load : List ℕ) (q : Question) (r : Replayed) → r ≡ replayed (replayOf load)
+    → stopOr (r .stop) (r .at) [] ++ answerOf (model (r .table)) q ≡ textOf load q
+unfolding textOf
+text-is load q r e =
+    ap (λ (x : Replayed). stopOr (x .stop) (x .at) [] ++ answerOf (model (r .table)) q) e
+    ∙ ap (λ (m : Model). stopOr (replayOf load .stop) (replayOf load .at) [] ++ answerOf m q) (replayed-left r (replayOf load) e)
+
+-- ── a lent buffer ──
+module _ (text out : List ℕ) where
+  pub written-none : length out < length text → (NoRoom ≡ written text out) × (out ≡ lentOut text out)
+  unfolding written
+  written-none h = let l = lent-none text out h in (rw (l .0), l .1)
+
+  pub written-all : (p : List ℕ) (r : ℕ) → length text < 2 ^ 64 → length text ≤ length out → Put out 0 text r p → (Written r ≡ written text out) × (p ≡ lentOut text out)
+  unfolding written
+  written-all p r s h w =
+      let e = put-short s w in
+      let l = lent-all text out p h (e .1) in
+      (rw (l .0) (ap Written (e .0)), l .1)
+
+  -- The number of what is answered is document 01's.
+  pub written-number : askedValues (written text out) .number ≡ spaceNumber text out
+  unfolding written spaceNumber
+  written-number = go (leb (length text) (length out))
+    where
+      go : (b : Bool) → askedValues (writtenAs (cond b 0 15) (length text)) .number ≡ cond b 0 15
+      go true = refl
+      go false = refl
+
+-- A count that is answered is one of the buffer.
+written-count : (k m n : ℕ) → writtenAs k m ≡ Written n → (k ≡ 0) × (m ≡ n)
+written-count zero m n e = (refl, cc)
+written-count (suc k) m n e = let z : _≡_ {A = ℕ} 0 1 = cc in absurd (omega arith)
+
+pub written-within : (text out : List ℕ) (n : ℕ) → written text out ≡ Written n → n ≤ length out
+unfolding written
+written-within text out n e =
+    let a = written-count (spaceNumber text out) (length text) n e in
+    omega (arith, a .1, lent-known text out (a .0) .0)
+
+-- ── a call ──
+module _ (load line out : List ℕ) (q : Question) (i : q ≡ questionOf line) where
+  pub asked-none : isQuestion q ≡ false → (NoSuch ≡ askedOf load line out) × (out ≡ askedOut load line out)
+  unfolding askedOf askedOut
+  asked-none e = rw (sym i, e) (refl, refl)
+
+  asked-some : isQuestion q ≡ true → (a : Asked) (p : List ℕ) → (a ≡ written (textOf load q) out) × (p ≡ lentOut (textOf load q) out)
+      → (a ≡ askedOf load line out) × (p ≡ askedOut load line out)
+  unfolding askedOf askedOut
+  asked-some e a p w = rw (sym i, e) w
+
+  module _ (e : isQuestion q ≡ true) (l : Replayed) (j : l ≡ replayed (replayOf load)) (scrap used : List ℕ) (n : ℕ)
+      (c : Put scrap 0 (stopOr (l .stop) (l .at) [] ++ answerOf (model (l .table)) q) n used) where
+    counted : n ≡ length (textOf load q)
+    counted = put-short (omega (arith, text-length load q)) (put-as _ _ (text-is load q l j) c) .0
+
+    pub asked-short : length out < n → (NoRoom ≡ askedOf load line out) × (out ≡ askedOut load line out)
+    asked-short h = asked-some e _ _ (written-none (textOf load q) out (omega (arith, counted)))
+
+    pub asked-all : n ≤ length out → (r : ℕ) (p : List ℕ) → Put out 0 (stopOr (l .stop) (l .at) [] ++ answerOf (model (l .table)) q) r p
+        → (Written r ≡ askedOf load line out) × (p ≡ askedOut load line out)
+    asked-all h r p w =
+        asked-some e _ _ (written-all (textOf load q) out p r (omega (arith, text-length load q)) (omega (arith, counted)) (put-as _ _ (text-is load q l j) w))
+
+pub asked-within : (load line out : List ℕ) (n : ℕ) → askedOf load line out ≡ Written n → n ≤ length out
+unfolding askedOf
+asked-within load line out n e = go (isQuestion (questionOf line)) e
+  where
+    go : (b : Bool) → cond b (written (textOf load (questionOf line)) out) NoSuch ≡ Written n → n ≤ length out
+    go true e = written-within (textOf load (questionOf line)) out n e
+    go false e = let z : _≡_ {A = ℕ} 0 1 = cc in absurd (omega arith)

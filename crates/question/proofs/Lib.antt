@@ -1,0 +1,4 @@
+pub mod Absent
+pub mod AllSamples
+pub mod Answers
+pub mod Asking

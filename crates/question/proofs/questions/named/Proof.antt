@@ -1,0 +1,26 @@
+-- `questions::named` meets its contract: the name is one of the questions, or not.
+use mathlib.Core.Path.{sym, _∙_}
+use Rattle.load_text.proofs.Tables.{word-test}
+use Rattle.question.proofs.Asking.{named-lookup, named-common, named-none}
+use borrow.Author.Needs.{needs}
+use Rattle.question.proofs.questions.named.Statement.{statement}
+use Rattle.question.proofs.questions.named.Tie as tie
+
+returns : tie.Need-returns
+returns c = c .lookup-of .ensures ∙ named-lookup _ _ (word-test _ _ _ (c .before .before .same .ensures) ∙ c .before .if1 .taken)
+
+returns-2 : tie.Need-returns-2
+returns-2 c =
+    let i = c .before in
+    let l = i .before .before .before in
+    c .common-of .ensures ∙ named-common _ _ (word-test _ _ _ (l .before .same .ensures) ∙ l .if1 .left) (word-test _ _ _ (i .before .same2 .ensures) ∙ i .if2 .taken)
+
+returns-3 : tie.Need-returns-3
+returns-3 c =
+    let l = c .before .before .before in
+    named-none _ _ (word-test _ _ _ (l .before .same .ensures) ∙ l .if1 .left) (word-test _ _ _ (c .before .same2 .ensures) ∙ c .if2 .left)
+
+pub named-spec : {M : Type 1} → statement M
+named-spec =
+    tie.close
+    (tie.spec (λ c. search needs) (λ c κs. search needs) (λ c κs. search needs) returns (λ c. search needs) (λ c κs. search needs) (λ c κs. search needs) returns-2 returns-3)

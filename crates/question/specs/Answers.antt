@@ -1,0 +1,142 @@
+-- What is answered: the text for a table and a question, the whole text for a load, and the answer and the lent buffer of a call.
+-- Bytes are ASCII: 10 is a line feed, 32 a space.
+use mathlib.Core.Bool.{cond}
+use mathlib.Core.List.{List, [], _∷_, _++_}
+use mathlib.Core.Path.{_≡_}
+use Prim.Native.Nat.{ℕ, zero, suc}
+use lib.ListN.{length}
+use Rattle.numbers.specs.Numbers.{noSpaceNumber}
+use Rattle.numerals.specs.Digits.{decimalOf}
+use Rattle.numerals.specs.Laid.{spaceNumber, lentOut}
+use Rattle.rules.specs.declared.Claim.{Claim}
+use Rattle.rules.specs.declared.Standing.{Standing}
+use Rattle.rules.specs.declared.Standing.the-variants.{NotPending, Waits, Holds}
+use Rattle.rules.specs.declared.Common.{Common as Share}
+use Rattle.rules.specs.declared.Common.the-variants.{Unknown, Shared, Apart}
+use Rattle.rules.specs.Calls.{Model, standingOf, commonOf}
+use Rattle.listing.specs.Text.{stopOr}
+use Rattle.listing.specs.Replay.{replayOf}
+use Rattle.question.specs.declared.questions.Question.{Question}
+use Rattle.question.specs.declared.questions.Question.the-variants.{Lookup, Common, NoQuestion}
+use Rattle.question.specs.declared.Asked.{Asked}
+use Rattle.question.specs.declared.Asked.the-variants.{Written, NoSuch, NoRoom}
+use Rattle.question.specs.Questions.{questionOf, isQuestion}
+
+-- ── words ──
+-- "ticket "
+abbrev pub ticketWord : List ℕ
+ticketWord = 116 ∷ 105 ∷ 99 ∷ 107 ∷ 101 ∷ 116 ∷ 32 ∷ []
+
+-- "tickets "
+abbrev pub ticketsWord : List ℕ
+ticketsWord = 116 ∷ 105 ∷ 99 ∷ 107 ∷ 101 ∷ 116 ∷ 115 ∷ 32 ∷ []
+
+-- " and "
+abbrev pub andWord : List ℕ
+andWord = 32 ∷ 97 ∷ 110 ∷ 100 ∷ 32 ∷ []
+
+-- " waits, start "
+abbrev pub waitsWords : List ℕ
+waitsWords = 32 ∷ 119 ∷ 97 ∷ 105 ∷ 116 ∷ 115 ∷ 44 ∷ 32 ∷ 115 ∷ 116 ∷ 97 ∷ 114 ∷ 116 ∷ 32 ∷ []
+
+-- " is on, promised end "
+abbrev pub onWords : List ℕ
+onWords = 32 ∷ 105 ∷ 115 ∷ 32 ∷ 111 ∷ 110 ∷ 44 ∷ 32 ∷ 112 ∷ 114 ∷ 111 ∷ 109 ∷ 105 ∷ 115 ∷ 101 ∷ 100 ∷ 32 ∷ 101 ∷ 110 ∷ 100 ∷ 32 ∷ []
+
+-- " is not pending"
+abbrev pub notPendingWords : List ℕ
+notPendingWords = 32 ∷ 105 ∷ 115 ∷ 32 ∷ 110 ∷ 111 ∷ 116 ∷ 32 ∷ 112 ∷ 101 ∷ 110 ∷ 100 ∷ 105 ∷ 110 ∷ 103 ∷ []
+
+-- " share group "
+abbrev pub shareWords : List ℕ
+shareWords = 32 ∷ 115 ∷ 104 ∷ 97 ∷ 114 ∷ 101 ∷ 32 ∷ 103 ∷ 114 ∷ 111 ∷ 117 ∷ 112 ∷ 32 ∷ []
+
+-- " share no group"
+abbrev pub apartWords : List ℕ
+apartWords = 32 ∷ 115 ∷ 104 ∷ 97 ∷ 114 ∷ 101 ∷ 32 ∷ 110 ∷ 111 ∷ 32 ∷ 103 ∷ 114 ∷ 111 ∷ 117 ∷ 112 ∷ []
+
+-- Words, and a number after them.
+unfoldable pub worded : List ℕ → ℕ → List ℕ
+worded words v = words ++ decimalOf v
+
+-- ── lookup ──
+-- "ticket K waits, start S", "ticket K is on, promised end E", "ticket K is not pending"
+abbrev pub standingText : Standing → List ℕ
+standingText NotPending = notPendingWords
+standingText (Waits s) = worded waitsWords s
+standingText (Holds e) = worded onWords e
+
+unfoldable pub lookupText : ℕ → Standing → List ℕ
+lookupText k s = worded ticketWord k ++ standingText s
+
+-- ── common ──
+-- The first of two tickets that is not pending, by how the first stands, where one of them is not.
+abbrev pub absentOf : ℕ → ℕ → Standing → ℕ
+absentOf j k NotPending = j
+absentOf j k (Waits s) = k
+absentOf j k (Holds e) = k
+
+-- It is not pending. (Proved in proofs/Absent: named-absent.)
+abbrev pub NamedAbsent : Type 0
+NamedAbsent = (j k : ℕ) (ps : List Claim) → commonOf j k ps ≡ Unknown → standingOf (absentOf j k (standingOf j ps)) ps ≡ NotPending
+
+-- "tickets J and K share group G", "tickets J and K share no group", or "ticket K is not pending" of the first that is not
+unfoldable pub ticketsText : ℕ → ℕ → List ℕ
+ticketsText j k = worded ticketsWord j ++ worded andWord k
+
+abbrev pub commonText : ℕ → ℕ → Standing → Share → List ℕ
+commonText j k s Unknown = lookupText (absentOf j k s) NotPending
+commonText j k s (Shared g) = ticketsText j k ++ worded shareWords g
+commonText j k s Apart = ticketsText j k ++ apartWords
+
+-- ── the answers ──
+abbrev pub sentenceOf : Model → Question → List ℕ
+sentenceOf m (Lookup k) = lookupText k (standingOf k (m .pending))
+sentenceOf m (Common j k) = commonText j k (standingOf j (m .pending)) (commonOf j k (m .pending))
+sentenceOf m NoQuestion = []
+
+unfoldable pub answerOf : Model → Question → List ℕ
+answerOf m q = sentenceOf m q ++ (10 ∷ [])
+
+-- What is printed for a load: the listing's stop line if the load ends early, then the answer for the table that it leaves.
+unfoldable pub textOf : List ℕ → Question → List ℕ
+textOf load q = let r = replayOf load in stopOr (r .stop) (r .at) [] ++ answerOf (r .left) q
+
+-- The questions there are, for who asks another: a line here for each.
+unfoldable pub usageText : List ℕ
+usageText =
+    -- "no such question; ask lookup TICKET"
+    ((110 ∷ 111 ∷ 32 ∷ 115 ∷ 117 ∷ 99 ∷ 104 ∷ 32 ∷ 113 ∷ 117 ∷ 101 ∷ 115 ∷ 116 ∷ 105 ∷ 111 ∷ 110 ∷ 59 ∷ 32 ∷ 97 ∷ 115 ∷ 107 ∷ 32 ∷ 108 ∷ 111 ∷ 111 ∷ 107 ∷ 117 ∷ 112 ∷ 32 ∷ 84 ∷ 73 ∷ 67 ∷ 75 ∷ 69 ∷ 84 ∷ [])
+    -- " or ask common TICKET TICKET"
+    ++ (32 ∷ 111 ∷ 114 ∷ 32 ∷ 97 ∷ 115 ∷ 107 ∷ 32 ∷ 99 ∷ 111 ∷ 109 ∷ 109 ∷ 111 ∷ 110 ∷ 32 ∷ 84 ∷ 73 ∷ 67 ∷ 75 ∷ 69 ∷ 84 ∷ 32 ∷ 84 ∷ 73 ∷ 67 ∷ 75 ∷ 69 ∷ 84 ∷ []))
+    ++ (10 ∷ [])
+
+-- ── a call ──
+-- The cases of `Asked` by their number and the count of bytes: 201 is a line that asks no question, no number of document 01 and no reason
+-- of a line of a show.
+pub record AskedValues : Type 0 where
+  pub number : ℕ
+  pub bytes : ℕ
+
+abbrev pub noSuchNumber : ℕ
+noSuchNumber = 201
+
+abbrev pub askedValues : Asked → AskedValues
+askedValues (Written n) = record { number = 0; bytes = n }
+askedValues NoSuch = record { number = noSuchNumber; bytes = 0 }
+askedValues NoRoom = record { number = noSpaceNumber; bytes = 0 }
+
+-- A text that goes into the buffer, or not.
+abbrev pub writtenAs : ℕ → ℕ → Asked
+writtenAs zero n = Written n
+writtenAs (suc k) n = NoRoom
+
+unfoldable pub written : List ℕ → List ℕ → Asked
+written text out = writtenAs (spaceNumber text out) (length text)
+
+-- The answer to a line, and the buffer after it.
+unfoldable pub askedOf : List ℕ → List ℕ → List ℕ → Asked
+askedOf load line out = let q = questionOf line in cond (isQuestion q) (written (textOf load q) out) NoSuch
+
+unfoldable pub askedOut : List ℕ → List ℕ → List ℕ → List ℕ
+askedOut load line out = let q = questionOf line in cond (isQuestion q) (lentOut (textOf load q) out) out

@@ -1,0 +1,51 @@
+// Questions about the table that a load leaves: `answer` has the text for a load and a line that asks, `usage` the questions there are. No
+// public function asks anything of its slices. What a line asks is defined in specs/Questions.antt, what is answered in specs/Answers.antt.
+ghost use mathlib.Core.Path.{_≡_};
+ghost use Rattle.numerals.specs.Laid.{lentOut};
+ghost use Rattle.question.specs.Answers.{askedOf, askedOut, usageText, written};
+
+mod questions;
+mod sentences;
+
+pub use questions::Question;
+pub use questions::is_question;
+pub use questions::question_of;
+
+// The count of bytes at the start of a lent buffer; or the line asks no question; or the text does not go in (15).
+pub enum Asked {
+    Written(usize),
+    NoSuch,
+    NoRoom,
+}
+
+// The answer to a line about the table that a load leaves, at the start of a lent buffer: at most 134 bytes.
+// Cost: one call of the table for each record, and the answer is counted first.
+pub fn answer(load: &[u8], line: &[u8], out: &mut [u8]) -> Asked
+    ensures answer { λ r. ⌜ r ≡ askedOf (now (load .entry)) (now (line .entry)) (now (out .entry)) ⌝ }
+    ensures buffer { λ _. ⌜ now (out .exit) ≡ askedOut (now (load .entry)) (now (line .entry)) (now (out .entry)) ⌝ }
+{
+    let q = question_of(line);
+    if !is_question(q) {
+        return Asked::NoSuch;
+    }
+    let left = listing::replay(load);
+    let mut scrap = [0u8; 1];
+    if out.len() < sentences::put_text(&mut scrap, left, q) {
+        return Asked::NoRoom;
+    }
+    let n = sentences::put_text(out, left, q);
+    Asked::Written(n)
+}
+
+// The questions there are, as a line at the start of a lent buffer.
+pub fn usage(out: &mut [u8]) -> Asked
+    ensures answer { λ r. ⌜ r ≡ written usageText (now (out .entry)) ⌝ }
+    ensures buffer { λ _. ⌜ now (out .exit) ≡ lentOut usageText (now (out .entry)) ⌝ }
+{
+    let mut scrap = [0u8; 1];
+    if out.len() < sentences::put_usage(&mut scrap) {
+        return Asked::NoRoom;
+    }
+    let n = sentences::put_usage(out);
+    Asked::Written(n)
+}

@@ -1,0 +1,123 @@
+// The questions, and which of them a line asks. What a line asks is defined in specs/Questions.antt.
+ghost use mathlib.Core.Path.{_≡_};
+ghost use lib.ListN.{drop};
+ghost use Rattle.load_text.specs.Parsing.{wordsIn};
+ghost use Rattle.question.specs.declared.questions.Numbers.the-variants.{Empty};
+ghost use Rattle.question.specs.Questions.{andNumber, andValue, commonOf, isQuestion, lookupOf, numberOf, numbersIn, questionNamed, questionOf};
+use load_text::words;
+use load_text::words::Field;
+
+// A question: how a ticket stands, which group two tickets share, or none that there is.
+pub enum Question {
+    Lookup(u16),
+    Common(u16, u16),
+    NoQuestion,
+}
+
+// The numbers behind a question's name: none, one, two, or not such numbers.
+pub enum Numbers {
+    Empty,
+    One(u16),
+    Two(u16, u16),
+    Bad,
+}
+
+// ---- the numbers of a question
+fn and_value(p: Numbers, k: u16) -> Numbers
+    ensures { λ r. ⌜ r ≡ andValue p k ⌝ }
+{
+    match p {
+        Numbers::Empty => Numbers::One(k),
+        Numbers::One(j) => Numbers::Two(j, k),
+        Numbers::Two(_i, _j) => Numbers::Bad,
+        Numbers::Bad => Numbers::Bad,
+    }
+}
+
+// Numbers, and that of a word more.
+fn and_number(p: Numbers, word: &[u8]) -> Numbers
+    ensures { λ r. ⌜ r ≡ andNumber p (numberOf (now (word .entry))) ⌝ }
+{
+    match words::number(word, 10, 65535, 0, 0) {
+        Field::Value(v) => and_value(p, v as u16),
+        Field::Wrong(_n) => Numbers::Bad,
+    }
+}
+
+// The numbers of the words from a place on.
+fn numbers_at(line: &[u8], from: usize) -> Numbers
+    ensures { λ r. ⌜ r ≡ numbersIn Empty (wordsIn (drop from (now (line .entry)))) ⌝ }
+{
+    let mut p = Numbers::Empty;
+    let mut at = from;
+    loop {
+        let w = words::next_word(line, at);
+        if w.to <= w.from {
+            return p;
+        }
+        let start = w.from;
+        let end = w.to;
+        p = and_number(p, &line[start..end]);
+        at = end;
+    }
+}
+
+// ---- the questions by name
+fn lookup_of(p: Numbers) -> Question
+    ensures { λ r. ⌜ r ≡ lookupOf p ⌝ }
+{
+    match p {
+        Numbers::Empty => Question::NoQuestion,
+        Numbers::One(k) => Question::Lookup(k),
+        Numbers::Two(_j, _k) => Question::NoQuestion,
+        Numbers::Bad => Question::NoQuestion,
+    }
+}
+
+fn common_of(p: Numbers) -> Question
+    ensures { λ r. ⌜ r ≡ commonOf p ⌝ }
+{
+    match p {
+        Numbers::Empty => Question::NoQuestion,
+        Numbers::One(_k) => Question::NoQuestion,
+        Numbers::Two(j, k) => Question::Common(j, k),
+        Numbers::Bad => Question::NoQuestion,
+    }
+}
+
+fn named(name: &[u8], p: Numbers) -> Question
+    ensures { λ r. ⌜ r ≡ questionNamed (now (name .entry)) p ⌝ }
+{
+    if check::same(name, b"lookup") {
+        return lookup_of(p);
+    }
+    if check::same(name, b"common") {
+        return common_of(p);
+    }
+    Question::NoQuestion
+}
+
+// ---- a line
+// The question that a line asks, without its line feed.
+pub fn question_of(line: &[u8]) -> Question
+    ensures { λ r. ⌜ r ≡ questionOf (now (line .entry)) ⌝ }
+{
+    let w = words::next_word(line, 0);
+    if w.to <= w.from {
+        return Question::NoQuestion;
+    }
+    let from = w.from;
+    let to = w.to;
+    let p = numbers_at(line, to);
+    named(&line[from..to], p)
+}
+
+pub fn is_question(q: Question) -> bool
+    ensures { λ r. ⌜ r ≡ isQuestion q ⌝ }
+{
+    match q {
+        Question::Lookup(_k) => true,
+        Question::Common(_j, _k) => true,
+        Question::NoQuestion => false,
+    }
+}

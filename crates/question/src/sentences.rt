@@ -1,0 +1,134 @@
+// The answers as text, laid over a buffer from a place on as far as that goes; each answers the place after it. Their texts are defined in
+// specs/Answers.antt.
+ghost use mathlib.Core.Path.{_≡_};
+ghost use mathlib.Core.List.{[], _∷_, _++_};
+ghost use Rattle.numerals.specs.Laid.{Put};
+ghost use Rattle.rules.specs.Tables.{model};
+ghost use Rattle.table.specs.Valid.{Valid};
+ghost use Rattle.listing.specs.Text.{stopOr};
+ghost use Rattle.question.specs.Answers.{absentOf, answerOf, commonText, lookupText, sentenceOf, standingText, ticketsText, usageText, worded};
+use crate::questions::Question;
+use listing::Replayed;
+use rules::Common;
+use rules::Standing;
+use rules::Table;
+
+fn put_number(out: &mut [u8], at: usize, words: &[u8], v: u64) -> usize
+    ensures { λ r. ⌜ Put (now (out .entry)) at (worded (now (words .entry)) v) r (now (out .exit)) ⌝ }
+{
+    let m = numerals::put_bytes(out, at, words);
+    numerals::put_decimal(out, m, v)
+}
+
+// ---- lookup
+fn put_standing(out: &mut [u8], at: usize, s: Standing) -> usize
+    ensures { λ r. ⌜ Put (now (out .entry)) at (standingText s) r (now (out .exit)) ⌝ }
+{
+    match s {
+        Standing::NotPending => numerals::put_bytes(out, at, b" is not pending"),
+        Standing::Waits(start) => put_number(out, at, b" waits, start ", start),
+        Standing::Holds(end) => put_number(out, at, b" is on, promised end ", end),
+    }
+}
+
+fn put_lookup(out: &mut [u8], at: usize, ticket: u16, s: Standing) -> usize
+    ensures { λ r. ⌜ Put (now (out .entry)) at (lookupText ticket s) r (now (out .exit)) ⌝ }
+{
+    let m = put_number(out, at, b"ticket ", ticket as u64);
+    put_standing(out, m, s)
+}
+
+// ---- common
+fn put_tickets(out: &mut [u8], at: usize, first: u16, second: u16) -> usize
+    ensures { λ r. ⌜ Put (now (out .entry)) at (ticketsText first second) r (now (out .exit)) ⌝ }
+{
+    let m = put_number(out, at, b"tickets ", first as u64);
+    put_number(out, m, b" and ", second as u64)
+}
+
+// The first of two tickets that is not pending, by how the first stands.
+fn absent(first: u16, second: u16, s: Standing) -> u16
+    ensures { λ r. ⌜ r ≡ absentOf first second s ⌝ }
+{
+    match s {
+        Standing::NotPending => first,
+        Standing::Waits(_s) => second,
+        Standing::Holds(_e) => second,
+    }
+}
+
+fn put_common(out: &mut [u8], at: usize, first: u16, second: u16, s: Standing, c: Common) -> usize
+    ensures { λ r. ⌜ Put (now (out .entry)) at (commonText first second s c) r (now (out .exit)) ⌝ }
+{
+    match c {
+        Common::Unknown => {
+            let ticket = absent(first, second, s);
+            put_lookup(out, at, ticket, Standing::NotPending)
+        }
+        Common::Shared(group) => {
+            let m = put_tickets(out, at, first, second);
+            put_number(out, m, b" share group ", group as u64)
+        }
+        Common::Apart => {
+            let m = put_tickets(out, at, first, second);
+            numerals::put_bytes(out, m, b" share no group")
+        }
+    }
+}
+
+// ---- the answers
+fn put_sentence(out: &mut [u8], at: usize, t: Table, q: Question) -> usize
+    requires { ⌜ Valid t ⌝ }
+    ensures { λ r. ⌜ Put (now (out .entry)) at (sentenceOf (model t) q) r (now (out .exit)) ⌝ }
+{
+    match q {
+        Question::Lookup(ticket) => {
+            let s = table::lookup(t, ticket);
+            put_lookup(out, at, ticket, s)
+        }
+        Question::Common(first, second) => {
+            let s = table::lookup(t, first);
+            let c = table::common(t, first, second);
+            put_common(out, at, first, second, s, c)
+        }
+        Question::NoQuestion => numerals::put_bytes(out, at, b""),
+    }
+}
+
+// The sentence and a line feed.
+fn put_answer(out: &mut [u8], at: usize, t: Table, q: Question) -> usize
+    requires { ⌜ Valid t ⌝ }
+    ensures { λ r. ⌜ Put (now (out .entry)) at (answerOf (model t) q) r (now (out .exit)) ⌝ }
+{
+    let m = put_sentence(out, at, t, q);
+    numerals::put_byte(out, m, 10)
+}
+
+// The listing's stop line, for a number that is not 0.
+fn put_stop(out: &mut [u8], stop: u8, at: u64) -> usize
+    ensures { λ r. ⌜ Put (now (out .entry)) 0 (stopOr stop at []) r (now (out .exit)) ⌝ }
+{
+    if stop == 0 {
+        return numerals::put_bytes(out, 0, b"");
+    }
+    listing::put_stop(out, 0, stop, at)
+}
+
+// What is printed for a load, from what it leaves.
+pub(crate) fn put_text(out: &mut [u8], left: Replayed, q: Question) -> usize
+    requires { ⌜ Valid (left .table) ⌝ }
+    ensures { λ r. ⌜ Put (now (out .entry)) 0 (stopOr (left .stop) (left .at) [] ++ answerOf (model (left .table)) q) r (now (out .exit)) ⌝ }
+{
+    let m = put_stop(out, left.stop, left.at);
+    let t = left.table;
+    put_answer(out, m, t, q)
+}
+
+// The questions there are.
+pub(crate) fn put_usage(out: &mut [u8]) -> usize
+    ensures { λ r. ⌜ Put (now (out .entry)) 0 usageText r (now (out .exit)) ⌝ }
+{
+    let a = numerals::put_bytes(out, 0, b"no such question; ask lookup TICKET");
+    let b = numerals::put_bytes(out, a, b" or ask common TICKET TICKET");
+    numerals::put_byte(out, b, 10)
+}

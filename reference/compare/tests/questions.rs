@@ -1,0 +1,179 @@
+//! The proved program `ask` against the reference: answers and messages, byte for byte.
+
+use compare::{outputs_with, report_question, seeds};
+use reference::ask::{ask, left, MAX_QUESTION, WRONG};
+use reference::generate::{self, Prng, Shape};
+use reference::generate_question::{asked_load, question};
+use reference::load::MAX_LOAD;
+use reference::text;
+
+/// The question as arguments: one for each word between single spaces.
+fn differs(load: &[u8], question: &[u8]) -> bool {
+    let arguments: Vec<&[u8]> = question.split(|&byte| byte == b' ').collect();
+    outputs_with("ask", &arguments, load) != ask(question, load)
+}
+
+/// The question as one argument.
+fn differs_whole(load: &[u8], question: &[u8]) -> bool {
+    outputs_with("ask", &[question], load) != ask(question, load)
+}
+
+/// What both write to standard output and to standard error.
+fn agreed(load: &[u8], question: &[u8]) -> (Vec<u8>, Vec<u8>) {
+    if differs(load, question) {
+        report_question(0, load, question, differs);
+    }
+    ask(question, load)
+}
+
+/// The load of a text.
+fn made(text: &str) -> Vec<u8> {
+    text::make(text.as_bytes()).expect("a load's text")
+}
+
+/// S of document 01: three claims at clock 0.
+const S: &str = "rig F\nclaim 0 8 10\nclaim 0 C 10\nclaim 0 6 11\n";
+
+#[test]
+fn generated_questions() {
+    for seed in seeds("COMPARE_QUESTIONS", 2_000) {
+        let load = asked_load(seed);
+        let question = question(&load, seed);
+        let differ = if seed.is_multiple_of(4) {
+            differs_whole
+        } else {
+            differs
+        };
+        if differ(&load, &question) {
+            report_question(seed, &load, &question, differ);
+        }
+    }
+}
+
+#[test]
+fn the_answers() {
+    let plot = made(S);
+    let released = made(&format!("{S}release 4 1\n"));
+    let cut = &plot[..plot.len() - 1];
+    for (load, question, said) in [
+        (&plot[..], "lookup 3", "ticket 3 waits, start 20\n"),
+        (&released, "lookup 2", "ticket 2 is on, promised end 14\n"),
+        (&released, "lookup 1", "ticket 1 is not pending\n"),
+        (&plot, "common 2 3", "tickets 2 and 3 share group 2\n"),
+        (&plot, "common 1 3", "tickets 1 and 3 share no group\n"),
+        (&plot, "common 9 8", "ticket 9 is not pending\n"),
+        (&plot, "common 3 9", "ticket 9 is not pending\n"),
+        (cut, "lookup 2", "stop 12 4\nticket 2 waits, start 10\n"),
+        (cut, "lookup 3", "stop 12 4\nticket 3 is not pending\n"),
+    ] {
+        let expected = (said.as_bytes().to_vec(), Vec::new());
+        assert_eq!(agreed(load, question.as_bytes()), expected, "{question}");
+    }
+    for question in ["", "lookup", "look 3", "lookup 65536", "common 1 2 3"] {
+        let expected = (Vec::new(), WRONG.into());
+        assert_eq!(agreed(&plot, question.as_bytes()), expected, "{question}");
+    }
+    assert_eq!(outputs_with("ask", &[], &plot), (Vec::new(), WRONG.into()));
+}
+
+/// Every ticket and every pair of tickets of a table with claims that wait, are on and have left.
+#[test]
+fn every_pair() {
+    let load = made(&format!(
+        "{S}claim 0 3 20\nrelease 4 1\nclaim 5 F 7\nclaim 5 1 2\nwithdraw 6 6\nclaim 7 9 4\n"
+    ));
+    for first in 0..=8 {
+        agreed(&load, format!("lookup {first}").as_bytes());
+        for second in 0..=8 {
+            agreed(&load, format!("common {first} {second}").as_bytes());
+        }
+    }
+}
+
+/// Pairs of a table that is full or nearly so, on all groups.
+#[test]
+fn full_tables() {
+    for seed in 1..=20 {
+        let mut run = generate::run_of(Shape::Full, seed);
+        run.calls.truncate(70);
+        let load = run.load();
+        let mut prng = Prng::new(seed);
+        for _ in 0..10 {
+            let first = prng.range(0, 66);
+            let second = prng.range(0, 66);
+            agreed(&load, format!("common {first} {second}").as_bytes());
+        }
+    }
+}
+
+/// Each byte but 0, which no argument has, before, between, inside and behind the words.
+#[test]
+fn every_byte_in_every_place() {
+    let load = made(S);
+    for byte in 1..=255 {
+        for line in [
+            &b"?lookup 3"[..],
+            b"lookup?3",
+            b"lookup 3?",
+            b"look?up 3",
+            b"common 2?3",
+            b"common 2 ?3",
+        ] {
+            let line: Vec<u8> = line
+                .iter()
+                .map(|&other| if other == b'?' { byte } else { other })
+                .collect();
+            agreed(&load, &line);
+        }
+    }
+}
+
+/// Zeros in front, or spaces around, up to the greatest length and past it.
+#[test]
+fn questions_of_the_greatest_length() {
+    let load = made(S);
+    for size in [MAX_QUESTION - 1, MAX_QUESTION, MAX_QUESTION + 1, 20_000] {
+        let number = size - "common 2 ".len();
+        for line in [
+            format!("common 2 {:0number$}", 3),
+            format!("{:size$}", "common 2 3"),
+            format!("{:>size$}", "common 2 3"),
+            "x".repeat(size),
+        ] {
+            assert_eq!(line.len(), size);
+            let line = line.as_bytes();
+            if differs_whole(&load, line) {
+                report_question(0, &load, line, differs_whole);
+            }
+        }
+        agreed(&load, format!("common 2 {:0number$}", 3).as_bytes());
+    }
+}
+
+#[test]
+fn loads_of_the_greatest_length() {
+    for size in [MAX_LOAD - 1, MAX_LOAD, MAX_LOAD + 1] {
+        let load = generate::sized_load(1, size).expect("a load of that size");
+        let issued = left(&load).0.issued();
+        for ticket in [0, 1, issued, issued.wrapping_add(1)] {
+            agreed(&load, format!("lookup {ticket}").as_bytes());
+            agreed(&load, format!("common {issued} {ticket}").as_bytes());
+        }
+    }
+    agreed(&vec![1; 3 * MAX_LOAD], b"lookup 1");
+}
+
+/// Loads of a few bytes, and every truncation of a good one.
+#[test]
+fn loads_that_end_early() {
+    for load in [&b""[..], &[1], &[0xFF], &[1, 0], &[1, 0, 0]] {
+        agreed(load, b"lookup 1");
+    }
+    agreed(&made("rig 0\nclaim 0 8 10\n"), b"common 1 1");
+    let plot = made(&format!("{S}release 4 1\nrelease 4 1\nclock 3\n"));
+    let twice = [&plot[..], &plot[1..]].concat();
+    for end in 0..=twice.len() {
+        agreed(&twice[..end], b"lookup 2");
+        agreed(&twice[..end], b"common 2 3");
+    }
+}

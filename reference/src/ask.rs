@@ -1,0 +1,110 @@
+//! A question about the table that a load leaves: how a ticket stands, or
+//! which group two tickets share.
+//!
+//! ```text
+//! lookup TICKET
+//! common TICKET TICKET
+//! ```
+
+use crate::listing::stop;
+use crate::load::{Call, Reader};
+use crate::refusal::Refusal;
+use crate::table::{Common, Lookup, Table};
+use crate::text::number;
+
+/// The most bytes of a question.
+pub const MAX_QUESTION: usize = 4_096;
+/// What is said on standard error of anything but a question.
+pub const WRONG: &str = "no such question; ask lookup TICKET or ask common TICKET TICKET\n";
+
+/// A question.
+#[derive(Clone, Copy, PartialEq, Eq, Debug)]
+pub enum Question {
+    Lookup(u16),
+    Common(u16, u16),
+}
+
+/// What `ask` writes to standard output and to standard error. The question is
+/// its arguments with single spaces between them.
+pub fn ask(question: &[u8], load: &[u8]) -> (Vec<u8>, Vec<u8>) {
+    let Some(question) = read(question) else {
+        return (Vec::new(), WRONG.into());
+    };
+    let (table, end) = left(load);
+    let mut out = String::new();
+    if let Some((refusal, record)) = end {
+        stop(&mut out, refusal, record);
+    }
+    out.push_str(&answer(&table, question));
+    (out.into_bytes(), Vec::new())
+}
+
+/// The question of a line, whose words have spaces or tabs between and around
+/// them.
+pub fn read(line: &[u8]) -> Option<Question> {
+    if line.len() > MAX_QUESTION {
+        return None;
+    }
+    let words: Vec<&[u8]> = line
+        .split(|&byte| byte == b' ' || byte == b'\t')
+        .filter(|word| !word.is_empty())
+        .collect();
+    match words[..] {
+        [b"lookup", one] => Some(Question::Lookup(ticket(one)?)),
+        [b"common", one, other] => Some(Question::Common(ticket(one)?, ticket(other)?)),
+        _ => None,
+    }
+}
+
+/// A ticket in decimal.
+fn ticket(word: &[u8]) -> Option<u16> {
+    u16::try_from(number(word, 10)?).ok()
+}
+
+/// The table that a load leaves, and where the load ends early the number and
+/// the record, as in its listing. Before the rig nothing is pending.
+pub fn left(load: &[u8]) -> (Table, Option<(Refusal, usize)>) {
+    let mut table = Table::new(0).0;
+    let mut reader = match Reader::open(load) {
+        Ok(reader) => reader,
+        Err(refusal) => return (table, Some((refusal, 0))),
+    };
+    let mut record = 0;
+    loop {
+        record += 1;
+        match reader.read() {
+            Ok(None) => return (table, None),
+            Err(refusal) => return (table, Some((refusal, record))),
+            Ok(Some(read)) => match read.call {
+                Call::Rig(0) => return (table, Some((Refusal::NoGroup, record))),
+                Call::Rig(groups) => table = Table::new(groups).0,
+                Call::Timed(call) => {
+                    table.call(call);
+                }
+            },
+        }
+    }
+}
+
+/// The line that answers a question.
+fn answer(table: &Table, question: Question) -> String {
+    match question {
+        Question::Lookup(ticket) => match table.lookup(ticket) {
+            Lookup::Waiting(start) => format!("ticket {ticket} waits, start {start}\n"),
+            Lookup::On(end) => format!("ticket {ticket} is on, promised end {end}\n"),
+            Lookup::Unknown => not_pending(ticket),
+        },
+        Question::Common(first, second) => match table.common(first, second) {
+            Common::Group(group) => {
+                format!("tickets {first} and {second} share group {group}\n")
+            }
+            Common::None => format!("tickets {first} and {second} share no group\n"),
+            Common::Unknown if table.lookup(first) == Lookup::Unknown => not_pending(first),
+            Common::Unknown => not_pending(second),
+        },
+    }
+}
+
+fn not_pending(ticket: u16) -> String {
+    format!("ticket {ticket} is not pending\n")
+}

@@ -1,0 +1,57 @@
+//! Whole answers: the lookups and the pairs after each record.
+
+mod common;
+
+use common::{claim, load_of, release};
+use reference::answers::answers;
+
+fn text(load: &[u8]) -> String {
+    String::from_utf8(answers(load)).expect("lines of words and numbers")
+}
+
+#[test]
+fn pairs_come_behind_the_lookups() {
+    let calls = [claim(0, 0x8, 10), claim(0, 0xC, 10), claim(0, 0x6, 11)];
+    let calls = [&calls[..], &[release(4, 1)]].concat();
+    assert_eq!(
+        text(&load_of(0xF, &calls)),
+        "1 0 0 0 0 0\n\
+         common 0 0 unknown\ncommon 0 0 unknown\ncommon 0 0 unknown\n\
+         2 0 1 0 0 0\nholds 1 10\n\
+         common 0 1 unknown\ncommon 1 0 unknown\ncommon 0 0 unknown\n\
+         common 1 1 3\n\
+         3 0 2 10 1 19\nholds 1 10\nwaits 2 10\n\
+         common 0 2 unknown\ncommon 2 0 unknown\ncommon 0 0 unknown\n\
+         common 1 1 3\ncommon 1 2 3\n\
+         common 2 1 3\ncommon 2 2 2\n\
+         4 0 3 20 1 20\nholds 1 10\nwaits 2 10\nwaits 3 20\n\
+         common 0 3 unknown\ncommon 3 0 unknown\ncommon 0 0 unknown\n\
+         common 1 1 3\ncommon 1 2 3\ncommon 1 3 none\n\
+         common 2 1 3\ncommon 2 2 2\ncommon 2 3 2\n\
+         common 3 1 none\ncommon 3 2 2\ncommon 3 3 1\n\
+         5 0 1 4 0 0\nholds 2 14\nwaits 3 14\n\
+         common 0 3 unknown\ncommon 3 0 unknown\ncommon 0 0 unknown\n\
+         common 2 2 2\ncommon 2 3 2\n\
+         common 3 2 2\ncommon 3 3 1\n"
+    );
+}
+
+#[test]
+fn a_rig_without_groups_has_its_lines() {
+    let unknown = "common 0 0 unknown\n".repeat(3);
+    assert_eq!(text(&load_of(0, &[])), format!("1 1 0 0 0 0\n{unknown}"));
+    assert_eq!(text(&[1]), "");
+    assert_eq!(text(&[]), "");
+}
+
+/// Of up to eight pending claims all pairs; of more those with the first, and
+/// each with itself and the next.
+#[test]
+fn pairs_of_many() {
+    for (pending, pairs) in [(7, 49), (8, 64), (9, 9 + 8 + 7), (64, 64 + 63 + 62)] {
+        let calls: Vec<_> = (0..pending).map(|group| claim(0, 1 << group, 1)).collect();
+        let text = text(&load_of(u64::MAX, &calls));
+        let last = text.rfind("common 0 0 unknown\n").expect("a record");
+        assert_eq!(text[last..].lines().count(), 1 + pairs);
+    }
+}

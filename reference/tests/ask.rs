@@ -1,0 +1,221 @@
+//! Questions about a load.
+
+mod common;
+
+use common::{claim, clock, for_seeds, load_of, release};
+use reference::ask::{ask, left, read, Question, MAX_QUESTION, WRONG};
+use reference::generate_question::{asked_load, question};
+use reference::listing::listing;
+use reference::load::MAX_LOAD;
+use reference::table::{Common, Lookup, Table, TimedCall};
+
+/// S of document 01: three claims at clock 0.
+fn s() -> Vec<TimedCall> {
+    vec![claim(0, 0x8, 10), claim(0, 0xC, 10), claim(0, 0x6, 11)]
+}
+
+/// What is answered to a good question.
+fn answer(load: &[u8], question: &str) -> String {
+    let (out, errors) = ask(question.as_bytes(), load);
+    assert_eq!(errors, b"", "{question}");
+    String::from_utf8(out).expect("plain text")
+}
+
+#[test]
+fn how_a_ticket_stands() {
+    let load = load_of(0xF, &s());
+    for (question, said) in [
+        ("lookup 1", "ticket 1 is on, promised end 10\n"),
+        ("lookup 2", "ticket 2 waits, start 10\n"),
+        ("lookup 3", "ticket 3 waits, start 20\n"),
+        ("lookup 4", "ticket 4 is not pending\n"),
+        ("lookup 0", "ticket 0 is not pending\n"),
+        ("lookup 65535", "ticket 65535 is not pending\n"),
+        ("lookup 0003", "ticket 3 waits, start 20\n"),
+    ] {
+        assert_eq!(answer(&load, question), said);
+    }
+    let load = load_of(0xF, &[s(), vec![release(4, 1)]].concat());
+    for (question, said) in [
+        ("lookup 1", "ticket 1 is not pending\n"),
+        ("lookup 2", "ticket 2 is on, promised end 14\n"),
+        ("lookup 3", "ticket 3 waits, start 14\n"),
+    ] {
+        assert_eq!(answer(&load, question), said);
+    }
+}
+
+#[test]
+fn which_group_two_tickets_share() {
+    let load = load_of(0xF, &s());
+    for (question, said) in [
+        ("common 2 3", "tickets 2 and 3 share group 2\n"),
+        ("common 3 2", "tickets 3 and 2 share group 2\n"),
+        ("common 1 3", "tickets 1 and 3 share no group\n"),
+        ("common 3 3", "tickets 3 and 3 share group 1\n"),
+        ("common 9 3", "ticket 9 is not pending\n"),
+        ("common 3 9", "ticket 9 is not pending\n"),
+        ("common 9 8", "ticket 9 is not pending\n"),
+        ("common 0 0", "ticket 0 is not pending\n"),
+    ] {
+        assert_eq!(answer(&load, question), said);
+    }
+}
+
+#[test]
+fn a_load_that_ends_early_is_said_to() {
+    let plot = load_of(0xF, &s());
+    let cut = &plot[..plot.len() - 1];
+    let second = [&plot[..], &plot[1..]].concat();
+    let nothing = "ticket 1 is not pending\n";
+    for (load, stop, said) in [
+        (&[][..], "stop 12 0\n", nothing),
+        (&[0xFF], "stop 11 0\n", nothing),
+        (&[1; MAX_LOAD + 1], "stop 14 0\n", nothing),
+        (&[1], "", nothing),
+        (&[1, 0], "stop 12 1\n", nothing),
+        (&[1, 0, 0], "stop 13 1\n", nothing),
+        (&load_of(0, &s()), "stop 1 1\n", nothing),
+        (cut, "stop 12 4\n", "ticket 1 is on, promised end 10\n"),
+        (&second, "stop 13 5\n", "ticket 1 is on, promised end 10\n"),
+    ] {
+        assert_eq!(answer(load, "lookup 1"), format!("{stop}{said}"));
+    }
+    assert_eq!(
+        answer(cut, "lookup 3"),
+        "stop 12 4\nticket 3 is not pending\n"
+    );
+    // A refused call ends nothing.
+    let refused = load_of(0xF, &[s(), vec![claim(0, 0x10, 1), release(0, 3)]].concat());
+    assert_eq!(answer(&refused, "lookup 3"), "ticket 3 waits, start 20\n");
+}
+
+#[test]
+fn words_have_spaces_or_tabs_between_and_around_them() {
+    for (line, question) in [
+        ("lookup 3", Question::Lookup(3)),
+        ("\t lookup \t 3  ", Question::Lookup(3)),
+        (
+            "lookup 00000000000000000000000065535",
+            Question::Lookup(65_535),
+        ),
+        ("common\t1\t2", Question::Common(1, 2)),
+        ("  common 0 00", Question::Common(0, 0)),
+    ] {
+        assert_eq!(read(line.as_bytes()), Some(question), "{line:?}");
+    }
+}
+
+#[test]
+fn anything_else_is_no_question() {
+    let load = load_of(0xF, &s());
+    for line in [
+        "",
+        " \t",
+        "lookup",
+        "common",
+        "common 1",
+        "lookup 1 2",
+        "common 1 2 3",
+        "look 1",
+        "LOOKUP 1",
+        "lookup1",
+        "1 lookup",
+        "lookup -1",
+        "lookup +1",
+        "lookup 0x1",
+        "lookup 1,",
+        "lookup 1\n",
+        "lookup\n1",
+        "lookup 1\r",
+        "lookup\u{A0}1",
+        "lookup one",
+        "lookup 65536",
+        "lookup 18446744073709551617",
+        "lookup 340282366920938463463374607431768211457",
+        "common 1 65536",
+        "common 65536 1",
+        "common 1 2 # x",
+    ] {
+        for load in [&load[..], &[]] {
+            let said = ask(line.as_bytes(), load);
+            assert_eq!(said, (Vec::new(), WRONG.into()), "{line:?}");
+        }
+    }
+    assert_eq!(read(b"lookup 1\xFF"), None);
+    let zeros = |count| format!("lookup {}", "0".repeat(count));
+    let most = MAX_QUESTION - "lookup ".len();
+    assert_eq!(read(zeros(most).as_bytes()), Some(Question::Lookup(0)));
+    assert_eq!(read(zeros(most + 1).as_bytes()), None);
+}
+
+/// The early end of a load is that of its listing.
+#[test]
+fn loads_end_as_their_listings_do() {
+    let mut ended = 0;
+    for_seeds(0..400, |seed| {
+        let load = asked_load(seed);
+        let listing = String::from_utf8(listing(&load)).expect("plain text");
+        let last = listing.lines().last().filter(|l| l.starts_with("stop"));
+        let said = answer(&load, "lookup 0");
+        let (stop, rest) = said.split_at(said.find("ticket").expect("an answer"));
+        assert_eq!(last, stop.strip_suffix('\n'));
+        assert_eq!(rest, "ticket 0 is not pending\n");
+        ended += u64::from(last.is_some());
+    });
+    assert!(ended > 60, "{ended}");
+}
+
+#[test]
+fn a_seed_gives_one_question() {
+    for_seeds(0..50, |seed| {
+        let load = asked_load(seed);
+        assert_eq!(load, asked_load(seed));
+        assert_eq!(question(&load, seed), question(&load, seed));
+    });
+}
+
+/// Questions of every kind come, about tickets of every kind.
+#[test]
+fn generated_questions_are_varied() {
+    let (mut wrong, mut on, mut waiting, mut unknown) = (0, 0, 0, 0);
+    let (mut shared, mut none, mut first, mut second) = (0, 0, 0, 0);
+    for_seeds(0..1_000, |seed| {
+        let load = asked_load(seed);
+        let line = question(&load, seed);
+        let table: Table = left(&load).0;
+        match read(&line) {
+            None => wrong += 1,
+            Some(Question::Lookup(ticket)) => match table.lookup(ticket) {
+                Lookup::On(_) => on += 1,
+                Lookup::Waiting(_) => waiting += 1,
+                Lookup::Unknown => unknown += 1,
+            },
+            Some(Question::Common(one, other)) => match table.common(one, other) {
+                Common::Group(_) => shared += 1,
+                Common::None => none += 1,
+                Common::Unknown if table.lookup(one) == Lookup::Unknown => first += 1,
+                Common::Unknown => second += 1,
+            },
+        }
+    });
+    for count in [wrong, on, waiting, unknown, shared, none, first, second] {
+        assert!(
+            count >= 20,
+            "{:?}",
+            [wrong, on, waiting, unknown, shared, none, first, second]
+        );
+    }
+}
+
+/// A clock past every promised end moves starts; the question comes after it.
+#[test]
+fn the_table_is_the_one_that_the_load_leaves() {
+    let load = load_of(0xF, &[s(), vec![clock(12)]].concat());
+    assert_eq!(
+        answer(&load, "lookup 1"),
+        "ticket 1 is on, promised end 10\n"
+    );
+    assert_eq!(answer(&load, "lookup 2"), "ticket 2 waits, start 12\n");
+    assert_eq!(answer(&load, "lookup 3"), "ticket 3 waits, start 22\n");
+}
