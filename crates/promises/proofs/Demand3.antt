@@ -27,6 +27,7 @@ use Rattle.rules.specs.Calls.{Model, settingOf, plain, placing, ruled, Call, cl
 use Rattle.rules.specs.Plans.{Ascending}
 use Rattle.rules.specs.Invariants.{IsSpaced, Invariant}
 use Rattle.rules.proofs.Bools.{split, clash, and-i}
+use Rattle.rules.proofs.Lists.{named-keep}
 use Rattle.rules.proofs.Claims.{end-on}
 use Rattle.rules.proofs.Order.{ascending-same}
 use Rattle.rules.proofs.Packing.{moved-cases, moved-at, moved-phase, pack-no-later}
@@ -38,7 +39,7 @@ use Rattle.rules.proofs.NoOverrun.{NoOverrunAt, no-overrun-no-later}
 use Rattle.rules.proofs.Lookup.{lookup-absent, none-named, lookup-found, one-named, lookup-waits}
 use Rattle.promises.specs.Ledger.{Turn, turns, tableAfter, Entry, promised, Ledger, opening, issues, without, stay, hold, marked, noted, notedAll, ledgerOf, NoOverrun, NoOverruns, NoOverrunIn, ruledBy, remainingOf, rivalsOf, boundOn}
 use Rattle.promises.specs.Demand3.{TicketsAscend, Now, Next, tells, Demand3}
-use Rattle.promises.proofs.Matching.{Match, m-nil, m-cons, match-map, match-left, match-weaken, match-snoc, match-none, match-keep, match-length, match-sum, partner, partner-of, named-keep}
+use Rattle.promises.proofs.Matching.{Match, m-nil, m-cons, match-map, match-left, match-weaken, match-snoc, match-none, match-keep, match-length, match-sum, partner, partner-of}
 
 -- A pending claim and its entry. P: no accepted call so far bore a clock past the promised end of a holder.
 record Tracks (P : Type 0) (c : Claim) (e : Entry) : Type 0 where

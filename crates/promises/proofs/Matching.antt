@@ -2,15 +2,13 @@
 use mathlib.Core.Path.{_≡_, refl, sym, _∙_, ap, subst}
 use mathlib.Core.Logic.{_⊎_, inl, inr}
 use mathlib.Core.Bool.{Bool, true, false, cond}
-use mathlib.Core.List.{List, [], _∷_, _++_, map, List·Memᴰ·head, List·Memᴰ·tail, List·Memᴰ·cases-cons}
+use mathlib.Core.List.{List, [], _∷_, _++_, map, List·Memᴰ·cases-cons}
 use Prim.Native.Nat.{ℕ}
 use native.Mathlib.Omega.{arith}
-use lib.Dec.{eqb}
 use lib.ListN.{length}
-use borrow.Author.Tests.{eqb-true, eq-eqb}
-use Rattle.rules.specs.Lists.{_∈_, sum, any, keep}
-use Rattle.rules.proofs.Bools.{split, clash, or-l, or-r}
-use Rattle.rules.proofs.Lists.{here, there, none, any-some, keep-e, keep-i, map-e}
+use Rattle.rules.specs.Lists.{_∈_, sum, keep}
+use Rattle.rules.proofs.Bools.{clash}
+use Rattle.rules.proofs.Lists.{here, there, none}
 
 module _ {A B : Type 0} where
   -- Two lists of one length, with R between the elements at each place.
@@ -79,25 +77,3 @@ module _ {A B : Type 0} {R : A → B → Type 0} where
       go : (z ≡ x) ⊎ (z ∈ k) → (z ∈ k → (w : B) × w ∈ l × R z w) → (w : B) × w ∈ (y ∷ l) × R z w
       go (inl q) ih = (y, here, subst (λ (u : A). R u y) (sym q) r)
       go (inr j) ih = let p = ih j in (p .0, there (p .1), p .2)
-
--- ── the tickets that an answer names ──
-module _ {A : Type 0} (ticket : A → ℕ) where
-  named-i : {x : A} {l : List A} → x ∈ l → any (λ k. eqb k (ticket x)) (map ticket l) ≡ true
-  unfolding any
-  named-i {x} (List·Memᴰ·head {x = y} {xs = l} e) = or-l (eqb (ticket y) (ticket x)) _ (eq-eqb _ _ (sym (ap ticket e)))
-  named-i {x} (List·Memᴰ·tail {x = y} {xs = l} m) = or-r (eqb (ticket y) (ticket x)) _ (named-i m)
-
-  -- An element's ticket is named among those of the kept elements exactly if it is kept.
-  pub named-keep : (p : A → Bool) (l : List A) → ((x y : A) → x ∈ l → y ∈ l → ticket x ≡ ticket y → x ≡ y) → (x : A) → x ∈ l
-      → any (λ k. eqb k (ticket x)) (map ticket (keep p l)) ≡ p x
-  named-keep p l u x m = go (split (p x)) (split (any (λ k. eqb k (ticket x)) (map ticket (keep p l))))
-    where
-      go : (p x ≡ true) ⊎ (p x ≡ false) → (any (λ k. eqb k (ticket x)) (map ticket (keep p l)) ≡ true) ⊎ (any (λ k. eqb k (ticket x)) (map ticket (keep p l)) ≡ false)
-          → any (λ k. eqb k (ticket x)) (map ticket (keep p l)) ≡ p x
-      go (inl e) q = named-i (keep-i p e m) ∙ sym e
-      go (inr e) (inr q) = q ∙ sym e
-      go (inr e) (inl q) =
-          let r = any-some (λ k. eqb k (ticket x)) (map ticket (keep p l)) q in
-          let s = map-e ticket (keep p l) (r .1) in
-          let k = keep-e p l (s .1) in
-          clash (ap p (u x (s .0) m (k .0) (sym (eqb-true _ _ (r .2)) ∙ s .2)) ∙ k .1) e

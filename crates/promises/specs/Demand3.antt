@@ -7,7 +7,7 @@ use mathlib.Core.List.{List, [], _∷_, _++_}
 use Prim.Native.Nat.{ℕ, _+_, _≤_, _<_}
 use Rattle.groups.specs.Groups.{common, shares}
 use Rattle.rules.specs.declared.Request.{Request}
-use Rattle.rules.specs.Lists.{_∈_}
+use Rattle.rules.specs.Lists.{_∈_, Ascends}
 use Rattle.rules.specs.declared.Common.{Common}
 use Rattle.rules.specs.declared.Common.the-variants.{Unknown}
 use Rattle.rules.specs.declared.Standing.{Standing}
@@ -34,8 +34,7 @@ pub record Told : Type 0 where
 
 -- The tickets of the pending claims are in ascending order.
 abbrev pub TicketsAscend : List Entry → Type 0
-TicketsAscend [] = Unit {0}
-TicketsAscend (e ∷ l) = ((f : Entry) → f ∈ l → e .ticket < f .ticket) × TicketsAscend l
+TicketsAscend l = Ascends (λ (e : Entry). e .ticket) l
 
 -- After any number of the calls. P: so far no accepted call bore a clock past the promised end of a claim held when it came.
 pub record Now (P : Type 0) (l : Ledger) (told : Told) : Type 0 where

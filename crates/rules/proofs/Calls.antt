@@ -26,6 +26,7 @@ use Rattle.rules.specs.Plans.{Fits, Sane}
 use Rattle.rules.specs.Invariants.{IsSpaced, IsPacked, Invariant}
 use Rattle.rules.proofs.Bools.{by-test, or-fl, or-fr}
 use Rattle.rules.proofs.Lists.{Each, none, keep-e, map-e, map-i}
+use Rattle.rules.proofs.Tests.{passes}
 use Rattle.rules.proofs.Order.{ascending-same}
 use Rattle.rules.proofs.Packing.{moved-ticket, separated-untied, pack-as-documented, pack-unique}
 use Rattle.rules.proofs.Placing.{place-low, place-fits}
@@ -33,11 +34,6 @@ use Rattle.rules.proofs.Granting.{granted-ticket}
 use Rattle.rules.proofs.Invariants.{packs, grant-settles, spaced-packable, spaced-packs, spaced-keep, spaced-snoc}
 
 -- ── the tests ──
--- Where no test fails, the first does not, and none of the rest.
-pub passes : (x : Test) (ts : List Test) → 1 ≤ x .number → firstOf (x ∷ ts) ≡ 0 → (x .fails ≡ false) × (firstOf ts ≡ 0)
-unfolding firstOf
-passes x ts h e = by-test (x .fails) (λ q. let z = rw q at e in absurd (omega arith)) (λ q. (q, rw q at e))
-
 -- The clock of an accepted timed call.
 pub record Clocked (m : Model) (t : ℕ) : Type 0 where
   pub later : m .clock ≤ t

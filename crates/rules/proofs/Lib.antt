@@ -1,6 +1,8 @@
 pub mod AllScenarios
 pub mod Bools
 pub mod Lists
+pub mod Places
+pub mod Tests
 pub mod Claims
 pub mod Order
 pub mod Packing

@@ -3,12 +3,14 @@ use mathlib.Core.Path.{_≡_, refl, sym, _∙_, ap, subst}
 use mathlib.Core.Logic.{_⊎_, inl, inr, ⊎-elim}
 use mathlib.Core.Bool.{Bool, true, false, true≢false, false≢true}
 use mathlib.Core.List.{List, [], _∷_, _++_, map, List·Memᴰ·head, List·Memᴰ·tail, List·Memᴰ·not-nil, List·Memᴰ·cases-cons, List·Memᴰ·append-cases, List·Memᴰ·eq-of-singleton}
-use Prim.Native.Nat.{ℕ, _+_, _*_, _≤_}
+use Prim.Native.Nat.{ℕ, _+_, _*_, _≤_, _<_}
 use native.Mathlib.Omega.{arith}
 use native.Mathlib.Nat.{min-eq-left, min-eq-right, le-of-lt}
+use lib.Dec.{eqb}
 use lib.ListN.{length}
-use Rattle.rules.specs.Lists.{_∈_, greatest, least, sum, all, any, keep}
-use Rattle.rules.proofs.Bools.{and-l, and-r, and-i, or-e, or-fl, or-fr, by-test, by-order}
+use borrow.Author.Tests.{eqb-true, eq-eqb}
+use Rattle.rules.specs.Lists.{_∈_, greatest, least, sum, all, any, keep, Ascends}
+use Rattle.rules.proofs.Bools.{and-l, and-r, and-i, or-e, or-l, or-r, or-fl, or-fr, split, clash, by-test, by-order}
 
 -- Every element has P; every two have R.
 abbrev pub Each : {A : Type 0} → (A → Type 0) → List A → Type 0
@@ -202,3 +204,54 @@ least-low p d b [] h k = h
 least-low p d b (n ∷ l) h k =
     let x = least-low p d b l h (λ m i. k m (there i)) in
     by-test (p n) (λ e. rw e (omega (arith, k n here))) (λ e. rw e x)
+
+-- ── numbers that ascend ──
+module _ {A : Type 0} (f : A → ℕ) where
+  pub ascends-same : (l : List A) → Ascends f l → (x y : A) → x ∈ l → y ∈ l → f x ≡ f y → x ≡ y
+  ascends-same [] h x y m k e = none m
+  ascends-same (z ∷ l) h x y m k e = go (List·Memᴰ·cases-cons m) (List·Memᴰ·cases-cons k) (ascends-same l (h .1))
+    where
+      go : (x ≡ z) ⊎ (x ∈ l) → (y ≡ z) ⊎ (y ∈ l) → ((x y : A) → x ∈ l → y ∈ l → f x ≡ f y → x ≡ y) → x ≡ y
+      go (inl p) (inl q) ih = p ∙ sym q
+      go (inl p) (inr q) ih = absurd (omega (arith, h .0 y q, ap f p))
+      go (inr p) (inl q) ih = absurd (omega (arith, h .0 x p, ap f q))
+      go (inr p) (inr q) ih = ih x y p q e
+
+  pub ascends-keep : (p : A → Bool) (l : List A) → Ascends f l → Ascends f (keep p l)
+  unfolding keep
+  ascends-keep p [] u = tt
+  ascends-keep p (x ∷ l) u =
+      let ih = ascends-keep p l (u .1) in
+      by-test (p x) (λ e. rw e (λ y m. u .0 y (keep-e p l m .0), ih)) (λ e. rw e ih)
+
+  pub ascends-snoc : (l : List A) (w : A) → Ascends f l → Each (λ x. f x < f w) l → Ascends f (l ++ (w ∷ []))
+  ascends-snoc [] w u h = (λ y m. none m, tt)
+  ascends-snoc (x ∷ l) w u h = (snoc-each (λ (y : A). f x < f y) l w (u .0) (h x here), ascends-snoc l w (u .1) (λ y m. h y (there m)))
+
+-- Elements that change one by one, and keep their numbers.
+pub ascends-map : {A B : Type 0} (f : A → ℕ) (g : B → ℕ) (h : A → B) (l : List A) → ((x : A) → g (h x) ≡ f x) → Ascends f l → Ascends g (map h l)
+ascends-map f g h [] e u = tt
+ascends-map {A} {B} f g h (x ∷ l) e u =
+    (map-each (λ (y : B). g (h x) < g y) h l (λ y m. omega (arith, u .0 y m, e x, e y)), ascends-map f g h l e (u .1))
+
+-- ── the tickets that an answer names ──
+module _ {A : Type 0} (ticket : A → ℕ) where
+  named-i : {x : A} {l : List A} → x ∈ l → any (λ k. eqb k (ticket x)) (map ticket l) ≡ true
+  unfolding any
+  named-i {x} (List·Memᴰ·head {x = y} {xs = l} e) = or-l (eqb (ticket y) (ticket x)) _ (eq-eqb _ _ (sym (ap ticket e)))
+  named-i {x} (List·Memᴰ·tail {x = y} {xs = l} m) = or-r (eqb (ticket y) (ticket x)) _ (named-i m)
+
+  -- An element's ticket is named among those of the kept elements exactly if it is kept.
+  pub named-keep : (p : A → Bool) (l : List A) → ((x y : A) → x ∈ l → y ∈ l → ticket x ≡ ticket y → x ≡ y) → (x : A) → x ∈ l
+      → any (λ k. eqb k (ticket x)) (map ticket (keep p l)) ≡ p x
+  named-keep p l u x m = go (split (p x)) (split (any (λ k. eqb k (ticket x)) (map ticket (keep p l))))
+    where
+      go : (p x ≡ true) ⊎ (p x ≡ false) → (any (λ k. eqb k (ticket x)) (map ticket (keep p l)) ≡ true) ⊎ (any (λ k. eqb k (ticket x)) (map ticket (keep p l)) ≡ false)
+          → any (λ k. eqb k (ticket x)) (map ticket (keep p l)) ≡ p x
+      go (inl e) q = named-i (keep-i p e m) ∙ sym e
+      go (inr e) (inr q) = q ∙ sym e
+      go (inr e) (inl q) =
+          let r = any-some (λ k. eqb k (ticket x)) (map ticket (keep p l)) q in
+          let s = map-e ticket (keep p l) (r .1) in
+          let k = keep-e p l (s .1) in
+          clash (ap p (u x (s .0) m (k .0) (sym (eqb-true _ _ (r .2)) ∙ s .2)) ∙ k .1) e

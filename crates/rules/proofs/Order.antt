@@ -13,7 +13,7 @@ use Rattle.rules.specs.Claims.{on, at, rival, endOf}
 use Rattle.rules.specs.Order.{key, before, precedes}
 use Rattle.rules.specs.Plans.{Ascending, Sane, Separated}
 use Rattle.rules.proofs.Bools.{and-l, and-r, and-i, or-e, or-l, or-r, or-fl, or-fr, clash, by-test}
-use Rattle.rules.proofs.Lists.{Each, here, there, none, map-each, snoc-each, keep-e}
+use Rattle.rules.proofs.Lists.{Each, ascends-same, ascends-map, ascends-keep, ascends-snoc}
 use Rattle.rules.proofs.Claims.{end-wait}
 
 -- ── before ──
@@ -83,29 +83,17 @@ pub before-precedes : (v : Setting) (ps : List Claim) → Separated v ps → (c 
 before-precedes v ps f c w s m k o b h = ends-precedes v c w s h (f .behind c w m k o b h)
 
 -- ── tickets ──
+abbrev ticketOf : Claim → ℕ
+ticketOf c = c .ticket
+
 pub ascending-same : (l : List Claim) → Ascending l → (c d : Claim) → c ∈ l → d ∈ l → c .ticket ≡ d .ticket → c ≡ d
-ascending-same [] h c d m k e = none m
-ascending-same (x ∷ l) h c d m k e = go (List·Memᴰ·cases-cons m) (List·Memᴰ·cases-cons k) (ascending-same l (h .1))
-  where
-    go : (c ≡ x) ⊎ (c ∈ l) → (d ≡ x) ⊎ (d ∈ l) → ((c d : Claim) → c ∈ l → d ∈ l → c .ticket ≡ d .ticket → c ≡ d) → c ≡ d
-    go (inl p) (inl q) ih = p ∙ sym q
-    go (inl p) (inr q) ih = absurd (omega (arith, h .0 d q, ap (λ (y : Claim). y .ticket) p))
-    go (inr p) (inl q) ih = absurd (omega (arith, h .0 c p, ap (λ (y : Claim). y .ticket) q))
-    go (inr p) (inr q) ih = ih c d p q e
+ascending-same l = ascends-same ticketOf l
 
 pub ascending-map : (f : Claim → Claim) (l : List Claim) → ((c : Claim) → f c .ticket ≡ c .ticket) → Ascending l → Ascending (map f l)
-ascending-map f [] h u = tt
-ascending-map f (c ∷ l) h u =
-    (map-each (λ (d : Claim). f c .ticket < d .ticket) f l (λ d m. omega (arith, u .0 d m, h c, h d)), ascending-map f l h (u .1))
+ascending-map f l h = ascends-map ticketOf ticketOf f l h
 
 pub ascending-keep : (p : Claim → Bool) (l : List Claim) → Ascending l → Ascending (keep p l)
-unfolding keep
-ascending-keep p [] u = tt
-ascending-keep p (c ∷ l) u =
-    let ih = ascending-keep p l (u .1) in
-    by-test (p c) (λ e. rw e (λ d m. u .0 d (keep-e p l m .0), ih)) (λ e. rw e ih)
+ascending-keep p l = ascends-keep ticketOf p l
 
 pub ascending-snoc : (l : List Claim) (w : Claim) → Ascending l → Each (λ c. c .ticket < w .ticket) l → Ascending (l ++ (w ∷ []))
-ascending-snoc [] w u h = (λ d m. none m, tt)
-ascending-snoc (c ∷ l) w u h =
-    (snoc-each (λ (d : Claim). c .ticket < d .ticket) l w (u .0) (h c here), ascending-snoc l w (u .1) (λ d m. h d (there m)))
+ascending-snoc l w = ascends-snoc ticketOf l w

@@ -97,11 +97,11 @@ unfoldable pub tests : Model → Call → List Test
 tests m (claim t ask) =
     late t ∷ backward (m .clock) t ∷ dark (ask .groups) ∷ offRig (m .rig) (ask .groups) ∷ badLength (ask .length) ∷ full (length (m .pending))
     ∷ ticketless (m .issued) ∷ []
-tests m (release t k) = late t ∷ backward (m .clock) t ∷ unknown (m .pending) k ∷ notYetOn (m .pending) k ∷ []
-tests m (withdraw t k) = late t ∷ backward (m .clock) t ∷ unknown (m .pending) k ∷ alreadyOn (m .pending) k ∷ []
+tests m (release t k) = late t ∷ backward (m .clock) t ∷ unknown (named k) (m .pending) ∷ notYetOn (named k) on (m .pending) ∷ []
+tests m (withdraw t k) = late t ∷ backward (m .clock) t ∷ unknown (named k) (m .pending) ∷ alreadyOn (named k) on (m .pending) ∷ []
 tests m (clock t) = late t ∷ backward (m .clock) t ∷ []
-tests m (lookup k) = unknown (m .pending) k ∷ []
-tests m (common j k) = unknown (m .pending) j ∷ unknown (m .pending) k ∷ []
+tests m (lookup k) = unknown (named k) (m .pending) ∷ []
+tests m (common j k) = unknown (named j) (m .pending) ∷ unknown (named k) (m .pending) ∷ []
 
 -- "A call turned down answers its number, with ticket, start, crowd and ceiling 0 and no grants; the table is the one handed in"
 abbrev pub unchanged : Model → ℕ → Step

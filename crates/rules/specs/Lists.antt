@@ -1,7 +1,7 @@
 -- The few functions on lists that the rules are written with.
 use mathlib.Core.Bool.{Bool, true, false, _&&_, _||_, cond}
 use mathlib.Core.List.{List, [], _∷_, List·Memᴰ}
-use Prim.Native.Nat.{ℕ, _+_, min, max}
+use Prim.Native.Nat.{ℕ, _+_, _<_, min, max}
 
 infix 40 _∈_
 -- x is one of the list's elements.
@@ -37,3 +37,8 @@ any p (x ∷ l) = p x || any p l
 unfoldable pub keep : {A : Type 0} → (A → Bool) → List A → List A
 keep p [] = []
 keep p (x ∷ l) = cond (p x) (x ∷ keep p l) (keep p l)
+
+-- The numbers f x ascend, so none of them stands twice.
+abbrev pub Ascends : {A : Type 0} → (A → ℕ) → List A → Type 0
+Ascends f [] = Unit {0}
+Ascends {A} f (x ∷ l) = ((y : A) → y ∈ l → f x < f y) × Ascends f l

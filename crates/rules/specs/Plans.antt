@@ -5,15 +5,14 @@ use mathlib.Core.Bool.{true, false}
 use mathlib.Core.List.{List, [], _∷_}
 use Prim.Native.Nat.{ℕ, _+_, _≤_, _<_}
 use Rattle.rules.specs.declared.Claim.{Claim}
-use Rattle.rules.specs.Lists.{_∈_, keep}
+use Rattle.rules.specs.Lists.{_∈_, keep, Ascends}
 use Rattle.rules.specs.declared.Setting.{Setting}
 use Rattle.rules.specs.Claims.{on, at, rival, endOf}
 use Rattle.rules.specs.Order.{before}
 
 -- Tickets ascend, so no ticket stands twice.
 abbrev pub Ascending : List Claim → Type 0
-Ascending [] = Unit {0}
-Ascending (c ∷ l) = ((d : Claim) → d ∈ l → c .ticket < d .ticket) × Ascending l
+Ascending l = Ascends (λ (c : Claim). c .ticket) l
 
 -- A claim's numbers are in range.
 pub record Sane (c : Claim) : Type 0 where

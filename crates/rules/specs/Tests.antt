@@ -7,7 +7,6 @@ use Rattle.numbers.specs.Numbers.{darkNumber, offRigNumber, lengthNumber, backw
 use Rattle.groups.specs.Groups.{empty, within}
 use Rattle.rules.specs.declared.Claim.{Claim}
 use Rattle.rules.specs.Lists.{any}
-use Rattle.rules.specs.Claims.{on}
 
 -- A test, with the number that is given when it is true.
 pub record Test : Type 0 where
@@ -51,11 +50,12 @@ ticketless issued = test (leb mostTickets issued) ticketlessNumber
 abbrev pub named : ℕ → Claim → Bool
 named k c = eqb (c .ticket) k
 
-abbrev pub unknown : List Claim → ℕ → Test
-unknown ps k = test (not (any (named k) ps)) unknownNumber
+-- Of the claims ps: whether none is the ticket's, whether the ticket's waits, whether it is on.
+abbrev pub unknown : {A : Type 0} → (A → Bool) → List A → Test
+unknown named ps = test (not (any named ps)) unknownNumber
 
-abbrev pub notYetOn : List Claim → ℕ → Test
-notYetOn ps k = test (any (λ c. named k c && not (on c)) ps) notYetOnNumber
+abbrev pub notYetOn : {A : Type 0} → (A → Bool) → (A → Bool) → List A → Test
+notYetOn named on ps = test (any (λ c. named c && not (on c)) ps) notYetOnNumber
 
-abbrev pub alreadyOn : List Claim → ℕ → Test
-alreadyOn ps k = test (any (λ c. named k c && on c) ps) alreadyOnNumber
+abbrev pub alreadyOn : {A : Type 0} → (A → Bool) → (A → Bool) → List A → Test
+alreadyOn named on ps = test (any (λ c. named c && on c) ps) alreadyOnNumber

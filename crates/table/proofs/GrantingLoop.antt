@@ -23,7 +23,8 @@ use Rattle.rules.proofs.Granting.{granted-cases, grant-length, goes-quick}
 use Rattle.table.specs.Rows.{Row, rewritten}
 use Rattle.table.specs.Holders.{holds, Held, HeldWith, goesAt}
 use Rattle.table.specs.Parts.{Planned}
-use Rattle.table.proofs.Rows.{prefix-end, row-count, row-step, row-member, Storing, store-start, store-more, store-same, store-end, pad-stored}
+use Rattle.rules.proofs.Places.{prefix-end, Storing, store-start, store-more, store-same, store-end, pad-stored}
+use Rattle.table.proofs.Rows.{row-count, row-step, row-member}
 
 -- ── one claim ──
 module _ (h : ℕ) (c : Claim) where

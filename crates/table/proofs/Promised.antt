@@ -12,7 +12,7 @@ use Rattle.rules.proofs.GrantCounts.{waiting-none, Counted, step-counted, new-c
 use Rattle.table.specs.declared.Outcome.{Outcome}
 use Rattle.table.specs.Valid.{Valid}
 use Rattle.table.specs.Outcomes.{outcome}
-use Rattle.table.proofs.Rows.{pad-take}
+use Rattle.rules.proofs.Places.{pad-take}
 use Rattle.table.proofs.Ranges.{model-is, formed-few}
 
 -- ── what an outcome tells ──

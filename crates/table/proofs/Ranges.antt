@@ -33,7 +33,8 @@ use Rattle.rules.proofs.Sizes.{start-cap}
 use Rattle.rules.proofs.StartBound.{place-bound}
 use Rattle.table.specs.Rows.{Sized, Row}
 use Rattle.table.specs.Valid.{Ranged, Formed}
-use Rattle.table.proofs.Rows.{pad-length, pad-take, sized-small}
+use Rattle.rules.proofs.Places.{pad-length, pad-take}
+use Rattle.table.proofs.Rows.{sized-small}
 
 -- ── a later clock, and packing ──
 pub sized-later : (t u : ℕ) (c : Claim) → t ≤ u → Sized t c → Sized u c

@@ -18,7 +18,8 @@ use Rattle.rules.specs.Calls.{standing, standingOf}
 use Rattle.rules.specs.Tables.{vacant, pad}
 use Rattle.rules.proofs.Lists.{Each, here, there, keep-length}
 use Rattle.table.specs.Rows.{Row}
-use Rattle.table.proofs.Rows.{row-count, row-step, prefix-end, pad-over, Storing, store-start, store-more, store-end}
+use Rattle.rules.proofs.Places.{prefix-end, pad-over, Storing, store-start, store-more, store-end}
+use Rattle.table.proofs.Rows.{row-count, row-step}
 use Rattle.table.specs.Outcomes.{without}
 
 ascending-drop : (i : ℕ) (l : List Claim) → Ascending l → Ascending (drop i l)

@@ -35,7 +35,7 @@ use Rattle.rules.proofs.Packing.{pack-length, pack-holders}
 use Rattle.rules.proofs.Granting.{grant-length}
 use Rattle.rules.proofs.OnePacking.{advance-still, join-still, leave-once}
 use Rattle.table.specs.Rows.{Sized, Row}
-use Rattle.table.proofs.Rows.{pad-take, pad-over, pad-more}
+use Rattle.rules.proofs.Places.{pad-take, pad-over, pad-more}
 use Rattle.table.specs.declared.granting.Granted.{Granted}
 use Rattle.table.specs.declared.placing.Placed.{Placed}
 use Rattle.table.specs.Parts.{withClaims, ruledIn, atClock, packedTable, grantedIn, placedIn}

@@ -26,15 +26,6 @@ use Rattle.rules.proofs.Calls.{Clocked, clock-passes}
 use Rattle.table.specs.Outcomes.{timeNumber, phaseNumber, orElse, leaving}
 
 -- ── the first test that fails ──
--- A test in front of others decides where it fails, and else they do.
-pub fails-here : {n : ℕ} (x : Test) (ts : List Test) → n ≡ x .number → x .fails ≡ true → n ≡ firstOf (x ∷ ts)
-unfolding firstOf
-fails-here x ts e q = e ∙ sym (rw q)
-
-pub past : {n : ℕ} (x : Test) (ts : List Test) → x .fails ≡ false → n ≡ firstOf ts → n ≡ firstOf (x ∷ ts)
-unfolding firstOf
-past x ts q e = e ∙ sym (rw q)
-
 -- What the tests 5 and 4 say, and what comes after them.
 pub first-timed : (m : Model) (t : ℕ) (ts : List Test) → firstOf (late t ∷ backward (m .clock) t ∷ ts) ≡ orElse (timeNumber (m .clock) t) (firstOf ts)
 unfolding firstOf timeNumber

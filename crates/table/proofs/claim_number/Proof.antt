@@ -8,7 +8,8 @@ use Rattle.rules.specs.Calls.{Call, tests}
 use Rattle.rules.specs.Tests.{Test, firstOf, dark, full, ticketless}
 use Rattle.rules.specs.Tables.{model}
 use Rattle.table.proofs.Ranges.{formed-count}
-use Rattle.table.proofs.Tests.{fails-here, past, timed-fails, timed-passes}
+use Rattle.rules.proofs.Tests.{fails-here, past}
+use Rattle.table.proofs.Tests.{timed-fails, timed-passes}
 use Rattle.table.proofs.claim_number.Statement.{statement}
 use Rattle.table.proofs.claim_number.Tie as tie
 

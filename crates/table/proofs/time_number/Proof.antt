@@ -3,7 +3,7 @@ use mathlib.Core.List.{[], _∷_}
 use borrow.Author.Needs.{needs}
 use Rattle.rules.specs.Tests.{late, backward, firstOf}
 use Rattle.table.specs.Outcomes.{timeNumber}
-use Rattle.table.proofs.Tests.{fails-here, past}
+use Rattle.rules.proofs.Tests.{fails-here, past}
 use Rattle.table.proofs.time_number.Statement.{statement}
 use Rattle.table.proofs.time_number.Tie as tie
 
