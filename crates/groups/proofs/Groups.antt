@@ -8,9 +8,9 @@ use native.Mathlib.Nat.{add-zero, zero-add, div-one}
 use native.Mathlib.Omega.{arith}
 use lib.Dec.{eqb, ltb}
 use lib.Pow.{shr-shr}
-use borrow.Author.Tests.{eqb-true, eqb-false, ltb-true, ltb-false}
+use borrow.Author.Tests.{eqb-true, eqb-false, ltb-true, ltb-false, not-true, not-false}
 use Rattle.groups.specs.declared.MaybeGroup.the-variants.{Group, NoGroup}
-use Rattle.groups.specs.Groups.{has, someFrom, someGroup, common, found, shares, setFrom, setWhere, union, without, lowestFrom, lowest, others}
+use Rattle.groups.specs.Groups.{has, someFrom, someGroup, common, found, shares, setFrom, setWhere, union, without, only, lowestFrom, lowest, lowestMissing, others}
 
 -- Group j + 1 from g on is group j from the next one on.
 next : (g j : ℕ) → g + suc j ≡ suc g + j
@@ -171,7 +171,16 @@ union-shares a b x = rw (shares-some (union a b) x, shares-some a x, shares-some
     at-group : (g : ℕ) → g < 64 → (has (union a b) g && has x g) ≡ (has a g && has x g || has b g && has x g)
     at-group g h = rw (has-set _ g h) (and-or-distrib-right (has a g) (has b g) (has x g))
 
--- The groups of a set without another.
+-- The groups of a union, those of a set of one group,
+pub union-has : (a b g : ℕ) → g < 64 → has (union a b) g ≡ (has a g || has b g)
+unfolding union
+union-has a b g h = has-set _ g h
+
+pub only-has : (g h : ℕ) → h < 64 → has (only g) h ≡ eqb h g
+unfolding only
+only-has g h l = has-set _ h l
+
+-- and those of a set without another.
 pub without-has : (a b g : ℕ) → g < 64 → has (without a b) g ≡ (has a g && not (has b g))
 unfolding without
 without-has a b g h = has-set _ g h
@@ -208,6 +217,20 @@ lowest-in a g e = let r = lowest-from _ 0 _ g e in (omega (arith, r .1, r .2), r
 pub lowest-none : (a : ℕ) → lowest a ≡ NoGroup → (g : ℕ) → g < 64 → has a g ≡ false
 unfolding lowest
 lowest-none a e = none-elim (has a) (none-from _ 0 _ e)
+
+-- The lowest group that is not in a set: those below it are. Where there is none, all are in it.
+pub missing-lowest : (a g : ℕ) → lowestMissing a ≡ Group g → (g < 64) × (has a g ≡ false) × ((h : ℕ) → h < g → has a h ≡ true)
+unfolding lowestMissing
+missing-lowest a g e =
+    let r = lowest-from _ 0 _ g e in (
+      omega (arith, r .1, r .2),
+      not-true (has a g) (r .3),
+      λ h l. not-false (has a h) (rw zero-add at (from-none (r .0) 0 (λ g. not (has a g)) (r .4) h (omega (arith, r .2)))),
+    )
+
+pub missing-none : (a : ℕ) → lowestMissing a ≡ NoGroup → (g : ℕ) → g < 64 → has a g ≡ true
+unfolding lowestMissing
+missing-none a e g h = not-false (has a g) (none-elim (λ g. not (has a g)) (none-from _ 0 _ e) g h)
 
 -- Its others are all but that one.
 pub others-has : (a g : ℕ) → lowest a ≡ Group g → (h : ℕ) → h < 64 → has (others a) h ≡ (has a h && not (eqb h g))

@@ -3,18 +3,18 @@
 -- union, without and others rest on `word-from`: a word is the set of the groups that it has. Assumes nothing.
 use mathlib.Core.Path.{_≡_, refl, sym, ap, _∙_}
 use mathlib.Core.Bool.{Bool, true, false, not, _&&_, _||_, cond, Bool·not-not, and-true, and-false, false≢true}
-use Prim.Native.Nat.{ℕ, zero, suc, _+_, _*_, _/_, _%_, _^_, _-_, _<_, min, max}
+use Prim.Native.Nat.{ℕ, zero, suc, _+_, _*_, _/_, _%_, _^_, _-_, _≤_, _<_, min, max}
 use native.Mathlib.Nat.{add-zero, zero-add, div-one, zero-div, two-pow-succ}
 use native.Mathlib.Numerals.{add-one}
 use native.Mathlib.Omega.{arith}
 use lib.Bits.{differ as unlike, bitAnd, bitOr, and-shr, and-step, and-le-l, or-shr, or-step, or-lt, bitXor, xor-shr, xor-step, xor-lt, and-self, and-le-r}
 use lib.Count.{trailingZeros, under}
 use lib.Dec.{eqb}
-use lib.Pow.{shr-shr}
-use borrow.Author.Tests.{eq-eqb, ne-eqb, eqb-true, eqb-false}
+use lib.Pow.{shr-shr, pow-mono}
+use borrow.Author.Tests.{eq-eqb, ne-eqb, eqb-true, eqb-false, not-false}
 use Rattle.groups.specs.declared.MaybeGroup.the-variants.{Group, NoGroup}
-use Rattle.groups.specs.Groups.{has, someFrom, someGroup, common, shares, empty, within, setFrom, union, without, lowestFrom, lowest, others}
-use Rattle.groups.proofs.Groups.{one-add, from-same, from-next, lowest-same, shares-some, none-intro, set-same, lowest-in}
+use Rattle.groups.specs.Groups.{has, someFrom, someGroup, common, shares, empty, within, setFrom, union, without, only, lowestFrom, lowest, lowestMissing, others}
+use Rattle.groups.proofs.Groups.{one-add, from-same, from-next, lowest-same, shares-some, none-intro, none-elim, set-same, without-has, lowest-in}
 
 -- The digit of x that stands for group g.
 abbrev digit : ℕ → ℕ → ℕ
@@ -148,6 +148,52 @@ unfolding without
 without-word a b h =
     set-same 64 0 _ (has (bitXor a (bitAnd a b))) (λ g k. sym (left-has a b g))
     ∙ (simp div-one at (word-from 64 0 (bitXor a (bitAnd a b)) (simp div-one (xor-lt 64 a (bitAnd a b) h (omega (arith, and-le-l a b))))))
+
+-- ── one group ──
+-- Of the k groups from g on, the set of one of them, and of none.
+set-none : (k g n : ℕ) → n < g → setFrom k g (λ h. eqb h n) ≡ 0
+unfolding setFrom
+set-none zero g n l = refl
+set-none (suc k) g n l = rw (ne-eqb g n (λ e. omega arith), set-none k (suc g) n (omega arith))
+
+set-past : (k g n : ℕ) → g + k ≤ n → setFrom k g (λ h. eqb h n) ≡ 0
+unfolding setFrom
+set-past zero g n l = refl
+set-past (suc k) g n l = rw (ne-eqb g n (λ e. omega arith), set-past k (suc g) n (omega arith))
+
+set-one : (k g n : ℕ) → g ≤ n → n < g + k → setFrom k g (λ h. eqb h n) ≡ 2 ^ (n - g)
+unfolding setFrom
+set-one zero g n l h = absurd (omega arith)
+set-one (suc k) g n l h = go (eqb g n) refl (set-one k (suc g) n)
+  where
+    go : (t : Bool) → eqb g n ≡ t → (suc g ≤ n → n < suc g + k → setFrom k (suc g) (λ h. eqb h n) ≡ 2 ^ (n - suc g)) → cond t 1 0 + 2 * setFrom k (suc g) (λ h. eqb h n) ≡ 2 ^ (n - g)
+    go true q later = let e = eqb-true g n q in let z : n - g ≡ 0 = omega arith in rw (z, set-none k (suc g) n (omega arith))
+    go false q later =
+        let d = eqb-false g n q in
+        let z : n - g ≡ suc (n - suc g) = omega arith in
+        rw (z, later (omega arith) (omega arith)) (sym (two-pow-succ (n - suc g) ∙ omega arith))
+
+-- `1 << g` is the set of group g; a number past 63 is no group.
+pub only-word : (g : ℕ) → g ≤ 63 → (only g ≡ 2 ^ g) × (1 * 2 ^ g % 18446744073709551616 ≡ 2 ^ g)
+unfolding only
+only-word g h =
+    let z : g - 0 ≡ g = omega arith in
+    let t : 2 ^ g ≤ 9223372036854775808 = pow-mono h in
+    (set-one 64 0 g (omega arith) (omega arith) ∙ ap (λ n. 2 ^ n) z, omega arith)
+
+pub only-none : (g : ℕ) → 63 < g → only g ≡ 0
+unfolding only
+only-none g h = set-past 64 0 g (omega arith)
+
+-- Every group is in the greatest word.
+all-has : (g : ℕ) → g < 64 → has 18446744073709551615 g ≡ true
+unfolding someFrom
+all-has g h = not-false (has 18446744073709551615 g) (none-elim (λ g. not (has 18446744073709551615 g)) refl g h)
+
+-- The lowest group that is not in a set is the lowest of the others.
+pub missing-word : (a : ℕ) → lowest (without 18446744073709551615 a) ≡ lowestMissing a
+unfolding lowest lowestMissing
+missing-word a = lowest-same 64 0 _ _ (λ g h. without-has 18446744073709551615 a g h ∙ ap (λ (b : Bool). b && not (has a g)) (all-has g h))
 
 -- ── the lowest group ──
 -- Of a word with a digit from group g on, k of them, the zeros below the first tell the lowest group.

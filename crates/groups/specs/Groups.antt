@@ -62,9 +62,17 @@ union a b = setWhere (λ g. has a g || has b g)
 unfoldable pub without : ℕ → ℕ → ℕ
 without a b = setWhere (λ g. has a g && not (has b g))
 
+-- The set of group g alone; that of none where g is no group.
+unfoldable pub only : ℕ → ℕ
+only g = setWhere (λ h. eqb h g)
+
 -- The lowest group of a set, or none.
 unfoldable pub lowest : ℕ → MaybeGroup
 lowest a = lowestFrom 64 0 (has a)
+
+-- The lowest group that is not in a set, or none.
+unfoldable pub lowestMissing : ℕ → MaybeGroup
+lowestMissing a = lowestFrom 64 0 (λ g. not (has a g))
 
 -- A set without its lowest group: those of its groups that have another of them below.
 unfoldable pub others : ℕ → ℕ

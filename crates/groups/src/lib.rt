@@ -1,7 +1,7 @@
 // Sets of groups as 64-bit words: each question is answered for all 64 groups at once.
 // What is asked is defined in specs/Groups.antt; proofs/Groups.antt has its laws, and proofs/Words.antt what joins it to words.
 ghost use mathlib.Core.Path.{_≡_};
-ghost use Rattle.groups.specs.Groups.{common, shares, empty, within, union, without, lowest, others};
+ghost use Rattle.groups.specs.Groups.{common, shares, empty, within, union, without, only, lowest, lowestMissing, others};
 
 // What a search for a group gives.
 pub enum MaybeGroup {
@@ -54,6 +54,16 @@ pub fn without(a: u64, b: u64) -> u64
     a ^ (a & b)
 }
 
+// The set of one group, that of none for a number that is no group. Cost: a comparison and one instruction on 64 bits.
+pub fn only(g: usize) -> u64
+    ensures { λ r. ⌜ r ≡ only g ⌝ }
+{
+    if 63 < g {
+        return 0;
+    }
+    1u64 << g
+}
+
 // The lowest group of a set, or none. Cost: a comparison and one instruction.
 pub fn lowest(a: u64) -> MaybeGroup
     ensures { λ r. ⌜ r ≡ lowest a ⌝ }
@@ -62,6 +72,13 @@ pub fn lowest(a: u64) -> MaybeGroup
         return MaybeGroup::NoGroup;
     }
     MaybeGroup::Group(u64::trailing_zeros(a) as usize)
+}
+
+// The lowest group that is not in a set, or none. Cost: a comparison and two instructions.
+pub fn lowest_missing(a: u64) -> MaybeGroup
+    ensures { λ r. ⌜ r ≡ lowestMissing a ⌝ }
+{
+    lowest(without(u64::MAX, a))
 }
 
 // A set without its lowest group. Cost: a comparison and two instructions on 64 bits.
