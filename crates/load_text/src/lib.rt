@@ -8,8 +8,8 @@ ghost use Rattle.load_text.specs.Making.{Starts, Adds, Gathers, madeOf, 
 
 mod parse;
 mod print;
-mod reasons;
-mod sets;
+pub mod reasons;
+pub mod sets;
 mod texts;
 pub mod words;
 
@@ -17,6 +17,7 @@ use load::Written;
 use parse::Head;
 pub use parse::Parsed;
 pub use parse::parse_line;
+pub use parse::said_end;
 pub use print::Printed;
 pub use print::put_line;
 pub use print::report;

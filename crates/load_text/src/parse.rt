@@ -120,7 +120,7 @@ fn line_end(line: &[u8]) -> usize
     n
 }
 
-fn said_end(line: &[u8]) -> usize
+pub fn said_end(line: &[u8]) -> usize
     ensures { λ r. ⌜ (r ≤ length (now (line .entry))) × (take r (now (line .entry)) ≡ said (now (line .entry))) ⌝ }
 {
     let size = line_end(line);

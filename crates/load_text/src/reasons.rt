@@ -22,4 +22,6 @@ pub const BACKWARD: u8 = 110;
 
 pub const NO_EDITION: u8 = 11;
 
+pub const MISFIT: u8 = 13;
+
 pub const NO_SPACE: u8 = 15;

@@ -76,7 +76,7 @@ fn list(word: &[u8]) -> Field
 }
 
 // The set that a word says. A word without comma and dash is hex.
-pub(crate) fn groups_of(word: &[u8]) -> Field
+pub fn groups_of(word: &[u8]) -> Field
     ensures { λ r. ⌜ r ≡ groupsIn (now (word .entry)) ⌝ }
 {
     if lacks(word, Mark::Joint) {

@@ -64,7 +64,7 @@ fn passes(mark: Mark, b: u8) -> bool
 }
 
 // The first place from `at` on of such a byte, or the end.
-pub(crate) fn place(text: &[u8], mark: Mark, at: usize) -> usize
+pub fn place(text: &[u8], mark: Mark, at: usize) -> usize
     ensures { λ r. ⌜ (r ≡ placeOf (passes mark) (now (text .entry)) at) × (at ≤ r) × (r ≤ max at (length (now (text .entry)))) ⌝ }
 {
     let mut i = at;
