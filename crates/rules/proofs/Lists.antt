@@ -134,6 +134,12 @@ module _ {A : Type 0} where
   keep-cong p q [] h = refl
   keep-cong p q (x ∷ l) h = rw (h x here, keep-cong p q l (λ y m. h y (there m)))
 
+  -- Tests that agree on the list pass of some element alike.
+  pub any-cong : (p q : A → Bool) (l : List A) → Each (λ x. p x ≡ q x) l → any p l ≡ any q l
+  unfolding any
+  any-cong p q [] h = refl
+  any-cong p q (x ∷ l) h = rw (h x here, any-cong p q l (λ y m. h y (there m)))
+
   -- ── one element more ──
   pub snoc-each : (P : A → Type 0) (l : List A) (w : A) → Each P l → P w → Each P (l ++ (w ∷ []))
   snoc-each P l w h k x m = ⊎-elim (h x) (λ i. subst P (sym (List·Memᴰ·eq-of-singleton i)) k) (List·Memᴰ·append-cases l m)
@@ -175,6 +181,11 @@ module _ {A B : Type 0} where
   keep-map p f (x ∷ l) =
       let e = keep-map p f l in
       by-test (p (f x)) (λ q. rw q (ap (λ (k : List B). f x ∷ k) e)) (λ q. rw q e)
+
+  pub any-map : (p : B → Bool) (f : A → B) (l : List A) → any p (map f l) ≡ any (λ x. p (f x)) l
+  unfolding any
+  any-map p f [] = refl
+  any-map p f (x ∷ l) = rw (any-map p f l)
 
   pub greatest-map : (g : B → ℕ) (f : A → B) (b : ℕ) (l : List A) → greatest g b (map f l) ≡ greatest (λ x. g (f x)) b l
   unfolding greatest
@@ -255,3 +266,38 @@ module _ {A : Type 0} (ticket : A → ℕ) where
           let s = map-e ticket (keep p l) (r .1) in
           let k = keep-e p l (s .1) in
           clash (ap p (u x (s .0) m (k .0) (sym (eqb-true _ _ (r .2)) ∙ s .2)) ∙ k .1) e
+
+-- Elements that changed one by one and kept their numbers: where these ascend now, they ascended before.
+pub ascends-unmap : {A B : Type 0} (f : A → ℕ) (g : B → ℕ) (h : A → B) (l : List A) → ((x : A) → g (h x) ≡ f x) → Ascends g (map h l) → Ascends f l
+ascends-unmap f g h [] e u = tt
+ascends-unmap f g h (x ∷ l) e u = (λ y m. omega (arith, u .0 (h y) (map-i h m), e x, e y), ascends-unmap f g h l e (u .1))
+
+-- ── counts ──
+-- A list that is not empty has an element.
+pub some-of : {A : Type 0} (l : List A) → (l ≡ [] → ⊥) → (x : A) × x ∈ l
+some-of [] h = absurd (h refl)
+some-of (x ∷ l) h = (x, here)
+
+module _ {A : Type 0} (p q : A → Bool) where
+  -- Where each element that passes p passes q, no more pass p than q.
+  pub keep-le : (l : List A) → Each (λ x. p x ≡ true → q x ≡ true) l → length (keep p l) ≤ length (keep q l)
+  unfolding keep
+  keep-le [] h = omega arith
+  keep-le (x ∷ l) h =
+      let ih = keep-le l (λ y m. h y (there m)) in
+      by-test (p x)
+      (λ e. rw (e, h x here e) (omega arith))
+      (λ e. by-test (q x) (λ f. rw (e, f) (omega arith)) (λ f. rw (e, f) ih))
+
+  -- Where one more passes q, fewer pass p.
+  pub keep-lt : {x : A} {l : List A} → x ∈ l → p x ≡ false → q x ≡ true → Each (λ y. p y ≡ true → q y ≡ true) l → length (keep p l) < length (keep q l)
+  unfolding keep
+  keep-lt (List·Memᴰ·head {x = y} {xs = l} e) n k h =
+      let n′ : p y ≡ false = sym (ap p e) ∙ n in
+      let k′ : q y ≡ true = sym (ap q e) ∙ k in
+      rw (n′, k′) (omega (arith, keep-le l (λ z m. h z (there m))))
+  keep-lt (List·Memᴰ·tail {x = y} {xs = l} m) n k h =
+      let ih = keep-lt m n k (λ z i. h z (there i)) in
+      by-test (p y)
+      (λ e. rw (e, h y here e) (omega arith))
+      (λ e. by-test (q y) (λ f. rw (e, f) (omega arith)) (λ f. rw (e, f) ih))

@@ -1,0 +1,2 @@
+pub mod BoundedWait
+pub mod Worthless

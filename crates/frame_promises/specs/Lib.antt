@@ -1,0 +1,3 @@
+pub mod Ledger
+pub mod BoundedWait
+pub mod Worthless

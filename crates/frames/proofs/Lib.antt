@@ -1,0 +1,3 @@
+pub mod AllScenarios
+pub mod Rows
+pub mod Calls
