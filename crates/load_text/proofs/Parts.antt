@@ -1,4 +1,4 @@
--- Laws of the parts of a text: the place of the first byte that passes p, step by step, and the parts cut there.
+-- Laws of the parts of a text: the place of the first byte that passes p, step by step, the parts cut there, and a loop that looks for it.
 use Prim.Native.Nat.{ℕ, zero, suc, _+_, _-_, _≤_, _<_, max}
 use mathlib.Core.Path.{_≡_, refl, sym, ap, _∙_}
 use mathlib.Core.Bool.{Bool, true, false, not, and-eq-true-iff}
@@ -7,7 +7,7 @@ use native.Mathlib.Nat.{add-zero, zero-add}
 use native.Mathlib.Numerals.{add-one}
 use native.Mathlib.Omega.{arith}
 use lib.Dec.{leb, leb·suc-zero, leb·suc-suc}
-use borrow.Author.Tests.{not-true, leb-true}
+use borrow.Author.Tests.{not-true, leb-true, le-leb, lt-leb}
 use lib.ListN.{length, getD, take, drop, drop-of-length-le, length-drop}
 use lib.Seq.{drop-cons, drop-drop, getD-drop, take-all}
 use Rattle.load_text.specs.Parsing.{before, until, since, none, placeOf, parts, inFront}
@@ -37,9 +37,9 @@ module _ (p : ℕ → Bool) where
   none-before [] = refl
   none-before (b ∷ l) = either (p b) (λ e. rw e (leb·suc-zero (length l))) (λ e. rw e (leb·suc-suc (length l) (before p l) ∙ none-before l))
 
-  pub none-place : (l : List ℕ) → leb (length l) (placeOf p l 0) ≡ none p l
+  none-place : (l : List ℕ) (r : ℕ) → r ≡ placeOf p l 0 → leb (length l) r ≡ none p l
   unfolding placeOf
-  none-place l = rw zero-add (none-before l)
+  none-place l r e = rw (e, zero-add) (none-before l)
 
   pub none-cons : (b : ℕ) (l : List ℕ) → none p (b ∷ l) ≡ true → (p b ≡ false) × (none p l ≡ true)
   unfolding none
@@ -104,3 +104,41 @@ module _ (p : ℕ → Bool) where
         parts-of (drop at s) (omega (arith, length-drop at s))
         ∙ ap (λ k. until p (drop at s) ∷ parts p k) (drop-drop (suc (before p (drop at s))) at s ∙ ap (λ n. drop n s) far)
         ∙ rw (past at)
+
+-- ── a loop that looks from `at` on for the first byte that passes p ──
+-- It stands at i, and no byte from `at` up to i passes.
+pub record Seeking (p : ℕ → Bool) (s : List ℕ) (at i : ℕ) : Type 0 where
+  pub first : placeOf p s i ≡ placeOf p s at
+  pub low : at ≤ i
+  pub high : i ≤ max at (length s)
+
+-- What it tells: the place of that byte, or the end.
+abbrev pub Sought : (ℕ → Bool) → List ℕ → ℕ → ℕ → Type 0
+Sought p s at r = (r ≡ placeOf p s at) × (at ≤ r) × (r ≤ max at (length s))
+
+module _ {p : ℕ → Bool} {s : List ℕ} where
+  -- Before the first turn.
+  pub seek-start : (at : ℕ) → Seeking p s at at
+  seek-start at = record { first = refl; low = omega arith; high = omega arith }
+
+  module _ {at i : ℕ} (k : Seeking p s at i) where
+    -- The byte at i passes.
+    pub seek-found : i < length s → p (getD s i 0) ≡ true → Sought p s at i
+    seek-found h e = (sym (place-here p s i h e) ∙ k .first, k .low, k .high)
+
+    -- It does not.
+    pub seek-next : i < length s → p (getD s i 0) ≡ false → Seeking p s at (i + 1)
+    seek-next h e = record { first = sym (place-on p s i h e) ∙ k .first; low = omega (arith, k .low); high = omega arith }
+
+    -- There is none.
+    pub seek-end : length s ≤ i → Sought p s at i
+    seek-end h = (sym (place-end p s i h) ∙ k .first, k .low, k .high)
+
+  module _ {i : ℕ} (k : Seeking p s 0 i) where
+    -- Found from the start on, some byte of the text passes.
+    pub seek-some : i < length s → p (getD s i 0) ≡ true → false ≡ none p s
+    seek-some h e = sym (lt-leb (length s) i h) ∙ none-place p s i (seek-found k h e .0)
+
+    -- At the end from the start on, none does.
+    pub seek-none : length s ≤ i → true ≡ none p s
+    seek-none h = sym (le-leb (length s) i h) ∙ none-place p s i (seek-end k h .0)

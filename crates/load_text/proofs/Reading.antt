@@ -1,7 +1,7 @@
 -- Laws of the words of a line, as the code finds them.
 use Prim.Native.Nat.{ℕ, _+_, _-_, _≤_, _<_}
 use mathlib.Core.Path.{_≡_, refl, sym, ap, subst, _∙_}
-use mathlib.Core.Bool.{true, cond}
+use mathlib.Core.Bool.{Bool, true, false, cond, Bool·beq}
 use mathlib.Core.List.{List, [], _∷_}
 use native.Mathlib.Numerals.{add-one}
 use native.Mathlib.Omega.{arith}
@@ -9,9 +9,14 @@ use lib.Dec.{leb}
 use lib.ListN.{length, getD, take, drop, drop-of-length-le, length-drop, length-take}
 use lib.Seq.{drop-cons, take-all, take-take}
 use borrow.Author.Tests.{not-true, le-leb, lt-leb}
-use Rattle.load_text.specs.Parsing.{before, until, since, placeOf, parts, full, is, isBlank, isFull, wordsIn, wordAt, FirstWord, chomped, said}
+use Rattle.load_text.specs.Parsing.{before, until, since, placeOf, parts, full, is, isBlank, isFull, edgeOf, wordsIn, wordAt, FirstWord, chomped, said}
 use Rattle.load_text.proofs.Cases.{either, below}
 use Rattle.load_text.proofs.Parts.{place-low, place-high, place-end, place-on, place-passes, until-first, since-drop, parts-cut}
+
+-- One test for both edges of a word: whether a byte is a blank is what is asked for.
+pub edge-is : (blank t : Bool) (b : ℕ) → t ≡ isBlank b → edgeOf blank b ≡ Bool·beq t blank
+edge-is true t b e = either (isBlank b) (λ q. rw (e, q)) (λ q. rw (e, q))
+edge-is false t b e = either (isBlank b) (λ q. rw (e, q)) (λ q. rw (e, q))
 
 -- Blanks in front of a word say nothing.
 words-since : (l : List ℕ) → wordsIn l ≡ wordsIn (since isFull l)

@@ -18,7 +18,7 @@ use Rattle.load_text.specs.declared.texts.Key.the-variants.{Kind, Name}
 use Rattle.load_text.specs.declared.words.Field.{Field}
 use Rattle.load_text.specs.declared.words.Field.the-variants.{Value, Wrong}
 use Rattle.load_text.specs.declared.words.Mark.{Mark}
-use Rattle.load_text.specs.declared.words.Mark.the-variants.{Byte, Blank, Full, Joint, NoDigit}
+use Rattle.load_text.specs.declared.words.Mark.the-variants.{Joint, NoDigit}
 use Rattle.load_text.specs.Reasons.{noEdition, unknown, missing, tooMany, noClock, noTicket, noLength, noGroups, tooLarge, over63, backward}
 
 -- ── parts of a text ──
@@ -80,6 +80,11 @@ isDash b = is 45 b
 abbrev pub isJoint : ℕ → Bool
 isJoint b = isComma b || isDash b
 
+-- The edges of a word: a space or a tab ends it, any other byte begins it.
+abbrev pub edgeOf : Bool → ℕ → Bool
+edgeOf true b = isBlank b
+edgeOf false b = isFull b
+
 -- The lines of a text, the words of a line, the items of a list.
 unfoldable pub linesIn : List ℕ → List (List ℕ)
 linesIn l = parts isFeed l
@@ -131,11 +136,8 @@ digitsIn base w = none (noDigit base) w
 abbrev pub isNumber : ℕ → List ℕ → Bool
 isNumber base w = ltb 0 (length w) && digitsIn base w
 
--- The bytes that the code looks for.
+-- The bytes that a word may lack.
 abbrev pub passes : Mark → ℕ → Bool
-passes (Byte a) b = is a b
-passes Blank b = isBlank b
-passes Full b = isFull b
 passes Joint b = isJoint b
 passes (NoDigit base) b = noDigit base b
 

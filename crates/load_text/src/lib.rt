@@ -22,7 +22,6 @@ pub use print::Printed;
 pub use print::put_line;
 pub use print::report;
 pub use print::show;
-use words::Mark;
 
 // The length of the load that a text makes; or the first line that is wrong, and its number; or 15, at line 0.
 pub enum Made {
@@ -45,7 +44,7 @@ fn heading(text: &[u8]) -> Start
     let mut line: u64 = 0;
     while at < text.len() {
         line += 1;
-        let end = words::place(text, Mark::Byte(10), at);
+        let end = words::place(text, 10, at);
         match parse::head_line(&text[at..end]) {
             Head::Silent => {}
             Head::Edition(edition) => {
@@ -118,7 +117,7 @@ fn gather(text: &[u8], out: &mut [u8]) -> Made
     let mut size = numerals::put_byte(out, 0, edition);
     while at < text.len() {
         line += 1;
-        let end = words::place(text, Mark::Byte(10), at);
+        let end = words::place(text, 10, at);
         match add(out, size, edition, &text[at..end]) {
             Written::Length(n) => {
                 size = n;

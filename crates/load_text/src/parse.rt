@@ -10,7 +10,6 @@ use crate::reasons;
 use crate::sets::groups_of;
 use crate::texts::kind_named;
 use crate::words::Field;
-use crate::words::Mark;
 use crate::words::next_word;
 use crate::words::number;
 use crate::words::place;
@@ -124,7 +123,7 @@ pub fn said_end(line: &[u8]) -> usize
     ensures { λ r. ⌜ (r ≤ length (now (line .entry))) × (take r (now (line .entry)) ≡ said (now (line .entry))) ⌝ }
 {
     let size = line_end(line);
-    place(&line[..size], Mark::Byte(b'#'), 0)
+    place(&line[..size], b'#', 0)
 }
 
 // A line of a show of an edition, without its line feed: its first word names the call.

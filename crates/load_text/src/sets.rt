@@ -43,7 +43,7 @@ fn range(low: u64, word: &[u8]) -> Field
 fn item(word: &[u8]) -> Field
     ensures { λ r. ⌜ r ≡ itemIn (now (word .entry)) ⌝ }
 {
-    let end = place(word, Mark::Byte(b'-'), 0);
+    let end = place(word, b'-', 0);
     match group(&word[..end]) {
         Field::Value(low) => {
             if word.len() <= end {
@@ -61,7 +61,7 @@ fn list(word: &[u8]) -> Field
     let mut set: u64 = 0;
     let mut at: usize = 0;
     while at < word.len() {
-        let end = place(word, Mark::Byte(b','), at);
+        let end = place(word, b',', at);
         match item(&word[at..end]) {
             Field::Value(g) => {
                 set = groups::union(set, g);

@@ -8,7 +8,6 @@ ghost use Rattle.numerals.specs.Laid.{Put};
 ghost use Rattle.load.specs.Format.{format, nameOf};
 ghost use Rattle.load_text.specs.Lines.{reasonText, texts};
 ghost use Rattle.load_text.specs.Parsing.{isRow, kindNamed, rowAt, rowFor};
-use crate::words::Mark;
 use crate::words::place;
 
 // What a row of the format is looked for by: its kind, or its name.
@@ -133,6 +132,6 @@ pub(crate) fn put_reason(out: &mut [u8], at: usize, reason: u8) -> usize
     ensures { λ r. ⌜ Put (now (out .entry)) at (reasonText reason) r (now (out .exit)) ⌝ }
 {
     let numbers = REASONS;
-    let i = place(&numbers, Mark::Byte(reason), 0);
+    let i = place(&numbers, reason, 0);
     put_row(out, at, 6 + i)
 }

@@ -4,7 +4,7 @@ ghost use mathlib.Core.Path.{_≡_};
 ghost use mathlib.Core.Bool.{true, _||_};
 ghost use Prim.Native.Nat.{_≤_, _<_, max};
 ghost use lib.ListN.{length};
-ghost use Rattle.load_text.specs.Parsing.{FirstWord, digitOf, digitsIn, is, none, numberIn, passes, placeOf, upToMost, valueIn};
+ghost use Rattle.load_text.specs.Parsing.{FirstWord, digitOf, digitsIn, edgeOf, is, none, numberIn, passes, placeOf, upToMost, valueIn};
 
 // A word of a line, from its first byte to after its last. Both are equal where there is no word.
 pub struct Word {
@@ -36,11 +36,8 @@ fn digit(b: u8) -> u64
     }
 }
 
-// What is looked for: a byte; a space or a tab; any other byte than these; a comma or a dash; a byte that is no digit of a base.
+// What a word may lack: a comma or a dash; a byte that is no digit of a base.
 pub enum Mark {
-    Byte(u8),
-    Blank,
-    Full,
     Joint,
     NoDigit(u64),
 }
@@ -55,21 +52,32 @@ fn passes(mark: Mark, b: u8) -> bool
     ensures { λ r. ⌜ r ≡ passes mark b ⌝ }
 {
     match mark {
-        Mark::Byte(a) => b == a,
-        Mark::Blank => is_either(b, b' ', b'\t'),
-        Mark::Full => !is_either(b, b' ', b'\t'),
         Mark::Joint => is_either(b, b',', b'-'),
         Mark::NoDigit(base) => base <= digit(b),
     }
 }
 
-// The first place from `at` on of such a byte, or the end.
-pub fn place(text: &[u8], mark: Mark, at: usize) -> usize
-    ensures { λ r. ⌜ (r ≡ placeOf (passes mark) (now (text .entry)) at) × (at ≤ r) × (r ≤ max at (length (now (text .entry)))) ⌝ }
+// Whether a text has no such byte. Cost: one test for each byte up to the first.
+pub(crate) fn lacks(text: &[u8], mark: Mark) -> bool
+    ensures { λ r. ⌜ r ≡ none (passes mark) (now (text .entry)) ⌝ }
+{
+    let mut i: usize = 0;
+    while i < text.len() {
+        if passes(mark, text[i]) {
+            return false;
+        }
+        i += 1;
+    }
+    true
+}
+
+// The first place from `at` on of a byte, or the end. Cost: one test for each byte up to there.
+pub fn place(text: &[u8], b: u8, at: usize) -> usize
+    ensures { λ r. ⌜ (r ≡ placeOf (is b) (now (text .entry)) at) × (at ≤ r) × (r ≤ max at (length (now (text .entry)))) ⌝ }
 {
     let mut i = at;
     while i < text.len() {
-        if passes(mark, text[i]) {
+        if text[i] == b {
             return i;
         }
         i += 1;
@@ -77,19 +85,26 @@ pub fn place(text: &[u8], mark: Mark, at: usize) -> usize
     i
 }
 
-// Whether there is none.
-pub(crate) fn lacks(text: &[u8], mark: Mark) -> bool
-    ensures { λ r. ⌜ r ≡ none (passes mark) (now (text .entry)) ⌝ }
+// The first place from `at` on of a space or a tab, with `blank` false of any other byte; or the end. Cost: as `place`.
+fn edge(text: &[u8], blank: bool, at: usize) -> usize
+    ensures { λ r. ⌜ (r ≡ placeOf (edgeOf blank) (now (text .entry)) at) × (at ≤ r) × (r ≤ max at (length (now (text .entry)))) ⌝ }
 {
-    text.len() <= place(text, mark, 0)
+    let mut i = at;
+    while i < text.len() {
+        if is_either(text[i], b' ', b'\t') == blank {
+            return i;
+        }
+        i += 1;
+    }
+    i
 }
 
 // The next word from a place on.
 pub fn next_word(line: &[u8], at: usize) -> Word
     ensures { λ r. ⌜ FirstWord (now (line .entry)) at (r .from) (r .to) ⌝ }
 {
-    let from = place(line, Mark::Full, at);
-    let to = place(line, Mark::Blank, from);
+    let from = edge(line, false, at);
+    let to = edge(line, true, from);
     Word { from: from, to: to }
 }
 

@@ -1,17 +1,25 @@
--- `words::lacks` meets its contract: the first such byte would stand before the end.
-use mathlib.Core.Path.{ap, _∙_}
-use lib.Dec.{leb}
+-- `words::lacks` meets its contract: a loop that looks for such a byte, by the laws of `Seeking` in proofs/Parts.
+use Prim.Native.Nat.{_-_}
+use mathlib.Core.Path.{sym, _∙_}
 use lib.ListN.{length}
 use borrow.Author.Needs.{needs}
 use Rattle.load_text.specs.Parsing.{passes}
-use Rattle.load_text.proofs.Parts.{none-place}
+use Rattle.load_text.proofs.Parts.{Seeking, seek-start, seek-next, seek-some, seek-none}
 use Rattle.load_text.proofs.words.lacks.Statement.{statement}
 use Rattle.load_text.proofs.words.lacks.Tie as tie
 
-returns : tie.Need-returns
-returns c =
-    let a = c .before .before .args in
-    ap (λ n. leb (length (a .text .now)) n) (c .place .ensures .0) ∙ none-place (passes (a .mark)) (a .text .now)
+abbrev Inv-loop : tie.InvT-loop
+Inv-loop text mark i₀ i = Seeking (passes mark) text 0 i
+
+abbrev μ-loop : tie.MeasureT-loop
+μ-loop text mark i₀ i = length text - i
 
 pub lacks-spec : {M : Type 1} → statement M
-lacks-spec = tie.close (tie.spec (λ c κs. search needs) returns)
+lacks-spec =
+    tie.close
+    (tie.spec
+    Inv-loop μ-loop (λ c. seek-start _) (λ c. search needs) (λ c κs. search needs)
+    (λ c. let l = c .before .before .before in seek-some (l .before .loop .inv) (l .loop-test .taken) (sym (c .before .passes .ensures) ∙ c .if1 .taken))
+    (λ c. search needs) (λ c. search needs)
+    (λ c. let l = c .before .before .before in seek-next (l .before .loop .inv) (l .loop-test .taken) (sym (c .before .passes .ensures) ∙ c .if1 .left))
+    (λ c. seek-none (c .before .loop .inv) (c .loop-test .left)))

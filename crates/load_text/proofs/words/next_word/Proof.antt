@@ -8,4 +8,4 @@ pub next-word-spec : {M : Type 1} → statement M
 next-word-spec =
     tie.close
     (tie.spec
-    (λ c κs. search needs) (λ c κs. search needs) (λ c. first-word _ _ _ _ (c .before .place .ensures .0) (c .place2 .ensures .0)))
+    (λ c κs. search needs) (λ c κs. search needs) (λ c. first-word _ _ _ _ (c .before .edge .ensures .0) (c .edge2 .ensures .0)))

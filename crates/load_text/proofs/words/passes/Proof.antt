@@ -1,5 +1,4 @@
 -- `words::passes` meets its contract: each mark by its own test.
-use mathlib.Core.Bool.{not}
 use mathlib.Core.Path.{ap}
 use lib.Dec.{leb}
 use borrow.Author.Needs.{needs}
@@ -10,9 +9,6 @@ pub passes-spec : {M : Type 1} → statement M
 passes-spec =
     tie.close
     (tie.spec
-    (λ c. search needs) (λ c. search needs) (λ c κs. search needs) (λ c. search needs) (λ c κs. search needs) (λ c. search needs)
-    (λ c κs. search needs) (λ c. search needs) (λ c κs. search needs) (λ c. rw (c .before .mark .given .1))
+    (λ c. search needs) (λ c κs. search needs) (λ c. search needs) (λ c κs. search needs)
     (λ c. rw (c .before .enum-told .given .1) (c .is-either .ensures))
-    (λ c. rw (c .before .enum-told2 .given .1) (ap not (c .is-either2 .ensures)))
-    (λ c. rw (c .before .enum-told3 .given .1) (c .is-either3 .ensures))
-    (λ c. rw (c .before .before .mark2 .given .1) (ap (leb _) (c .digit .ensures .0))))
+    (λ c. rw (c .before .before .mark .given .1) (ap (leb _) (c .digit .ensures .0))))

@@ -1,36 +1,25 @@
--- `words::place` meets its contract: the first such byte from i on is the first from `at` on.
-use Prim.Native.Nat.{_-_, _≤_, max}
-use mathlib.Core.Path.{_≡_, refl, sym, _∙_}
-use native.Mathlib.Omega.{arith}
+-- `words::place` meets its contract: a loop that looks for one byte, by the laws of `Seeking` in proofs/Parts.
+use Prim.Native.Nat.{_-_}
 use lib.ListN.{length}
 use borrow.Author.Needs.{needs}
-use Rattle.load_text.specs.Parsing.{placeOf, passes}
-use Rattle.load_text.proofs.Parts.{place-here, place-on, place-end}
+use borrow.Author.Tests.{eq-eqb, ne-eqb}
+use Rattle.load_text.specs.Parsing.{is}
+use Rattle.load_text.proofs.Parts.{Seeking, seek-start, seek-found, seek-next, seek-end}
 use Rattle.load_text.proofs.words.place.Statement.{statement}
 use Rattle.load_text.proofs.words.place.Tie as tie
 
 abbrev Inv-loop : tie.InvT-loop
-Inv-loop text mark at i₀ i = (placeOf (passes mark) text i ≡ placeOf (passes mark) text at) × (at ≤ i) × (i ≤ max at (length text))
+Inv-loop text b at i₀ i = Seeking (is b) text at i
 
 abbrev μ-loop : tie.MeasureT-loop
-μ-loop text mark at i₀ i = length text - i
-
-returns : tie.Need-returns Inv-loop μ-loop
-returns c =
-    let l = c .before .before .before .before in
-    (sym (place-here (passes (l .before .before .args .mark)) _ _ (omega arith) (cc)) ∙ l .loop .inv .0, omega arith, omega arith)
-
-loop-again : tie.Need-loop-again Inv-loop μ-loop
-loop-again c =
-    let l = c .before .before .before .before in
-    (sym (place-on (passes (l .before .before .args .mark)) _ _ (omega arith) (cc)) ∙ l .loop .inv .0, omega arith, omega arith)
-
-returns-2 : tie.Need-returns-2 Inv-loop μ-loop
-returns-2 c = (sym (place-end (passes (c .before .before .before .args .mark)) _ _ (omega arith)) ∙ c .before .loop .inv .0, omega arith, omega arith)
+μ-loop text b at i₀ i = length text - i
 
 pub place-spec : {M : Type 1} → statement M
 place-spec =
     tie.close
     (tie.spec
-    Inv-loop μ-loop (λ c. (refl, omega arith, omega arith)) (λ c. search needs) (λ c κs. search needs) returns (λ c. search needs)
-    (λ c. search needs) loop-again returns-2)
+    Inv-loop μ-loop (λ c. seek-start _) (λ c. search needs)
+    (λ c. let l = c .before .before in seek-found (l .before .loop .inv) (l .loop-test .taken) (eq-eqb _ _ (c .if1 .taken)))
+    (λ c. search needs) (λ c. search needs)
+    (λ c. let l = c .before .before in seek-next (l .before .loop .inv) (l .loop-test .taken) (ne-eqb _ _ (c .if1 .left)))
+    (λ c. seek-end (c .before .loop .inv) (c .loop-test .left)))
