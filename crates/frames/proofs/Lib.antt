@@ -1,3 +1,4 @@
 pub mod AllScenarios
 pub mod Rows
 pub mod Calls
+pub mod GrantCounts

@@ -3,11 +3,11 @@ use mathlib.Core.Path.{_≡_, refl, sym, _∙_, ap, subst}
 use mathlib.Core.Logic.{_⊎_, inl, inr, ⊎-elim}
 use mathlib.Core.Bool.{Bool, true, false, true≢false, false≢true}
 use mathlib.Core.List.{List, [], _∷_, _++_, map, List·Memᴰ·head, List·Memᴰ·tail, List·Memᴰ·not-nil, List·Memᴰ·cases-cons, List·Memᴰ·append-cases, List·Memᴰ·eq-of-singleton}
-use Prim.Native.Nat.{ℕ, _+_, _*_, _≤_, _<_}
+use Prim.Native.Nat.{ℕ, zero, suc, _+_, _*_, _≤_, _<_}
 use native.Mathlib.Omega.{arith}
 use native.Mathlib.Nat.{min-eq-left, min-eq-right, le-of-lt}
 use lib.Dec.{eqb}
-use lib.ListN.{length}
+use lib.ListN.{length, drop}
 use borrow.Author.Tests.{eqb-true, eq-eqb}
 use Rattle.rules.specs.Lists.{_∈_, greatest, least, sum, all, any, keep, Ascends}
 use Rattle.rules.proofs.Bools.{and-l, and-r, and-i, or-e, or-l, or-r, or-fl, or-fr, split, clash, by-test, by-order}
@@ -234,6 +234,11 @@ module _ {A : Type 0} (f : A → ℕ) where
   ascends-keep p (x ∷ l) u =
       let ih = ascends-keep p l (u .1) in
       by-test (p x) (λ e. rw e (λ y m. u .0 y (keep-e p l m .0), ih)) (λ e. rw e ih)
+
+  pub ascends-drop : (i : ℕ) (l : List A) → Ascends f l → Ascends f (drop i l)
+  ascends-drop zero l u = u
+  ascends-drop (suc i) [] u = u
+  ascends-drop (suc i) (x ∷ l) u = ascends-drop i l (u .1)
 
   pub ascends-snoc : (l : List A) (w : A) → Ascends f l → Each (λ x. f x < f w) l → Ascends f (l ++ (w ∷ []))
   ascends-snoc [] w u h = (λ y m. none m, tt)

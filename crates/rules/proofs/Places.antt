@@ -52,6 +52,16 @@ module _ {A : Type 0} (d : A) where
       let q : 64 - (length l + 1) ≡ 63 - length l = omega arith in
       rw (e, p, q) (set-append-seam l d (replicate (63 - length l) d) x ∙ sym (append-snoc l x (replicate (63 - length l) d)))
 
+  -- One element less: the place after the others becomes vacant.
+  pub pad-less : (l k : List A) → suc (length k) ≡ length l → length l ≤ 64 → set (k ++ drop (length k) (pad d l)) (length k) d ≡ pad d k
+  unfolding pad
+  pad-less l k e h =
+      let size : suc (64 - length l) ≡ 64 - length k = omega arith in
+      let tail : drop (suc (length k)) (pad d l) ≡ replicate (64 - length l) d = ap (λ (j : ℕ). drop j (pad d l)) e ∙ drop-append-seam l (replicate (64 - length l) d) in
+      ap (λ (r : List A). set (k ++ r) (length k) d) (drop-cons (pad d l) (length k) d (omega (arith, pad-length l h)))
+      ∙ set-append-seam k (getD (pad d l) (length k) d) (drop (suc (length k)) (pad d l)) d
+      ∙ ap (λ (r : List A). k ++ (d ∷ r)) tail ∙ ap (λ (j : ℕ). k ++ replicate j d) size
+
 -- ── storing front to back: what is left to store, from place n on, gives the whole ──
 pub record Storing {A : Type 0} (old total rest : List A) (n : ℕ) (l : List A) : Type 0 where
   pub stores : sets l n rest ≡ sets old 0 total

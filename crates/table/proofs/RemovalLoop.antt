@@ -3,10 +3,10 @@ use mathlib.Core.Path.{_≡_, refl, sym, _∙_, ap, subst}
 use mathlib.Core.Logic.{_⊎_, inl, inr, ⊎-elim, _≢_}
 use mathlib.Core.List.{List, [], _∷_, _++_}
 use mathlib.Core.Bool.{not}
-use Prim.Native.Nat.{ℕ, zero, suc, _+_, _-_, _≤_, _<_}
+use Prim.Native.Nat.{ℕ, suc, _+_, _≤_, _<_}
 use native.Mathlib.Omega.{arith}
-use lib.ListN.{length, take, drop, getD, set, replicate}
-use lib.Seq.{getD-set-other, drop-cons, set-at, drop-append-seam}
+use lib.ListN.{length, take, drop, getD, set}
+use lib.Seq.{getD-set-other}
 use borrow.Author.Tests.{eq-eqb, ne-eqb}
 use Rattle.rules.specs.declared.Claim.{Claim}
 use Rattle.rules.specs.Lists.{keep}
@@ -16,16 +16,11 @@ use Rattle.rules.specs.declared.Standing.the-variants.{NotPending}
 use Rattle.rules.specs.Tests.{named}
 use Rattle.rules.specs.Calls.{standing, standingOf}
 use Rattle.rules.specs.Tables.{vacant, pad}
-use Rattle.rules.proofs.Lists.{Each, here, there, keep-length}
+use Rattle.rules.proofs.Lists.{Each, here, there, keep-length, ascends-drop}
 use Rattle.table.specs.Rows.{Row}
-use Rattle.rules.proofs.Places.{prefix-end, pad-over, Storing, store-start, store-more, store-end}
+use Rattle.rules.proofs.Places.{prefix-end, pad-over, pad-less, Storing, store-start, store-more, store-end}
 use Rattle.table.proofs.Rows.{row-count, row-step}
 use Rattle.table.specs.Outcomes.{without}
-
-ascending-drop : (i : ℕ) (l : List Claim) → Ascending l → Ascending (drop i l)
-ascending-drop zero l a = a
-ascending-drop (suc i) [] a = a
-ascending-drop (suc i) (c ∷ l) a = ascending-drop i l (a .1)
 
 module _ (k : ℕ) (c : Claim) (l : List Claim) where
   pub found : c .ticket ≡ k → standing c ≡ standingOf k (c ∷ l)
@@ -107,7 +102,7 @@ module _ {k t : ℕ} {l : List Claim} {n i : ℕ} {s : Standing} {m : ℕ} {new 
               (λ b. inr (
                 omega (arith, b .0),
                 q ∙ ap standing taking-rest ∙ (found k next behind e ∙ ap (standingOf k) (sym here-next) ∙ b .2),
-                λ d j z. omega (arith, subst Ascending here-next (ascending-drop i pending (w .row .ascending)) .0 d j, e, z),
+                λ d j z. omega (arith, subst Ascending here-next (ascends-drop (λ (c : Claim). c .ticket) i pending (w .row .ascending)) .0 d j, e, z),
               ))
               (λ b. absurd (b .2 next (rw here-next here) e))
               (w .told);
@@ -141,12 +136,8 @@ module _ {k t : ℕ} {l : List Claim} {n i : ℕ} {s : Standing} {m : ℕ} {new 
           ∙ pad-over vacant pending staying (sym taking-count ∙ e)
 
       pub taking-one : m < n → set new m vacant ≡ pad vacant staying
-      unfolding pad
       taking-one a =
           let b : suc m ≡ length pending = ⊎-elim (λ b. omega (arith, b .0, w .within)) (λ b. omega (arith, b .0, w .within, row-count (w .row))) (w .told) in
-          let size : 64 - length staying ≡ suc (64 - length pending) = omega (arith, taking-count, b, row-count (w .row), w .row .few) in
-          let tail : drop (suc m) l ≡ replicate (64 - length pending) vacant =
-          ap (drop (suc m)) full ∙ ap (λ (j : ℕ). drop j (pad vacant pending)) b ∙ drop-append-seam pending (replicate (64 - length pending) vacant) in
-          ap (λ (r : List Claim). set r m vacant) (whole ∙ ap (λ (r : List Claim). staying ++ r) (drop-cons l m vacant (omega (arith, w .row .few, w .row .places))))
-          ∙ set-at staying (getD l m vacant) (drop (suc m) l) vacant m (sym taking-count)
-          ∙ ap (λ (r : List Claim). staying ++ (vacant ∷ r)) tail ∙ ap (λ (j : ℕ). staying ++ replicate j vacant) (sym size)
+          ap (λ (r : List Claim). set r m vacant) (whole ∙ ap (λ (r : List Claim). staying ++ drop m r) full)
+          ∙ ap (λ (j : ℕ). set (staying ++ drop j (pad vacant pending)) j vacant) taking-count
+          ∙ pad-less vacant pending staying (omega (arith, taking-count, b)) (omega (arith, row-count (w .row), w .row .few))

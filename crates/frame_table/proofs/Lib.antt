@@ -1,0 +1,8 @@
+pub mod Tables
+pub mod Gathering
+pub mod RemovalLoop
+pub mod Tests
+pub mod Steps
+pub mod Releasing
+pub mod Promised
+pub mod Runs
