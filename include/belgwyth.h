@@ -1,7 +1,7 @@
 /*
- * Belgwyth: what a load of light-cue calls does to a claims table, as a listing.
+ * Belgwyth: what a load of light-cue calls does to a claims table, as a listing; and what a dance show does to a frame table.
  *
- * Link with the static library that `rt staticlib listing` writes:
+ * Link with the static library that `rt staticlib listing` writes, and for dance shows with that of `rt staticlib frame_listing`:
  *
  *     gcc -O2 -Iinclude -o player player.c target/staticlib/liblisting.a
  */
@@ -30,6 +30,18 @@ extern "C" {
  * Neither pointer may be null, not even where its length is 0, and the two ranges must not overlap.
  */
 size_t belgwyth_listing(const uint8_t *load, size_t load_length, uint8_t *out, size_t out_length);
+
+/* The answer to a dance show with a wrong line. No listing is empty: the header alone is 33 bytes. */
+#define BELGWYTH_WRONG_LINE 0
+
+/*
+ * Writes the listing of a dance show, a text with a line for each call, to the start of `out`.
+ *
+ * Answers the count of bytes written; the bytes of `out` after them keep their contents. If a line of the text is wrong, answers
+ * BELGWYTH_WRONG_LINE (the program `beat` says which, and why), or else BELGWYTH_NO_SPACE if the listing is longer than `out_length`;
+ * then no byte of `out` differs. A show of n calls has a listing of at most 42 + 129 * n bytes. Text and buffer as above.
+ */
+size_t belgwyth_beat(const uint8_t *text, size_t text_length, uint8_t *out, size_t out_length);
 
 #ifdef __cplusplus
 }

@@ -1,6 +1,6 @@
 #!/usr/bin/env bash
 # Builds the example player with warnings as errors, in C and with the header in C++, and compares what it prints with the program's
-# listing. The last line is 'N passed, M failed'.
+# listing; and calls the listing of dance shows from C. The last line is 'N passed, M failed'.
 set -u -o pipefail
 cd "$(dirname "$0")/.." || exit 2
 . tests/lib.sh || exit 2
@@ -43,5 +43,37 @@ for name in sample empty edition unknown short misfit long overture; do
 done
 try "the sample of the paper" lists_as "$work/sample.load" crates/cue/stdout
 try "the sample show's listing" lists_as examples/overture.load examples/overture.listing
+
+# A dance show from C: its listing, a wrong line, a buffer that is too small, and one whose later bytes stay.
+cat >"$work/dance.c" <<'EOF'
+#include <stdio.h>
+#include <string.h>
+
+#include "belgwyth.h"
+
+int main(void)
+{
+    static uint8_t text[65536], out[65536];
+    size_t length = fread(text, 1, sizeof text, stdin), written;
+
+    memset(out, 'x', sizeof out);
+    if (belgwyth_beat((const uint8_t *)"rig F\nclam", 10, out, sizeof out) != BELGWYTH_WRONG_LINE || out[0] != 'x')
+        return 2;
+    if (belgwyth_beat((const uint8_t *)"rig F\n", 6, out, 42) != BELGWYTH_NO_SPACE || out[0] != 'x')
+        return 3;
+    if (belgwyth_beat((const uint8_t *)"rig F\n", 6, out, 43) != 43 || out[43] != 'x')
+        return 4;
+    written = belgwyth_beat(text, length, out, sizeof out);
+    fwrite(out, 1, written, stdout);
+    return 0;
+}
+EOF
+# dances_as SHOW LISTING: the caller in C says of a dance show what a file has.
+dances_as() {
+    "$work/dance" <"$1" >"$work/dance.out" && cmp "$work/dance.out" "$2"
+}
+try "rt staticlib frame_listing" quiet rt staticlib frame_listing
+try "a caller in C builds with both libraries" gcc -std=c99 -O2 -Wall -Wextra -Wpedantic -Werror -Iinclude -o "$work/dance" "$work/dance.c" "$library" target/staticlib/libframe_listing.a
+try "the sample dance show from C" dances_as examples/duet.show examples/duet.listing
 
 total

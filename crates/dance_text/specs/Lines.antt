@@ -1,0 +1,63 @@
+-- What a line of a dance show says: `rig GROUPS`, `claim GROUPS` or `release TICKET`. Lines, words, sets of groups and reasons are those of
+-- the planner's text (load_text, specs/Parsing). Bytes are ASCII.
+use Prim.Native.Nat.{ℕ}
+use mathlib.Core.Bool.{Bool, true, false, cond}
+use mathlib.Core.List.{List, [], _∷_}
+use Rattle.load_text.specs.declared.words.Field.{Field}
+use Rattle.load_text.specs.declared.words.Field.the-variants.{Value}
+use Rattle.load_text.specs.declared.words.Field.the-variants as field
+use Rattle.load_text.specs.Parsing.{wordsIn, said, isWord, groupsIn, numberIn}
+use Rattle.load_text.specs.Reasons.{unknown, missing, tooMany, noTicket, tooLarge}
+use Rattle.dance_text.specs.declared.Call.{Call}
+use Rattle.dance_text.specs.declared.Call.the-variants.{Rig, Claim, Release}
+use Rattle.dance_text.specs.declared.Line.{Line}
+use Rattle.dance_text.specs.declared.Line.the-variants.{Silent, Said, Wrong}
+use Rattle.dance_text.specs.declared.Name.{Name}
+use Rattle.dance_text.specs.declared.Name.the-variants.{NewRig, NewClaim, EndClaim, NoCall}
+
+-- "rig", "claim", "release"
+abbrev pub rigWord : List ℕ
+rigWord = 114 ∷ 105 ∷ 103 ∷ []
+
+abbrev pub claimWord : List ℕ
+claimWord = 99 ∷ 108 ∷ 97 ∷ 105 ∷ 109 ∷ []
+
+abbrev pub releaseWord : List ℕ
+releaseWord = 114 ∷ 101 ∷ 108 ∷ 101 ∷ 97 ∷ 115 ∷ 101 ∷ []
+
+-- The call that a word names.
+unfoldable pub named : List ℕ → Name
+named w = cond (isWord w rigWord) NewRig (cond (isWord w claimWord) NewClaim (cond (isWord w releaseWord) EndClaim NoCall))
+
+abbrev pub isCall : Name → Bool
+isCall NewRig = true
+isCall NewClaim = true
+isCall EndClaim = true
+isCall NoCall = false
+
+-- The call of what a word says; what is wrong stays so.
+abbrev pub callOr : (ℕ → Call) → Field → Line
+callOr call (Value v) = Said (call v)
+callOr call (field.Wrong n) = Wrong n
+
+-- What the word after a call's name says.
+abbrev pub wordSays : Name → List ℕ → Line
+wordSays NewRig w = callOr Rig (groupsIn w)
+wordSays NewClaim w = callOr Claim (groupsIn w)
+wordSays EndClaim w = callOr Release (numberIn 10 65535 noTicket tooLarge w)
+wordSays NoCall w = Wrong unknown
+
+-- What the words after it say. How many there are is judged before what they say.
+unfoldable pub wordsSay : Name → List (List ℕ) → Line
+wordsSay n [] = Wrong missing
+wordsSay n (w ∷ []) = wordSays n w
+wordsSay n (w ∷ v ∷ ws) = Wrong tooMany
+
+-- The first word names the call.
+unfoldable pub callIn : List (List ℕ) → Line
+callIn [] = Silent
+callIn (k ∷ ws) = cond (isCall (named k)) (wordsSay (named k) ws) (Wrong unknown)
+
+-- What a line says.
+unfoldable pub lineSays : List ℕ → Line
+lineSays l = callIn (wordsIn (said l))

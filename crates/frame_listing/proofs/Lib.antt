@@ -1,0 +1,5 @@
+pub mod AllSamples
+pub mod Calls
+pub mod CallLoop
+pub mod Lines
+pub mod Sizes
