@@ -1,5 +1,5 @@
 #!/usr/bin/env bash
-# The reference program's layout, lints and own tests, then the comparison with the proved library and programs (which rt ci has built).
+# The reference program's layout, lints and own tests, then the comparison with the proved libraries and programs (which rt ci has built).
 # The last line is 'N passed, M failed'.
 set -u -o pipefail
 cd "$(dirname "$0")/.." || exit 2
@@ -8,6 +8,7 @@ log=$(mktemp) || exit 2
 trap 'rm -f "$log"' EXIT
 
 try "rt staticlib listing" quiet rt staticlib listing
+try "rt staticlib frame_listing" quiet rt staticlib frame_listing
 cd reference || exit 2
 try "cargo fmt" quiet cargo fmt --all --check
 try "cargo clippy" quiet cargo clippy --offline --release --workspace --all-targets -- -D warnings

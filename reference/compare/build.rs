@@ -1,5 +1,6 @@
-//! Links the proved library, which `rt staticlib listing` writes, and for a benchmark an earlier one beside it:
-//! the file that the environment variable LISTING_BEFORE names, its call under another name.
+//! Links the proved libraries, which `rt staticlib listing` and `rt staticlib frame_listing` write, and for a
+//! benchmark an earlier one of the first: the file that the environment variable LISTING_BEFORE names, its call under
+//! another name.
 
 use std::path::Path;
 use std::process::Command;
@@ -8,11 +9,11 @@ fn main() {
     let root = Path::new(env!("CARGO_MANIFEST_DIR")).join("../..");
     let library = root.join("target/staticlib");
     println!("cargo:rustc-link-search=native={}", library.display());
-    println!("cargo:rustc-link-lib=static=listing");
-    println!(
-        "cargo:rerun-if-changed={}",
-        library.join("liblisting.a").display()
-    );
+    for name in ["listing", "frame_listing"] {
+        println!("cargo:rustc-link-lib=static={name}");
+        let file = library.join(format!("lib{name}.a"));
+        println!("cargo:rerun-if-changed={}", file.display());
+    }
     println!("cargo:rustc-check-cfg=cfg(before)");
     println!("cargo:rerun-if-env-changed=LISTING_BEFORE");
     if let Ok(before) = std::env::var("LISTING_BEFORE") {

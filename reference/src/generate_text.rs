@@ -7,7 +7,7 @@ use crate::table::TimedCall;
 use crate::text::MAX_TEXT;
 
 /// A line as its words; one without words says nothing.
-type Line = Vec<String>;
+pub(crate) type Line = Vec<String>;
 
 /// The good text of a seed, and the load that it makes.
 pub fn good_text(seed: u64) -> (Vec<u8>, Vec<u8>) {
@@ -40,7 +40,7 @@ pub fn any_text(seed: u64) -> Vec<u8> {
     let mut lines = lines(&mut prng, &calls);
     let count = prng.pick(if full { &[0, 0, 0, 1] } else { &[0, 1, 1, 2] });
     for _ in 0..count {
-        damage_lines(&mut prng, &mut lines);
+        damage_lines(&mut prng, &mut lines, 2);
     }
     let mut text = spell(&mut prng, &lines);
     if count == 0 && !full || prng.one_in(8) {
@@ -74,6 +74,12 @@ fn lines(prng: &mut Prng, calls: &[Call]) -> Vec<Line> {
         lines.push(vec!["edition".to_string(), decimal(prng, 1)]);
     }
     lines.extend(calls.iter().map(|&call| call_line(prng, call)));
+    add_blank(prng, &mut lines);
+    lines
+}
+
+/// Puts lines that say nothing between the others.
+pub(crate) fn add_blank(prng: &mut Prng, lines: &mut Vec<Line>) {
     let mut at = 0;
     while at <= lines.len() {
         if prng.one_in(5) {
@@ -81,7 +87,6 @@ fn lines(prng: &mut Prng, calls: &[Call]) -> Vec<Line> {
         }
         at += 1;
     }
-    lines
 }
 
 fn call_line(prng: &mut Prng, call: Call) -> Line {
@@ -124,12 +129,12 @@ fn zeros(prng: &mut Prng) -> String {
     "0".repeat(count as usize)
 }
 
-fn decimal(prng: &mut Prng, number: u64) -> String {
+pub(crate) fn decimal(prng: &mut Prng, number: u64) -> String {
     format!("{}{number}", zeros(prng))
 }
 
 /// A set in hex, or as a list, which has at least one group.
-fn set(prng: &mut Prng, groups: u64) -> String {
+pub(crate) fn set(prng: &mut Prng, groups: u64) -> String {
     if groups != 0 && prng.one_in(2) {
         return list(prng, groups);
     }
@@ -210,7 +215,7 @@ const COMMENTS: [&[u8]; 10] = [
 ];
 
 /// The text of lines: spaces, tabs, comments and line ends.
-fn spell(prng: &mut Prng, lines: &[Line]) -> Vec<u8> {
+pub(crate) fn spell(prng: &mut Prng, lines: &[Line]) -> Vec<u8> {
     let returns = prng.pick(&[0, 0, 2, 10]);
     let mut text = Vec::new();
     for line in lines {
@@ -238,7 +243,7 @@ fn spell(prng: &mut Prng, lines: &[Line]) -> Vec<u8> {
 }
 
 /// Fills a text up to a size with lines that say nothing, in front or behind.
-fn pad(prng: &mut Prng, text: &mut Vec<u8>, size: usize) {
+pub(crate) fn pad(prng: &mut Prng, text: &mut Vec<u8>, size: usize) {
     let count = size.saturating_sub(text.len() + 3);
     let mut fill = b"\n#".to_vec();
     fill.resize(2 + count, prng.pick(b"\n #7"));
@@ -403,8 +408,9 @@ fn odd_edition(prng: &mut Prng) -> Line {
     line
 }
 
-/// Damages the words of a line, or the order of lines.
-fn damage_lines(prng: &mut Prng, lines: &mut Vec<Line>) {
+/// Damages the words of a line, or the order of lines. The groups of a claim
+/// are this word of its line, from 0.
+pub(crate) fn damage_lines(prng: &mut Prng, lines: &mut Vec<Line>, groups: usize) {
     let said: Vec<usize> = (0..lines.len())
         .filter(|&at| !lines[at].is_empty())
         .collect();
@@ -432,7 +438,7 @@ fn damage_lines(prng: &mut Prng, lines: &mut Vec<Line>) {
                 prng.pick(&NAMES).to_string()
             } else if line[0] == "edition" {
                 return lines[at] = odd_edition(prng);
-            } else if line[0] == "rig" || line[0] == "claim" && word == 2 {
+            } else if line[0] == "rig" || line[0] == "claim" && word == groups {
                 odd_set(prng)
             } else {
                 prng.pick(&NUMBERS).to_string()
@@ -476,7 +482,7 @@ fn damage_lines(prng: &mut Prng, lines: &mut Vec<Line>) {
 const BYTES: &[u8] = b"#\r\n\t ,-+09aAfFgG1\x00\x0B\x0C\x7F\x80\xA0\xFF";
 
 /// Damages some bytes of a text, or cuts it.
-fn damage_bytes(prng: &mut Prng, text: &mut Vec<u8>) {
+pub(crate) fn damage_bytes(prng: &mut Prng, text: &mut Vec<u8>) {
     let count = prng.pick(&[1, 1, 2, 5]);
     for _ in 0..count {
         let mut at = prng.below(text.len() as u64 + 1) as usize;

@@ -1,7 +1,8 @@
 //! A second, plain implementation of the claims table, the load and the
-//! listing of documents 01 and 02, of the planner's text and of questions about
-//! a load, with what is needed to compare it with another: generators of loads,
-//! texts and questions, a monitor of runs and a shrinker.
+//! listing of documents 01 and 02, of the planner's text, of questions about a
+//! load and of the frame table with its dance shows, with what is needed to
+//! compare it with another: generators of loads, texts, questions and shows,
+//! monitors of runs and a shrinker.
 //!
 //! Words of this crate and of document 01: contention is its crowd, start
 //! bound its ceiling, lookup its look, refusal and refused its call turned
@@ -11,7 +12,11 @@
 
 pub mod answers;
 pub mod ask;
+pub mod dance;
+pub mod frame_monitor;
+pub mod frames;
 pub mod generate;
+pub mod generate_dance;
 pub mod generate_question;
 pub mod generate_text;
 pub mod listing;

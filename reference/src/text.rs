@@ -99,11 +99,20 @@ impl fmt::Display for Wrong {
 
 /// What `load_write` writes to standard output and to standard error.
 pub fn load_write(text: &[u8]) -> (Vec<u8>, Vec<u8>) {
+    outputs(text, make)
+}
+
+/// What a program that reads a text writes to standard output and to standard
+/// error.
+pub(crate) fn outputs(
+    text: &[u8],
+    made: impl FnOnce(&[u8]) -> Result<Vec<u8>, Wrong>,
+) -> (Vec<u8>, Vec<u8>) {
     if text.len() > MAX_TEXT {
         return (Vec::new(), b"text over 1,048,576 bytes\n".to_vec());
     }
-    match make(text) {
-        Ok(load) => (load, Vec::new()),
+    match made(text) {
+        Ok(out) => (out, Vec::new()),
         Err(wrong) => (Vec::new(), format!("{wrong}\n").into_bytes()),
     }
 }
@@ -113,23 +122,31 @@ pub fn make(text: &[u8]) -> Result<Vec<u8>, Wrong> {
     let mut load = EMPTY.to_vec();
     // An edition's line, or a call, has been read.
     let mut begun = false;
+    each_line(text, |words| {
+        if words[0] == b"edition" && !begun {
+            load[0] = edition(words)?;
+        } else {
+            add(&mut load, call(words)?)?;
+        }
+        begun = true;
+        Ok(())
+    })?;
+    Ok(load)
+}
+
+/// Reads the words of each line that has any, up to the first that is wrong.
+pub(crate) fn each_line(
+    text: &[u8],
+    mut read: impl FnMut(&[&[u8]]) -> Result<(), Reason>,
+) -> Result<(), Wrong> {
     for (index, line) in text.split(|&byte| byte == b'\n').enumerate() {
         let words = words(line);
-        if words.is_empty() {
-            continue;
+        if !words.is_empty() {
+            let line = index + 1;
+            read(&words).map_err(|reason| Wrong { line, reason })?;
         }
-        let read = if words[0] == b"edition" && !begun {
-            edition(&words).map(|edition| load[0] = edition)
-        } else {
-            call(&words).and_then(|call| add(&mut load, call))
-        };
-        read.map_err(|reason| Wrong {
-            line: index + 1,
-            reason,
-        })?;
-        begun = true;
     }
-    Ok(load)
+    Ok(())
 }
 
 /// The words of a line, without its comment.
@@ -142,7 +159,7 @@ fn words(line: &[u8]) -> Vec<&[u8]> {
 }
 
 /// Refuses a count of words that is not the one needed.
-fn count(words: &[&[u8]], needed: usize) -> Result<(), Reason> {
+pub(crate) fn count(words: &[&[u8]], needed: usize) -> Result<(), Reason> {
     if words.len() < needed {
         return Err(Reason::Missing);
     }
@@ -219,7 +236,7 @@ pub(crate) fn number(word: &[u8], base: u32) -> Option<u128> {
 }
 
 /// A decimal number for a field, with the reason where it is none.
-fn field<T: TryFrom<u128>>(word: &[u8], not: Reason) -> Result<T, Reason> {
+pub(crate) fn field<T: TryFrom<u128>>(word: &[u8], not: Reason) -> Result<T, Reason> {
     let number = number(word, 10).ok_or(not)?;
     T::try_from(number).map_err(|_| Reason::TooLarge)
 }

@@ -1,4 +1,4 @@
-//! The two programs.
+//! The programs.
 
 mod common;
 
@@ -8,19 +8,21 @@ use std::process::{Command, Output, Stdio};
 use std::{env, fs, process};
 
 use common::{claim, load_of, release};
+use reference::dance::beat;
 use reference::generate;
 use reference::listing::listing;
 
-/// What the listing program prints for a load.
-fn print(load: &[u8]) -> Output {
-    let mut child = Command::new(env!("CARGO_BIN_EXE_reference_listing"))
+/// What a program prints for an input.
+fn print(program: &str, input: &[u8]) -> Output {
+    let mut child = Command::new(program)
         .stdin(Stdio::piped())
         .stdout(Stdio::piped())
+        .stderr(Stdio::piped())
         .spawn()
         .expect("the program starts");
-    let mut input = child.stdin.take().expect("its input is open");
-    input.write_all(load).expect("it reads");
-    drop(input);
+    let mut stdin = child.stdin.take().expect("its input is open");
+    stdin.write_all(input).expect("it reads");
+    drop(stdin);
     child.wait_with_output().expect("it ends")
 }
 
@@ -29,9 +31,19 @@ fn the_listing_program_prints_the_listing() {
     let sample = load_of(0xF, &[claim(0, 0x8, 10), claim(0, 0xC, 10), release(4, 1)]);
     let long = vec![1; 70_000];
     for load in [&[][..], &[1], &[0xFF], &sample, &long] {
-        let output = print(load);
+        let output = print(env!("CARGO_BIN_EXE_reference_listing"), load);
         assert!(output.status.success());
         assert_eq!(output.stdout, listing(load));
+    }
+}
+
+#[test]
+fn the_beat_program_prints_listing_or_message() {
+    let long = vec![b'\n'; 1_048_577];
+    for text in [&b""[..], b"rig F\nclaim 8\n", b"rig 0\n", b"rig G", &long] {
+        let output = print(env!("CARGO_BIN_EXE_reference_beat"), text);
+        assert!(output.status.success());
+        assert_eq!((output.stdout, output.stderr), beat(text));
     }
 }
 

@@ -4,18 +4,27 @@
 use reference::load::Reader;
 use reference::{shrink, text};
 use std::ffi::OsStr;
+use std::hint::black_box;
 use std::io::Write;
 use std::ops::Range;
 use std::os::unix::ffi::OsStrExt;
 use std::path::PathBuf;
 use std::process::{Command, Stdio};
 use std::thread;
+use std::time::{Duration, Instant};
 
 mod proved {
     extern "C" {
         pub fn belgwyth_listing(
             load: *const u8,
             load_length: usize,
+            out: *mut u8,
+            out_length: usize,
+        ) -> usize;
+
+        pub fn belgwyth_beat(
+            text: *const u8,
+            text_length: usize,
             out: *mut u8,
             out_length: usize,
         ) -> usize;
@@ -36,7 +45,13 @@ pub fn listing(load: &[u8], out: &mut [u8]) -> usize {
     unsafe { proved::belgwyth_listing(load.as_ptr(), load.len(), out.as_mut_ptr(), out.len()) }
 }
 
-/// The same call of the earlier library that LISTING_BEFORE names, where it does.
+/// The call for a dance show: the count of bytes written to the buffer, 15, or 0 for a text with a wrong line.
+pub fn beat(text: &[u8], out: &mut [u8]) -> usize {
+    // SAFETY: both slices are valid for their lengths and don't overlap.
+    unsafe { proved::belgwyth_beat(text.as_ptr(), text.len(), out.as_mut_ptr(), out.len()) }
+}
+
+/// The player's call of the earlier library that LISTING_BEFORE names, where it does.
 #[cfg(before)]
 pub fn listing_before(load: &[u8], out: &mut [u8]) -> Option<usize> {
     // SAFETY: both slices are valid for their lengths and don't overlap.
@@ -109,6 +124,14 @@ fn number(variable: &str, otherwise: u64) -> u64 {
             .unwrap_or_else(|_| panic!("{variable}={text} is no number")),
         Err(_) => otherwise,
     }
+}
+
+/// Does a piece of work and lowers the best time to its own, where that is less.
+pub fn timed<T>(best: &mut Duration, work: impl FnOnce() -> T) -> T {
+    let begun = Instant::now();
+    let result = black_box(work());
+    *best = (*best).min(begun.elapsed());
+    result
 }
 
 /// A load as lines of text, as far as it reads, for a report.

@@ -1,12 +1,12 @@
 //! Times the proved library against the reference on the same loads, in one
 //! run: ratios, below 1 where the proved library is faster.
 
-use compare::{listing, listing_before};
+use compare::{listing, listing_before, timed};
 use reference::generate::Prng;
 use reference::load::{self, Call};
 use reference::table::{State, Table, TimedCall};
 use std::hint::black_box;
-use std::time::{Duration, Instant};
+use std::time::Duration;
 
 /// A load of so many claims of two groups of 64 each, with a release of the
 /// lowest ticket that is on behind about every other one.
@@ -116,13 +116,6 @@ struct Times {
     proved: Duration,
     plain: Duration,
     before: Option<Duration>,
-}
-
-fn timed<T>(best: &mut Duration, work: impl FnOnce() -> T) -> T {
-    let begun = Instant::now();
-    let result = black_box(work());
-    *best = (*best).min(begun.elapsed());
-    result
 }
 
 fn times(load: &[u8], turns: usize) -> Times {
