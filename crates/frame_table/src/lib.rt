@@ -1,5 +1,5 @@
 // The frame table in code: new, claim, release. Each call takes a table by value and hands one back with its answer. A claim costs one pass
-// over the pending claims and a few instructions, a release one pass. A table is 1,048 bytes.
+// over the pending claims and a few instructions, a release one pass. A table is 1,056 bytes.
 ghost use mathlib.Core.Path.{_≡_};
 ghost use Prim.Native.Nat.{_≤_, _<_};
 ghost use Rattle.numbers.specs.Numbers.{mostPending, mostTickets};
