@@ -186,6 +186,23 @@ fn texts_of_the_greatest_length() {
     );
 }
 
+/// As many lines as a text that is read can have, with long numbers: 63 claims wait in a row each, then a claim and a
+/// release in turn.
+#[test]
+fn the_longest_listings() {
+    let mut text = "rig 1\n".to_string() + &"claim 1\n".repeat(63);
+    for ticket in 1.. {
+        let more = format!("claim 1\nrelease {ticket}\n");
+        if text.len() + more.len() > MAX_TEXT {
+            break;
+        }
+        text += &more;
+    }
+    assert!(agreed(text.as_bytes()).0.len() > 2 << 20);
+    let full = "rig 1\n".to_string() + &"claim 1\n".repeat((MAX_TEXT - 6) / 8);
+    agreed(full.as_bytes());
+}
+
 #[test]
 fn tickets_run_out() {
     let text = every_ticket();
