@@ -3,17 +3,12 @@
 ghost use mathlib.Core.Path.{_≡_};
 ghost use lib.ListN.{length};
 use frame_listing::Listed;
-use load_text::Printed;
 
-// `text` is for any report.
 fn fail(line: u64, reason: u8) {
-    let mut text = [0u8; 64];
-    match load_text::report(line, reason, &mut text) {
-        Printed::Length(n) => {
-            io::write_all(2, &text[..n]);
-        }
-        Printed::Refusal(_n) => {}
-    }
+    let r = load_text::report(line, reason);
+    let text = r.text;
+    let n = r.length;
+    io::write_all(2, &text[..n]);
 }
 
 // Room for the listing of every text that is read: a claim takes 8 bytes of text at least, and prints 30 at most with its `on` line.

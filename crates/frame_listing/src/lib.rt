@@ -78,7 +78,7 @@ fn stops_at(call: Call, number: u8) -> bool
 }
 
 // The lines of a text's calls. What the last call handed back is kept, with its table, so that no table is copied between calls. Each call
-// is made in place: handed on by a function of its own, the table would be copied twice more.
+// is made in place: handed on by a function of its own, the table would be copied once or twice more.
 fn put_calls(text: &[u8], out: &mut [u8], from: usize) -> usize
     ensures { λ r. ⌜ Put (now (out .entry)) from (linesOf 1 (blank 0) (callsIn (saidIn (now (text .entry))))) r (now (out .exit)) ⌝ }
 {

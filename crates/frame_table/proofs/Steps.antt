@@ -16,6 +16,7 @@ use Rattle.rules.specs.Lists.{keep}
 use Rattle.rules.specs.Tables.{pad}
 use Rattle.rules.specs.Tests.{firstOf}
 use Rattle.rules.proofs.Bools.{clash}
+use Rattle.rules.proofs.Lists.{keep-snoc}
 use Rattle.rules.proofs.Places.{pad-more}
 use Rattle.frames.specs.declared.Claim.{Claim}
 use Rattle.frames.specs.declared.Table.{Table}
@@ -76,12 +77,6 @@ after-admit t g r v c i e =
     let h : length (model t .pending) < mostPending = omega (arith, valid-count t v) in
     (e, valid-is (r .table) _ (ap tableOf e) (admit-ranged (model t) g (v .ranged) h i) (admit-invariant (model t) g (v .settled)))
 
--- A claim that waits is not one of those that are on.
-keep-snoc : (ps : List Claim) (w : Claim) → on w ≡ false → keep on (ps ++ (w ∷ [])) ≡ keep on ps
-unfolding keep
-keep-snoc [] w e = rw e
-keep-snoc (c ∷ ps) w e = rw (keep-snoc ps w e)
-
 -- What the code hands back behind other claims: the table with a claim more, of the groups g, in a row, and the answer.
 abbrev joinedTo : Table → ℕ → ℕ → ℕ → Outcome
 joinedTo t g row n =
@@ -105,7 +100,7 @@ joined-is m g row n h l e f =
     let w : Claim = fresh m g in
     let behind : on w ≡ false = ne-eqb (w .row) 0 (λ q. omega (arith, e)) in
     let more : length (m .pending ++ (w ∷ [])) ≡ length (m .pending) + 1 = length-append (m .pending) (w ∷ []) in
-    rw (behind, keep-snoc (m .pending) w behind, more) (cc (pad-more vacant (m .pending) w h, add-one (m .issued), e, f))
+    rw (behind, keep-snoc on (m .pending) w behind, more) (cc (pad-more vacant (m .pending) w h, add-one (m .issued), e, f))
 
 -- The same of a table.
 pub behind-is : (t : Table) (g row n : ℕ) → Valid t → t .count < mostPending → t .issued < mostTickets → 1 ≤ row → row ≡ rowFor g (model t .pending) → n ≡ contention g (model t .pending)

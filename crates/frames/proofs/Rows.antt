@@ -1,7 +1,7 @@
 -- The row that a new claim joins, the contention that bounds it, and the head change.
 -- A row that is passed over has a claim that shares a group, so fewer such claims stand behind it: this bounds the search.
 use mathlib.Core.Path.{_≡_, refl, sym, _∙_, ap}
-use mathlib.Core.Bool.{Bool, true, false, _&&_}
+use mathlib.Core.Bool.{Bool, true, false, _&&_, and-false}
 use mathlib.Core.List.{List, [], _∷_, map}
 use Prim.Native.Nat.{ℕ, zero, suc, _+_, _≤_, _<_}
 use native.Mathlib.Omega.{arith}
@@ -55,10 +55,6 @@ late-fewer g ps r h =
     (rw (lt-leb (suc r) (c .row) (omega (arith, x .3))) (and-false (rival g c)))
     (and-i (rival g c) _ (x .2) (le-leb r (c .row) (omega (arith, x .3))))
     (λ d i e. and-i (rival g d) _ (and-l (rival g d) _ e) (le-leb r (d .row) (omega (arith, leb-true (suc r) (d .row) (and-r (rival g d) _ e)))))
-  where
-    and-false : (b : Bool) → b && false ≡ false
-    and-false true = refl
-    and-false false = refl
 
 -- What the search from row r on finds, where at most k claims of row r or behind share a group.
 record Found (g : ℕ) (ps : List Claim) (r k x : ℕ) : Type 0 where

@@ -6,7 +6,7 @@ use mathlib.Core.Logic.{⊎-elim}
 use mathlib.Core.Path.{_≡_, refl, sym, ap}
 use native.Mathlib.Omega.{arith}
 use lib.Dec.{ltb, leb, eqb}
-use lib.ListN.{length, getD, length-append}
+use lib.ListN.{length, getD, replicate, length-append, length-replicate}
 use borrow.Author.Tests.{ne-eqb, leb-true}
 use Rattle.numerals.specs.Digits.{digits, widthUpTo, widthOf, decimalOf, column}
 use Rattle.numerals.specs.Laid.{Put, spaceNumber, lentOut}
@@ -17,7 +17,7 @@ use Rattle.load.specs.Calls.{valueOf}
 use Rattle.load.proofs.Format.{allBelow, below-passes}
 use Rattle.load_text.specs.declared.print.Printed.the-variants.{Length, Refusal}
 use Rattle.load_text.specs.declared.texts.Key.the-variants.{Kind}
-use Rattle.load_text.specs.Lines.{glyphOf, hexUpTo, wordOf, fieldsText, lineOf, stopLine, headerOf, reasons, reasonTexts, reasonText, reportOf, printed}
+use Rattle.load_text.specs.Lines.{glyphOf, hexUpTo, wordOf, fieldsText, lineOf, stopLine, headerOf, reasons, reasonTexts, reasonText, reportOf, reported, printed}
 use Rattle.load_text.specs.Parsing.{placeOf, is}
 use Rattle.load_text.specs.Reasons.{noSpace}
 use Rattle.load_text.proofs.Cases.{either, not-refused}
@@ -98,8 +98,14 @@ report-length : (line n : ℕ) → length (reportOf line n) ≤ 56
 unfolding reportOf
 report-length line n = omega (arith, length-append (decimalOf line) (58 ∷ 32 ∷ reasonText n), decimal-length line, width-small line, reason-length n)
 
-pub report-short : (line n : ℕ) → length (reportOf line n) < 2 ^ 64
-report-short line n = omega (arith, report-length line n)
+-- Laid over 64 bytes it goes in.
+pub report-goes : (line n : ℕ) {r : ℕ} {p : List ℕ} → Put (replicate 64 0) 0 (reportOf line n) r p
+    → (record { text = p; length = r } ≡ reported line n) × (r ≤ 64)
+report-goes line n {r} {p} w =
+    let h = report-length line n in
+    let e = put-short (omega arith) w in
+    let l = lent-all (reportOf line n) (replicate 64 0) p (omega (arith, length-replicate {A = ℕ} 64 0)) (e .1) in
+    (cc (e .0, l .1), omega (arith, e .0))
 
 -- ── what is answered ──
 pub print-none : (text o : List ℕ) → length o < length text → (Refusal noSpace ≡ printed text o) × (o ≡ lentOut text o)

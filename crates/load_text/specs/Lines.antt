@@ -3,13 +3,14 @@ use Prim.Native.Nat.{ℕ, zero, suc, _+_, _/_, _%_}
 use mathlib.Core.Bool.{cond}
 use mathlib.Core.List.{List, [], _∷_, _++_, map}
 use lib.Dec.{ltb, eqb}
-use lib.ListN.{length, getD}
+use lib.ListN.{length, getD, replicate}
 use Rattle.numerals.specs.Digits.{decimalOf, column, pair}
-use Rattle.numerals.specs.Laid.{spaceNumber}
+use Rattle.numerals.specs.Laid.{spaceNumber, lentOut}
 use Rattle.load.specs.declared.Call.{Call}
 use Rattle.load.specs.Format.{theGroups, format, nameOf, fieldsOf}
 use Rattle.load.specs.Calls.{valueOf}
 use Rattle.load.specs.Reading.{editionOf, Walk, walk, openNumber, unlessRefused}
+use Rattle.load_text.specs.declared.print.Reported.{Reported}
 use Rattle.load_text.specs.declared.print.Printed.{Printed}
 use Rattle.load_text.specs.declared.print.Printed.the-variants.{Length, Refusal}
 use Rattle.load_text.specs.Parsing.{placeOf, is}
@@ -115,6 +116,10 @@ texts = map (λ r. r .name) format ++ ([] ∷ reasonTexts)
 -- "line ", the line's number, ": ", and what is wrong
 unfoldable pub reportOf : ℕ → ℕ → List ℕ
 reportOf line n = (108 ∷ 105 ∷ 110 ∷ 101 ∷ 32 ∷ []) ++ (decimalOf line ++ ((58 ∷ 32 ∷ []) ++ reasonText n))
+
+-- the same at the start of 64 bytes, and its length
+abbrev pub reported : ℕ → ℕ → Reported
+reported line n = record { text = lentOut (reportOf line n) (replicate 64 0); length = length (reportOf line n) }
 
 -- ── what is answered ──
 -- The cases of `Printed` by their number and length: 0 is a text of that length.

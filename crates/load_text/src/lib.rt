@@ -19,6 +19,7 @@ pub use parse::Parsed;
 pub use parse::parse_line;
 pub use parse::said_end;
 pub use print::Printed;
+pub use print::Reported;
 pub use print::put_line;
 pub use print::report;
 pub use print::show;

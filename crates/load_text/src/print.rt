@@ -1,13 +1,14 @@
 // Calls, refusals and reports as lines. The private functions lay them over a buffer as far as that goes, and so count them on one byte;
-// the public ones answer 15 and leave the buffer as it is where the whole does not go in.
+// those for a lent buffer answer 15 and leave it as it is where the whole does not go in.
 ghost use mathlib.Core.Path.{_≡_};
 ghost use mathlib.Core.List.{[], _∷_, _++_};
+ghost use Prim.Native.Nat.{_≤_};
 ghost use lib.Dec.{leb};
 ghost use lib.ListN.{length};
 ghost use Rattle.numerals.specs.Laid.{lentOut, Put};
 ghost use Rattle.load.specs.Format.{fieldsOf};
 ghost use Rattle.load.specs.Reading.{editionOf, walk, openNumber};
-ghost use Rattle.load_text.specs.Lines.{glyphOf, hexUpTo, wordOf, fieldsText, lineOf, stopLine, restOf, headerOf, textOf, reportOf, printed};
+ghost use Rattle.load_text.specs.Lines.{glyphOf, hexUpTo, wordOf, fieldsText, lineOf, stopLine, restOf, headerOf, textOf, reportOf, reported, printed};
 use crate::parse;
 use crate::reasons;
 use crate::texts::put_name;
@@ -182,15 +183,19 @@ fn put_report(out: &mut [u8], line: u64, reason: u8) -> usize
     put_reason(out, c, reason)
 }
 
-// The same at the start of a lent buffer, at most 56 bytes. Cost: it is counted first.
-pub fn report(line: u64, reason: u8, out: &mut [u8]) -> Printed
-    ensures answer { λ r. ⌜ r ≡ printed (reportOf line reason) (now (out .entry)) ⌝ }
-    ensures buffer { λ _. ⌜ now (out .exit) ≡ lentOut (reportOf line reason) (now (out .entry)) ⌝ }
+// Such a line, in the first bytes of 64. It has at most 56.
+pub struct Reported {
+    pub text: [u8; 64],
+    pub length: usize,
+}
+
+pub fn report(line: u64, reason: u8) -> Reported
+    ensures { λ r. ⌜ (r ≡ reported line reason) × (r .length ≤ length (r .text)) ⌝ }
 {
-    let mut scrap = [0u8; 1];
-    if out.len() < put_report(&mut scrap, line, reason) {
-        return Printed::Refusal(reasons::NO_SPACE);
+    let mut text = [0u8; 64];
+    let n = put_report(&mut text, line, reason);
+    Reported {
+        text: text,
+        length: n,
     }
-    let n = put_report(out, line, reason);
-    Printed::Length(n)
 }

@@ -1,17 +1,12 @@
 // Lines of calls on standard input to a load on standard output.
 // A line that is wrong is reported on standard error, and then nothing is written.
 use load_text::Made;
-use load_text::Printed;
 
-// `text` is for any report.
 fn fail(line: u64, reason: u8) {
-    let mut text = [0u8; 64];
-    match load_text::report(line, reason, &mut text) {
-        Printed::Length(n) => {
-            io::write_all(2, &text[..n]);
-        }
-        Printed::Refusal(_n) => {}
-    }
+    let r = load_text::report(line, reason);
+    let text = r.text;
+    let n = r.length;
+    io::write_all(2, &text[..n]);
 }
 
 fn write(text: &[u8]) {

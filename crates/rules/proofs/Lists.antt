@@ -134,6 +134,12 @@ module _ {A : Type 0} where
   keep-cong p q [] h = refl
   keep-cong p q (x ∷ l) h = rw (h x here, keep-cong p q l (λ y m. h y (there m)))
 
+  -- An element more that fails adds nothing.
+  pub keep-snoc : (p : A → Bool) (l : List A) (w : A) → p w ≡ false → keep p (l ++ (w ∷ [])) ≡ keep p l
+  unfolding keep
+  keep-snoc p [] w e = rw e
+  keep-snoc p (x ∷ l) w e = rw (keep-snoc p l w e)
+
   -- Tests that agree on the list pass of some element alike.
   pub any-cong : (p q : A → Bool) (l : List A) → Each (λ x. p x ≡ q x) l → any p l ≡ any q l
   unfolding any

@@ -1,32 +1,13 @@
--- A report is a part of its buffer.
-use mathlib.Core.Path.{sym, _∙_}
+-- A report is a part of its 64 bytes.
 use lib.ListN.{length-take}
 use native.Mathlib.Omega.{arith}
 use borrow.Author.Needs.{needs}
-use Rattle.load_text.proofs.Lines.{printed-within}
 use Rattle.load_write.proofs.fail.Statement.{statement}
 use Rattle.load_write.proofs.fail.Tie as tie
-
-array-share-prefix-text : tie.Need-array-share-prefix-text
-array-share-prefix-text c =
-    let r = c .before .before .before .before in
-    omega (arith, printed-within _ _ _ (sym (r .report .ensures .0) ∙ c .before .n .given .1), r .report .kept .1 .1 .0)
-
-slice-aggregate-write-all : tie.Need-slice-aggregate-write-all
-slice-aggregate-write-all c =
-    let r = c .before .before .before .before .before in
-    simp length-take (omega (arith, printed-within _ _ _ (sym (r .report .ensures .0) ∙ c .before .before .n .given .1), r .report .kept .1 .1 .0))
 
 pub fail-spec : {M : Type 1} → statement M
 fail-spec =
     tie.close
     (tie.spec
-    (λ c. search needs)
-    (λ c κs. search needs)
-    (λ c. search needs)
-    array-share-prefix-text
-    slice-aggregate-write-all
-    (λ c κs. search needs)
-    (λ c. search needs)
-    (λ c. search needs)
-    (λ c. search needs))
+    (λ c κs. search needs) (λ c. search needs) (λ c. simp length-take (omega (arith, c .before .before .report .ensures .1)))
+    (λ c κs. search needs) (λ c. search needs))
