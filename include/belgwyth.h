@@ -15,14 +15,17 @@
 extern "C" {
 #endif
 
-/* A load is at most this long; a longer one is listed as `stop 14 0`. */
+/*
+ * A load's first byte is its edition: 1, or 2 with a pool of followspots in its rig and units of them in its claims. One of any other
+ * edition is listed as `stop 11 0`. A load is at most this long; a longer one is listed as `stop 14 0`.
+ */
 #define BELGWYTH_LOAD_MAX 65536
 
 /* The answer when the whole listing does not go into the buffer. No listing is that short: the header alone is 24 bytes. */
 #define BELGWYTH_NO_SPACE 15
 
 /*
- * Writes the listing of a load to the start of `out`.
+ * Writes the listing of a load, of either edition, to the start of `out`.
  *
  * Answers the count of bytes written, a stop line included; the bytes of `out` after them keep their contents. If the listing is
  * longer than `out_length`, answers BELGWYTH_NO_SPACE and no byte of `out` differs. Every input is taken: what is wrong with a load is

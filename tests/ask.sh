@@ -39,7 +39,7 @@ answers() {
 wrong() {
     local name=$1
     shift
-    says '' 'no such question; ask lookup TICKET or ask common TICKET TICKET\n' "$name" plot "$@"
+    says '' 'no such question; ask lookup TICKET, ask common TICKET TICKET or ask free\n' "$name" plot "$@"
 }
 
 plot='rig F\nclaim 0 8 10\nclaim 0 C 10\nclaim 0 6 11\n'
@@ -49,6 +49,10 @@ load dark 'rig 0\nclaim 0 8 10\n'
 load refused "${plot}claim 0 10 5\nrelease 1 3\n"
 load low 'rig F\nclaim 0 1 5\nclaim 0 3 5\n'
 load bare ''
+load pooled 'edition 2\nrig F 3\nclaim 0 1 10 2\nclaim 0 0 5 1\nclaim 0 2 5 3\n'
+load drawn 'edition 2\nrig F 3\nclaim 0 1 10 2\nclaim 0 0 5 1\nclaim 0 2 5 3\nrelease 4 2\n'
+load overrun 'edition 2\nrig F 3\nclaim 0 1 10 3\nclaim 0 2 5 1\nclock 12\n'
+load dark_pool 'edition 2\nrig 0 3\n'
 : >"$tmp/empty"
 printf '\377' >"$tmp/edition"
 head -c 65537 /dev/zero >"$tmp/overlong"
@@ -79,6 +83,14 @@ answers 'ticket 9 is not pending\n' "the second is not pending" plot common 3 9
 answers 'ticket 9 is not pending\n' "the first is not pending" plot common 9 3
 answers 'ticket 9 is not pending\n' "neither is pending" plot common 9 8
 
+# free
+answers '0 of 3 units free\n' "no units free" pooled free
+answers '1 of 3 units free\n' "units of a released claim" drawn free
+answers '0 of 3 units free\n' "units of a claim that overruns" overrun free
+answers 'ticket 2 waits, start 12\n' "and who waits for them" overrun lookup 2
+answers '0 of 0 units free\n' "a rig without a pool" plot free
+answers 'stop 1 1\n0 of 0 units free\n' "a dark rig with a pool" dark_pool free
+
 # loads that end early, and one that does not
 answers 'stop 12 0\nticket 1 is not pending\n' "an empty load" empty lookup 1
 answers 'stop 11 0\nticket 1 is not pending\n' "an unknown edition" edition lookup 1
@@ -105,6 +117,7 @@ wrong "one ticket of two" common 2
 wrong "three tickets of two" common 1 2 3
 wrong "four tickets of two" common 1 2 3 4
 wrong "the second ticket is too large" common 2 65536
+wrong "units of a ticket" free 3
 wrong "a line of over 4,096 bytes" lookup "$(printf '%04097d' 3)"
 { "$bin/ask" look 3 2>"$tmp/err"; cat; } <"$tmp/plot" >"$tmp/out"
 try "a wrong question leaves the load unread" cmp "$tmp/out" "$tmp/plot"

@@ -55,6 +55,7 @@ shown() {
 }
 
 rig=000901000000000000000f
+rig2=000b01000000000000000f0003 # of edition 2: a pool of 3
 header='# edition 1\n'
 
 # the sample, there and back
@@ -79,6 +80,16 @@ shown "edition byte alone" 01 "$header"
 shown "unknown edition" ff '# stop 11 0\n'
 shown "half a length" 0100 "$header# stop 12 1\n"
 shown "record of no bytes" 010000 "$header# stop 13 1\n"
+
+# edition 2
+shown "edition 2 alone" 02 'edition 2\n'
+shown "edition 3" 03 '# stop 11 0\n'
+shown "edition 2 with all of its calls" \
+    "02${rig2}0017020000000000000007000000000000000c0000000affff000b0300000000000000080001000b040000000000000009000200090500000000000000ff" \
+    'edition 2\nrig F 3\nclaim 7 C 10 65535\nrelease 8 1\nwithdraw 9 2\nclock 255\n'
+shown "edition 2 with a rig of edition 1" "02$rig" 'edition 2\n# stop 13 1\n'
+shown "edition 2 with a claim of edition 1" "02${rig2}001502000000000000000700000000000000080000000a" 'edition 2\nrig F 3\n# stop 13 2\n'
+shown "edition 1 with a rig of edition 2" "01$rig2" "$header# stop 13 1\n"
 
 # other refusals of load_show
 shown "second rig" "01$rig$rig" "${header}rig F\n# stop 13 2\n"
@@ -127,7 +138,24 @@ bad "a bad line at the end writes nothing" 'rig F\nclaim 0 1 1\nclaim 0 1 1\nnon
 # editions
 good "edition 1 alone" 'edition 1\n' 01
 good "edition 1 behind comments and blank lines" '# x\n\n \t edition 001 # y\r\nrig F\n' "01$rig"
-bad "edition 2" '# x\nedition 2\nrig F\n' 'line 2: unknown edition'
+good "edition 2 alone" 'edition 2\n' 02
+good "edition 2" '# x\nedition 2\nrig F 3 # spots\nclaim 7 8 10 2\nrelease 8 1\n' "02${rig2}001702000000000000000700000000000000080000000a0002000b0300000000000000080001"
+good "largest and least pool and units" 'edition 2\nrig 0-63 65535\nclaim 0 0 1 065535\nclaim 0 1 1 0\n' \
+    02000b01ffffffffffffffffffff0017020000000000000000000000000000000000000001ffff00170200000000000000000000000000000001000000010000
+bad "edition 3" '# x\nedition 3\nrig F\n' 'line 2: unknown edition'
+bad "edition 2 behind a call" 'rig F\nedition 2\n' 'line 2: unknown call'
+bad "edition 1 with a pool" 'rig F 3\n' 'line 1: too many words'
+bad "edition 1 with units" 'edition 1\nrig F\nclaim 0 F 1 2\n' 'line 3: too many words'
+bad "edition 2 without a pool" 'edition 2\nrig F\n' 'line 2: a number is missing'
+bad "edition 2 without units" 'edition 2\nrig F 3\nclaim 0 F 1\n' 'line 3: a number is missing'
+bad "edition 2 with a word more" 'edition 2\nrig F 3\nclaim 0 F 1 2 3\n' 'line 3: too many words'
+bad "pool is no number" 'edition 2\nrig F A\n' 'line 2: pool is not a number'
+bad "units are no number" 'edition 2\nrig F 3\nclaim 0 F 1 -1\n' 'line 3: units are not a number'
+bad "pool of 65,536" 'edition 2\nrig F 65536\n' 'line 2: number too large'
+bad "units of 65,536" 'edition 2\nrig F 3\nclaim 0 F 1 65536\n' 'line 3: number too large'
+bad "the groups go before the pool" 'edition 2\nrig G x\n' 'line 2: groups are not hex or a list'
+bad "the length goes before the units" 'edition 2\nrig F 3\nclaim 0 F x y\n' 'line 3: length is not a number'
+bad "second rig in edition 2" 'edition 2\nrig F 3\nrig F 3\n' 'line 3: rig must be first'
 bad "edition 0" 'edition 0\n' 'line 1: unknown edition'
 bad "edition 257" 'edition 257\n' 'line 1: unknown edition'
 bad "edition that is no number" 'edition one\n' 'line 1: unknown edition'
@@ -140,6 +168,21 @@ bad "a wrong line behind the edition" '# x\nedition 1\nrig F\n\nclock\n' 'line 5
 bad "a call before the rig behind the edition" 'edition 1\nclock 0\n' 'line 2: rig must be first'
 bad "the count of words goes before their values" 'rig F\nclaim x y\n' 'line 2: a number is missing'
 bad "the first wrong word decides" 'rig F\nclaim 0 64, x\n' 'line 2: group over 63'
+
+# edition 2, there and back: a load whose lines are of the greatest length
+{
+    echo "edition 2"
+    echo "rig FFFFFFFFFFFFFFFF 65535"
+    yes "claim 18446744073709551615 FFFFFFFFFFFFFFFF 4294967295 65535" | head -n 2620
+} >"$tmp/full"
+run load_write <"$tmp/full"
+mv "$tmp/out" "$tmp/load"
+run load_show <"$tmp/load"
+cp "$tmp/full" "$tmp/want"
+verdict "a full load of edition 2 there and back"
+{ cat "$tmp/full"; echo "claim 0 F 1 0"; } | run load_write
+: >"$tmp/want"
+verdict "one claim over a full load of edition 2" "line 2623: load over 65,536 bytes"
 
 # sizes: the edition byte, the rig and 5,956 clocks are 65,528 bytes
 { echo "rig F"; yes "clock 1" | head -n 5956; } >"$tmp/full"

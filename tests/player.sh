@@ -33,16 +33,18 @@ try "the C++ call lists an edition byte" "$work/header"
 cp crates/cue/stdin "$work/sample.load"
 : >"$work/empty.load"
 printf '\001' >"$work/edition.load"
+printf '\002' >"$work/edition_2.load"
 printf '\377' >"$work/unknown.load"
 printf '\001\000' >"$work/short.load"
 printf '\001\000\000' >"$work/misfit.load"
 head -c 65537 /dev/zero | tr '\000' '\001' >"$work/long.load"
-cp examples/overture.load "$work/overture.load"
-for name in sample empty edition unknown short misfit long overture; do
+cp examples/overture.load examples/spots.load "$work"
+for name in sample empty edition edition_2 unknown short misfit long overture spots; do
     try "player and program agree on $name" agree "$work/$name.load"
 done
 try "the sample of the paper" lists_as "$work/sample.load" crates/cue/stdout
 try "the sample show's listing" lists_as examples/overture.load examples/overture.listing
+try "the listing of the show with followspots" lists_as examples/spots.load examples/spots.listing
 
 # A dance show from C: its listing, a wrong line, a buffer that is too small, and one whose later bytes stay.
 cat >"$work/dance.c" <<'EOF'

@@ -4,9 +4,9 @@ use crate::load::{Call, Reader};
 use crate::table::{Answer, Common, Lookup, Table};
 
 /// For each record its number, ticket, start, contention and start bound, then
-/// how each pending ticket stands, and which group pairs of tickets have in
-/// common. The records end with the load, where the reader refuses, or behind a
-/// rig without groups.
+/// the units free, how each pending ticket stands, and which group pairs of
+/// tickets have in common. The records end with the load, where the reader
+/// refuses, or behind a rig without groups.
 pub fn answers(load: &[u8]) -> Vec<u8> {
     let mut out = String::new();
     let Ok(mut reader) = Reader::open(load) else {
@@ -17,8 +17,8 @@ pub fn answers(load: &[u8]) -> Vec<u8> {
     while let Ok(Some(read)) = reader.read() {
         record += 1;
         match (read.call, &mut table) {
-            (Call::Rig(groups), _) => {
-                let (made, answer) = Table::new(groups);
+            (Call::Rig { groups, pool }, _) => {
+                let (made, answer) = Table::new(groups, pool);
                 lines(&mut out, record, &answer, &made);
                 if !answer.accepted() {
                     break;
@@ -40,6 +40,7 @@ fn lines(out: &mut String, record: usize, answer: &Answer, table: &Table) {
         "{record} {} {} {} {} {}\n",
         answer.number, answer.ticket, answer.start, answer.contention, answer.start_bound
     ));
+    out.push_str(&format!("free {}\n", table.free()));
     let mut pending = Vec::new();
     for ticket in 1..=table.issued() {
         match table.lookup(ticket) {

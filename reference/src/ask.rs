@@ -1,9 +1,10 @@
-//! A question about the table that a load leaves: how a ticket stands, or
-//! which group two tickets share.
+//! A question about the table that a load leaves: how a ticket stands, which
+//! group two tickets share, or how many units are free.
 //!
 //! ```text
 //! lookup TICKET
 //! common TICKET TICKET
+//! free
 //! ```
 
 use crate::listing::stop;
@@ -15,13 +16,15 @@ use crate::text::number;
 /// The most bytes of a question.
 pub const MAX_QUESTION: usize = 4_096;
 /// What is said on standard error of anything but a question.
-pub const WRONG: &str = "no such question; ask lookup TICKET or ask common TICKET TICKET\n";
+pub const WRONG: &str =
+    "no such question; ask lookup TICKET, ask common TICKET TICKET or ask free\n";
 
 /// A question.
 #[derive(Clone, Copy, PartialEq, Eq, Debug)]
 pub enum Question {
     Lookup(u16),
     Common(u16, u16),
+    Free,
 }
 
 /// What `ask` writes to standard output and to standard error. The question is
@@ -52,6 +55,7 @@ pub fn read(line: &[u8]) -> Option<Question> {
     match words[..] {
         [b"lookup", one] => Some(Question::Lookup(ticket(one)?)),
         [b"common", one, other] => Some(Question::Common(ticket(one)?, ticket(other)?)),
+        [b"free"] => Some(Question::Free),
         _ => None,
     }
 }
@@ -62,9 +66,10 @@ fn ticket(word: &[u8]) -> Option<u16> {
 }
 
 /// The table that a load leaves, and where the load ends early the number and
-/// the record, as in its listing. Before the rig nothing is pending.
+/// the record, as in its listing. Before the rig nothing is pending and there is
+/// no pool.
 pub fn left(load: &[u8]) -> (Table, Option<(Refusal, usize)>) {
-    let mut table = Table::new(0).0;
+    let mut table = Table::new(0, 0).0;
     let mut reader = match Reader::open(load) {
         Ok(reader) => reader,
         Err(refusal) => return (table, Some((refusal, 0))),
@@ -76,8 +81,8 @@ pub fn left(load: &[u8]) -> (Table, Option<(Refusal, usize)>) {
             Ok(None) => return (table, None),
             Err(refusal) => return (table, Some((refusal, record))),
             Ok(Some(read)) => match read.call {
-                Call::Rig(0) => return (table, Some((Refusal::NoGroup, record))),
-                Call::Rig(groups) => table = Table::new(groups).0,
+                Call::Rig { groups: 0, .. } => return (table, Some((Refusal::NoGroup, record))),
+                Call::Rig { groups, pool } => table = Table::new(groups, pool).0,
                 Call::Timed(call) => {
                     table.call(call);
                 }
@@ -102,6 +107,7 @@ fn answer(table: &Table, question: Question) -> String {
             Common::Unknown if table.lookup(first) == Lookup::Unknown => not_pending(first),
             Common::Unknown => not_pending(second),
         },
+        Question::Free => format!("{} of {} units free\n", table.free(), table.pool()),
     }
 }
 

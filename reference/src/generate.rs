@@ -1,7 +1,7 @@
 //! A deterministic generator of runs and loads from a seed, and a damager of
 //! loads. The same seed gives the same bytes everywhere.
 
-use crate::load::{self, Call, MAX_LOAD};
+use crate::load::{self, Call, Kind, MAX_LOAD};
 use crate::monitor::RunCall;
 use crate::table::{Claim, State, Table, TimedCall, MAX_CLOCK, MAX_LENGTH, MAX_PENDING};
 
@@ -92,10 +92,15 @@ pub enum Shape {
     Noise,
     /// No accepted call bears a clock past the promised end of a held claim.
     InTime,
+    /// Claims that draw units, many of them without groups; equal starts among
+    /// them, and overruns that hold units.
+    Pool,
+    /// The same, in time.
+    PoolInTime,
 }
 
 /// Every shape.
-pub const SHAPES: [Shape; 12] = [
+pub const SHAPES: [Shape; 14] = [
     Shape::Short,
     Shape::Long,
     Shape::Full,
@@ -108,33 +113,46 @@ pub const SHAPES: [Shape; 12] = [
     Shape::EndOfTime,
     Shape::Noise,
     Shape::InTime,
+    Shape::Pool,
+    Shape::PoolInTime,
 ];
 
-/// A generated run: the rig and the calls.
+/// A generated run: the edition of its load, the rig with its pool, and the
+/// calls.
 #[derive(Clone, PartialEq, Eq, Debug)]
 pub struct Run {
     pub shape: Shape,
+    pub edition: u8,
     pub rig: u64,
+    pub pool: u16,
     pub calls: Vec<TimedCall>,
 }
 
 impl Run {
     /// The run as the calls of a load.
     pub fn load_calls(&self) -> Vec<Call> {
-        let mut calls = vec![Call::Rig(self.rig)];
+        let mut calls = vec![Call::Rig {
+            groups: self.rig,
+            pool: self.pool,
+        }];
         calls.extend(self.calls.iter().map(|&call| Call::Timed(call)));
         calls
     }
 
     /// The run as a load of at most 65,536 bytes.
     pub fn load(&self) -> Vec<u8> {
-        load::join(&self.load_calls())
+        load::join(self.edition, &self.load_calls())
+    }
+
+    /// The new table that the run begins with.
+    pub fn table(&self) -> Table {
+        Table::new(self.rig, self.pool).0
     }
 }
 
 /// The run of a seed, its shape chosen by the seed.
 pub fn run(seed: u64) -> Run {
-    let weights = [4, 1, 2, 2, 4, 4, 3, 4, 3, 2, 1, 3];
+    let weights = [4, 1, 2, 2, 4, 4, 3, 4, 3, 2, 1, 3, 5, 3];
     let shape = SHAPES[Prng::new(!seed).weighted(&weights)];
     run_of(shape, seed)
 }
@@ -154,11 +172,19 @@ pub fn any_load(seed: u64) -> Vec<u8> {
     }
 }
 
-/// The run of a shape and a seed.
+/// The run of a shape and a seed. One in two of those that need no pool is of
+/// edition 1.
 pub fn run_of(shape: Shape, seed: u64) -> Run {
     let mut prng = Prng::new(seed);
+    let drawing = matches!(shape, Shape::Pool | Shape::PoolInTime);
+    let edition = if drawing { 2 } else { prng.pick(&[1, 2]) };
     let rig = rig(&mut prng, shape);
-    let mut build = Builder::new(prng, rig, MAX_LOAD, shape == Shape::InTime);
+    let pool = match edition {
+        1 => 0,
+        _ => pool(&mut prng, drawing),
+    };
+    let in_time = matches!(shape, Shape::InTime | Shape::PoolInTime);
+    let mut build = Builder::new(prng, (edition, rig, pool), MAX_LOAD, in_time);
     match shape {
         Shape::Short => {
             let count = build.prng.below(9);
@@ -219,18 +245,24 @@ pub fn run_of(shape: Shape, seed: u64) -> Run {
                 .pick(&[&ALL_ROUND, &ACCEPTED, &TIES, &MANY_GROUPS]);
             build.mix(count, habits);
         }
+        Shape::Pool => {
+            let count = build.prng.range(6, 90);
+            let habits = build.prng.pick(&[&POOL, &POOL, &POOL_LATE]);
+            build.mix(count, habits);
+        }
+        Shape::PoolInTime => {
+            let count = build.prng.range(10, 120);
+            build.mix(count, &POOL);
+        }
     }
-    Run {
-        shape,
-        rig,
-        calls: build.calls,
-    }
+    build.run(shape)
 }
 
-/// The calls of a run with lookups of one ticket and of two between them.
+/// The calls of a run with lookups of one ticket, of two and of the units free
+/// between them.
 pub fn with_lookups(run: &Run, seed: u64) -> Vec<RunCall> {
     let mut prng = Prng::new(seed ^ 0x1005_0B07);
-    let mut table = Table::new(run.rig).0;
+    let mut table = run.table();
     let mut calls = Vec::new();
     for &call in &run.calls {
         table.call(call);
@@ -242,6 +274,9 @@ pub fn with_lookups(run: &Run, seed: u64) -> Vec<RunCall> {
             let first = lookup_ticket(&mut prng, &table);
             let second = lookup_ticket(&mut prng, &table);
             calls.push(RunCall::Common(first, second));
+        }
+        if prng.one_in(8) {
+            calls.push(RunCall::Free);
         }
     }
     calls
@@ -261,12 +296,14 @@ pub fn lookup_ticket(prng: &mut Prng, table: &Table) -> u16 {
 }
 
 /// A good load of exactly this many bytes; none if it is too small for that.
-pub fn sized_load(seed: u64, size: usize) -> Option<Vec<u8>> {
+pub fn sized_load(edition: u8, seed: u64, size: usize) -> Option<Vec<u8>> {
     // From 120 on every number is a sum of 11s and 13s.
     const CLOCK: usize = 11;
     const RELEASE: usize = 13;
-    const CLAIM: usize = 23;
-    let mut build = Builder::new(Prng::new(seed), 0xFF, size, false);
+    const CLAIM: usize = 25;
+    let pool = if edition == 1 { 0 } else { 5 };
+    let rig = (edition, 0xFF, pool);
+    let mut build = Builder::new(Prng::new(seed), rig, size, false);
     while build.bytes + CLAIM + 120 <= size {
         build.step(&BRISK);
     }
@@ -283,19 +320,16 @@ pub fn sized_load(seed: u64, size: usize) -> Option<Vec<u8>> {
         let clock = build.clock(Pace::Slow);
         build.push(TimedCall::Clock { clock });
     }
-    let run = Run {
-        shape: Shape::Long,
-        rig: 0xFF,
-        calls: build.calls,
-    };
-    Some(run.load())
+    Some(build.run(Shape::Long).load())
 }
 
 /// A rig that suits the shape; now and then one without groups.
 fn rig(prng: &mut Prng, shape: Shape) -> u64 {
     match shape {
         Shape::AllGroups | Shape::Chain => u64::MAX,
-        Shape::Ties => prng.pick(&[0x3, 0x7, 0xF, 0x1F, 0x8000_0000_0000_0001]),
+        Shape::Ties | Shape::Pool | Shape::PoolInTime => {
+            prng.pick(&[0x3, 0x7, 0xF, 0x1F, 0x8000_0000_0000_0001])
+        }
         Shape::Full => prng.pick(&[0x1, 1 << 63, 0x7, u64::MAX]),
         Shape::Short | Shape::Boundary | Shape::Noise => {
             let random = prng.draw();
@@ -316,6 +350,17 @@ fn rig(prng: &mut Prng, shape: Shape) -> u64 {
             let random = prng.draw() & prng.draw();
             prng.pick(&[0xF, 0xF, 0x3F, 0xFF, 0xF0F, u64::MAX, random | 1])
         }
+    }
+}
+
+/// The units of a pool; of one that is drawn from mostly few.
+fn pool(prng: &mut Prng, drawing: bool) -> u16 {
+    let few = prng.range(2, 9) as u16;
+    let random = prng.magnitude() as u16;
+    if drawing {
+        prng.pick(&[1, 2, 3, few, few, 40, 65_535])
+    } else {
+        prng.pick(&[0, 1, few, few, 40, 65_535, random])
     }
 }
 
@@ -349,6 +394,22 @@ enum Lengths {
     Greatest,
 }
 
+/// How the units of a claim are drawn from the pool.
+#[derive(Clone, Copy)]
+enum Draws {
+    None,
+    One,
+    /// Up to three.
+    Few,
+    /// Half of them, or one more.
+    Half,
+    All,
+    /// Any of them.
+    Any,
+    /// As many as are free, one less or one more.
+    Free,
+}
+
 /// How a clock is drawn.
 #[derive(Clone, Copy)]
 enum Pace {
@@ -372,8 +433,12 @@ struct Habits {
     weights: [u64; 5],
     groups: &'static [Groups],
     lengths: &'static [Lengths],
+    draws: &'static [Draws],
     paces: &'static [Pace],
-    /// Once in so many, a ticket is not aimed at a fitting claim.
+    /// Once in so many, a claim that draws units has no groups.
+    bare: u64,
+    /// Once in so many, a ticket is not aimed at a fitting claim, or units are
+    /// more than the pool has.
     miss: u64,
 }
 
@@ -381,7 +446,9 @@ const ALL_ROUND: Habits = Habits {
     weights: [10, 5, 2, 2, 2],
     groups: &[Groups::One, Groups::Pair, Groups::Few, Groups::Any],
     lengths: &[Lengths::Tiny, Lengths::Small, Lengths::Touch, Lengths::Long],
+    draws: &[Draws::None, Draws::None, Draws::One, Draws::Few, Draws::Any],
     paces: &[Pace::Still, Pace::Slow, Pace::Event, Pace::Jump],
+    bare: 3,
     miss: 8,
 };
 
@@ -389,7 +456,9 @@ const ACCEPTED: Habits = Habits {
     weights: [10, 7, 2, 2, 0],
     groups: &[Groups::One, Groups::Pair, Groups::Few],
     lengths: &[Lengths::Small, Lengths::Small, Lengths::Touch],
+    draws: &[Draws::None, Draws::One, Draws::Few, Draws::Half],
     paces: &[Pace::Still, Pace::Still, Pace::Slow, Pace::Event],
+    bare: 4,
     miss: 64,
 };
 
@@ -410,7 +479,9 @@ const MANY_GROUPS: Habits = Habits {
         Groups::All,
     ],
     lengths: &[Lengths::Small, Lengths::Touch, Lengths::Long],
+    draws: &[Draws::None, Draws::One, Draws::Any],
     paces: &[Pace::Still, Pace::Slow, Pace::Event],
+    bare: 8,
     miss: 16,
 };
 
@@ -423,7 +494,9 @@ const TIES: Habits = Habits {
         Lengths::Touch,
         Lengths::Tiny,
     ],
+    draws: &[Draws::None, Draws::None, Draws::One, Draws::Free],
     paces: &[Pace::Still, Pace::Still, Pace::Event],
+    bare: 4,
     miss: 16,
 };
 
@@ -431,7 +504,9 @@ const OVERRUN: Habits = Habits {
     weights: [9, 5, 2, 3, 1],
     groups: &[Groups::One, Groups::Pair, Groups::Few, Groups::Any],
     lengths: &[Lengths::Tiny, Lengths::Small, Lengths::Equal],
+    draws: &[Draws::None, Draws::None, Draws::One, Draws::Half],
     paces: &[Pace::Late, Pace::Late, Pace::Still, Pace::Event],
+    bare: 4,
     miss: 16,
 };
 
@@ -439,7 +514,9 @@ const BOUNDARY: Habits = Habits {
     weights: [4, 1, 1, 0, 10],
     groups: &[Groups::One, Groups::Few, Groups::All],
     lengths: &[Lengths::Tiny, Lengths::Greatest, Lengths::Long],
+    draws: &[Draws::None, Draws::All, Draws::Any],
     paces: &[Pace::Still, Pace::Event, Pace::Far],
+    bare: 4,
     miss: 4,
 };
 
@@ -452,14 +529,55 @@ const END_OF_TIME: Habits = Habits {
         Lengths::Long,
         Lengths::Touch,
     ],
+    draws: &[Draws::None, Draws::One, Draws::Any],
     paces: &[Pace::Still, Pace::Still, Pace::Slow, Pace::Event, Pace::Far],
+    bare: 4,
     miss: 16,
+};
+
+const POOL: Habits = Habits {
+    weights: [14, 7, 3, 2, 1],
+    groups: &[Groups::One, Groups::One, Groups::Pair],
+    lengths: &[
+        Lengths::Equal,
+        Lengths::Equal,
+        Lengths::Touch,
+        Lengths::Small,
+        Lengths::Tiny,
+    ],
+    draws: &[
+        Draws::None,
+        Draws::One,
+        Draws::One,
+        Draws::Few,
+        Draws::Half,
+        Draws::All,
+        Draws::Any,
+        Draws::Free,
+    ],
+    paces: &[Pace::Still, Pace::Still, Pace::Slow, Pace::Event],
+    bare: 2,
+    miss: 24,
+};
+
+const POOL_LATE: Habits = Habits {
+    weights: [12, 5, 2, 4, 1],
+    paces: &[
+        Pace::Late,
+        Pace::Late,
+        Pace::Still,
+        Pace::Still,
+        Pace::Event,
+    ],
+    ..POOL
 };
 
 /// A run being built, with the table that it leads to.
 struct Builder {
     prng: Prng,
+    edition: u8,
     rig: u64,
+    pool: u16,
     table: Table,
     calls: Vec<TimedCall>,
     /// The bytes of the load so far.
@@ -470,22 +588,42 @@ struct Builder {
 }
 
 impl Builder {
-    fn new(prng: Prng, rig: u64, limit: usize, in_time: bool) -> Builder {
+    /// A run without calls: the edition, the rig and its pool.
+    fn new(
+        prng: Prng,
+        (edition, rig, pool): (u8, u64, u16),
+        limit: usize,
+        in_time: bool,
+    ) -> Builder {
+        let call = Call::Rig { groups: rig, pool };
         Builder {
             prng,
+            edition,
             rig,
-            table: Table::new(rig).0,
+            pool,
+            table: Table::new(rig, pool).0,
             calls: Vec::new(),
-            bytes: load::join(&[Call::Rig(rig)]).len(),
+            bytes: load::join(edition, &[call]).len(),
             limit,
             in_time,
+        }
+    }
+
+    fn run(self, shape: Shape) -> Run {
+        Run {
+            shape,
+            edition: self.edition,
+            rig: self.rig,
+            pool: self.pool,
+            calls: self.calls,
         }
     }
 
     /// Adds a call, unless the load has no room for it or a run in time has
     /// none.
     fn push(&mut self, call: TimedCall) {
-        let bytes = self.bytes + load::encode(Call::Timed(call)).len();
+        let record = load::encode(self.edition, Call::Timed(call));
+        let bytes = self.bytes + record.expect("a call that the edition carries").len();
         if bytes > self.limit {
             return;
         }
@@ -534,10 +672,18 @@ impl Builder {
         let pace = self.prng.pick(habits.paces);
         let groups = self.prng.pick(habits.groups);
         let lengths = self.prng.pick(habits.lengths);
+        let draws = self.prng.pick(habits.draws);
+        let units = if self.prng.one_in(2 * habits.miss) {
+            self.stray_units()
+        } else {
+            self.units(draws)
+        };
+        let bare = units > 0 && self.prng.one_in(habits.bare);
         TimedCall::Claim {
             clock: self.clock(pace),
-            groups: self.groups(groups),
+            groups: if bare { 0 } else { self.groups(groups) },
             length: self.length(lengths),
+            units,
         }
     }
 
@@ -691,16 +837,40 @@ impl Builder {
         length.clamp(1, greatest) as u32
     }
 
+    /// Units of the pool, at most all; none in edition 1.
+    fn units(&mut self, how: Draws) -> u16 {
+        let pool = u64::from(self.table.pool());
+        let free = u64::from(self.table.free());
+        let units = match how {
+            Draws::None => 0,
+            Draws::One => 1,
+            Draws::Few => self.prng.range(1, 3),
+            Draws::Half => (pool + self.prng.below(3)) / 2,
+            Draws::All => pool,
+            Draws::Any => self.prng.below(pool + 1),
+            Draws::Free => (free + self.prng.below(3)).saturating_sub(1),
+        };
+        units.min(pool) as u16
+    }
+
     /// A call with boundary values, mostly refused.
     fn stray(&mut self) -> TimedCall {
         let clock = self.stray_clock();
-        match self.prng.below(4) {
-            0 | 1 => TimedCall::Claim {
+        match self.prng.below(8) {
+            0..=2 => TimedCall::Claim {
                 clock,
                 groups: self.stray_groups(),
                 length: self.stray_length(),
+                units: self.stray_units(),
             },
-            2 => {
+            // Neither group nor unit.
+            3 => TimedCall::Claim {
+                clock,
+                groups: 0,
+                length: self.stray_length(),
+                units: 0,
+            },
+            4 | 5 => {
                 let ticket = self.ticket();
                 if self.prng.one_in(2) {
                     TimedCall::Release { clock, ticket }
@@ -772,6 +942,28 @@ impl Builder {
         ])
     }
 
+    /// Units at the limits of the pool; none in edition 1.
+    fn stray_units(&mut self) -> u16 {
+        if self.edition == 1 {
+            return 0;
+        }
+        let pool = self.table.pool();
+        self.prng.pick(&[
+            0,
+            0,
+            0,
+            1,
+            pool / 2,
+            pool.saturating_sub(1),
+            pool,
+            pool,
+            pool.saturating_add(1),
+            pool.saturating_add(1),
+            256,
+            65_535,
+        ])
+    }
+
     /// A call with any values.
     fn noise(&mut self) -> TimedCall {
         let clock = self.prng.magnitude();
@@ -781,6 +973,10 @@ impl Builder {
                 clock,
                 groups: self.prng.draw() & self.prng.magnitude(),
                 length: self.prng.magnitude() as u32,
+                units: match self.edition {
+                    1 => 0,
+                    _ => self.prng.magnitude() as u16,
+                },
             },
             1 => TimedCall::Release { clock, ticket },
             2 => TimedCall::Withdraw { clock, ticket },
@@ -808,10 +1004,14 @@ impl Builder {
                 } else {
                     fixed
                 };
+                let draws = self.prng.pick(&[Draws::None, Draws::One, Draws::Any]);
+                let units = self.units(draws);
+                let bare = units > 0 && self.prng.one_in(4);
                 let call = TimedCall::Claim {
                     clock: self.clock(pace),
-                    groups,
+                    groups: if bare { 0 } else { groups },
                     length: self.length(lengths),
+                    units,
                 };
                 self.push(call);
             }
@@ -844,12 +1044,14 @@ impl Builder {
         let links = self.prng.range(3, 30);
         let top = self.prng.range(links, 62);
         let step = self.prng.range(1, 2);
+        let draws = self.prng.pick(&[Draws::None, Draws::One, Draws::Few]);
         for link in 0..links {
             let low = top.saturating_sub(link * step);
             let call = TimedCall::Claim {
                 clock: self.clock(Pace::Still),
                 groups: 0b11 << low,
                 length: self.length(Lengths::Small),
+                units: self.units(draws),
             };
             self.push(call);
         }
@@ -865,6 +1067,7 @@ impl Builder {
                 clock: self.clock(Pace::Still),
                 groups: self.prng.pick(&[0b1, 0b10, 0b11, 0b101]) << low,
                 length: self.length(lengths),
+                units: self.units(draws),
             };
             self.push(call);
         }
@@ -882,19 +1085,36 @@ fn places(load: &[u8]) -> Vec<usize> {
     places
 }
 
-/// Damages a load in one of many ways, chosen by the seed. Some of them leave
-/// a good load.
+/// Where a rig or a claim of a good load begins and ends: the records that have
+/// units in edition 2.
+fn rig_or_claim(prng: &mut Prng, load: &[u8]) -> Option<(usize, usize)> {
+    let kinds = [Kind::Rig as u8, Kind::Claim as u8];
+    let mut places = places(load);
+    places.retain(|&at| kinds.contains(&load[at + 2]));
+    if places.is_empty() {
+        return None;
+    }
+    let at = prng.pick(&places);
+    let length = u16::from_be_bytes([load[at], load[at + 1]]);
+    Some((at, at + 2 + usize::from(length)))
+}
+
+/// Damages a good load in one of many ways, chosen by the seed. Some of them
+/// leave a good load.
 pub fn damage(load: &[u8], seed: u64) -> Vec<u8> {
     let mut prng = Prng::new(seed ^ 0xBAD_10AD);
     let mut out = load.to_vec();
+    let edition = load[0];
     let places = places(load);
+    // The end of the first record.
+    let first = places.get(1).copied().unwrap_or(load.len());
     // The place of a record, or of the end in a load without records.
     let place = if places.is_empty() {
         load.len()
     } else {
         prng.pick(&places)
     };
-    match prng.below(15) {
+    match prng.below(18) {
         // Cut anywhere.
         0 | 1 => {
             let keep = prng.below(load.len() as u64 + 1) as usize;
@@ -921,8 +1141,11 @@ pub fn damage(load: &[u8], seed: u64) -> Vec<u8> {
                     9,
                     11,
                     21,
+                    23,
+                    length.wrapping_sub(2),
                     length.wrapping_sub(1),
                     length.wrapping_add(1),
+                    length.wrapping_add(2),
                     0x7FFF,
                     0xFFFF,
                     random,
@@ -939,12 +1162,16 @@ pub fn damage(load: &[u8], seed: u64) -> Vec<u8> {
         // Another edition.
         7 => {
             if !out.is_empty() {
-                out[0] = prng.pick(&[0, 2, 3, 4, 127, 128, 255]);
+                out[0] = prng.pick(&[0, 1, 2, 3, 4, 127, 128, 255]);
             }
         }
         // A second rig.
         8 => {
-            let record = load::encode(Call::Rig(prng.magnitude()));
+            let rig = Call::Rig {
+                groups: prng.magnitude(),
+                pool: 0,
+            };
+            let record = load::encode(edition, rig).expect("every edition has it");
             let at = if places.len() > 1 && !prng.one_in(4) {
                 places[prng.range(1, places.len() as u64 - 1) as usize]
             } else {
@@ -954,11 +1181,9 @@ pub fn damage(load: &[u8], seed: u64) -> Vec<u8> {
         }
         // No rig first: without it, or behind another record.
         9 => {
-            if out.len() >= 12 {
-                let rig: Vec<u8> = out.drain(1..12).collect();
-                if prng.one_in(3) {
-                    out.extend(rig);
-                }
+            let rig: Vec<u8> = out.drain(1..first).collect();
+            if prng.one_in(3) {
+                out.extend(rig);
             }
         }
         // Bytes behind the last record.
@@ -979,7 +1204,7 @@ pub fn damage(load: &[u8], seed: u64) -> Vec<u8> {
                 MAX_LOAD + more,
                 MAX_LOAD + 1,
             ]);
-            if let Some(sized) = sized_load(seed, size) {
+            if let Some(sized) = sized_load(edition, seed, size) {
                 out = sized;
             }
         }
@@ -993,9 +1218,33 @@ pub fn damage(load: &[u8], seed: u64) -> Vec<u8> {
             let keep = prng.below(2) as usize;
             out.truncate(keep);
         }
+        // Editions 1 and 2 changed about, the records as they were.
+        14 => out[0] ^= 3,
+        // A record as the other edition has it, two bytes longer or shorter.
+        15 => {
+            if let Some((at, end)) = rig_or_claim(&mut prng, load) {
+                let length = (end - at - 2) as u16;
+                let other = if edition == 1 {
+                    out.splice(end..end, [0, prng.below(3) as u8]);
+                    length + 2
+                } else {
+                    out.drain(end - 2..end);
+                    length - 2
+                };
+                out[at..at + 2].copy_from_slice(&other.to_be_bytes());
+            }
+        }
+        // Other units, or in edition 1 the last bytes of another field.
+        16 => {
+            if let Some((_, end)) = rig_or_claim(&mut prng, load) {
+                let random = prng.magnitude() as u16;
+                let units = prng.pick(&[0, 1, 2, 40, 255, 256, 65_534, 65_535, random]);
+                out[end - 2..end].copy_from_slice(&units.to_be_bytes());
+            }
+        }
         // Any bytes behind the rig.
         _ => {
-            out.truncate(12);
+            out.truncate(first);
             let count = prng.below(60);
             for _ in 0..count {
                 let byte = prng.draw() as u8;

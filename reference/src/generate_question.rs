@@ -18,13 +18,13 @@ pub fn asked_load(seed: u64) -> Vec<u8> {
     }
 }
 
-/// A question about a load: three in four good, the others wrong in their
-/// words.
+/// A question about a load, of one ticket, of two or of the units free: three
+/// in four good, the others wrong in their words.
 pub fn question(load: &[u8], seed: u64) -> Vec<u8> {
     let mut prng = Prng::new(seed ^ 0x9E57_1045);
     let table = left(load).0;
-    let tickets = prng.pick(&[1, 2, 2]);
-    let mut words = vec![["lookup", "common"][tickets - 1].to_string()];
+    let tickets = prng.pick(&[0, 1, 1, 2, 2, 2]);
+    let mut words = vec![["free", "lookup", "common"][tickets].to_string()];
     for _ in 0..tickets {
         let ticket = generate::lookup_ticket(&mut prng, &table);
         words.push(decimal(&mut prng, u64::from(ticket)));
@@ -48,24 +48,29 @@ fn decimal(prng: &mut Prng, number: u64) -> String {
 /// Makes the words of a question wrong in one way.
 fn wrong(prng: &mut Prng, words: &mut Vec<String>) {
     let at = prng.below(words.len() as u64) as usize;
-    let number = prng.range(1, words.len() as u64 - 1) as usize;
+    // A word behind the name; of a question that has none, the name.
+    let number = match words.len() {
+        1 => 0,
+        count => prng.range(1, count as u64 - 1) as usize,
+    };
     match prng.below(6) {
         // Another name.
         0 => {
             let names = [
                 "look", "Lookup", "LOOKUP", "lookups", "COMMON", "comm", "commons", "share",
-                "ticket", "claim", "stop", "0", "#",
+                "ticket", "claim", "stop", "FREE", "Free", "fre", "frees", "units", "pool", "0",
+                "#",
             ];
             words[0] = prng.pick(&names).to_string();
         }
-        // The other name.
+        // Another question's name.
         1 => {
-            let other = if words[0] == "lookup" {
-                "common"
-            } else {
-                "lookup"
+            let others = match words[0].as_str() {
+                "lookup" => ["common", "free"],
+                "common" => ["lookup", "free"],
+                _ => ["lookup", "common"],
             };
-            words[0] = other.to_string();
+            words[0] = prng.pick(&others).to_string();
         }
         // A word less.
         2 => {
@@ -73,7 +78,8 @@ fn wrong(prng: &mut Prng, words: &mut Vec<String>) {
         }
         // A word more.
         3 => {
-            let more = prng.pick(&["1", "0", "lookup", "common", "x", "#"]);
+            let more = prng.pick(&["1", "0", "lookup", "common", "free", "x", "#"]);
+            let at = at + prng.below(2) as usize;
             words.insert(at, more.to_string());
         }
         // A number that is none.

@@ -2,9 +2,9 @@
 //! a line may be written, and damaged ones.
 
 use crate::generate::{self, Prng, Shape};
-use crate::load::{self, Call, MAX_LOAD};
+use crate::load::{self, Call, Field, MAX_LOAD};
 use crate::table::TimedCall;
-use crate::text::MAX_TEXT;
+use crate::text::{name, MAX_TEXT, UNSAID_EDITION};
 
 /// A line as its words; one without words says nothing.
 pub(crate) type Line = Vec<String>;
@@ -12,14 +12,14 @@ pub(crate) type Line = Vec<String>;
 /// The good text of a seed, and the load that it makes.
 pub fn good_text(seed: u64) -> (Vec<u8>, Vec<u8>) {
     let mut prng = Prng::new(seed ^ 0x600D_7E87);
-    let calls = calls(&mut prng, seed);
-    let lines = lines(&mut prng, &calls);
+    let (edition, calls) = calls(&mut prng, seed);
+    let lines = lines(&mut prng, edition, &calls);
     let mut text = spell(&mut prng, &lines);
     if prng.one_in(400) {
         let size = MAX_TEXT - prng.below(2) as usize;
         pad(&mut prng, &mut text, size);
     }
-    (text, load::join(&calls))
+    (text, load::join(edition, &calls))
 }
 
 /// A text of a seed: one in two good, the others damaged. Some damage leaves a
@@ -29,15 +29,16 @@ pub fn any_text(seed: u64) -> Vec<u8> {
     if prng.one_in(2) {
         return good_text(seed).0;
     }
-    let mut calls = calls(&mut prng, seed);
-    let full = load::join(&calls).len() > MAX_LOAD / 2;
+    let (edition, mut calls) = calls(&mut prng, seed);
+    let full = load::join(edition, &calls).len() > MAX_LOAD / 2;
     if full {
         // With more than a load has room for, a rig perhaps among it.
         let clock = Call::Timed(TimedCall::Clock { clock: 1 });
+        let rig = Call::Rig { groups: 1, pool: 0 };
         let more = prng.range(3, 5);
-        calls.extend((0..more).map(|_| prng.pick(&[clock, clock, clock, Call::Rig(1)])));
+        calls.extend((0..more).map(|_| prng.pick(&[clock, clock, clock, rig])));
     }
-    let mut lines = lines(&mut prng, &calls);
+    let mut lines = lines(&mut prng, edition, &calls);
     let count = prng.pick(if full { &[0, 0, 0, 1] } else { &[0, 1, 1, 2] });
     for _ in 0..count {
         damage_lines(&mut prng, &mut lines, 2);
@@ -53,27 +54,37 @@ pub fn any_text(seed: u64) -> Vec<u8> {
     text
 }
 
-/// The calls of a good load: none, some, or now and then as many as go in.
-fn calls(prng: &mut Prng, seed: u64) -> Vec<Call> {
+/// The edition and the calls of a good load: none, some, or now and then as
+/// many as go in.
+fn calls(prng: &mut Prng, seed: u64) -> (u8, Vec<Call>) {
     if prng.one_in(150) {
+        let edition = prng.pick(&[1, 2]);
         let less = prng.below(24) as usize;
         let size = MAX_LOAD - prng.pick(&[0, less]);
-        let load = generate::sized_load(seed, size).expect("a size that goes");
-        return load::read_all(&load).expect("a good load");
+        let load = generate::sized_load(edition, seed, size).expect("a size that goes");
+        return (edition, load::read_all(&load).expect("a good load"));
     }
-    let shape = prng.pick(&[Shape::Short, Shape::Boundary, Shape::Ties, Shape::Noise]);
-    let mut calls = generate::run_of(shape, seed).load_calls();
-    calls.truncate(prng.below(24) as usize);
-    calls
+    let shape = prng.pick(&[
+        Shape::Short,
+        Shape::Boundary,
+        Shape::Ties,
+        Shape::Noise,
+        Shape::Pool,
+    ]);
+    let run = generate::run_of(shape, seed);
+    let mut calls = run.load_calls();
+    calls.truncate(prng.below(28) as usize);
+    (run.edition, calls)
 }
 
-/// The lines of calls, with lines that say nothing and often with an edition.
-fn lines(prng: &mut Prng, calls: &[Call]) -> Vec<Line> {
+/// The lines of calls, with lines that say nothing and with the edition, often
+/// also where it need not be said.
+fn lines(prng: &mut Prng, edition: u8, calls: &[Call]) -> Vec<Line> {
     let mut lines = Vec::new();
-    if prng.one_in(3) {
-        lines.push(vec!["edition".to_string(), decimal(prng, 1)]);
+    if edition != UNSAID_EDITION || prng.one_in(3) {
+        lines.push(vec!["edition".to_string(), decimal(prng, edition.into())]);
     }
-    lines.extend(calls.iter().map(|&call| call_line(prng, call)));
+    lines.extend(calls.iter().map(|&call| call_line(prng, edition, call)));
     add_blank(prng, &mut lines);
     lines
 }
@@ -89,33 +100,16 @@ pub(crate) fn add_blank(prng: &mut Prng, lines: &mut Vec<Line>) {
     }
 }
 
-fn call_line(prng: &mut Prng, call: Call) -> Line {
-    let (name, values) = match call {
-        Call::Rig(groups) => ("rig", vec![set(prng, groups)]),
-        Call::Timed(TimedCall::Claim {
-            clock,
-            groups,
-            length,
-        }) => {
-            let values = vec![
-                decimal(prng, clock),
-                set(prng, groups),
-                decimal(prng, length.into()),
-            ];
-            ("claim", values)
-        }
-        Call::Timed(TimedCall::Release { clock, ticket }) => {
-            let values = vec![decimal(prng, clock), decimal(prng, ticket.into())];
-            ("release", values)
-        }
-        Call::Timed(TimedCall::Withdraw { clock, ticket }) => {
-            let values = vec![decimal(prng, clock), decimal(prng, ticket.into())];
-            ("withdraw", values)
-        }
-        Call::Timed(TimedCall::Clock { clock }) => ("clock", vec![decimal(prng, clock)]),
-    };
-    let mut line = vec![name.to_string()];
-    line.extend(values);
+fn call_line(prng: &mut Prng, edition: u8, call: Call) -> Line {
+    let mut line = vec![name(call.kind()).to_string()];
+    let fields = load::fields(edition, call.kind()).expect("a kind of the edition");
+    for &field in fields {
+        let value = call.values().get(field);
+        line.push(match field {
+            Field::Groups => set(prng, value),
+            _ => decimal(prng, value),
+        });
+    }
     line
 }
 
@@ -365,7 +359,7 @@ fn odd_set(prng: &mut Prng) -> String {
 }
 
 /// Words in the place of a line's first.
-const NAMES: [&str; 20] = [
+const NAMES: [&str; 23] = [
     "rig",
     "claim",
     "release",
@@ -383,6 +377,9 @@ const NAMES: [&str; 20] = [
     "clam",
     "clocks",
     "lookup",
+    "free",
+    "pool",
+    "units",
     "stop",
     "1",
     "\u{FEFF}rig",
@@ -398,10 +395,11 @@ fn odd_edition(prng: &mut Prng) -> Line {
     let mut line = vec![name.to_string()];
     let count = prng.pick(&[0, 1, 1, 1, 1, 1, 2, 3]);
     for _ in 0..count {
-        line.push(match prng.below(4) {
+        line.push(match prng.below(5) {
             0 => decimal(prng, 1),
             1 => decimal(prng, 2),
-            2 => prng.range(0, 300).to_string(),
+            2 => decimal(prng, 3),
+            3 => prng.range(0, 300).to_string(),
             _ => prng.pick(&NUMBERS).to_string(),
         });
     }
@@ -438,7 +436,7 @@ pub(crate) fn damage_lines(prng: &mut Prng, lines: &mut Vec<Line>, groups: usize
                 prng.pick(&NAMES).to_string()
             } else if line[0] == "edition" {
                 return lines[at] = odd_edition(prng);
-            } else if line[0] == "rig" || line[0] == "claim" && word == groups {
+            } else if line[0] == "rig" && word == 1 || line[0] == "claim" && word == groups {
                 odd_set(prng)
             } else {
                 prng.pick(&NUMBERS).to_string()

@@ -6,7 +6,8 @@
 //!
 //! Words of this crate and of document 01: contention is its crowd, start
 //! bound its ceiling, lookup its look, refusal and refused its call turned
-//! down, overrun its overdue holder, scenario its plot.
+//! down, overrun its overdue holder, scenario its plot. Document 02's
+//! followspots are the units of a pool.
 
 #![deny(unsafe_code)]
 
@@ -22,6 +23,7 @@ pub mod generate_text;
 pub mod listing;
 pub mod load;
 pub mod monitor;
+pub mod pool;
 pub mod refusal;
 pub mod shrink;
 pub mod table;

@@ -29,8 +29,8 @@ pub fn listing(load: &[u8]) -> Vec<u8> {
                 break;
             }
             Ok(Some(read)) => match (read.call, &mut table) {
-                (Call::Rig(groups), _) => {
-                    let (made, answer) = Table::new(groups);
+                (Call::Rig { groups, pool }, _) => {
+                    let (made, answer) = Table::new(groups, pool);
                     if !answer.accepted() {
                         stop(&mut out, Refusal::NoGroup, record);
                         break;

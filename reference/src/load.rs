@@ -1,21 +1,202 @@
-//! The load of document 01: its reader and its writer.
+//! The load of document 01, and the editions that document 02 adds: its reader
+//! and its writer.
 
 use crate::refusal::Refusal;
 use crate::table::TimedCall;
 
 /// The most bytes of a load.
 pub const MAX_LOAD: usize = 65_536;
-/// The editions that are known.
-pub const EDITIONS: [u8; 1] = [1];
-/// The load from which writing begins: the edition byte alone.
-pub const EMPTY: [u8; 1] = [1];
+
+/// The kinds of records, with their numbers.
+#[derive(Clone, Copy, PartialEq, Eq, PartialOrd, Ord, Hash, Debug)]
+pub enum Kind {
+    Rig = 1,
+    Claim = 2,
+    Release = 3,
+    Withdraw = 4,
+    Clock = 5,
+}
+
+/// The fields of records.
+#[derive(Clone, Copy, PartialEq, Eq, PartialOrd, Ord, Hash, Debug)]
+pub enum Field {
+    Clock,
+    Groups,
+    Length,
+    Pool,
+    Ticket,
+    Units,
+}
+
+/// Every field, in the order of its values in `Values`.
+pub const FIELDS: [Field; 6] = [
+    Field::Clock,
+    Field::Groups,
+    Field::Length,
+    Field::Pool,
+    Field::Ticket,
+    Field::Units,
+];
+
+/// What a field reads as that the edition lacks.
+const ABSENT: u64 = 0;
+
+impl Field {
+    /// How many bytes it has.
+    pub fn bytes(self) -> usize {
+        match self {
+            Field::Clock | Field::Groups => 8,
+            Field::Length => 4,
+            Field::Pool | Field::Ticket | Field::Units => 2,
+        }
+    }
+}
+
+/// A kind with its fields, in their order.
+pub type Form = (Kind, &'static [Field]);
+
+/// The editions that are known, each with its kinds.
+pub const FORMATS: [(u8, &[Form]); 2] = [
+    (
+        1,
+        &[
+            (Kind::Rig, &[Field::Groups]),
+            (Kind::Claim, &[Field::Clock, Field::Groups, Field::Length]),
+            (Kind::Release, &[Field::Clock, Field::Ticket]),
+            (Kind::Withdraw, &[Field::Clock, Field::Ticket]),
+            (Kind::Clock, &[Field::Clock]),
+        ],
+    ),
+    (
+        2,
+        &[
+            (Kind::Rig, &[Field::Groups, Field::Pool]),
+            (
+                Kind::Claim,
+                &[Field::Clock, Field::Groups, Field::Length, Field::Units],
+            ),
+            (Kind::Release, &[Field::Clock, Field::Ticket]),
+            (Kind::Withdraw, &[Field::Clock, Field::Ticket]),
+            (Kind::Clock, &[Field::Clock]),
+        ],
+    ),
+];
+
+/// The kinds of an edition; none for one that is not known.
+pub fn forms(edition: u8) -> Option<&'static [Form]> {
+    let format = FORMATS.iter().find(|(known, _)| *known == edition);
+    format.map(|&(_, forms)| forms)
+}
+
+/// The fields of a kind in an edition; none where the edition lacks the kind.
+pub fn fields(edition: u8, kind: Kind) -> Option<&'static [Field]> {
+    let form = forms(edition)?.iter().find(|(other, _)| *other == kind);
+    form.map(|&(_, fields)| fields)
+}
+
+/// A value for each field.
+#[derive(Clone, Copy, PartialEq, Eq, Debug)]
+pub struct Values([u64; FIELDS.len()]);
+
+impl Values {
+    /// The values of a record without fields.
+    pub fn absent() -> Values {
+        Values([ABSENT; FIELDS.len()])
+    }
+
+    pub fn get(&self, field: Field) -> u64 {
+        self.0[field as usize]
+    }
+
+    /// Sets a value, of which only as many bytes count as the field has.
+    pub fn set(&mut self, field: Field, value: u64) {
+        self.0[field as usize] = value;
+    }
+
+    /// The same with one value set.
+    pub fn with(mut self, field: Field, value: u64) -> Values {
+        self.set(field, value);
+        self
+    }
+}
 
 /// What one record of a load says.
 #[derive(Clone, Copy, PartialEq, Eq, PartialOrd, Ord, Hash, Debug)]
 pub enum Call {
-    /// The rig: the groups that exist.
-    Rig(u64),
+    /// The rig: the groups that exist, and the units of the pool.
+    Rig {
+        groups: u64,
+        pool: u16,
+    },
     Timed(TimedCall),
+}
+
+impl Call {
+    pub fn kind(&self) -> Kind {
+        match self {
+            Call::Rig { .. } => Kind::Rig,
+            Call::Timed(TimedCall::Claim { .. }) => Kind::Claim,
+            Call::Timed(TimedCall::Release { .. }) => Kind::Release,
+            Call::Timed(TimedCall::Withdraw { .. }) => Kind::Withdraw,
+            Call::Timed(TimedCall::Clock { .. }) => Kind::Clock,
+        }
+    }
+
+    /// The values of the call's fields; any other field is absent.
+    pub fn values(&self) -> Values {
+        let values = Values::absent();
+        match *self {
+            Call::Rig { groups, pool } => values
+                .with(Field::Groups, groups)
+                .with(Field::Pool, pool.into()),
+            Call::Timed(call) => {
+                let values = values.with(Field::Clock, call.clock());
+                match call {
+                    TimedCall::Claim {
+                        groups,
+                        length,
+                        units,
+                        ..
+                    } => values
+                        .with(Field::Groups, groups)
+                        .with(Field::Length, length.into())
+                        .with(Field::Units, units.into()),
+                    TimedCall::Release { ticket, .. } | TimedCall::Withdraw { ticket, .. } => {
+                        values.with(Field::Ticket, ticket.into())
+                    }
+                    TimedCall::Clock { .. } => values,
+                }
+            }
+        }
+    }
+
+    /// The call of a kind with these values.
+    pub fn of(kind: Kind, values: &Values) -> Call {
+        let clock = values.get(Field::Clock);
+        let groups = values.get(Field::Groups);
+        let ticket = values.get(Field::Ticket) as u16;
+        Call::Timed(match kind {
+            Kind::Rig => {
+                return Call::Rig {
+                    groups,
+                    pool: values.get(Field::Pool) as u16,
+                }
+            }
+            Kind::Claim => TimedCall::Claim {
+                clock,
+                groups,
+                length: values.get(Field::Length) as u32,
+                units: values.get(Field::Units) as u16,
+            },
+            Kind::Release => TimedCall::Release { clock, ticket },
+            Kind::Withdraw => TimedCall::Withdraw { clock, ticket },
+            Kind::Clock => TimedCall::Clock { clock },
+        })
+    }
+
+    pub fn is_rig(&self) -> bool {
+        matches!(self, Call::Rig { .. })
+    }
 }
 
 /// What the reader says at a position.
@@ -35,7 +216,7 @@ pub fn open(load: &[u8]) -> Result<usize, Refusal> {
     }
     match load.first() {
         None => Err(Refusal::Short),
-        Some(edition) if EDITIONS.contains(edition) => Ok(1),
+        Some(&edition) if forms(edition).is_some() => Ok(1),
         Some(_) => Err(Refusal::Edition),
     }
 }
@@ -54,8 +235,8 @@ pub fn next_call(load: &[u8], position: usize) -> Result<Next, Refusal> {
     if rest.len() - 2 < length {
         return Err(Refusal::Short);
     }
-    let call = decode(&rest[2..2 + length]).ok_or(Refusal::Misfit)?;
-    if matches!(call, Call::Rig(_)) != (position == 1) {
+    let call = decode(load[0], &rest[2..2 + length]).ok_or(Refusal::Misfit)?;
+    if call.is_rig() != (position == 1) {
         return Err(Refusal::Misfit);
     }
     Ok(Next::Call {
@@ -64,83 +245,58 @@ pub fn next_call(load: &[u8], position: usize) -> Result<Next, Refusal> {
     })
 }
 
-/// The call of a record without its two length bytes; none for an unknown
-/// kind or a wrong length.
-pub fn decode(body: &[u8]) -> Option<Call> {
-    let (&kind, fields) = body.split_first()?;
-    let call = match (kind, fields.len()) {
-        (1, 8) => Call::Rig(number(fields)),
-        (2, 20) => Call::Timed(TimedCall::Claim {
-            clock: number(&fields[..8]),
-            groups: number(&fields[8..16]),
-            length: number(&fields[16..]) as u32,
-        }),
-        (3, 10) => Call::Timed(TimedCall::Release {
-            clock: number(&fields[..8]),
-            ticket: number(&fields[8..]) as u16,
-        }),
-        (4, 10) => Call::Timed(TimedCall::Withdraw {
-            clock: number(&fields[..8]),
-            ticket: number(&fields[8..]) as u16,
-        }),
-        (5, 8) => Call::Timed(TimedCall::Clock {
-            clock: number(fields),
-        }),
-        _ => return None,
-    };
-    Some(call)
+/// The call of a record without its two length bytes; none for a kind that the
+/// edition lacks or a wrong length.
+pub fn decode(edition: u8, body: &[u8]) -> Option<Call> {
+    let (&number, mut rest) = body.split_first()?;
+    let mut forms = forms(edition)?.iter();
+    let &(kind, fields) = forms.find(|(kind, _)| *kind as u8 == number)?;
+    if rest.len() != fields.iter().map(|field| field.bytes()).sum() {
+        return None;
+    }
+    let mut values = Values::absent();
+    for &field in fields {
+        let (bytes, behind) = rest.split_at(field.bytes());
+        values.set(field, big_endian(bytes));
+        rest = behind;
+    }
+    Some(Call::of(kind, &values))
 }
 
 /// The big-endian number of up to eight bytes.
-fn number(bytes: &[u8]) -> u64 {
+fn big_endian(bytes: &[u8]) -> u64 {
     bytes
         .iter()
         .fold(0, |value, &byte| value << 8 | u64::from(byte))
 }
 
-/// The whole record of a call, its two length bytes included.
-pub fn encode(call: Call) -> Vec<u8> {
-    let mut body = Vec::new();
-    match call {
-        Call::Rig(groups) => {
-            body.push(1);
-            body.extend_from_slice(&groups.to_be_bytes());
-        }
-        Call::Timed(TimedCall::Claim {
-            clock,
-            groups,
-            length,
-        }) => {
-            body.push(2);
-            body.extend_from_slice(&clock.to_be_bytes());
-            body.extend_from_slice(&groups.to_be_bytes());
-            body.extend_from_slice(&length.to_be_bytes());
-        }
-        Call::Timed(TimedCall::Release { clock, ticket }) => {
-            body.push(3);
-            body.extend_from_slice(&clock.to_be_bytes());
-            body.extend_from_slice(&ticket.to_be_bytes());
-        }
-        Call::Timed(TimedCall::Withdraw { clock, ticket }) => {
-            body.push(4);
-            body.extend_from_slice(&clock.to_be_bytes());
-            body.extend_from_slice(&ticket.to_be_bytes());
-        }
-        Call::Timed(TimedCall::Clock { clock }) => {
-            body.push(5);
-            body.extend_from_slice(&clock.to_be_bytes());
-        }
+/// The whole record of a call, its two length bytes included; none for a call
+/// that the edition cannot carry: of a kind that it lacks, or with a value in a
+/// field that it lacks.
+pub fn encode(edition: u8, call: Call) -> Option<Vec<u8>> {
+    let fields = fields(edition, call.kind())?;
+    let values = call.values();
+    let mut lacking = FIELDS.iter().filter(|field| !fields.contains(field));
+    if lacking.any(|&field| values.get(field) != ABSENT) {
+        return None;
+    }
+    let mut body = vec![call.kind() as u8];
+    for &field in fields {
+        let bytes = values.get(field).to_be_bytes();
+        body.extend_from_slice(&bytes[bytes.len() - field.bytes()..]);
     }
     let mut record = (body.len() as u16).to_be_bytes().to_vec();
     record.extend_from_slice(&body);
-    record
+    Some(record)
 }
 
-/// Edition byte and records, one after another, without any test.
-pub fn join(calls: &[Call]) -> Vec<u8> {
-    let mut load = EMPTY.to_vec();
+/// Edition byte and records, one after another, without any test but that the
+/// edition can carry the calls.
+pub fn join(edition: u8, calls: &[Call]) -> Vec<u8> {
+    let mut load = vec![edition];
     for &call in calls {
-        load.extend_from_slice(&encode(call));
+        let record = encode(edition, call).expect("a call that the edition carries");
+        load.extend_from_slice(&record);
     }
     load
 }
@@ -203,10 +359,10 @@ pub fn read_all(load: &[u8]) -> Result<Vec<Call>, Refusal> {
 /// and 15.
 pub fn append(load: &[u8], call: Call, buffer: &mut [u8]) -> Result<usize, Refusal> {
     let first = read_all(load)?.is_empty();
-    if matches!(call, Call::Rig(_)) != first {
+    if call.is_rig() != first {
         return Err(Refusal::Misfit);
     }
-    let record = encode(call);
+    let record = encode(load[0], call).ok_or(Refusal::Misfit)?;
     let length = load.len() + record.len();
     if length > MAX_LOAD {
         return Err(Refusal::Overlong);

@@ -1,21 +1,29 @@
-//! A monitor of demand 3 (document 01: "A run of calls"). It judges a run from
-//! its calls, their answers and the lookups asked after each call.
+//! A monitor of demand 3 (document 01: "A run of calls"), with what document
+//! 02, P3, makes of it. It judges a run from its rig and pool, its calls, their
+//! answers and the lookups asked after each call.
 //!
 //! In every run:
+//! - a call's number is the first in the order of its tests whose condition
+//!   holds by the calls and answers before it, or 0;
 //! - holders share no group;
-//! - a first planned start is within its start bound;
+//! - holders have no more units together than the pool;
+//! - the units free and those of the holders make the pool after every call;
+//! - a first planned start is within its start bound, for claims that draw no
+//!   units;
 //! - a lookup says what calls and answers say, one of two tickets the lowest
 //!   group that both claims asked for.
 //!
 //! While no accepted call bears a clock past the promised end of a claim held
-//! when it comes:
+//! when it comes, for all claims:
 //! - no call raises a planned start;
 //! - no claim still waits after an accepted call with a clock past the claim's
 //!   first planned start.
 
 use std::collections::{BTreeMap, BTreeSet};
 
+use crate::refusal::Refusal;
 use crate::table::{Answer, Common, Lookup, Table, TimedCall};
+use crate::table::{MAX_CLOCK, MAX_LENGTH, MAX_PENDING, MAX_TICKET};
 
 /// One call of a run's list.
 #[derive(Clone, Copy, PartialEq, Eq, Debug)]
@@ -24,6 +32,8 @@ pub enum RunCall {
     Lookup(u16),
     /// A lookup of two tickets.
     Common(u16, u16),
+    /// A lookup of the units free.
+    Free,
 }
 
 impl From<TimedCall> for RunCall {
@@ -40,14 +50,17 @@ pub enum Asked {
     Lookup(u16, Lookup),
     /// A lookup of two tickets.
     Common(u16, u16, Common),
+    /// A lookup of the units free.
+    Free(u16),
 }
 
 /// One call of a run and what lookups say after it: of every pending ticket,
-/// and of any others.
+/// of any others, and of the units free.
 #[derive(Clone, PartialEq, Eq, Debug)]
 pub struct Step {
     pub asked: Asked,
     pub lookups: Vec<(u16, Lookup)>,
+    pub free: u16,
 }
 
 /// The first violation in a run.
@@ -62,8 +75,14 @@ pub struct Violation {
 /// Which part of demand 3 is violated.
 #[derive(Clone, Copy, PartialEq, Eq, Debug)]
 pub enum Rule {
+    /// A call has another number than its tests give.
+    Number,
     /// Holders share a group.
     Shared,
+    /// Holders have more units than the pool.
+    Units,
+    /// The units free and those held do not make the pool.
+    Free,
     /// A first planned start is past its start bound.
     Bound,
     /// A lookup contradicts the calls and answers.
@@ -73,8 +92,8 @@ pub enum Rule {
     /// A claim waits past its first planned start.
     Waits,
     /// Calls and answers make no run: a ticket issued twice, a grant of a claim
-    /// that does not wait, a claim taken away that is not pending, a refused
-    /// call with grants, or no lookup of a pending ticket.
+    /// that does not wait, a refused call with grants, or no lookup of a
+    /// pending ticket.
     Form,
 }
 
@@ -88,12 +107,21 @@ pub struct Summary {
     pub waited: usize,
     /// Grants of claims that had waited.
     pub late_grants: usize,
+    /// Claims accepted that draw units.
+    pub drew: usize,
+    /// Claims that waited for units alone: after an accepted call a claim that
+    /// shares a group with no pending claim still waits.
+    pub short: usize,
+    /// The same where its start has come, and an overrun or a holder that ends
+    /// just then has not left.
+    pub held_back: usize,
 }
 
 /// A pending claim as calls, answers and lookups tell it.
 struct Pending {
     groups: u64,
     length: u32,
+    units: u16,
     first_start: u64,
     /// The clock of its grant, once held.
     grant: Option<u64>,
@@ -108,9 +136,14 @@ impl Pending {
     }
 }
 
-/// Judges a run from the new table on; the first violation ends it.
-pub fn judge(steps: &[Step]) -> Result<Summary, Violation> {
+/// Judges a run from the new table on, which has this rig and pool; the first
+/// violation ends it.
+pub fn judge(rig: u64, pool: u16, steps: &[Step]) -> Result<Summary, Violation> {
     let mut monitor = Monitor {
+        rig,
+        // A refused table has none.
+        pool: if rig == 0 { 0 } else { pool },
+        clock: 0,
         pending: BTreeMap::new(),
         issued: BTreeSet::new(),
         summary: Summary {
@@ -131,6 +164,10 @@ pub fn judge(steps: &[Step]) -> Result<Summary, Violation> {
 }
 
 struct Monitor {
+    rig: u64,
+    pool: u16,
+    /// The clock of the last accepted timed call.
+    clock: u64,
     pending: BTreeMap<u16, Pending>,
     issued: BTreeSet<u16>,
     summary: Summary,
@@ -146,16 +183,21 @@ fn against(rule: Rule, description: String) -> Verdict {
 impl Monitor {
     fn step(&mut self, step: &Step) -> Verdict {
         match &step.asked {
-            Asked::Timed(call, answer) if answer.accepted() => self.accepted(call, answer)?,
-            Asked::Timed(_, answer) => {
-                if !answer.grants.is_empty() {
+            Asked::Timed(call, answer) => {
+                if !answer.accepted() && !answer.grants.is_empty() {
                     return against(Rule::Form, "a refused call names grants".to_string());
+                }
+                self.number(call, answer.number)?;
+                if answer.accepted() {
+                    self.accepted(call, answer)?;
                 }
             }
             Asked::Lookup(ticket, lookup) => self.lookup(*ticket, *lookup)?,
             Asked::Common(first, second, said) => self.common(*first, *second, *said)?,
+            Asked::Free(free) => self.free(*free)?,
         }
         self.holders()?;
+        self.free(step.free)?;
         let mut asked = BTreeSet::new();
         for &(ticket, lookup) in &step.lookups {
             self.lookup(ticket, lookup)?;
@@ -167,15 +209,73 @@ impl Monitor {
             }
         }
         match &step.asked {
-            Asked::Timed(call, answer) if answer.accepted() => self.waits(call.clock()),
+            Asked::Timed(call, answer) if answer.accepted() => {
+                self.count_short();
+                self.waits(call.clock())
+            }
             _ => Ok(()),
         }
+    }
+
+    /// A call's number is that of its tests.
+    fn number(&self, call: &TimedCall, said: u8) -> Verdict {
+        let number = self.refusal(call).map_or(0, Refusal::number);
+        if said == number {
+            return Ok(());
+        }
+        against(
+            Rule::Number,
+            format!("the number of {call:?} is {said}, not {number}"),
+        )
+    }
+
+    /// Why a call is refused, by the calls and answers before it.
+    fn refusal(&self, call: &TimedCall) -> Option<Refusal> {
+        let clock = call.clock();
+        let held = |ticket| {
+            let claim = self.pending.get(&ticket);
+            claim.map(|claim| claim.grant.is_some())
+        };
+        let late = [
+            (clock > MAX_CLOCK, Refusal::Late),
+            (clock < self.clock, Refusal::Backward),
+        ];
+        let own = match *call {
+            TimedCall::Claim {
+                groups,
+                length,
+                units,
+                ..
+            } => vec![
+                (groups == 0 && units == 0, Refusal::NoGroup),
+                (groups & !self.rig != 0, Refusal::OutsideRig),
+                (units > self.pool, Refusal::OverPool),
+                (length == 0 || length > MAX_LENGTH, Refusal::Length),
+                (self.pending.len() >= MAX_PENDING, Refusal::Full),
+                (
+                    self.issued.len() >= usize::from(MAX_TICKET),
+                    Refusal::NoTicket,
+                ),
+            ],
+            TimedCall::Release { ticket, .. } => vec![
+                (held(ticket).is_none(), Refusal::Unknown),
+                (held(ticket) == Some(false), Refusal::NotYetOn),
+            ],
+            TimedCall::Withdraw { ticket, .. } => vec![
+                (held(ticket).is_none(), Refusal::Unknown),
+                (held(ticket) == Some(true), Refusal::AlreadyOn),
+            ],
+            TimedCall::Clock { .. } => Vec::new(),
+        };
+        let mut tests = late.into_iter().chain(own);
+        tests.find(|(fails, _)| *fails).map(|(_, refusal)| refusal)
     }
 
     /// What an accepted call and its answer say.
     fn accepted(&mut self, call: &TimedCall, answer: &Answer) -> Verdict {
         self.summary.accepted += 1;
         let clock = call.clock();
+        self.clock = clock;
         if self
             .pending
             .values()
@@ -184,16 +284,16 @@ impl Monitor {
             self.summary.in_time = false;
         }
         match *call {
-            TimedCall::Claim { groups, length, .. } => {
-                self.issue(clock, groups, length, answer)?;
+            TimedCall::Claim {
+                groups,
+                length,
+                units,
+                ..
+            } => {
+                self.issue(clock, groups, length, units, answer)?;
             }
             TimedCall::Release { ticket, .. } | TimedCall::Withdraw { ticket, .. } => {
-                if self.pending.remove(&ticket).is_none() {
-                    return against(
-                        Rule::Form,
-                        format!("ticket {ticket} is taken away and was not pending"),
-                    );
-                }
+                self.pending.remove(&ticket);
             }
             TimedCall::Clock { .. } => {}
         }
@@ -208,8 +308,16 @@ impl Monitor {
         Ok(())
     }
 
-    /// A ticket is issued; its first planned start is within its bound.
-    fn issue(&mut self, clock: u64, groups: u64, length: u32, answer: &Answer) -> Verdict {
+    /// A ticket is issued; its first planned start is within its bound, which
+    /// claims that draw units have not.
+    fn issue(
+        &mut self,
+        clock: u64,
+        groups: u64,
+        length: u32,
+        units: u16,
+        answer: &Answer,
+    ) -> Verdict {
         let ticket = answer.ticket;
         if ticket == 0 || !self.issued.insert(ticket) {
             return against(Rule::Form, format!("ticket {ticket} is issued again"));
@@ -225,7 +333,7 @@ impl Monitor {
                 bound = bound.saturating_add(more);
             }
         }
-        if answer.start > bound {
+        if units == 0 && answer.start > bound {
             return against(
                 Rule::Bound,
                 format!(
@@ -234,11 +342,13 @@ impl Monitor {
                 ),
             );
         }
+        self.summary.drew += usize::from(units > 0);
         self.pending.insert(
             ticket,
             Pending {
                 groups,
                 length,
+                units,
                 first_start: answer.start,
                 grant: None,
                 start: None,
@@ -275,7 +385,8 @@ impl Monitor {
         Ok(())
     }
 
-    /// No two holders share a group.
+    /// No two holders share a group, and together they have no more units than
+    /// the pool.
     fn holders(&self) -> Verdict {
         let mut held = 0;
         for (ticket, claim) in &self.pending {
@@ -289,7 +400,48 @@ impl Monitor {
                 held |= claim.groups;
             }
         }
+        let units = self.held();
+        if units > u64::from(self.pool) {
+            return against(
+                Rule::Units,
+                format!("holders have {units} units of {}", self.pool),
+            );
+        }
         Ok(())
+    }
+
+    /// The units of the holders together.
+    fn held(&self) -> u64 {
+        let holders = self.pending.values().filter(|claim| claim.grant.is_some());
+        holders.map(|claim| u64::from(claim.units)).sum()
+    }
+
+    /// The units free, as told, are the others.
+    fn free(&self, free: u16) -> Verdict {
+        let held = self.held();
+        if u64::from(free) + held == u64::from(self.pool) {
+            return Ok(());
+        }
+        against(
+            Rule::Free,
+            format!("{free} units free and {held} held of {}", self.pool),
+        )
+    }
+
+    /// Counts the claims that wait for units alone.
+    fn count_short(&mut self) {
+        for claim in self.pending.values() {
+            let sharing = self
+                .pending
+                .values()
+                .filter(|o| o.groups & claim.groups != 0);
+            // With a group it shares that with itself.
+            let alone = sharing.count() == usize::from(claim.groups != 0);
+            if let (true, Some(start)) = (alone, claim.start) {
+                self.summary.short += 1;
+                self.summary.held_back += usize::from(start == self.clock);
+            }
+        }
     }
 
     /// A lookup says what calls and answers say, and raises no planned start.
@@ -374,6 +526,7 @@ pub trait ClaimsTable {
     fn call(&mut self, call: TimedCall) -> Answer;
     fn lookup(&self, ticket: u16) -> Lookup;
     fn common(&self, first: u16, second: u16) -> Common;
+    fn free(&self) -> u16;
 }
 
 impl ClaimsTable for Table {
@@ -388,11 +541,15 @@ impl ClaimsTable for Table {
     fn common(&self, first: u16, second: u16) -> Common {
         Table::common(self, first, second)
     }
+
+    fn free(&self) -> u16 {
+        Table::free(self)
+    }
 }
 
 /// Runs the calls on a new table. After each, a lookup is asked of every ticket
-/// that is pending by calls and answers, of ticket 0, of the next one, and of
-/// the last few that left.
+/// that is pending by calls and answers, of ticket 0, of the next one, of the
+/// last few that left, and of the units free.
 pub fn run<C: Copy + Into<RunCall>>(table: &mut dyn ClaimsTable, calls: &[C]) -> Vec<Step> {
     let mut pending: BTreeSet<u16> = BTreeSet::new();
     let mut left: Vec<u16> = Vec::new();
@@ -405,6 +562,7 @@ pub fn run<C: Copy + Into<RunCall>>(table: &mut dyn ClaimsTable, calls: &[C]) ->
             RunCall::Common(first, second) => {
                 Asked::Common(first, second, table.common(first, second))
             }
+            RunCall::Free => Asked::Free(table.free()),
         };
         match &asked {
             Asked::Timed(TimedCall::Claim { .. }, answer) if answer.accepted() => {
@@ -428,7 +586,12 @@ pub fn run<C: Copy + Into<RunCall>>(table: &mut dyn ClaimsTable, calls: &[C]) ->
             .into_iter()
             .map(|ticket| (ticket, table.lookup(ticket)))
             .collect();
-        steps.push(Step { asked, lookups });
+        let free = table.free();
+        steps.push(Step {
+            asked,
+            lookups,
+            free,
+        });
     }
     steps
 }

@@ -3,7 +3,8 @@
 /// Why a call is refused. Each case gives document 01's number and word.
 #[derive(Clone, Copy, PartialEq, Eq, PartialOrd, Ord, Hash, Debug)]
 pub enum Refusal {
-    /// 1, "dark": no group in the claim, or in a new rig.
+    /// 1, "dark": neither group nor unit in the claim, or no group in a new
+    /// rig.
     NoGroup = 1,
     /// 2, "off-rig": a group outside the rig.
     OutsideRig = 2,
@@ -33,6 +34,8 @@ pub enum Refusal {
     Overlong = 14,
     /// 15, "no space": a lent buffer is shorter than the output.
     NoSpace = 15,
+    /// 16, "spots": more units than the pool has.
+    OverPool = 16,
 }
 
 impl Refusal {

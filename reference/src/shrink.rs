@@ -1,9 +1,10 @@
 //! Makes a load smaller while a difference that it shows stays: drops records,
-//! then lowers the values of fields. Makes a text smaller: drops lines, then
-//! bytes. Makes a question about a load smaller with the load: lowers tickets.
+//! then lowers the values of fields, then the edition. Makes a text smaller:
+//! drops lines, then bytes. Makes a question about a load smaller with the
+//! load: lowers tickets.
 
 use crate::ask::{self, Question};
-use crate::load::{self, Call};
+use crate::load::{self, Call, Field, FORMATS};
 use crate::table::{Table, TimedCall};
 
 /// A load in parts: its first byte, whole records by their lengths, and what
@@ -47,17 +48,53 @@ impl Parts {
 
     /// The call of a record, if it is one.
     fn call(&self, index: usize) -> Option<Call> {
-        load::decode(&self.records[index][2..])
+        load::decode(*self.edition.first()?, &self.records[index][2..])
+    }
+
+    /// The record of a call of this load with another value in one field.
+    fn lay(&self, call: Call, field: Field, value: u64) -> Vec<u8> {
+        let values = call.values().with(field, value);
+        let record = load::encode(self.edition[0], Call::of(call.kind(), &values));
+        record.expect("a field of the edition")
+    }
+
+    /// The same calls in another edition, if it carries them; what is no call
+    /// stays.
+    fn in_edition(&self, edition: u8) -> Option<Parts> {
+        let mut parts = self.clone();
+        parts.edition = vec![edition];
+        for (index, record) in parts.records.iter_mut().enumerate() {
+            if let Some(call) = self.call(index) {
+                *record = load::encode(edition, call)?;
+            }
+        }
+        Some(parts)
+    }
+
+    /// The same with a pool of so many units, where there are more, and no
+    /// claim that draws more.
+    fn with_pool(&self, pool: u64) -> Parts {
+        let mut parts = self.clone();
+        for (index, record) in parts.records.iter_mut().enumerate() {
+            if let Some(call) = self.call(index) {
+                for field in [Field::Pool, Field::Units] {
+                    if call.values().get(field) > pool {
+                        *record = self.lay(call, field, pool);
+                    }
+                }
+            }
+        }
+        parts
     }
 
     /// The ticket that each record issues, 0 for none.
     fn tickets(&self) -> Vec<u16> {
-        let mut table = Table::new(0).0;
+        let mut table = Table::new(0, 0).0;
         let mut tickets = Vec::new();
         for index in 0..self.records.len() {
             let mut ticket = 0;
             match self.call(index) {
-                Some(Call::Rig(groups)) => table = Table::new(groups).0,
+                Some(Call::Rig { groups, pool }) => table = Table::new(groups, pool).0,
                 Some(Call::Timed(call @ TimedCall::Claim { .. })) => {
                     ticket = table.call(call).ticket;
                 }
@@ -94,28 +131,16 @@ impl Parts {
         let mut parts = self.clone();
         parts.records.clear();
         for index in (0..from).chain(to..self.records.len()) {
-            let call = match self.call(index) {
-                Some(Call::Timed(
-                    TimedCall::Release { ticket, .. } | TimedCall::Withdraw { ticket, .. },
-                )) if gone.contains(&ticket) => continue,
-                Some(Call::Timed(TimedCall::Release { clock, ticket })) => {
-                    Some(Call::Timed(TimedCall::Release {
-                        clock,
-                        ticket: moved(ticket),
-                    }))
+            let mut record = self.records[index].clone();
+            if let Some(call) = self.call(index) {
+                // 0 where the call has none.
+                let ticket = call.values().get(Field::Ticket) as u16;
+                if gone.contains(&ticket) {
+                    continue;
                 }
-                Some(Call::Timed(TimedCall::Withdraw { clock, ticket })) => {
-                    Some(Call::Timed(TimedCall::Withdraw {
-                        clock,
-                        ticket: moved(ticket),
-                    }))
-                }
-                _ => None,
-            };
-            parts.records.push(match call {
-                Some(call) => load::encode(call),
-                None => self.records[index].clone(),
-            });
+                record = self.lay(call, Field::Ticket, moved(ticket).into());
+            }
+            parts.records.push(record);
         }
         parts
     }
@@ -137,6 +162,7 @@ pub fn shrink(load: &[u8], mut still_differs: impl FnMut(&[u8]) -> bool) -> Vec<
         shorten_tail(&mut parts, &mut holds);
         drop_records(&mut parts, &mut holds);
         lower_fields(&mut parts, &mut holds);
+        lower_edition(&mut parts, &mut holds);
         if parts == before {
             return parts.join();
         }
@@ -187,87 +213,58 @@ fn drop_records(parts: &mut Parts, holds: &mut Holds) {
     }
 }
 
-/// Lowers each field of each record as far as single steps lead.
+/// Lowers each field of each record as far as single steps lead; before that
+/// the pool, and units with it.
 fn lower_fields(parts: &mut Parts, holds: &mut Holds) {
+    while lower_pool(parts, holds) {}
     for index in 0..parts.records.len() {
-        while let Some(call) = parts.call(index) {
-            let lowered = lower(call).into_iter().any(|call| {
-                let mut other = parts.clone();
-                other.records[index] = load::encode(call);
-                attempt(parts, other, holds)
-            });
-            if !lowered {
-                break;
-            }
-        }
+        while lower_record(parts, index, holds) {}
     }
 }
 
-/// The calls that have one field lower.
-fn lower(call: Call) -> Vec<Call> {
-    let mut calls = Vec::new();
-    match call {
-        Call::Rig(groups) => calls.extend(fewer(groups).into_iter().map(Call::Rig)),
-        Call::Timed(TimedCall::Claim {
-            clock,
-            groups,
-            length,
-        }) => {
-            calls.extend(smaller(clock).into_iter().map(|clock| {
-                Call::Timed(TimedCall::Claim {
-                    clock,
-                    groups,
-                    length,
-                })
-            }));
-            calls.extend(fewer(groups).into_iter().map(|groups| {
-                Call::Timed(TimedCall::Claim {
-                    clock,
-                    groups,
-                    length,
-                })
-            }));
-            calls.extend(smaller(u64::from(length)).into_iter().map(|length| {
-                Call::Timed(TimedCall::Claim {
-                    clock,
-                    groups,
-                    length: length as u32,
-                })
-            }));
+/// Lowers the pool of the first record and the units that are more, if that
+/// goes.
+fn lower_pool(parts: &mut Parts, holds: &mut Holds) -> bool {
+    let rig = parts.records.first().and_then(|_| parts.call(0));
+    let pool = rig.map_or(0, |call| call.values().get(Field::Pool));
+    smaller(pool)
+        .into_iter()
+        .any(|pool| attempt(parts, parts.with_pool(pool), holds))
+}
+
+/// Lowers one field of a record, if that goes.
+fn lower_record(parts: &mut Parts, index: usize, holds: &mut Holds) -> bool {
+    let Some(call) = parts.call(index) else {
+        return false;
+    };
+    let fields = load::fields(parts.edition[0], call.kind()).unwrap_or(&[]);
+    // Units before groups: what needs none is shown without.
+    fields.iter().rev().any(|&field| {
+        let value = call.values().get(field);
+        let lower = match field {
+            Field::Groups => fewer(value),
+            _ => smaller(value),
+        };
+        lower.into_iter().any(|value| {
+            let mut other = parts.clone();
+            other.records[index] = parts.lay(call, field, value);
+            attempt(parts, other, holds)
+        })
+    })
+}
+
+/// Takes the first edition that carries the calls.
+fn lower_edition(parts: &mut Parts, holds: &mut Holds) {
+    for (edition, _) in FORMATS {
+        if parts.edition.first().is_none_or(|&own| own <= edition) {
+            return;
         }
-        Call::Timed(TimedCall::Release { clock, ticket }) => {
-            calls.extend(
-                smaller(clock)
-                    .into_iter()
-                    .map(|clock| Call::Timed(TimedCall::Release { clock, ticket })),
-            );
-            calls.extend(smaller(u64::from(ticket)).into_iter().map(|ticket| {
-                Call::Timed(TimedCall::Release {
-                    clock,
-                    ticket: ticket as u16,
-                })
-            }));
+        if let Some(other) = parts.in_edition(edition) {
+            if attempt(parts, other, holds) {
+                return;
+            }
         }
-        Call::Timed(TimedCall::Withdraw { clock, ticket }) => {
-            calls.extend(
-                smaller(clock)
-                    .into_iter()
-                    .map(|clock| Call::Timed(TimedCall::Withdraw { clock, ticket })),
-            );
-            calls.extend(smaller(u64::from(ticket)).into_iter().map(|ticket| {
-                Call::Timed(TimedCall::Withdraw {
-                    clock,
-                    ticket: ticket as u16,
-                })
-            }));
-        }
-        Call::Timed(TimedCall::Clock { clock }) => calls.extend(
-            smaller(clock)
-                .into_iter()
-                .map(|clock| Call::Timed(TimedCall::Clock { clock })),
-        ),
     }
-    calls
 }
 
 /// Some numbers below this one, ascending.
@@ -348,7 +345,7 @@ fn lower_tickets(question: &[u8]) -> Vec<Vec<u8>> {
                 lines.push(format!("common {one} {other}").into_bytes());
             }
         }
-        None => {}
+        Some(Question::Free) | None => {}
     }
     lines
 }

@@ -1,6 +1,7 @@
 //! The claims table of document 01, in the plainest way, and what document 02
 //! adds to it.
 
+use crate::pool::Plan;
 use crate::refusal::Refusal;
 
 /// The greatest clock (document 01: clocks run from 0 to this).
@@ -32,6 +33,8 @@ pub struct Claim {
     pub groups: u64,
     /// The declared length in ticks.
     pub length: u32,
+    /// The units that it draws from the pool.
+    pub units: u16,
     pub state: State,
 }
 
@@ -49,6 +52,10 @@ impl Claim {
     /// Document 01: "conflict", sharing a group.
     pub fn conflicts(&self, groups: u64) -> bool {
         self.common(groups).is_some()
+    }
+
+    pub fn is_on(&self) -> bool {
+        matches!(self.state, State::On(_))
     }
 
     /// Document 01: "precedes" (the paragraph on order).
@@ -101,6 +108,7 @@ pub enum TimedCall {
         clock: u64,
         groups: u64,
         length: u32,
+        units: u16,
     },
     Release {
         clock: u64,
@@ -202,6 +210,7 @@ impl Common {
 #[derive(Clone, PartialEq, Eq, Debug)]
 pub struct Table {
     rig: u64,
+    pool: u16,
     clock: u64,
     issued: u16,
     /// The pending claims, by ascending ticket.
@@ -209,15 +218,17 @@ pub struct Table {
 }
 
 impl Table {
-    /// The call for a new table. When refused, the table has no groups.
-    pub fn new(rig: u64) -> (Table, Answer) {
-        let answer = if rig == 0 {
-            Answer::refused(Refusal::NoGroup)
+    /// The call for a new table: the groups that exist, and the units of the
+    /// pool. When refused, the table has neither.
+    pub fn new(rig: u64, pool: u16) -> (Table, Answer) {
+        let (pool, answer) = if rig == 0 {
+            (0, Answer::refused(Refusal::NoGroup))
         } else {
-            Answer::default()
+            (pool, Answer::default())
         };
         let table = Table {
             rig,
+            pool,
             clock: 0,
             issued: 0,
             claims: Vec::new(),
@@ -228,6 +239,11 @@ impl Table {
     /// The groups that exist.
     pub fn rig(&self) -> u64 {
         self.rig
+    }
+
+    /// The units of the pool (document 02, P3: the k followspots).
+    pub fn pool(&self) -> u16 {
+        self.pool
     }
 
     /// Document 01: "the table's clock".
@@ -252,7 +268,8 @@ impl Table {
                 clock,
                 groups,
                 length,
-            } => self.claim(clock, groups, length),
+                units,
+            } => self.claim(clock, groups, length, units),
             TimedCall::Release { clock, ticket } => self.release(clock, ticket),
             TimedCall::Withdraw { clock, ticket } => self.withdraw(clock, ticket),
             TimedCall::Clock { clock } => self.clock(clock),
@@ -260,8 +277,8 @@ impl Table {
     }
 
     /// Document 01: "claim".
-    pub fn claim(&mut self, clock: u64, groups: u64, length: u32) -> Answer {
-        if let Err(refusal) = self.test_claim(clock, groups, length) {
+    pub fn claim(&mut self, clock: u64, groups: u64, length: u32, units: u16) -> Answer {
+        if let Err(refusal) = self.test_claim(clock, groups, length, units) {
             return Answer::refused(refusal);
         }
         self.clock = clock;
@@ -277,13 +294,14 @@ impl Table {
         }
         start_bound += contention * (u64::from(length) - 1);
 
-        let start = self.least_start(groups, length);
+        let start = self.least_start(groups, length, units);
         self.issued += 1;
         let ticket = self.issued;
         self.claims.push(Claim {
             ticket,
             groups,
             length,
+            units,
             state: State::Waiting(start),
         });
 
@@ -362,6 +380,13 @@ impl Table {
         }
     }
 
+    /// Document 02, P3: the units free, which on claims do not hold. It changes
+    /// nothing.
+    pub fn free(&self) -> u16 {
+        let on = self.claims.iter().filter(|claim| claim.is_on());
+        self.pool - on.map(|claim| claim.units).sum::<u16>()
+    }
+
     /// The pending claim with this ticket.
     fn find(&self, ticket: u16) -> Option<&Claim> {
         self.claims.iter().find(|claim| claim.ticket == ticket)
@@ -378,14 +403,17 @@ impl Table {
         Ok(())
     }
 
-    /// The tests of a claim: 5, 4, 1, 2, 3, 6, 7.
-    fn test_claim(&self, clock: u64, groups: u64, length: u32) -> Result<(), Refusal> {
+    /// The tests of a claim: 5, 4, 1, 2, 16, 3, 6, 7.
+    fn test_claim(&self, clock: u64, groups: u64, length: u32, units: u16) -> Result<(), Refusal> {
         self.test_clock(clock)?;
-        if groups == 0 {
+        if groups == 0 && units == 0 {
             return Err(Refusal::NoGroup);
         }
         if groups & !self.rig != 0 {
             return Err(Refusal::OutsideRig);
+        }
+        if units > self.pool {
+            return Err(Refusal::OverPool);
         }
         if length == 0 || length > MAX_LENGTH {
             return Err(Refusal::Length);
@@ -414,48 +442,69 @@ impl Table {
         }
     }
 
-    /// Document 01: "packing". The order is that of the planned starts before
-    /// it; by ascending start, so that the ends it reads are packed already.
+    /// Document 01: "packing"; document 02, P3, adds the pool. On claims stand;
+    /// the waiting ones come by start, then ticket. Each is put behind the
+    /// conflicting claims before it, where its units are free beside them all.
     fn pack(&mut self) {
-        let before = self.claims.clone();
+        let clock = self.clock;
+        let mut plan = Plan::new(self.pool);
         let mut waiting: Vec<(u64, usize)> = Vec::new();
-        for (index, claim) in before.iter().enumerate() {
-            if let State::Waiting(start) = claim.state {
-                waiting.push((start, index));
+        for (index, claim) in self.claims.iter().enumerate() {
+            match claim.state {
+                State::On(grant) => plan.enter(grant, claim.end(clock), claim.units),
+                // The claims stand by ticket.
+                State::Waiting(start) => waiting.push((start, index)),
             }
         }
         waiting.sort_unstable();
-        for (_, index) in waiting {
-            let mut start = self.clock;
-            for (other, claim) in before.iter().enumerate() {
-                if claim.precedes(&before[index]) {
-                    start = start.max(self.claims[other].end(self.clock));
-                }
-            }
+        for (turn, &(_, index)) in waiting.iter().enumerate() {
+            let Claim {
+                groups,
+                length,
+                units,
+                ..
+            } = self.claims[index];
+            let on = self.claims.iter().filter(|claim| claim.is_on());
+            let packed = waiting[..turn].iter().map(|&(_, at)| &self.claims[at]);
+            let bound = on
+                .chain(packed)
+                .filter(|before| before.conflicts(groups))
+                .map(|before| before.end(clock))
+                .fold(clock, u64::max);
+            let start = plan.least_start(units, length, bound);
+            plan.enter(start, start + u64::from(length), units);
             self.claims[index].state = State::Waiting(start);
         }
     }
 
-    /// The least start that fits: the clock and the ends of the conflicting
-    /// claims are tried, ascending.
-    fn least_start(&self, groups: u64, length: u32) -> u64 {
+    /// The least start that fits: the clock and the ends of the claims that
+    /// conflict or draw from the same pool are tried, ascending.
+    fn least_start(&self, groups: u64, length: u32, units: u16) -> u64 {
+        let mut plan = Plan::new(self.pool);
         let mut candidates = vec![self.clock];
         for claim in &self.claims {
-            if claim.conflicts(groups) {
-                candidates.push(claim.end(self.clock));
+            let end = claim.end(self.clock);
+            let draws = units > 0 && claim.units > 0;
+            if draws {
+                let (State::Waiting(start) | State::On(start)) = claim.state;
+                plan.enter(start, end, claim.units);
+            }
+            if draws || claim.conflicts(groups) {
+                candidates.push(end);
             }
         }
         candidates.sort_unstable();
         for &start in &candidates {
-            if self.fits(groups, length, start) {
+            let end = start + u64::from(length);
+            if self.fits(groups, start, end) && plan.leaves(units, start, end) {
                 return start;
             }
         }
-        unreachable!("the greatest end of all conflicting claims fits")
+        unreachable!("the greatest of all ends fits")
     }
 
-    /// Whether a claim of these groups and this length may start here.
-    fn fits(&self, groups: u64, length: u32, start: u64) -> bool {
+    /// Whether a claim of these groups may hold them from start to end.
+    fn fits(&self, groups: u64, start: u64, end: u64) -> bool {
         self.claims
             .iter()
             .filter(|claim| claim.conflicts(groups))
@@ -463,24 +512,29 @@ impl Table {
                 let behind = start >= claim.end(self.clock);
                 match claim.state {
                     State::On(_) => behind,
-                    State::Waiting(planned) => behind || start + u64::from(length) <= planned,
+                    State::Waiting(planned) => behind || end <= planned,
                 }
             })
     }
 
-    /// Document 01: "grant". Every waiting claim that no pending claim
-    /// precedes goes on; the tickets come ascending.
+    /// Document 01: "grant"; document 02, P3, adds the pool. A waiting claim
+    /// goes on whose start is the clock, which no claim precedes, and whose
+    /// units are free after the grants before it. By start, then ticket: they
+    /// have one start, and the claims stand by ticket.
     fn grant(&mut self) -> Vec<u16> {
-        let before = self.claims.clone();
+        let mut free = self.free();
         let mut grants = Vec::new();
-        for claim in &mut self.claims {
-            let waits = matches!(claim.state, State::Waiting(_));
-            if waits && !before.iter().any(|other| other.precedes(claim)) {
-                claim.state = State::On(self.clock);
+        for index in 0..self.claims.len() {
+            let claim = self.claims[index];
+            if claim.state == State::Waiting(self.clock)
+                && claim.units <= free
+                && !self.claims.iter().any(|other| other.precedes(&claim))
+            {
+                self.claims[index].state = State::On(self.clock);
+                free -= claim.units;
                 grants.push(claim.ticket);
             }
         }
-        grants.sort_unstable();
         grants
     }
 }

@@ -3,24 +3,26 @@
 //!
 //! ```text
 //! edition NUMBER
-//! rig GROUPS
-//! claim CLOCK GROUPS LENGTH
+//! rig GROUPS                          in edition 2  rig GROUPS POOL
+//! claim CLOCK GROUPS LENGTH           in edition 2  claim CLOCK GROUPS LENGTH UNITS
 //! release CLOCK TICKET
 //! withdraw CLOCK TICKET
 //! clock CLOCK
 //! ```
 //!
+//! The line of a call has a word for each field of its record in the edition.
 //! `#` begins a comment. Groups are hex, or a list such as `0,3,5-7` if the
 //! word has a `,` or a `-`.
 
 use std::fmt;
 
-use crate::load::{self, Call, Reader, EDITIONS, EMPTY, MAX_LOAD};
+use crate::load::{self, Call, Field, Kind, Reader, Values, MAX_LOAD};
 use crate::refusal::Refusal;
-use crate::table::TimedCall;
 
 /// The most bytes of a text.
 pub const MAX_TEXT: usize = 1_048_576;
+/// The edition of a text without an edition's line.
+pub const UNSAID_EDITION: u8 = 1;
 /// The greatest group.
 const MAX_GROUP: u128 = 63;
 
@@ -40,10 +42,12 @@ pub enum Reason {
     TooLarge = 108,
     GroupTooLarge = 109,
     Backward = 110,
+    Pool = 111,
+    Units = 112,
 }
 
 /// Every reason.
-pub const REASONS: [Reason; 13] = [
+pub const REASONS: [Reason; 15] = [
     Reason::Edition,
     Reason::RigNotFirst,
     Reason::LoadTooLong,
@@ -57,6 +61,8 @@ pub const REASONS: [Reason; 13] = [
     Reason::TooLarge,
     Reason::GroupTooLarge,
     Reason::Backward,
+    Reason::Pool,
+    Reason::Units,
 ];
 
 impl Reason {
@@ -80,6 +86,8 @@ impl Reason {
             Reason::TooLarge => "number too large",
             Reason::GroupTooLarge => "group over 63",
             Reason::Backward => "range runs backward",
+            Reason::Pool => "pool is not a number",
+            Reason::Units => "units are not a number",
         }
     }
 }
@@ -119,14 +127,15 @@ pub(crate) fn outputs(
 
 /// The load of a text.
 pub fn make(text: &[u8]) -> Result<Vec<u8>, Wrong> {
-    let mut load = EMPTY.to_vec();
+    let mut load = vec![UNSAID_EDITION];
     // An edition's line, or a call, has been read.
     let mut begun = false;
     each_line(text, |words| {
         if words[0] == b"edition" && !begun {
             load[0] = edition(words)?;
         } else {
-            add(&mut load, call(words)?)?;
+            let call = call(load[0], words)?;
+            add(&mut load, call)?;
         }
         begun = true;
         Ok(())
@@ -174,47 +183,60 @@ fn edition(words: &[&[u8]]) -> Result<u8, Reason> {
     count(words, 2)?;
     number(words[1], 10)
         .and_then(|number| u8::try_from(number).ok())
-        .filter(|edition| EDITIONS.contains(edition))
+        .filter(|&edition| load::forms(edition).is_some())
         .ok_or(Reason::Edition)
 }
 
-/// The call of a line that has words.
-fn call(words: &[&[u8]]) -> Result<Call, Reason> {
-    let needed = match words[0] {
-        b"rig" | b"clock" => 2,
-        b"release" | b"withdraw" => 3,
-        b"claim" => 4,
-        _ => return Err(Reason::UnknownCall),
-    };
-    count(words, needed)?;
-    if words[0] == b"rig" {
-        return Ok(Call::Rig(groups(words[1])?));
-    }
-    let clock = field(words[1], Reason::Clock)?;
-    Ok(Call::Timed(match words[0] {
-        b"claim" => TimedCall::Claim {
-            clock,
-            groups: groups(words[2])?,
-            length: field(words[3], Reason::Length)?,
-        },
-        b"release" => TimedCall::Release {
-            clock,
-            ticket: field(words[2], Reason::Ticket)?,
-        },
-        b"withdraw" => TimedCall::Withdraw {
-            clock,
-            ticket: field(words[2], Reason::Ticket)?,
-        },
-        _ => TimedCall::Clock { clock },
-    }))
+/// The words that calls begin with.
+const NAMES: [(Kind, &str); 5] = [
+    (Kind::Rig, "rig"),
+    (Kind::Claim, "claim"),
+    (Kind::Release, "release"),
+    (Kind::Withdraw, "withdraw"),
+    (Kind::Clock, "clock"),
+];
+
+/// The word that a call of a kind begins with.
+pub fn name(kind: Kind) -> &'static str {
+    let found = NAMES.iter().find(|(other, _)| *other == kind);
+    found.expect("every kind has its name").1
 }
 
-/// Puts the record of a call behind the load.
+/// The call of a line that has words.
+fn call(edition: u8, words: &[&[u8]]) -> Result<Call, Reason> {
+    let kind = NAMES
+        .iter()
+        .find(|(_, name)| name.as_bytes() == words[0])
+        .map(|&(kind, _)| kind)
+        .ok_or(Reason::UnknownCall)?;
+    let fields = load::fields(edition, kind).ok_or(Reason::UnknownCall)?;
+    count(words, 1 + fields.len())?;
+    let mut values = Values::absent();
+    for (&field, word) in fields.iter().zip(&words[1..]) {
+        values.set(field, value(field, word)?);
+    }
+    Ok(Call::of(kind, &values))
+}
+
+/// The value of a field's word.
+fn value(of: Field, word: &[u8]) -> Result<u64, Reason> {
+    match of {
+        Field::Groups => groups(word),
+        Field::Clock => field(word, Reason::Clock),
+        Field::Length => field::<u32>(word, Reason::Length).map(u64::from),
+        Field::Pool => field::<u16>(word, Reason::Pool).map(u64::from),
+        Field::Ticket => field::<u16>(word, Reason::Ticket).map(u64::from),
+        Field::Units => field::<u16>(word, Reason::Units).map(u64::from),
+    }
+}
+
+/// Puts the record of a call behind the load. The words of an edition say only
+/// what it carries.
 fn add(load: &mut Vec<u8>, call: Call) -> Result<(), Reason> {
-    if matches!(call, Call::Rig(_)) != (load.len() == EMPTY.len()) {
+    if call.is_rig() != (load.len() == 1) {
         return Err(Reason::RigNotFirst);
     }
-    let record = load::encode(call);
+    let record = load::encode(load[0], call).expect("a call that the edition carries");
     if load.len() + record.len() > MAX_LOAD {
         return Err(Reason::LoadTooLong);
     }
@@ -283,7 +305,7 @@ pub fn load_show(load: &[u8]) -> String {
     loop {
         record += 1;
         match reader.read() {
-            Ok(Some(read)) => text.push_str(&line(read.call)),
+            Ok(Some(read)) => text.push_str(&line(load[0], read.call)),
             Ok(None) => return text,
             Err(refusal) => return text + &stop_line(refusal, record),
         }
@@ -292,7 +314,7 @@ pub fn load_show(load: &[u8]) -> String {
 
 /// The line of an edition: a comment where a text without it means the same.
 pub fn edition_line(edition: u8) -> String {
-    let comment = if [edition] == EMPTY { "# " } else { "" };
+    let comment = if edition == UNSAID_EDITION { "# " } else { "" };
     format!("{comment}edition {edition}\n")
 }
 
@@ -301,19 +323,16 @@ fn stop_line(refusal: Refusal, record: usize) -> String {
     format!("# stop {} {record}\n", refusal.number())
 }
 
-/// The line of a call.
-pub fn line(call: Call) -> String {
-    match call {
-        Call::Rig(groups) => format!("rig {groups:X}\n"),
-        Call::Timed(TimedCall::Claim {
-            clock,
-            groups,
-            length,
-        }) => format!("claim {clock} {groups:X} {length}\n"),
-        Call::Timed(TimedCall::Release { clock, ticket }) => format!("release {clock} {ticket}\n"),
-        Call::Timed(TimedCall::Withdraw { clock, ticket }) => {
-            format!("withdraw {clock} {ticket}\n")
-        }
-        Call::Timed(TimedCall::Clock { clock }) => format!("clock {clock}\n"),
+/// The line of a call that the edition carries.
+pub fn line(edition: u8, call: Call) -> String {
+    let fields = load::fields(edition, call.kind()).expect("a kind of the edition");
+    let mut line = name(call.kind()).to_string();
+    for &field in fields {
+        let value = call.values().get(field);
+        line += &match field {
+            Field::Groups => format!(" {value:X}"),
+            _ => format!(" {value}"),
+        };
     }
+    line + "\n"
 }

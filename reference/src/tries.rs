@@ -6,9 +6,29 @@ use crate::table::TimedCall;
 /// What a lent buffer holds before a call.
 const FILL: u8 = 0xAA;
 
+/// Calls to append: a rig and a clock call that every edition carries, then a
+/// rig and a claim with units.
+const APPENDED: [Call; 4] = [
+    Call::Rig {
+        groups: 15,
+        pool: 0,
+    },
+    Call::Timed(TimedCall::Clock { clock: 1 }),
+    Call::Rig {
+        groups: 15,
+        pool: 3,
+    },
+    Call::Timed(TimedCall::Claim {
+        clock: 1,
+        groups: 1,
+        length: 1,
+        units: 2,
+    }),
+];
+
 /// The records and the stop as a scan counts them and as the reader comes by
-/// them; the calls so read written again behind the load's first byte; then a
-/// rig and a clock call appended to the load itself.
+/// them; the calls so read written again behind the load's first byte; then
+/// calls appended to the load itself.
 pub fn tries(load: &[u8]) -> Vec<u8> {
     let mut out = String::new();
     let (records, position, stop) = read(load);
@@ -22,7 +42,7 @@ pub fn tries(load: &[u8]) -> Vec<u8> {
         let written = write(&mut out, load[0], &calls);
         out.push_str(&format!("same {}\n", u8::from(written == load[..position])));
     }
-    for call in [Call::Rig(15), Call::Timed(TimedCall::Clock { clock: 1 })] {
+    for call in APPENDED {
         for room in [load::MAX_LOAD, 1] {
             let mut buffer = vec![FILL; room];
             append(&mut out, load, call, &mut buffer);

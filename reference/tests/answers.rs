@@ -2,7 +2,7 @@
 
 mod common;
 
-use common::{claim, load_of, release};
+use common::{claim, draw, load_of, pool_load_of, release};
 use reference::answers::answers;
 
 fn text(load: &[u8]) -> String {
@@ -15,21 +15,21 @@ fn pairs_come_behind_the_lookups() {
     let calls = [&calls[..], &[release(4, 1)]].concat();
     assert_eq!(
         text(&load_of(0xF, &calls)),
-        "1 0 0 0 0 0\n\
+        "1 0 0 0 0 0\nfree 0\n\
          common 0 0 unknown\ncommon 0 0 unknown\ncommon 0 0 unknown\n\
-         2 0 1 0 0 0\nholds 1 10\n\
+         2 0 1 0 0 0\nfree 0\nholds 1 10\n\
          common 0 1 unknown\ncommon 1 0 unknown\ncommon 0 0 unknown\n\
          common 1 1 3\n\
-         3 0 2 10 1 19\nholds 1 10\nwaits 2 10\n\
+         3 0 2 10 1 19\nfree 0\nholds 1 10\nwaits 2 10\n\
          common 0 2 unknown\ncommon 2 0 unknown\ncommon 0 0 unknown\n\
          common 1 1 3\ncommon 1 2 3\n\
          common 2 1 3\ncommon 2 2 2\n\
-         4 0 3 20 1 20\nholds 1 10\nwaits 2 10\nwaits 3 20\n\
+         4 0 3 20 1 20\nfree 0\nholds 1 10\nwaits 2 10\nwaits 3 20\n\
          common 0 3 unknown\ncommon 3 0 unknown\ncommon 0 0 unknown\n\
          common 1 1 3\ncommon 1 2 3\ncommon 1 3 none\n\
          common 2 1 3\ncommon 2 2 2\ncommon 2 3 2\n\
          common 3 1 none\ncommon 3 2 2\ncommon 3 3 1\n\
-         5 0 1 4 0 0\nholds 2 14\nwaits 3 14\n\
+         5 0 1 4 0 0\nfree 0\nholds 2 14\nwaits 3 14\n\
          common 0 3 unknown\ncommon 3 0 unknown\ncommon 0 0 unknown\n\
          common 2 2 2\ncommon 2 3 2\n\
          common 3 2 2\ncommon 3 3 1\n"
@@ -37,10 +37,42 @@ fn pairs_come_behind_the_lookups() {
 }
 
 #[test]
+fn the_units_free_come_behind_the_record() {
+    let calls = [draw(0, 0x1, 10, 2), draw(0, 0x0, 5, 2), draw(0, 0x1, 5, 4)];
+    let calls = [&calls[..], &[release(3, 1)]].concat();
+    let text = text(&pool_load_of(0x1, 3, &calls));
+    let lines: Vec<&str> = text.lines().filter(|l| !l.starts_with("common")).collect();
+    assert_eq!(
+        lines,
+        [
+            "1 0 0 0 0 0",
+            "free 3",
+            "2 0 1 0 0 0",
+            "free 1",
+            "holds 1 10",
+            "3 0 2 10 0 0",
+            "free 1",
+            "holds 1 10",
+            "waits 2 10",
+            "4 16 0 0 0 0",
+            "free 1",
+            "holds 1 10",
+            "waits 2 10",
+            "5 0 1 3 0 0",
+            "free 1",
+            "holds 2 8",
+        ]
+    );
+}
+
+#[test]
 fn a_rig_without_groups_has_its_lines() {
     let unknown = "common 0 0 unknown\n".repeat(3);
-    assert_eq!(text(&load_of(0, &[])), format!("1 1 0 0 0 0\n{unknown}"));
+    let expected = format!("1 1 0 0 0 0\nfree 0\n{unknown}");
+    assert_eq!(text(&load_of(0, &[])), expected);
+    assert_eq!(text(&pool_load_of(0, 7, &[])), expected);
     assert_eq!(text(&[1]), "");
+    assert_eq!(text(&[2]), "");
     assert_eq!(text(&[]), "");
 }
 

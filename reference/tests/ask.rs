@@ -2,7 +2,7 @@
 
 mod common;
 
-use common::{claim, clock, for_seeds, load_of, release};
+use common::{claim, clock, draw, for_seeds, load_of, pool_load_of, release};
 use reference::ask::{ask, left, read, Question, MAX_QUESTION, WRONG};
 use reference::generate_question::{asked_load, question};
 use reference::listing::listing;
@@ -63,6 +63,41 @@ fn which_group_two_tickets_share() {
 }
 
 #[test]
+fn how_many_units_are_free() {
+    let calls = [
+        draw(0, 0x1, 10, 4),
+        draw(0, 0x2, 10, 5),
+        draw(0, 0x4, 10, 5),
+    ];
+    for (count, free) in [(0, 9), (1, 5), (2, 0), (3, 0)] {
+        let load = pool_load_of(0xF, 9, &calls[..count]);
+        assert_eq!(answer(&load, "free"), format!("{free} of 9 units free\n"));
+    }
+    let calls = [&calls[..], &[release(4, 1)]].concat();
+    let load = pool_load_of(0xF, 9, &calls);
+    assert_eq!(answer(&load, " \tfree "), "4 of 9 units free\n");
+    let load = pool_load_of(0xF, 65_535, &[]);
+    assert_eq!(answer(&load, "free"), "65535 of 65535 units free\n");
+    // Without a pool, without a rig, and where the rig is dark.
+    let none = "0 of 0 units free\n";
+    assert_eq!(answer(&load_of(0xF, &s()), "free"), none);
+    assert_eq!(answer(&[2], "free"), none);
+    for (load, stop) in [
+        (&[][..], "stop 12 0\n"),
+        (&[3], "stop 11 0\n"),
+        (&[2; MAX_LOAD + 1], "stop 14 0\n"),
+        (&[2, 0, 11], "stop 12 1\n"),
+        (&pool_load_of(0, 9, &[]), "stop 1 1\n"),
+    ] {
+        assert_eq!(answer(load, "free"), format!("{stop}{none}"));
+    }
+    // A load that ends behind its rig leaves that table.
+    let cut = &load_of(0xF, &s())[12..];
+    let load = [&pool_load_of(0xF, 9, &[draw(0, 1, 1, 2)])[..], cut].concat();
+    assert_eq!(answer(&load, "free"), "stop 13 3\n7 of 9 units free\n");
+}
+
+#[test]
 fn a_load_that_ends_early_is_said_to() {
     let plot = load_of(0xF, &s());
     let cut = &plot[..plot.len() - 1];
@@ -101,6 +136,8 @@ fn words_have_spaces_or_tabs_between_and_around_them() {
         ),
         ("common\t1\t2", Question::Common(1, 2)),
         ("  common 0 00", Question::Common(0, 0)),
+        ("free", Question::Free),
+        ("\t\tfree\t", Question::Free),
     ] {
         assert_eq!(read(line.as_bytes()), Some(question), "{line:?}");
     }
@@ -136,17 +173,37 @@ fn anything_else_is_no_question() {
         "common 1 65536",
         "common 65536 1",
         "common 1 2 # x",
+        "free 0",
+        "free 1 2",
+        "free free",
+        "free #",
+        "frees",
+        "Free",
+        "FREE",
+        "fr ee",
+        "free\n",
+        "free\r",
+        "lookup free",
+        "free lookup 1",
     ] {
         for load in [&load[..], &[]] {
             let said = ask(line.as_bytes(), load);
             assert_eq!(said, (Vec::new(), WRONG.into()), "{line:?}");
         }
     }
+    assert_eq!(
+        WRONG,
+        "no such question; ask lookup TICKET, ask common TICKET TICKET or ask free\n"
+    );
     assert_eq!(read(b"lookup 1\xFF"), None);
+    assert_eq!(read(b"free\xFF"), None);
     let zeros = |count| format!("lookup {}", "0".repeat(count));
     let most = MAX_QUESTION - "lookup ".len();
     assert_eq!(read(zeros(most).as_bytes()), Some(Question::Lookup(0)));
     assert_eq!(read(zeros(most + 1).as_bytes()), None);
+    let spaces = |count| format!("{:count$}", "free");
+    assert_eq!(read(spaces(MAX_QUESTION).as_bytes()), Some(Question::Free));
+    assert_eq!(read(spaces(MAX_QUESTION + 1).as_bytes()), None);
 }
 
 /// The early end of a load is that of its listing.
@@ -180,6 +237,7 @@ fn a_seed_gives_one_question() {
 fn generated_questions_are_varied() {
     let (mut wrong, mut on, mut waiting, mut unknown) = (0, 0, 0, 0);
     let (mut shared, mut none, mut first, mut second) = (0, 0, 0, 0);
+    let (mut no_pool, mut all, mut some, mut held) = (0, 0, 0, 0);
     for_seeds(0..1_000, |seed| {
         let load = asked_load(seed);
         let line = question(&load, seed);
@@ -197,15 +255,18 @@ fn generated_questions_are_varied() {
                 Common::Unknown if table.lookup(one) == Lookup::Unknown => first += 1,
                 Common::Unknown => second += 1,
             },
+            Some(Question::Free) => match (table.free(), table.pool()) {
+                (_, 0) => no_pool += 1,
+                (0, _) => held += 1,
+                (free, pool) if free == pool => all += 1,
+                _ => some += 1,
+            },
         }
     });
-    for count in [wrong, on, waiting, unknown, shared, none, first, second] {
-        assert!(
-            count >= 20,
-            "{:?}",
-            [wrong, on, waiting, unknown, shared, none, first, second]
-        );
-    }
+    let tickets = [wrong, on, waiting, unknown, shared, none, first, second];
+    assert!(tickets.iter().all(|&count| count >= 20), "{tickets:?}");
+    let units = [no_pool, all, some, held];
+    assert!(units.iter().all(|&count| count >= 10), "{units:?}");
 }
 
 /// A clock past every promised end moves starts; the question comes after it.

@@ -8,7 +8,7 @@ use std::collections::{BTreeMap, BTreeSet};
 use common::{for_seeds, listing};
 use reference::generate::{self, Prng, Shape, SHAPES};
 use reference::load::{self, Call, MAX_LOAD};
-use reference::table::{Table, TimedCall};
+use reference::table::{Answer, Claim, Table, TimedCall};
 
 #[test]
 fn the_numbers_are_those_of_splitmix64() {
@@ -30,11 +30,17 @@ fn a_seed_gives_one_load() {
 
 #[test]
 fn good_loads_are_good() {
+    let mut editions: BTreeMap<u8, u64> = BTreeMap::new();
     for_seeds(0..400, |seed| {
         let load = generate::load(seed);
         assert!(load.len() <= MAX_LOAD);
         assert!(load::read_all(&load).is_ok());
+        *editions.entry(load[0]).or_default() += 1;
     });
+    assert_eq!(editions.len(), 2);
+    for (edition, count) in editions {
+        assert!(count >= 100, "edition {edition}: {count}");
+    }
 }
 
 #[test]
@@ -45,7 +51,7 @@ fn every_shape_and_every_number_comes() {
     for_seeds(0..600, |seed| {
         let run = generate::run(seed);
         *shapes.entry(run.shape).or_default() += 1;
-        let mut table = Table::new(run.rig).0;
+        let mut table = run.table();
         for &call in &run.calls {
             let answer = table.call(call);
             *numbers.entry(answer.number).or_default() += 1;
@@ -58,7 +64,7 @@ fn every_shape_and_every_number_comes() {
             "{shape:?}"
         );
     }
-    for number in [0, 1, 2, 3, 4, 5, 6, 8, 9, 10] {
+    for number in [0, 1, 2, 3, 4, 5, 6, 8, 9, 10, 16] {
         let count = numbers.get(&number).copied().unwrap_or(0);
         assert!(count >= 50, "number {number}: {count}");
     }
@@ -102,12 +108,85 @@ fn every_boundary_value_comes() {
     }
 }
 
+/// What a claim of edition 2 is like, by its answer and the table behind it.
+fn features(call: TimedCall, answer: &Answer, table: &Table) -> Vec<(&'static str, bool)> {
+    let TimedCall::Claim {
+        groups,
+        length,
+        units,
+        ..
+    } = call
+    else {
+        return Vec::new();
+    };
+    let pool = table.pool();
+    let now = table.now();
+    let own = table.claims().iter().find(|c| c.ticket == answer.ticket);
+    let own = own.filter(|_| units > 0);
+    let start = own.and_then(Claim::planned_start);
+    let drawing = table.claims().iter().filter(|c| c.units > 0);
+    let apart = |c: &&Claim| c.ticket != answer.ticket && !c.conflicts(groups);
+    let tie = |c: &Claim| start.is_some() && c.planned_start() == start;
+    let late = |c: &Claim| c.promised_end().is_some_and(|end| end < now);
+    let touched = |c: &Claim| own.is_some_and(|own| c.planned_start() == Some(own.end(now)));
+    vec![
+        ("neither", groups == 0 && units == 0),
+        ("units only", groups == 0 && answer.accepted()),
+        ("none of a pool", pool > 0 && units == 0),
+        ("one", units == 1),
+        ("all", units > 1 && units == pool),
+        ("one too many", units.checked_sub(1) == Some(pool)),
+        ("65,535", units == u16::MAX),
+        ("65,535 of them", units == u16::MAX && answer.accepted()),
+        ("too many, no length", answer.number == 16 && length == 0),
+        ("full", answer.number == 6 && units > 0),
+        ("a tie by the pool", drawing.clone().filter(apart).any(tie)),
+        (
+            "beside an overrun",
+            own.is_some() && drawing.clone().any(late),
+        ),
+        ("waits at the clock", start == Some(now)),
+        ("touches a hold", drawing.clone().filter(apart).any(touched)),
+    ]
+}
+
+/// Pools of every size, and claims that draw from them in every way.
+#[test]
+fn pools_are_drawn_from_in_every_way() {
+    let mut pools: BTreeMap<u16, u64> = BTreeMap::new();
+    let mut counts: BTreeMap<&str, u64> = BTreeMap::new();
+    for_seeds(0..1_500, |seed| {
+        let run = generate::run(seed);
+        if run.edition == 1 {
+            let drawn = |call: &TimedCall| matches!(call, TimedCall::Claim { units: 1.., .. });
+            assert!(run.pool == 0 && !run.calls.iter().any(drawn));
+            return;
+        }
+        *pools.entry(run.pool).or_default() += 1;
+        let mut table = run.table();
+        for &call in run.calls.iter().take(200) {
+            let answer = table.call(call);
+            for (name, holds) in features(call, &answer, &table) {
+                *counts.entry(name).or_default() += u64::from(holds);
+            }
+        }
+    });
+    for pool in [0, 1, 2, 3, 40, 65_535] {
+        let count = pools.get(&pool).copied().unwrap_or(0);
+        assert!(count >= 20, "pool {pool}: {count}");
+    }
+    assert_eq!(counts.len(), 14);
+    for (name, count) in counts {
+        assert!(count >= 12, "{name}: {count}");
+    }
+}
+
 #[test]
 fn shapes_keep_what_they_say() {
     for_seeds(0..60, |seed| {
         let count = |shape| {
             let run = generate::run_of(shape, seed);
-            let mut table = Table::new(run.rig).0;
+            let mut table = run.table();
             let mut most = 0;
             let mut refused = 0;
             for &call in &run.calls {
@@ -131,11 +210,23 @@ fn damage_gives_every_stop() {
     let mut stops: BTreeMap<String, u64> = BTreeMap::new();
     let mut sizes = BTreeSet::new();
     let mut editions = BTreeSet::new();
-    for_seeds(0..900, |seed| {
+    let (mut turned, mut longer, mut shorter, mut units) = (0, 0, 0, 0);
+    for_seeds(0..1_200, |seed| {
         let good = generate::run_of(Shape::Short, seed).load();
         let load = generate::damage(&good, seed);
         sizes.insert(load.len());
         editions.insert(load.first().copied());
+        if load.len() == good.len() && load[1..] == good[1..] && load[0] == good[0] ^ 3 {
+            turned += 1;
+        }
+        let added = load.len() as i64 - good.len() as i64;
+        let read = load::read_all(&load);
+        longer += u64::from(good[0] == 1 && added == 2);
+        shorter += u64::from(good[0] == 2 && added == -2);
+        if let (0, 2, Ok(calls)) = (added, good[0], &read) {
+            let before = load::read_all(&good).unwrap();
+            units += u64::from(*calls != before);
+        }
         if load.len() > MAX_LOAD - 2 && load.len() <= MAX_LOAD {
             return;
         }
@@ -153,19 +244,23 @@ fn damage_gives_every_stop() {
     for size in [0, 1, MAX_LOAD - 1, MAX_LOAD, MAX_LOAD + 1] {
         assert!(sizes.contains(&size), "size {size}");
     }
-    for edition in [0, 2, 3, 255] {
+    for edition in [0, 1, 2, 3, 255] {
         assert!(editions.contains(&Some(edition)), "edition {edition}");
     }
+    let counts = [turned, longer, shorter, units];
+    assert!(counts.iter().all(|&count| count >= 10), "{counts:?}");
 }
 
 #[test]
 fn sized_loads_have_their_size() {
-    for size in (132..400).chain([1_000, 12_345]) {
-        let load = generate::sized_load(size as u64, size).unwrap();
-        assert_eq!(load.len(), size);
-        let calls = load::read_all(&load).unwrap();
-        assert_eq!(calls[0], Call::Rig(0xFF));
+    for (edition, pool) in [(1, 0), (2, 5)] {
+        for size in (134..400).chain([1_000, 12_345]) {
+            let load = generate::sized_load(edition, size as u64, size).unwrap();
+            assert_eq!((load[0], load.len()), (edition, size));
+            let calls = load::read_all(&load).unwrap();
+            assert_eq!(calls[0], Call::Rig { groups: 0xFF, pool });
+        }
+        assert_eq!(generate::sized_load(edition, 0, 5), None);
+        assert_eq!(generate::sized_load(edition, 0, 15), None);
     }
-    assert_eq!(generate::sized_load(0, 5), None);
-    assert_eq!(generate::sized_load(0, 13), None);
 }

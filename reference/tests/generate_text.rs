@@ -12,15 +12,18 @@ use reference::text::{make, MAX_TEXT, REASONS};
 
 #[test]
 fn good_texts_make_their_loads() {
-    let mut sizes = BTreeSet::new();
+    let mut sizes = BTreeMap::from([(1, BTreeSet::new()), (2, BTreeSet::new())]);
     for_seeds(0..3_000, |seed| {
         let (text, load) = good_text(seed);
         assert_eq!(make(&text), Ok(load.clone()));
         assert!(text.len() <= MAX_TEXT);
+        let sizes = sizes.get_mut(&load[0]).expect("a known edition");
         sizes.insert(load.len());
     });
-    assert!(sizes.contains(&1));
-    assert!(sizes.last().is_some_and(|&size| size > MAX_LOAD - 24));
+    for sizes in sizes.values() {
+        assert!(sizes.contains(&1));
+        assert!(sizes.last().is_some_and(|&size| size > MAX_LOAD - 24));
+    }
 }
 
 #[test]
@@ -52,7 +55,8 @@ fn every_reason_comes() {
         assert!(count >= 10, "{reason:?}: {count}");
     }
     assert!((3_000..6_000).contains(&good), "{good}");
-    assert!((1..30).all(|line| lines.contains(&line)));
+    let missing = (1..30).find(|line| !lines.contains(line));
+    assert_eq!(missing, None);
     for size in [0, MAX_TEXT, MAX_TEXT + 1] {
         assert!(sizes.contains(&size), "size {size}");
     }

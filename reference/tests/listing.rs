@@ -2,11 +2,13 @@
 
 mod common;
 
-use common::{claim, clock, for_seeds, listing, load_of, release, withdraw};
+use common::{
+    claim, clock, draw, for_seeds, listing, load_of, pool_load_of, release, rig, withdraw,
+};
 use reference::generate;
 use reference::listing::{write_listing, HEADER};
 use reference::load::{self, Call, MAX_LOAD};
-use reference::table::MAX_CLOCK;
+use reference::table::{TimedCall, MAX_CLOCK};
 
 /// The sample of document 01: S, the claim of case 5, and a release.
 fn sample() -> Vec<u8> {
@@ -80,15 +82,87 @@ on 1 5
 }
 
 #[test]
+fn units_are_listed_by_what_they_do() {
+    let load = pool_load_of(
+        0xF,
+        2,
+        &[
+            draw(0, 0x1, 10, 1),
+            draw(0, 0x2, 7, 1),
+            draw(0, 0x4, 5, 1),
+            draw(0, 0x0, 3, 2),
+            draw(0, 0x0, 3, 0),
+            draw(0, 0x8, 0, 3),
+            draw(0, 0x18, 0, 3),
+            draw(0, 0x8, 0, 2),
+            release(7, 2),
+            clock(13),
+            release(14, 1),
+            release(14, 3),
+        ],
+    );
+    let expected = "\
+rec answer ticket start
+1 0 0 0
+2 0 1 0
+on 1 0
+3 0 2 0
+on 2 0
+4 0 3 7
+5 0 4 12
+6 1 0 0
+7 16 0 0
+8 2 0 0
+9 3 0 0
+10 0 2 7
+on 3 7
+11 0 0 13
+12 0 1 14
+13 0 3 14
+on 4 14
+";
+    assert_eq!(listing(&load), expected);
+}
+
+/// A load of edition 1 and the same calls in edition 2 have one listing,
+/// whatever the pool.
+#[test]
+fn an_edition_without_units_changes_nothing() {
+    for_seeds(0..150, |seed| {
+        let mut run = generate::run(seed);
+        for call in &mut run.calls {
+            if let TimedCall::Claim { units, .. } = call {
+                *units = 0;
+            }
+        }
+        run.edition = 1;
+        run.pool = 0;
+        let text = listing(&run.load());
+        run.edition = 2;
+        // A long load of edition 1 may have no room for the longer records.
+        for pool in [0, 5, 65_535] {
+            run.pool = pool;
+            let load = run.load();
+            if load.len() <= MAX_LOAD {
+                assert_eq!(listing(&load), text);
+            }
+        }
+    });
+}
+
+#[test]
 fn the_header_comes_before_an_early_stop_too() {
-    let cases: [(&[u8], &str); 7] = [
+    let cases: [(&[u8], &str); 10] = [
         (&[], "stop 12 0\n"),
         (&[0xFF], "stop 11 0\n"),
         (&[0x00], "stop 11 0\n"),
-        (&[0x02], "stop 11 0\n"),
+        (&[0x03], "stop 11 0\n"),
         (&[0x01], ""),
         (&[0x01, 0x00], "stop 12 1\n"),
         (&[0x01, 0x00, 0x00], "stop 13 1\n"),
+        (&[0x02], ""),
+        (&[0x02, 0x00], "stop 12 1\n"),
+        (&[0x02, 0x00, 0x00], "stop 13 1\n"),
     ];
     for (load, rest) in cases {
         assert_eq!(listing(load), format!("{HEADER}{rest}"));
@@ -99,6 +173,9 @@ fn the_header_comes_before_an_early_stop_too() {
 fn a_dark_rig_ends_the_listing() {
     let load = load_of(0, &[clock(1)]);
     assert_eq!(listing(&load), format!("{HEADER}stop 1 1\n"));
+    // A pool does not make it light.
+    let load = pool_load_of(0, 9, &[clock(1)]);
+    assert_eq!(listing(&load), format!("{HEADER}stop 1 1\n"));
     // Even what follows it is not read.
     let load = [&load_of(0, &[])[..], &[0]].concat();
     assert_eq!(listing(&load), format!("{HEADER}stop 1 1\n"));
@@ -106,7 +183,8 @@ fn a_dark_rig_ends_the_listing() {
 
 #[test]
 fn a_stop_takes_the_place_of_its_record() {
-    let rig = load::encode(Call::Rig(1));
+    let encode = |call| load::encode(1, call).expect("a call of edition 1");
+    let rig = encode(rig(1));
     let load = [sample(), rig.clone()].concat();
     assert_eq!(listing(&load), format!("{SAMPLE}stop 13 7\n"));
     // A second rig that is cut is short.
@@ -120,8 +198,14 @@ fn a_stop_takes_the_place_of_its_record() {
     let load = [sample(), vec![0, 0]].concat();
     assert_eq!(listing(&load), format!("{SAMPLE}stop 13 7\n"));
     // No rig first.
-    let load = [&[1][..], &load::encode(Call::Timed(clock(3)))].concat();
+    let load = [&[1][..], &encode(Call::Timed(clock(3)))].concat();
     assert_eq!(listing(&load), format!("{HEADER}stop 13 1\n"));
+    // Records of another edition.
+    let mut load = sample();
+    load[0] = 2;
+    assert_eq!(listing(&load), format!("{HEADER}stop 13 1\n"));
+    let load = [&pool_load_of(1, 1, &[])[..], &sample()[12..]].concat();
+    assert_eq!(listing(&load), format!("{HEADER}1 0 0 0\nstop 13 2\n"));
 }
 
 #[test]
@@ -155,9 +239,10 @@ fn a_count_is_never_a_number() {
 
 #[test]
 fn loads_of_about_the_greatest_size() {
-    for seed in 0..3 {
+    for seed in 0..4 {
+        let edition = 1 + seed as u8 % 2;
         for size in [MAX_LOAD - 1, MAX_LOAD] {
-            let load = generate::sized_load(seed, size).unwrap();
+            let load = generate::sized_load(edition, seed, size).unwrap();
             assert_eq!(load.len(), size);
             let text = listing(&load);
             assert!(!text.contains("stop"), "seed {seed}, size {size}");
@@ -165,7 +250,7 @@ fn loads_of_about_the_greatest_size() {
             let calls = load::read_all(&load).unwrap();
             assert_eq!(lines.count(), calls.len() + 1);
         }
-        let load = generate::sized_load(seed, MAX_LOAD + 1).unwrap();
+        let load = generate::sized_load(edition, seed, MAX_LOAD + 1).unwrap();
         assert_eq!(load.len(), MAX_LOAD + 1);
         assert_eq!(listing(&load), format!("{HEADER}stop 14 0\n"));
     }

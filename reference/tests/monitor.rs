@@ -3,22 +3,30 @@
 
 mod common;
 
-use common::{claim, clock, for_seeds, release, withdraw};
+use common::{claim, clock, draw, for_seeds, release, withdraw};
 use reference::generate::{self, Shape};
 use reference::listing::listing;
 use reference::monitor::{judge, run, Asked, ClaimsTable, Rule, RunCall, Step, Summary, Violation};
 use reference::table::{Answer, Common, Lookup, Table, TimedCall};
 use reference::table::{MAX_CLOCK, MAX_LENGTH};
 
-fn judge_table<C: Copy + Into<RunCall>>(rig: u64, calls: &[C]) -> Result<Summary, Violation> {
-    judge(&run(&mut Table::new(rig).0, calls))
+/// A rig and its pool.
+type Rig = (u64, u16);
+
+fn new_table((rig, pool): Rig) -> Table {
+    Table::new(rig, pool).0
+}
+
+fn judge_table<C: Copy + Into<RunCall>>(rig: Rig, calls: &[C]) -> Result<Summary, Violation> {
+    judge(rig.0, rig.1, &run(&mut new_table(rig), calls))
 }
 
 /// The rig of a generated run and its list: at most so many timed calls, and
 /// lookups between them.
-fn list(mut made: generate::Run, seed: u64, most: usize) -> (u64, Vec<RunCall>) {
+fn list(mut made: generate::Run, seed: u64, most: usize) -> (Rig, Vec<RunCall>) {
     made.calls.truncate(most);
-    (made.rig, generate::with_lookups(&made, seed))
+    let calls = generate::with_lookups(&made, seed);
+    ((made.rig, made.pool), calls)
 }
 
 #[test]
@@ -40,40 +48,88 @@ fn no_violation_on_runs_in_time() {
     assert!(late_grants > 5_000, "{late_grants}");
 }
 
+/// Runs with pools, in time and not.
+#[test]
+fn no_violation_on_runs_with_pools() {
+    for (shape, seeds) in [(Shape::PoolInTime, 3_000), (Shape::Pool, 3_000)] {
+        let mut all = Summary::default();
+        let mut overrun = 0;
+        for_seeds(0..seeds, |seed| {
+            let (rig, calls) = list(generate::run_of(shape, seed), seed, 200);
+            let summary = judge_table(rig, &calls).unwrap();
+            overrun += u64::from(!summary.in_time);
+            all.drew += summary.drew;
+            all.short += summary.short;
+            all.held_back += summary.held_back;
+            all.late_grants += summary.late_grants;
+        });
+        if shape == Shape::PoolInTime {
+            assert_eq!(overrun, 0);
+        } else {
+            assert!(overrun > 1_500, "{overrun}");
+        }
+        assert!(all.drew > 30_000, "{all:?}");
+        assert!(all.short > 30_000, "{all:?}");
+        assert!(all.held_back > 5_000, "{all:?}");
+        assert!(all.late_grants > 5_000, "{all:?}");
+    }
+}
+
 #[test]
 fn no_violation_on_other_runs() {
     let mut overrun = 0;
-    for_seeds(0..700, |seed| {
+    let mut drawing = 0;
+    for_seeds(0..1_400, |seed| {
         let (rig, calls) = list(generate::run(seed), seed, 200);
         let summary = judge_table(rig, &calls).unwrap();
         overrun += u64::from(!summary.in_time);
+        drawing += u64::from(summary.drew > 0);
     });
-    assert!(overrun > 150, "{overrun}");
+    assert!(overrun > 300, "{overrun}");
+    assert!(drawing > 300, "{drawing}");
 }
 
 #[test]
 fn an_empty_run_and_a_table_without_groups() {
-    let summary = judge(&[]).unwrap();
+    let summary = judge(1, 1, &[]).unwrap();
     assert_eq!((summary.in_time, summary.accepted), (true, 0));
-    let calls = [claim(0, 1, 1), clock(5), release(5, 1), clock(4)];
-    let summary = judge_table(0, &calls).unwrap();
-    assert_eq!((summary.in_time, summary.accepted), (true, 1));
+    let calls = [claim(0, 1, 1), draw(0, 0, 1, 1), clock(5), release(5, 1)];
+    for pool in [0, 7] {
+        let summary = judge_table((0, pool), &calls).unwrap();
+        assert_eq!((summary.in_time, summary.accepted), (true, 1));
+    }
 }
 
 #[test]
 fn past_a_promised_end_is_strictly_past() {
     let calls = [claim(0, 1, 10), claim(0, 1, 10), clock(10), release(10, 1)];
-    let summary = judge_table(1, &calls).unwrap();
+    let summary = judge_table((1, 0), &calls).unwrap();
     assert!(summary.in_time);
     assert_eq!((summary.waited, summary.late_grants), (1, 1));
     // A late release breaks the condition; so does a late clock call.
     let calls = [claim(0, 1, 10), claim(0, 1, 10), release(11, 1)];
-    assert!(!judge_table(1, &calls).unwrap().in_time);
+    assert!(!judge_table((1, 0), &calls).unwrap().in_time);
     let calls = [claim(0, 1, 10), clock(11)];
-    assert!(!judge_table(1, &calls).unwrap().in_time);
+    assert!(!judge_table((1, 0), &calls).unwrap().in_time);
     // A refused call does not.
     let calls = [claim(0, 1, 10), release(11, 2), clock(MAX_CLOCK + 1)];
-    assert!(judge_table(1, &calls).unwrap().in_time);
+    assert!(judge_table((1, 0), &calls).unwrap().in_time);
+}
+
+#[test]
+fn what_claims_wait_for_is_counted() {
+    // Ticket 2 waits for units alone, at 0 and at its start; 3 for a group.
+    let calls = [
+        draw(0, 1, 10, 2),
+        draw(0, 0, 5, 1),
+        draw(0, 1, 5, 1),
+        clock(10),
+        release(10, 1),
+    ];
+    let summary = judge_table((1, 2), &calls).unwrap();
+    assert_eq!((summary.drew, summary.waited), (3, 2));
+    assert_eq!((summary.short, summary.held_back), (3, 1));
+    assert_eq!(summary.late_grants, 2);
 }
 
 /// What is broken in the double.
@@ -124,13 +180,87 @@ enum Flaw {
     /// Of two tickets only the first is tested; a second that is not pending
     /// has no groups.
     CommonTestsFirst,
+    /// Units are counted at the start of a hold only, in placing and packing.
+    UseAtStart,
+    /// The same in placing alone.
+    PlacesByUseAtStart,
+    /// Placing heeds the units of holders only, not those of planned holds.
+    PlacesByHeldUnits,
+    /// Packing heeds no units.
+    PacksWithoutUnits,
+    /// Packing takes claims by ticket.
+    PacksByTicket,
+    /// The units of a holder past its promised end are taken as free.
+    OverrunUnitsFree,
+    /// An overrun is planned to hold its units for ever.
+    OverrunUnitsPlanned,
+    /// Grants ask for no units.
+    GrantsOverPool,
+    /// Each grant of a call is held against the units free before all of them.
+    GrantsByUnitsBefore,
+    /// Grants end at the first claim that lacks units.
+    GrantsEndAtShort,
+    /// The units free are lowered by grants and not raised by releases.
+    FreeForgetsRelease,
+    /// The units free are raised by withdrawals, too.
+    FreeCountsWithdrawals,
+    /// Claims that share the pool count for contention and start bound.
+    PoolIsContention,
+    /// 16 is tested after 3.
+    TestsUnitsAfterLength,
+    /// A claim without groups is refused with 1 also if it draws units.
+    BareIsDark,
+    /// All units of the pool but one can be drawn.
+    PoolLessOne,
 }
+
+/// Every flaw.
+const FLAWS: [Flaw; 37] = [
+    Flaw::GrantsConflicting,
+    Flaw::PlacesAtClock,
+    Flaw::PlacesBehindLast,
+    Flaw::NoTouching,
+    Flaw::CutsAhead,
+    Flaw::NeverGrants,
+    Flaw::OverrunGone,
+    Flaw::LookupGivesEnd,
+    Flaw::LookupKeepsLeft,
+    Flaw::RefusedMovesClock,
+    Flaw::PacksLate,
+    Flaw::NoFirstPacking,
+    Flaw::NoSecondPacking,
+    Flaw::PacksByOldEnds,
+    Flaw::GrantsByPlace,
+    Flaw::BoundByLength,
+    Flaw::FullEarly,
+    Flaw::TestsGroupsFirst,
+    Flaw::ReleasesOverrun,
+    Flaw::CommonGivesHighest,
+    Flaw::CommonTestsFirst,
+    Flaw::UseAtStart,
+    Flaw::PlacesByUseAtStart,
+    Flaw::PlacesByHeldUnits,
+    Flaw::PacksWithoutUnits,
+    Flaw::PacksByTicket,
+    Flaw::OverrunUnitsFree,
+    Flaw::OverrunUnitsPlanned,
+    Flaw::GrantsOverPool,
+    Flaw::GrantsByUnitsBefore,
+    Flaw::GrantsEndAtShort,
+    Flaw::FreeForgetsRelease,
+    Flaw::FreeCountsWithdrawals,
+    Flaw::PoolIsContention,
+    Flaw::TestsUnitsAfterLength,
+    Flaw::BareIsDark,
+    Flaw::PoolLessOne,
+];
 
 #[derive(Clone, Copy)]
 struct Entry {
     ticket: u16,
     groups: u64,
     length: u64,
+    units: u64,
     start: u64,
     grant: Option<u64>,
     place: usize,
@@ -140,21 +270,35 @@ struct Entry {
 struct Double {
     flaw: Flaw,
     rig: u64,
+    pool: u64,
     now: u64,
     issued: u16,
     entries: Vec<Entry>,
     left: Vec<(u16, Lookup)>,
+    /// The units free as a count that grants and releases change.
+    counted: u64,
 }
 
 impl Double {
-    fn new(flaw: Flaw, rig: u64) -> Double {
+    fn new(flaw: Flaw, (rig, pool): Rig) -> Double {
+        let pool = if rig == 0 { 0 } else { u64::from(pool) };
         Double {
             flaw,
             rig,
+            pool,
             now: 0,
             issued: 0,
             entries: Vec::new(),
             left: Vec::new(),
+            counted: pool,
+        }
+    }
+
+    /// The units that can be held together.
+    fn room(&self) -> u64 {
+        match self.flaw {
+            Flaw::PoolLessOne if self.pool > 1 => self.pool - 1,
+            _ => self.pool,
         }
     }
 
@@ -180,44 +324,71 @@ impl Double {
             && (one.grant.is_some() || (one.start, one.ticket) < (other.start, other.ticket))
     }
 
-    /// Relaxes the starts from the clock up until nothing changes.
+    /// The units in use at a tick by these holds.
+    fn used(&self, holds: &[Entry], tick: u64) -> u64 {
+        let begun = |hold: &Entry| hold.grant.unwrap_or(hold.start) <= tick;
+        let lasts = |hold: &Entry| match hold.grant {
+            Some(grant) if grant + hold.length < self.now => self.flaw == Flaw::OverrunUnitsPlanned,
+            _ => tick < self.end(hold),
+        };
+        let taking = holds.iter().filter(|hold| begun(hold) && lasts(hold));
+        taking.map(|hold| hold.units).sum()
+    }
+
+    /// Whether the units of an entry are free beside these holds from a start
+    /// on: at every tick where use can change.
+    fn units_free(&self, entry: &Entry, holds: &[Entry], start: u64, at_start: bool) -> bool {
+        let mut ticks = vec![start];
+        if !at_start {
+            ticks.extend(holds.iter().map(|hold| hold.start));
+            ticks.extend(holds.iter().map(|hold| self.end(hold)));
+        }
+        ticks.retain(|tick| (start..start + entry.length).contains(tick));
+        entry.units == 0
+            || ticks
+                .iter()
+                .all(|&tick| self.used(holds, tick) + entry.units <= self.room())
+    }
+
+    /// Each waiting entry in its turn at the least start, of all ends, that is
+    /// behind the conflicting ones before it and leaves units enough.
     fn pack(&mut self) {
         let old = self.entries.clone();
-        if self.flaw == Flaw::PacksByOldEnds {
-            for index in 0..old.len() {
-                let before = old.iter().filter(|other| self.before(other, &old[index]));
-                let ends = before.map(|other| self.end(other));
-                let start = ends.fold(self.now, u64::max);
-                if old[index].grant.is_none() {
-                    self.entries[index].start = start;
+        let mut order: Vec<usize> = (0..old.len())
+            .filter(|&index| old[index].grant.is_none())
+            .collect();
+        match self.flaw {
+            Flaw::PacksByTicket => order.sort_by_key(|&index| old[index].ticket),
+            _ => order.sort_by_key(|&index| (old[index].start, old[index].ticket)),
+        }
+        let mut done: Vec<Entry> = old
+            .iter()
+            .copied()
+            .filter(|entry| entry.grant.is_some())
+            .collect();
+        for index in order {
+            let entry = old[index];
+            let mut bound = self.now;
+            for &other in &old {
+                if self.before(&other, &entry) {
+                    let packed = done.iter().find(|done| done.ticket == other.ticket);
+                    let end = match self.flaw {
+                        Flaw::PacksByOldEnds => self.end(&other),
+                        _ => self.end(packed.unwrap_or(&other)),
+                    };
+                    bound = bound.max(end + u64::from(self.flaw == Flaw::PacksLate));
                 }
             }
-            return;
-        }
-        for entry in &mut self.entries {
-            if entry.grant.is_none() {
-                entry.start = self.now;
-            }
-        }
-        loop {
-            let mut changed = false;
-            for index in 0..old.len() {
-                for other in 0..old.len() {
-                    if self.before(&old[other], &old[index]) {
-                        let mut end = self.end(&self.entries[other]);
-                        if self.flaw == Flaw::PacksLate {
-                            end += 1;
-                        }
-                        if end > self.entries[index].start {
-                            self.entries[index].start = end;
-                            changed = true;
-                        }
-                    }
-                }
-            }
-            if !changed {
-                return;
-            }
+            let mut starts: Vec<u64> = done.iter().map(|other| self.end(other)).collect();
+            starts.push(bound);
+            let at_start = self.flaw == Flaw::UseAtStart;
+            starts.retain(|&start| {
+                start >= bound
+                    && (self.flaw == Flaw::PacksWithoutUnits
+                        || self.units_free(&entry, &done, start, at_start))
+            });
+            self.entries[index].start = starts.into_iter().min().unwrap_or(bound);
+            done.push(self.entries[index]);
         }
     }
 
@@ -242,7 +413,14 @@ impl Double {
         }
         let mut starts: Vec<u64> = self.entries.iter().map(|other| self.end(other)).collect();
         starts.push(self.now);
-        starts.retain(|&start| self.fits(entry, start));
+        let mut holds = self.entries.clone();
+        if self.flaw == Flaw::PlacesByHeldUnits {
+            holds.retain(|hold| hold.grant.is_some());
+        }
+        let at_start = matches!(self.flaw, Flaw::UseAtStart | Flaw::PlacesByUseAtStart);
+        starts.retain(|&start| {
+            self.fits(entry, start) && self.units_free(entry, &holds, start, at_start)
+        });
         starts.into_iter().min().unwrap_or(self.now)
     }
 
@@ -252,20 +430,53 @@ impl Double {
         (0..).find(|&place| !taken(place)).unwrap_or(0)
     }
 
+    /// The units of holders together.
+    fn held(&self, holders: &[Entry]) -> u64 {
+        let counts = |holder: &Entry| match holder.grant {
+            None => false,
+            Some(grant) => {
+                let past = grant + holder.length < self.now;
+                !(past && self.flaw == Flaw::OverrunUnitsFree)
+            }
+        };
+        let counting = holders.iter().filter(|holder| counts(holder));
+        counting.map(|holder| holder.units).sum()
+    }
+
     fn grant(&mut self) -> Vec<u16> {
         let old = self.entries.clone();
+        let mut order: Vec<usize> = (0..old.len())
+            .filter(|&index| old[index].grant.is_none())
+            .collect();
+        order.sort_by_key(|&index| (old[index].start, old[index].ticket));
         let mut grants = Vec::new();
-        for index in 0..old.len() {
+        for index in order {
+            let entry = old[index];
             let free = match self.flaw {
                 Flaw::GrantsConflicting => true,
                 Flaw::NeverGrants => false,
-                _ => !old.iter().any(|other| self.before(other, &old[index])),
+                _ => {
+                    let due = entry.start == self.now || entry.units == 0;
+                    due && !old.iter().any(|other| self.before(other, &entry))
+                }
             };
-            if old[index].grant.is_none() && free {
+            let held = match self.flaw {
+                Flaw::GrantsByUnitsBefore => self.held(&old),
+                _ => self.held(&self.entries),
+            };
+            let lacks = entry.units > 0
+                && held + entry.units > self.room()
+                && self.flaw != Flaw::GrantsOverPool;
+            if free && lacks && self.flaw == Flaw::GrantsEndAtShort {
+                break;
+            }
+            if free && !lacks {
                 self.entries[index].grant = Some(self.now);
-                grants.push(old[index].ticket);
+                self.counted = self.counted.saturating_sub(entry.units);
+                grants.push(entry.ticket);
             }
         }
+        grants.sort_unstable();
         if self.flaw == Flaw::GrantsByPlace {
             let place = |ticket| {
                 let entry = old.iter().find(|entry| entry.ticket == ticket);
@@ -290,10 +501,19 @@ impl Double {
         if call.clock() < self.now {
             return 4;
         }
+        let over = |units| u64::from(units) > self.pool;
+        let last = self.flaw == Flaw::TestsUnitsAfterLength;
         match call {
-            TimedCall::Claim { groups: 0, .. } => 1,
+            TimedCall::Claim {
+                groups: 0,
+                units: 0,
+                ..
+            } => 1,
+            TimedCall::Claim { groups: 0, .. } if self.flaw == Flaw::BareIsDark => 1,
             TimedCall::Claim { groups, .. } if groups & !self.rig != 0 => 2,
+            TimedCall::Claim { units, .. } if over(units) && !last => 16,
             TimedCall::Claim { length, .. } if length == 0 || length > MAX_LENGTH => 3,
+            TimedCall::Claim { units, .. } if over(units) => 16,
             TimedCall::Claim { .. } if self.entries.len() >= full => 6,
             TimedCall::Claim { .. } if self.issued == 65_535 => 7,
             TimedCall::Claim { .. } | TimedCall::Clock { .. } => 0,
@@ -339,12 +559,19 @@ impl ClaimsTable for Double {
             ..Answer::default()
         };
         match call {
-            TimedCall::Claim { groups, length, .. } => {
+            TimedCall::Claim {
+                groups,
+                length,
+                units,
+                ..
+            } => {
                 let length = u64::from(length);
-                let contending = self
-                    .entries
-                    .iter()
-                    .filter(|other| other.groups & groups != 0);
+                let units = u64::from(units);
+                let contends = |other: &&Entry| {
+                    let pool = other.units > 0 && units > 0;
+                    other.groups & groups != 0 || pool && self.flaw == Flaw::PoolIsContention
+                };
+                let contending = self.entries.iter().filter(contends);
                 let remaining = contending.clone().map(|other| match other.grant {
                     Some(_) if self.flaw == Flaw::BoundByLength => other.length,
                     Some(_) => self.end(other) - self.now,
@@ -357,6 +584,7 @@ impl ClaimsTable for Double {
                     ticket: self.issued + 1,
                     groups,
                     length,
+                    units,
                     start: 0,
                     grant: None,
                     place: self.free_place(),
@@ -370,6 +598,13 @@ impl ClaimsTable for Double {
             TimedCall::Release { ticket, .. } | TimedCall::Withdraw { ticket, .. } => {
                 answer.ticket = ticket;
                 self.left.push((ticket, self.lookup(ticket)));
+                let left = self.entries.iter().find(|entry| entry.ticket == ticket);
+                let units = left.map_or(0, |entry| entry.units);
+                let back = match (call, self.flaw) {
+                    (TimedCall::Release { .. }, flaw) => flaw != Flaw::FreeForgetsRelease,
+                    (_, flaw) => flaw == Flaw::FreeCountsWithdrawals,
+                };
+                self.counted += if back { units } else { 0 };
                 self.entries.retain(|entry| entry.ticket != ticket);
             }
             TimedCall::Clock { .. } => {}
@@ -415,19 +650,29 @@ impl ClaimsTable for Double {
             shared => Common::Group(shared.trailing_zeros() as u8),
         }
     }
+
+    fn free(&self) -> u16 {
+        self.counted as u16
+    }
 }
 
-fn judge_double<C>(flaw: Flaw, rig: u64, calls: &[C]) -> Result<Summary, Violation>
+fn judge_double<C>(flaw: Flaw, rig: Rig, calls: &[C]) -> Result<Summary, Violation>
 where
     C: Copy + Into<RunCall>,
 {
-    judge(&run(&mut Double::new(flaw, rig), calls))
+    judge(rig.0, rig.1, &run(&mut Double::new(flaw, rig), calls))
 }
 
 /// The rule that the double with this flaw first violates in some calls.
 fn rule<C: Copy + Into<RunCall>>(flaw: Flaw, calls: &[C]) -> Option<Rule> {
-    judge_table(0xF, calls).expect("the table itself keeps demand 3");
-    judge_double(flaw, 0xF, calls)
+    pool_rule(flaw, 0, calls)
+}
+
+/// The same on a rig with a pool.
+fn pool_rule<C: Copy + Into<RunCall>>(flaw: Flaw, pool: u16, calls: &[C]) -> Option<Rule> {
+    let rig = (0xF, pool);
+    judge_table(rig, calls).expect("the table itself keeps demand 3");
+    judge_double(flaw, rig, calls)
         .err()
         .map(|violation| violation.rule)
 }
@@ -511,10 +756,120 @@ fn flaws_are_caught_in_generated_runs() {
         let caught = (0..60)
             .filter(|&seed| {
                 let run = generate::run_of(Shape::Overrun, seed);
-                judge_double(flaw, run.rig, &run.calls).is_err()
+                judge_double(flaw, (run.rig, run.pool), &run.calls).is_err()
             })
             .count();
         assert!(caught >= 3, "{flaw:?}: {caught} of 60");
+    }
+}
+
+/// The promises about units, each with a table that breaks it.
+#[test]
+fn flaws_of_the_pool_are_caught_in_small_runs() {
+    // Ticket 2 is planned at 10, where 3, placed by the use at its start, still
+    // holds a unit.
+    let gap = [draw(0, 1, 10, 1), draw(0, 2, 5, 2), draw(0, 4, 11, 1)];
+    let calls = [&gap[..], &[release(10, 1), clock(11)]].concat();
+    assert_eq!(pool_rule(Flaw::UseAtStart, 2, &calls), Some(Rule::Raised));
+    let places = pool_rule(Flaw::PlacesByUseAtStart, 2, &calls);
+    assert_eq!(places, Some(Rule::Raised));
+    let places = pool_rule(Flaw::PlacesByHeldUnits, 2, &calls);
+    assert_eq!(places, Some(Rule::Raised));
+    // Planned at its start beside too few units, a claim waits past it.
+    let calls = [
+        draw(0, 1, 10, 1),
+        draw(0, 2, 10, 1),
+        draw(0, 4, 10, 2),
+        clock(1),
+    ];
+    assert_eq!(
+        pool_rule(Flaw::PacksWithoutUnits, 2, &calls),
+        Some(Rule::Raised)
+    );
+    // The units of an overrun are held until it is released.
+    let calls = [draw(0, 1, 10, 2), draw(0, 2, 5, 1), clock(11)];
+    assert_eq!(
+        pool_rule(Flaw::OverrunUnitsFree, 2, &calls),
+        Some(Rule::Units)
+    );
+    let calls = [draw(0, 1, 10, 2), draw(0, 2, 5, 1), clock(10)];
+    assert_eq!(pool_rule(Flaw::OverrunUnitsFree, 2, &calls), None);
+    assert_eq!(
+        pool_rule(Flaw::GrantsOverPool, 2, &calls),
+        Some(Rule::Units)
+    );
+    // Ticket 1 gives back one unit of two.
+    let calls = [
+        draw(0, 1, 10, 1),
+        draw(0, 2, 10, 1),
+        draw(0, 4, 5, 1),
+        draw(0, 8, 5, 1),
+        release(10, 1),
+    ];
+    assert_eq!(
+        pool_rule(Flaw::GrantsByUnitsBefore, 2, &calls),
+        Some(Rule::Units)
+    );
+    // Ticket 3 lacks units, and 4 is not held up.
+    let calls = [
+        draw(0, 1, 10, 2),
+        draw(0, 2, 10, 1),
+        draw(0, 4, 5, 2),
+        draw(0, 8, 5, 1),
+        release(10, 2),
+    ];
+    assert_eq!(pool_rule(Flaw::GrantsEndAtShort, 3, &calls), None);
+    // The units free and those held make the pool.
+    let calls = [draw(0, 1, 10, 2), release(3, 1)];
+    assert_eq!(
+        pool_rule(Flaw::FreeForgetsRelease, 2, &calls),
+        Some(Rule::Free)
+    );
+    let calls = [draw(0, 1, 10, 2), draw(0, 1, 10, 2), withdraw(1, 2)];
+    assert_eq!(
+        pool_rule(Flaw::FreeCountsWithdrawals, 2, &calls),
+        Some(Rule::Free)
+    );
+    assert_eq!(pool_rule(Flaw::FreeForgetsRelease, 2, &calls), None);
+    // A number is that of the first test.
+    for (call, caught) in [
+        (draw(0, 1, 0, 3), Some(Rule::Number)),
+        (draw(0, 1, MAX_LENGTH + 1, 3), Some(Rule::Number)),
+        (draw(0, 1, 10, 3), None),
+        (draw(0, 1, 0, 2), None),
+        (draw(0, 0x10, 0, 3), None),
+    ] {
+        assert_eq!(pool_rule(Flaw::TestsUnitsAfterLength, 2, &[call]), caught);
+    }
+    let calls = [draw(0, 0, 10, 1)];
+    assert_eq!(pool_rule(Flaw::BareIsDark, 2, &calls), Some(Rule::Number));
+    let calls = [draw(0, 0, 10, 2), clock(1)];
+    assert_eq!(pool_rule(Flaw::PoolLessOne, 2, &calls), Some(Rule::Raised));
+}
+
+#[test]
+fn flaws_of_the_pool_are_caught_in_generated_runs() {
+    for (flaw, shape) in [
+        (Flaw::UseAtStart, Shape::PoolInTime),
+        (Flaw::PlacesByUseAtStart, Shape::PoolInTime),
+        (Flaw::PlacesByHeldUnits, Shape::PoolInTime),
+        (Flaw::PacksWithoutUnits, Shape::PoolInTime),
+        (Flaw::GrantsOverPool, Shape::PoolInTime),
+        (Flaw::GrantsByUnitsBefore, Shape::PoolInTime),
+        (Flaw::OverrunUnitsFree, Shape::Pool),
+        (Flaw::FreeForgetsRelease, Shape::Pool),
+        (Flaw::FreeCountsWithdrawals, Shape::Pool),
+        (Flaw::TestsUnitsAfterLength, Shape::Boundary),
+        (Flaw::BareIsDark, Shape::Pool),
+        (Flaw::PoolLessOne, Shape::PoolInTime),
+    ] {
+        let caught = (0..100)
+            .filter(|&seed| {
+                let (rig, calls) = list(generate::run_of(shape, seed), seed, 200);
+                judge_double(flaw, rig, &calls).is_err()
+            })
+            .count();
+        assert!(caught >= 5, "{flaw:?}: {caught} of 100");
     }
 }
 
@@ -523,10 +878,10 @@ fn a_claim_that_waits_past_its_first_start_is_caught() {
     // Only the last step is wrong: lookups give no raised start, and yet the
     // claim waits.
     let mut steps = run(
-        &mut Table::new(1).0,
+        &mut new_table((1, 0)),
         &[claim(0, 1, 10), claim(0, 1, 10), release(10, 1), clock(15)],
     );
-    assert!(judge(&steps).is_ok());
+    assert!(judge(1, 0, &steps).is_ok());
     let Asked::Timed(_, answer) = &mut steps[2].asked else {
         unreachable!("a release");
     };
@@ -538,23 +893,24 @@ fn a_claim_that_waits_past_its_first_start_is_caught() {
             }
         }
     }
-    let violation = judge(&steps).unwrap_err();
+    let violation = judge(1, 0, &steps).unwrap_err();
     assert_eq!((violation.step, violation.rule), (3, Rule::Waits));
     assert!(violation.description.contains("ticket 2"));
 }
 
 #[test]
 fn lookups_in_the_list_are_judged_too() {
-    let mut steps = run(&mut Table::new(1).0, &[claim(0, 1, 10), claim(0, 1, 10)]);
+    let mut steps = run(&mut new_table((1, 0)), &[claim(0, 1, 10), claim(0, 1, 10)]);
     let lookups = steps[1].lookups.clone();
     let lookup = |ticket, said| Step {
         asked: Asked::Lookup(ticket, said),
         lookups: lookups.clone(),
+        free: 0,
     };
     steps.push(lookup(1, Lookup::On(10)));
     steps.push(lookup(2, Lookup::Waiting(10)));
     steps.push(lookup(3, Lookup::Unknown));
-    assert!(judge(&steps).is_ok());
+    assert!(judge(1, 0, &steps).is_ok());
     for (wrong, rule) in [
         (lookup(1, Lookup::On(11)), Rule::Lookup),
         (lookup(1, Lookup::Waiting(0)), Rule::Lookup),
@@ -565,18 +921,46 @@ fn lookups_in_the_list_are_judged_too() {
     ] {
         let mut steps = steps.clone();
         steps.push(wrong);
-        assert_eq!(judge(&steps).unwrap_err().rule, rule);
+        assert_eq!(judge(1, 0, &steps).unwrap_err().rule, rule);
+    }
+}
+
+#[test]
+fn lookups_of_the_units_free_are_judged_too() {
+    let calls = [draw(0, 1, 10, 2), draw(0, 2, 10, 1), draw(0, 0, 10, 3)];
+    let calls = [&calls[..], &[release(10, 1), release(10, 2)]].concat();
+    let steps = run(&mut new_table((0xF, 4)), &calls);
+    let told: Vec<u16> = steps.iter().map(|step| step.free).collect();
+    assert_eq!(told, [2, 1, 1, 0, 1]);
+    assert!(judge(0xF, 4, &steps).is_ok());
+    for (index, step) in steps.iter().enumerate() {
+        for wrong in 0..=5 {
+            let mut steps = steps[..=index].to_vec();
+            let right = wrong == step.free;
+            // As a lookup in the list, then as the one after the call.
+            steps.push(Step {
+                asked: Asked::Free(wrong),
+                ..step.clone()
+            });
+            let rule = judge(0xF, 4, &steps).err().map(|violation| violation.rule);
+            assert_eq!(rule, (!right).then_some(Rule::Free));
+            steps.truncate(index + 1);
+            steps[index].free = wrong;
+            let rule = judge(0xF, 4, &steps).err().map(|violation| violation.rule);
+            assert_eq!(rule, (!right).then_some(Rule::Free));
+        }
     }
 }
 
 #[test]
 fn lookups_of_two_tickets_in_the_list_are_judged_too() {
     let calls = [claim(0, 0x9, 10), claim(0, 0xD, 10), claim(0, 0x6, 10)];
-    let mut steps = run(&mut Table::new(0xF).0, &calls);
+    let mut steps = run(&mut new_table((0xF, 0)), &calls);
     let lookups = steps[2].lookups.clone();
     let common = |first, second, said| Step {
         asked: Asked::Common(first, second, said),
         lookups: lookups.clone(),
+        free: 0,
     };
     let right = [
         (1, 2, Common::Group(0)),
@@ -589,7 +973,7 @@ fn lookups_of_two_tickets_in_the_list_are_judged_too() {
         (4, 4, Common::Unknown),
     ];
     steps.extend(right.map(|(first, second, said)| common(first, second, said)));
-    assert!(judge(&steps).is_ok());
+    assert!(judge(0xF, 0, &steps).is_ok());
     for (first, second, said) in right {
         for wrong in [
             Common::Group(0),
@@ -602,7 +986,7 @@ fn lookups_of_two_tickets_in_the_list_are_judged_too() {
             if wrong != said {
                 let mut steps = steps.clone();
                 steps.push(common(first, second, wrong));
-                assert_eq!(judge(&steps).unwrap_err().rule, Rule::Lookup);
+                assert_eq!(judge(0xF, 0, &steps).unwrap_err().rule, Rule::Lookup);
             }
         }
     }
@@ -610,11 +994,11 @@ fn lookups_of_two_tickets_in_the_list_are_judged_too() {
 
 #[test]
 fn answers_that_make_no_run_are_caught() {
-    let steps = run(&mut Table::new(1).0, &[claim(0, 1, 10), claim(0, 1, 10)]);
+    let steps = run(&mut new_table((1, 0)), &[claim(0, 1, 10), claim(0, 1, 10)]);
     let with = |change: &dyn Fn(&mut Step)| {
         let mut steps = steps.clone();
         change(&mut steps[1]);
-        judge(&steps).unwrap_err().rule
+        judge(1, 0, &steps).unwrap_err().rule
     };
     let answer = |step: &mut Step, change: &dyn Fn(&mut Answer)| {
         if let Asked::Timed(_, answer) = &mut step.asked {
@@ -634,6 +1018,8 @@ fn answers_that_make_no_run_are_caught() {
         })
     });
     assert_eq!(refused, Rule::Form);
+    let number = with(&|step| answer(step, &|answer| answer.number = 3));
+    assert_eq!(number, Rule::Number);
     let silent = with(&|step| step.lookups.retain(|(ticket, _)| *ticket != 2));
     assert_eq!(silent, Rule::Form);
     let past = with(&|step| answer(step, &|answer| answer.start = 20));
@@ -642,50 +1028,27 @@ fn answers_that_make_no_run_are_caught() {
 
 #[test]
 fn the_double_without_a_flaw_is_the_table() {
-    for_seeds(0..250, |seed| {
+    for_seeds(0..600, |seed| {
         let (rig, calls) = list(generate::run(seed), seed, 120);
         let double = run(&mut Double::new(Flaw::Nothing, rig), &calls);
-        let table = run(&mut Table::new(rig).0, &calls);
+        let table = run(&mut new_table(rig), &calls);
         assert_eq!(double, table);
     });
 }
 
 #[test]
 fn generated_runs_tell_every_flaw_from_the_table() {
-    let flaws = [
-        Flaw::GrantsConflicting,
-        Flaw::PlacesAtClock,
-        Flaw::PlacesBehindLast,
-        Flaw::NoTouching,
-        Flaw::CutsAhead,
-        Flaw::NeverGrants,
-        Flaw::OverrunGone,
-        Flaw::LookupGivesEnd,
-        Flaw::LookupKeepsLeft,
-        Flaw::RefusedMovesClock,
-        Flaw::PacksLate,
-        Flaw::NoFirstPacking,
-        Flaw::NoSecondPacking,
-        Flaw::PacksByOldEnds,
-        Flaw::GrantsByPlace,
-        Flaw::BoundByLength,
-        Flaw::FullEarly,
-        Flaw::TestsGroupsFirst,
-        Flaw::ReleasesOverrun,
-        Flaw::CommonGivesHighest,
-        Flaw::CommonTestsFirst,
-    ];
-    let mut told = [0; 21];
-    for_seeds(0..120, |seed| {
+    let mut told = [0; FLAWS.len()];
+    for_seeds(0..160, |seed| {
         let (rig, calls) = list(generate::run(seed), seed, 120);
-        let table = run(&mut Table::new(rig).0, &calls);
-        for (flaw, told) in flaws.iter().zip(&mut told) {
-            let double = run(&mut Double::new(*flaw, rig), &calls);
+        let table = run(&mut new_table(rig), &calls);
+        for (&flaw, told) in FLAWS.iter().zip(&mut told) {
+            let double = run(&mut Double::new(flaw, rig), &calls);
             *told += usize::from(double != table);
         }
     });
-    for (flaw, told) in flaws.iter().zip(told) {
-        assert!(told >= 2, "{flaw:?}: {told} of 120");
+    for (flaw, told) in FLAWS.iter().zip(told) {
+        assert!(told >= 2, "{flaw:?}: {told} of 160");
     }
 }
 
@@ -693,7 +1056,7 @@ fn generated_runs_tell_every_flaw_from_the_table() {
 fn leaving_out_the_first_packing_keeps_demand_3() {
     let calls = [claim(0, 1, 10), claim(0, 3, 10), claim(15, 2, 3)];
     assert_eq!(rule(Flaw::NoFirstPacking, &calls), None);
-    let mut double = Double::new(Flaw::NoFirstPacking, 0xF);
+    let mut double = Double::new(Flaw::NoFirstPacking, (0xF, 0));
     let starts: Vec<u64> = calls.iter().map(|&call| double.call(call).start).collect();
     assert_eq!(starts, [0, 10, 20]);
     // Only the answer tells, and with it the listing.

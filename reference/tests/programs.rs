@@ -7,7 +7,7 @@ use std::path::{Path, PathBuf};
 use std::process::{Command, Output, Stdio};
 use std::{env, fs, process};
 
-use common::{claim, load_of, release};
+use common::{claim, draw, load_of, pool_load_of, release};
 use reference::dance::beat;
 use reference::generate;
 use reference::listing::listing;
@@ -29,12 +29,36 @@ fn print(program: &str, input: &[u8]) -> Output {
 #[test]
 fn the_listing_program_prints_the_listing() {
     let sample = load_of(0xF, &[claim(0, 0x8, 10), claim(0, 0xC, 10), release(4, 1)]);
+    let units = pool_load_of(0xF, 2, &[draw(0, 0x8, 10, 2), draw(0, 0, 10, 1)]);
     let long = vec![1; 70_000];
-    for load in [&[][..], &[1], &[0xFF], &sample, &long] {
+    for load in [&[][..], &[1], &[0xFF], &sample, &units, &long] {
         let output = print(env!("CARGO_BIN_EXE_reference_listing"), load);
         assert!(output.status.success());
         assert_eq!(output.stdout, listing(load));
     }
+}
+
+/// A bar for each group of a claim; a pool has a row of its own.
+#[test]
+fn the_plan_program_draws_groups_and_pool() {
+    let calls = [draw(0, 0x8, 10, 2), draw(0, 0, 10, 1)];
+    let bars = |load: &[u8]| {
+        let output = print(env!("CARGO_BIN_EXE_plan"), load);
+        assert!(output.status.success());
+        let picture = String::from_utf8(output.stdout).expect("plain text");
+        let units = picture.matches(" units</text>").count();
+        let rects = picture.matches("<rect x=").count();
+        (units, rects, picture)
+    };
+    // One bar, the units held up to 10 and those planned from there on.
+    let (units, rects, picture) = bars(&pool_load_of(0xF, 2, &calls));
+    assert_eq!((units, rects), (1, 3));
+    assert!(picture.contains("2 units</text>"));
+    // Without a pool the second claim is refused.
+    let (units, rects, _) = bars(&load_of(0xF, &[claim(0, 0x8, 10)]));
+    assert_eq!((units, rects), (0, 1));
+    let output = print(env!("CARGO_BIN_EXE_plan"), &[3]);
+    assert_eq!(output.status.code(), Some(1));
 }
 
 #[test]

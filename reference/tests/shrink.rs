@@ -2,8 +2,8 @@
 
 mod common;
 
-use common::{claim, clock, for_seeds, listing, load_of, release, withdraw};
-use reference::ask::ask;
+use common::{claim, clock, draw, for_seeds, listing, load_of, pool_load_of, release, withdraw};
+use reference::ask::{ask, left};
 use reference::generate::{self, Shape};
 use reference::load::{self, Call};
 use reference::shrink::{shrink, shrink_question, shrink_text};
@@ -27,7 +27,7 @@ fn a_load_that_shows_nothing_stays() {
 #[test]
 fn a_refused_withdrawal_shrinks_to_three_records() {
     let mut shrunk = 0;
-    for_seeds(0..12, |seed| {
+    for_seeds(0..30, |seed| {
         let load = generate::run_of(Shape::Boundary, seed).load();
         if !answers(&load, "10") {
             return;
@@ -35,10 +35,10 @@ fn a_refused_withdrawal_shrinks_to_three_records() {
         shrunk += 1;
         let small = shrink(&load, |load| answers(load, "10"));
         let calls = load::read_all(&small).unwrap();
-        let Call::Rig(rig) = calls[0] else {
+        let Call::Rig { groups: rig, .. } = calls[0] else {
             unreachable!("a rig comes first");
         };
-        assert_eq!(rig.count_ones(), 1);
+        assert_eq!((small[0], rig.count_ones()), (1, 1));
         let rest = [claim(0, rig, 1), withdraw(0, 1)].map(Call::Timed);
         assert_eq!(calls[1..], rest);
     });
@@ -50,10 +50,10 @@ fn release_grants(load: &[u8]) -> bool {
     let Ok(calls) = load::read_all(load) else {
         return false;
     };
-    let mut table = Table::new(0).0;
+    let mut table = Table::new(0, 0).0;
     calls.into_iter().any(|call| match call {
-        Call::Rig(groups) => {
-            table = Table::new(groups).0;
+        Call::Rig { groups, pool } => {
+            table = Table::new(groups, pool).0;
             false
         }
         Call::Timed(call) => {
@@ -79,6 +79,59 @@ fn tickets_move_down_with_the_claims_dropped() {
     let small = shrink(&load, release_grants);
     let expected = load_of(1, &[claim(0, 1, 1), claim(0, 1, 1), release(0, 1)]);
     assert_eq!(small, expected);
+}
+
+/// What needs no units is shown in edition 1, what does with few.
+#[test]
+fn units_and_the_edition_are_lowered() {
+    let calls = [
+        draw(0, 1, 5, 7),
+        draw(1, 2, 5, 30),
+        draw(2, 0, 9, 31),
+        clock(3),
+        release(4, 2),
+    ];
+    let load = pool_load_of(0xF, 40, &calls);
+    let small = shrink(&load, |load| {
+        listing(load).lines().any(|line| line.starts_with("on 2"))
+    });
+    assert_eq!(small, load_of(3, &[claim(0, 1, 1), claim(0, 2, 1)]));
+    // A claim that waits and shares no group.
+    let short = |load: &[u8]| {
+        let table = left(load).0;
+        let mut waiting = table.claims().iter().filter(|claim| !claim.is_on());
+        waiting.any(|one| {
+            let mut others = table.claims().iter();
+            others.all(|other| other.ticket == one.ticket || !other.conflicts(one.groups))
+        })
+    };
+    assert!(short(&load_of_pool()));
+    let small = shrink(&load_of_pool(), short);
+    let calls = load::read_all(&small).unwrap();
+    assert!(matches!(calls[0], Call::Rig { pool: 1, .. }));
+    assert_eq!(calls[1..], [Call::Timed(draw(0, 0, 1, 1)); 2]);
+    // More units than the pool.
+    let small = shrink(&load_of_pool(), |load| answers(load, "16"));
+    assert_eq!(small, pool_load_of(4, 0, &[draw(0, 0, 0, 1)]));
+    // What is no call stays as it is.
+    let mut load = load_of_pool();
+    load.extend([0, 1, 9]);
+    let last = |load: &[u8]| load.ends_with(&[0, 1, 9]) && listing(load).contains("stop 13");
+    assert_eq!(shrink(&load, last), [1, 0, 1, 9]);
+}
+
+/// Three claims that draw units, with others before and behind them.
+fn load_of_pool() -> Vec<u8> {
+    let calls = [
+        claim(0, 1, 2),
+        release(0, 1),
+        draw(0, 1, 5, 7),
+        draw(1, 2, 5, 30),
+        draw(2, 0, 9, 31),
+        draw(3, 4, 9, 41),
+        clock(3),
+    ];
+    pool_load_of(0xF, 40, &calls)
 }
 
 #[test]

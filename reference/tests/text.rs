@@ -2,7 +2,7 @@
 
 mod common;
 
-use common::{claim, clock, for_seeds, load_of, release, withdraw};
+use common::{claim, clock, draw, for_seeds, load_of, pool_load_of, release, rig, withdraw};
 use reference::generate;
 use reference::load::{self, Call, MAX_LOAD};
 use reference::text::{
@@ -26,12 +26,12 @@ fn wrong(text: &str, line: usize, reason: Reason) {
 #[test]
 fn each_call_has_its_line() {
     for (call, text) in [
-        (Call::Rig(0xF), "rig F\n"),
-        (Call::Rig(0), "rig 0\n"),
-        (Call::Rig(u64::MAX), "rig FFFFFFFFFFFFFFFF\n"),
+        (rig(0xF), "rig F\n"),
+        (rig(0), "rig 0\n"),
+        (rig(u64::MAX), "rig FFFFFFFFFFFFFFFF\n"),
     ] {
-        assert_eq!(line(call), text);
-        assert_eq!(made(text), load::join(&[call]));
+        assert_eq!(line(1, call), text);
+        assert_eq!(made(text), load::join(1, &[call]));
     }
     for (call, text) in [
         (claim(12, 0xAB, 10), "claim 12 AB 10\n"),
@@ -39,8 +39,109 @@ fn each_call_has_its_line() {
         (withdraw(0, 65_535), "withdraw 0 65535\n"),
         (clock(u64::MAX), "clock 18446744073709551615\n"),
     ] {
-        assert_eq!(line(Call::Timed(call)), text);
+        assert_eq!(line(1, Call::Timed(call)), text);
         assert_eq!(made(&format!("rig F\n{text}")), load_of(0xF, &[call]));
+    }
+}
+
+#[test]
+fn rigs_and_claims_of_edition_2_have_a_word_more() {
+    for (pool, text) in [
+        (0, "rig F 0\n"),
+        (3, "rig F 3\n"),
+        (65_535, "rig F 65535\n"),
+    ] {
+        assert_eq!(line(2, Call::Rig { groups: 0xF, pool }), text);
+        assert_eq!(
+            made(&format!("edition 2\n{text}")),
+            pool_load_of(0xF, pool, &[])
+        );
+    }
+    for (call, text) in [
+        (draw(12, 0xAB, 10, 0), "claim 12 AB 10 0\n"),
+        (draw(12, 0, 10, 65_535), "claim 12 0 10 65535\n"),
+        (draw(0, 0, 0, 7), "claim 0 0 0 7\n"),
+        (release(4, 1), "release 4 1\n"),
+        (withdraw(0, 65_535), "withdraw 0 65535\n"),
+        (clock(u64::MAX), "clock 18446744073709551615\n"),
+    ] {
+        assert_eq!(line(2, Call::Timed(call)), text);
+        let whole = format!("edition 2\nrig F 9\n{text}");
+        assert_eq!(made(&whole), pool_load_of(0xF, 9, &[call]));
+    }
+    let load = pool_load_of(0xF, 40, &[draw(1, 9, 5, 20), draw(1, 0, 5, 0)]);
+    for text in [
+        "edition 02\nrig 0-3 0040\nclaim 1 0,3 5 20\nclaim 1 0 5 0",
+        "# x\n edition\t2#\r\nrig\tF\t00000000000000000000000000000000000000000040 \r\n\
+         claim 1 9 5 020 # 7\n\nclaim 01 00 05 00#\n",
+    ] {
+        assert_eq!(made(text), load, "{text:?}");
+    }
+}
+
+/// In edition 1 a rig and a claim have the words of edition 1, in edition 2
+/// those of edition 2.
+#[test]
+fn the_words_are_those_of_the_edition() {
+    for (text, line, reason) in [
+        ("rig F 0\n", 1, Reason::TooMany),
+        ("edition 1\nrig F 0\n", 2, Reason::TooMany),
+        ("rig F\nclaim 0 1 1 0\n", 2, Reason::TooMany),
+        ("edition 2\nrig F\n", 2, Reason::Missing),
+        ("edition 2\nrig F 0 0\n", 2, Reason::TooMany),
+        ("edition 2\nrig F # 3\n", 2, Reason::Missing),
+        ("edition 2\nrig F 0\nclaim 0 1 1\n", 3, Reason::Missing),
+        ("edition 2\nrig F 0\nclaim 0 1 1 0 0\n", 3, Reason::TooMany),
+        ("edition 2\nrig F 0\nclock 0 0\n", 3, Reason::TooMany),
+        ("edition 2\nrig F 0\nrelease 0 1 0\n", 3, Reason::TooMany),
+        ("edition 2\nclaim 0 1 1 0\n", 2, Reason::RigNotFirst),
+        ("edition 2\nrig F 0\nrig F 0\n", 3, Reason::RigNotFirst),
+    ] {
+        wrong(text, line, reason);
+    }
+    for word in [
+        "x",
+        "-1",
+        "+1",
+        "1,",
+        "0-1",
+        "A",
+        "0x1",
+        "1.0",
+        "99999999999999x",
+        "\u{FF11}",
+    ] {
+        wrong(&format!("edition 2\nrig F {word}\n"), 2, Reason::Pool);
+        let text = format!("edition 2\nrig F 0\nclaim 0 1 1 {word}\n");
+        wrong(&text, 3, Reason::Units);
+    }
+    for word in [
+        "65536",
+        "65537",
+        "131072",
+        "4294967296",
+        "18446744073709551616",
+        "340282366920938463463374607431768211456",
+        "99999999999999999999999999999999999999999999999999",
+    ] {
+        wrong(&format!("edition 2\nrig F {word}\n"), 2, Reason::TooLarge);
+        let text = format!("edition 2\nrig F 0\nclaim 0 1 1 {word}\n");
+        wrong(&text, 3, Reason::TooLarge);
+    }
+    // Words are tested from left to right.
+    for (call, reason) in [
+        ("claim x x x x", Reason::Clock),
+        ("claim 0 x x x", Reason::Groups),
+        ("claim 0 64, x x", Reason::GroupTooLarge),
+        ("claim 0 1 x x", Reason::Length),
+        ("claim 0 1 4294967296 x", Reason::TooLarge),
+        ("claim 0 1 1 x", Reason::Units),
+        ("rig x x", Reason::Groups),
+        ("rig 7-5 x", Reason::Backward),
+        ("rig F x", Reason::Pool),
+        ("rig F 65536", Reason::TooLarge),
+    ] {
+        wrong(&format!("edition 2\nrig F 1\n{call}\n"), 3, reason);
     }
 }
 
@@ -204,13 +305,17 @@ fn an_edition_may_stand_before_the_first_call() {
         assert_eq!(made(text), load, "{text:?}");
     }
     assert_eq!(made("edition 1"), [1]);
+    assert_eq!(made("edition 2"), [2]);
+    assert_eq!(made("# edition 2\n"), [1]);
     for number in [
         "0",
-        "2",
+        "3",
         "255",
         "256",
         "257",
+        "258",
         "65537",
+        "65538",
         "4294967297",
         "18446744073709551617",
         "340282366920938463463374607431768211457",
@@ -233,6 +338,9 @@ fn an_edition_may_stand_before_the_first_call() {
         ("Edition 1\n", 1, Reason::UnknownCall),
         ("edition1\n", 1, Reason::UnknownCall),
         ("edition 1\nedition 1\n", 2, Reason::UnknownCall),
+        ("edition 2\nedition 1\n", 2, Reason::UnknownCall),
+        ("edition 1\nedition 2\n", 2, Reason::UnknownCall),
+        ("rig F\nedition 2\n", 2, Reason::UnknownCall),
         ("edition 1\n\nedition\n", 3, Reason::UnknownCall),
         ("rig F\nedition 1\n", 2, Reason::UnknownCall),
         ("foo\nedition 1\n", 1, Reason::UnknownCall),
@@ -263,9 +371,20 @@ fn a_load_has_its_greatest_length() {
     ] {
         wrong(&format!("{full}\n{more}\nfoo\n"), 5_959, reason);
     }
-    for size in [MAX_LOAD - 1, MAX_LOAD] {
-        let load = generate::sized_load(1, size).expect("a load of that size");
-        assert_eq!(made(&load_show(&load)), load);
+    // In edition 2 a claim has 25 bytes, and the rig 13.
+    let full = "edition 2\nrig F 3\n".to_string() + &"claim 1 0 1 1\n".repeat(2_620);
+    assert_eq!(made(&full).len(), 65_514);
+    wrong(
+        &format!("{full}claim 1 0 1 1\n"),
+        2_623,
+        Reason::LoadTooLong,
+    );
+    assert_eq!(made(&format!("{full}clock 1\nclock 1\n")).len(), MAX_LOAD);
+    for edition in [1, 2] {
+        for size in [MAX_LOAD - 1, MAX_LOAD] {
+            let load = generate::sized_load(edition, 1, size).expect("a load of that size");
+            assert_eq!(made(&load_show(&load)), load);
+        }
     }
 }
 
@@ -286,8 +405,19 @@ fn a_wrong_line_is_reported_and_nothing_written() {
     let message = b"line 2: a number is missing\n".to_vec();
     assert_eq!(load_write(b"rig F\nclock\n"), (Vec::new(), message));
     let numbers: Vec<u8> = REASONS.iter().map(|reason| reason.number()).collect();
-    let expected = [11, 13, 14, 101, 102, 103, 104, 105, 106, 107, 108, 109, 110];
+    let expected = [
+        11, 13, 14, 101, 102, 103, 104, 105, 106, 107, 108, 109, 110, 111, 112,
+    ];
     assert_eq!(numbers, expected);
+    for (line, words) in [
+        ("rig F x", "pool is not a number"),
+        ("rig F 1\nclaim 0 1 1 x", "units are not a number"),
+    ] {
+        let text = format!("edition 2\n{line}");
+        let at = text.lines().count();
+        let message = format!("line {at}: {words}\n").into_bytes();
+        assert_eq!(load_write(text.as_bytes()), (Vec::new(), message));
+    }
 }
 
 #[test]
@@ -299,7 +429,9 @@ fn loads_are_shown() {
     for (load, text) in [
         (&b""[..], "# stop 12 0\n".to_string()),
         (&[0xFF], "# stop 11 0\n".to_string()),
-        (&[2, 0, 0], "# stop 11 0\n".to_string()),
+        (&[3, 0, 0], "# stop 11 0\n".to_string()),
+        (&[2], "edition 2\n".to_string()),
+        (&[2, 0, 0], "edition 2\n# stop 13 1\n".to_string()),
         (&[1; MAX_LOAD + 1], "# stop 14 0\n".to_string()),
         (&[1], header.to_string()),
         (&[1, 0], format!("{header}# stop 12 1\n")),
@@ -309,6 +441,17 @@ fn loads_are_shown() {
     ] {
         assert_eq!(load_show(load), text);
     }
+    let calls = [
+        draw(0, 0, 10, 2),
+        claim(0, 0xA, 10),
+        clock(7),
+        release(8, 1),
+    ];
+    let load = [&pool_load_of(0xF, 40, &calls)[..], &rig[1..]].concat();
+    assert_eq!(
+        load_show(&load),
+        "edition 2\nrig F 40\nclaim 0 0 10 2\nclaim 0 A 10 0\nclock 7\nrelease 8 1\n# stop 13 6\n"
+    );
 }
 
 #[test]

@@ -33,15 +33,15 @@ shown k o = lineOf k (o .number) (o .ticket) (o .start) ++ onLines (o .table .cl
 -- What a record does is what a call promises.
 pub record-promised : (m : Model) (c : Call) → Promised m (stepOf m c)
 unfolding stepOf
-record-promised m c = either (eqb (c .kind) 1) (λ e. rw e (by-new (c .groups))) (λ e. rw e (by-call (saysCall c)))
+record-promised m c = either (eqb (c .kind) 1) (λ e. rw e (by-new (c .groups) (c .pool))) (λ e. rw e (by-call (saysCall c)))
 
 -- By its kind.
 module _ (m : Model) (c : Call) where
-  pub step-rig : c .kind ≡ 1 → new (c .groups) ≡ stepOf m c
+  pub step-rig : c .kind ≡ 1 → new (c .groups) (c .pool) ≡ stepOf m c
   unfolding stepOf
   step-rig k = rw (eq-eqb (c .kind) 1 k)
 
-  pub step-claim : c .kind ≡ 2 → step m (claim (c .clock) (record { groups = c .groups; length = c .length })) ≡ stepOf m c
+  pub step-claim : c .kind ≡ 2 → step m (claim (c .clock) (record { groups = c .groups; length = c .length; units = c .units })) ≡ stepOf m c
   unfolding stepOf saysCall
   step-claim k = rw (ne-eqb (c .kind) 1 (λ z. omega arith), eq-eqb (c .kind) 2 k)
 
@@ -133,18 +133,18 @@ reached-more s t u at k w l c next e v =
     record { valid = v; inside = omega (arith, i .1); few = omega (arith, i .0, w .few) }
 
 -- The table before the first record.
-pub first-table : (r : Outcome) → r ≡ outcome (new 0) → model (r .table) ≡ blank 0
-first-table r e = outcome-model r (new 0) e ∙ new-none
+pub first-table : (r : Outcome) → r ≡ outcome (new 0 0) → model (r .table) ≡ blank 0 0
+first-table r e = outcome-model r (new 0 0) e ∙ new-none
 
 pub record Turn (s o₀ : List ℕ) (from : ℕ) (o : List ℕ) (t : Table) (at k n : ℕ) : Type 0 where
   pub reached : Reached t at k
-  pub going : Going o₀ from (linesOf 1 (blank 0) (walk s 1)) o n (linesOf k (model t) (walk s at))
+  pub going : Going o₀ from (linesOf 1 (blank 0 0) (walk s 1)) o n (linesOf k (model t) (walk s at))
 
-pub turn-start : (s o : List ℕ) (from : ℕ) (r : Outcome) → length o < 2 ^ 64 → from < 2 ^ 64 → r ≡ outcome (new 0) → Valid (r .table) → Turn s o from o (r .table) 1 1 from
+pub turn-start : (s o : List ℕ) (from : ℕ) (r : Outcome) → length o < 2 ^ 64 → from < 2 ^ 64 → r ≡ outcome (new 0 0) → Valid (r .table) → Turn s o from o (r .table) 1 1 from
 turn-start s o from r h k e v =
     record {
       reached = reached-start (r .table) v;
-      going = going-as o from _ o from _ _ (ap (λ (x : Model). linesOf 1 x (walk s 1)) (sym (first-table r e))) (going-start o from (linesOf 1 (blank 0) (walk s 1)) h k);
+      going = going-as o from _ o from _ _ (ap (λ (x : Model). linesOf 1 x (walk s 1)) (sym (first-table r e))) (going-start o from (linesOf 1 (blank 0 0) (walk s 1)) h k);
     }
 
 pub turn-more : (s o₀ : List ℕ) (from : ℕ) (out : List ℕ) (t : Table) (at k n : ℕ) → Turn s o₀ from out t at k n → length s ≤ 65536
@@ -153,7 +153,7 @@ pub turn-more : (s o₀ : List ℕ) (from : ℕ) (out : List ℕ) (t : Table) (a
 turn-more s o₀ from out t at k n u l c next e o h v x q y r p z =
     record {
       reached = reached-more s t (o .table) at k (u .reached) l c next e v;
-      going = run-record s at (model t) k o₀ from (linesOf 1 (blank 0) (walk s 1)) out n (u .going) c next e o h x q r p y z;
+      going = run-record s at (model t) k o₀ from (linesOf 1 (blank 0 0) (walk s 1)) out n (u .going) c next e o h x q r p y z;
     }
 
 -- ── the whole ──
@@ -161,7 +161,7 @@ pub text-stopped : (s : List ℕ) (n : ℕ) → n ≡ openNumber s → (n ≡ 0 
 unfolding listingOf
 text-stopped s n p q = ap (λ (r : List ℕ). header ++ r) (sym (rw (sym p) (stop-some n 0 _ q)))
 
-pub text-read : (s : List ℕ) (n : ℕ) → n ≡ openNumber s → n ≡ 0 → header ++ linesOf 1 (blank 0) (walk s 1) ≡ listingOf s
+pub text-read : (s : List ℕ) (n : ℕ) → n ≡ openNumber s → n ≡ 0 → header ++ linesOf 1 (blank 0 0) (walk s 1) ≡ listingOf s
 unfolding listingOf
 text-read s n p q = ap (λ (r : List ℕ). header ++ r) (sym (rw (sym p) (stop-none n 0 _ q)))
 

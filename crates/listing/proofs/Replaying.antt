@@ -51,9 +51,9 @@ module _ (s : List ℕ) (at : ℕ) (m : Model) (k : ℕ) where
 -- ── the loop's invariant ──
 pub record Replaying (s : List ℕ) (t : Table) (at k : ℕ) : Type 0 where
   pub reached : Reached t at k
-  pub same : replayIn k (model t) (walk s at) ≡ replayIn 1 (blank 0) (walk s 1)
+  pub same : replayIn k (model t) (walk s at) ≡ replayIn 1 (blank 0 0) (walk s 1)
 
-pub replay-start : (s : List ℕ) (r : Outcome) → r ≡ outcome (new 0) → Valid (r .table) → Replaying s (r .table) 1 1
+pub replay-start : (s : List ℕ) (r : Outcome) → r ≡ outcome (new 0 0) → Valid (r .table) → Replaying s (r .table) 1 1
 replay-start s r e v = record { reached = reached-start (r .table) v; same = ap (λ (x : Model). replayIn 1 x (walk s 1)) (first-table r e) }
 
 -- A valid table with a stop, as the code's struct.
@@ -64,17 +64,17 @@ as-built : (t : Table) (n k : ℕ) → Valid t → (r : Replay) → r ≡ stoppe
 as-built t n k v r e = (ap (λ (u : Table). built u n k) (sym (v .formed .whole)) ∙ ap replayed (sym e), v)
 
 module _ (s : List ℕ) (t : Table) (at k : ℕ) (w : Replaying s t at k) where
-  ends-so : (n j : ℕ) → replayIn k (model t) (walk s at) ≡ stoppedAt n j (model t) → (built t n j ≡ replayed (replayIn 1 (blank 0) (walk s 1))) × Valid t
+  ends-so : (n j : ℕ) → replayIn k (model t) (walk s at) ≡ stoppedAt n j (model t) → (built t n j ≡ replayed (replayIn 1 (blank 0 0) (walk s 1))) × Valid t
   ends-so n j e = as-built t n j (w .reached .valid) _ (sym (w .same) ∙ e)
 
-  pub replayed-end : itemAt s at ≡ End → (built t 0 0 ≡ replayed (replayIn 1 (blank 0) (walk s 1))) × Valid t
+  pub replayed-end : itemAt s at ≡ End → (built t 0 0 ≡ replayed (replayIn 1 (blank 0 0) (walk s 1))) × Valid t
   replayed-end e = ends-so 0 0 (replay-end s at (model t) k e)
 
-  pub replayed-refused : (n : ℕ) → itemAt s at ≡ Refused n → (built t n k ≡ replayed (replayIn 1 (blank 0) (walk s 1))) × Valid t
+  pub replayed-refused : (n : ℕ) → itemAt s at ≡ Refused n → (built t n k ≡ replayed (replayIn 1 (blank 0 0) (walk s 1))) × Valid t
   replayed-refused n e = ends-so n k (replay-refused s at (model t) k n e)
 
   module _ (c : Call) (next : ℕ) (e : itemAt s at ≡ Record c next) (o : Outcome) (p : o ≡ outcome (stepOf (model t) c)) (n : ℕ) (q : n ≡ ending k (o .number)) where
-    pub replayed-stop : (n ≡ 0 → ⊥) → (built t n k ≡ replayed (replayIn 1 (blank 0) (walk s 1))) × Valid t
+    pub replayed-stop : (n ≡ 0 → ⊥) → (built t n k ≡ replayed (replayIn 1 (blank 0 0) (walk s 1))) × Valid t
     replayed-stop z = ends-so n k (replay-stop s at (model t) k c next e o p n q z)
 
     pub replay-more : n ≡ 0 → length s ≤ 65536 → Valid (o .table) → Replaying s (o .table) next (k + 1)
@@ -85,15 +85,15 @@ module _ (s : List ℕ) (t : Table) (at k : ℕ) (w : Replaying s t at k) where
         }
 
 -- ── the whole ──
-pub whole-read : (s : List ℕ) (n : ℕ) → n ≡ openNumber s → n ≡ 0 → replayIn 1 (blank 0) (walk s 1) ≡ replayOf s
+pub whole-read : (s : List ℕ) (n : ℕ) → n ≡ openNumber s → n ≡ 0 → replayIn 1 (blank 0 0) (walk s 1) ≡ replayOf s
 unfolding replayOf
-whole-read s n p q = sym (rw (sym p) (stopped-none n 0 (blank 0) _ q))
+whole-read s n p q = sym (rw (sym p) (stopped-none n 0 (blank 0 0) _ q))
 
-pub whole-stopped : (s : List ℕ) (n : ℕ) → n ≡ openNumber s → (n ≡ 0 → ⊥) → (r : Outcome) → r ≡ outcome (new 0) → Valid (r .table)
+pub whole-stopped : (s : List ℕ) (n : ℕ) → n ≡ openNumber s → (n ≡ 0 → ⊥) → (r : Outcome) → r ≡ outcome (new 0 0) → Valid (r .table)
     → (built (r .table) n 0 ≡ replayed (replayOf s)) × Valid (r .table)
 unfolding replayOf
 whole-stopped s n p q r e v =
-    as-built (r .table) n 0 v _ (rw (sym p) (stopped-some n 0 (blank 0) _ q) ∙ ap (λ (m : Model). stoppedAt n 0 m) (sym (first-table r e)))
+    as-built (r .table) n 0 v _ (rw (sym p) (stopped-some n 0 (blank 0 0) _ q) ∙ ap (λ (m : Model). stoppedAt n 0 m) (sym (first-table r e)))
 
 -- The table of the code's struct means the one that is left.
 pub replayed-left : (r : Replayed) (x : Replay) → r ≡ replayed x → model (r .table) ≡ x .left
@@ -126,5 +126,5 @@ ran-from k m (c ∷ cs) n =
 pub listing-replayed : (s : List ℕ) → ListingReplayed s
 unfolding listingOf replayOf linesOf replayIn
 listing-replayed s =
-    let w = ran-stop (openNumber s) 0 1 (blank 0) _ _ (ran-from 1 (blank 0) (walk s 1 .calls) (walk s 1 .stop)) in
+    let w = ran-stop (openNumber s) 0 1 (blank 0 0) _ _ (ran-from 1 (blank 0 0) (walk s 1 .calls) (walk s 1 .stop)) in
     record { ran = w .ran; lines = ap (λ l. header ++ l) (w .shown); left = w .left }

@@ -51,10 +51,10 @@ lines-length k m (c ∷ cs) n =
 pub listing-bounded : (s : List ℕ) → length (listingOf s) ≤ roomFor (length s)
 unfolding listingOf linesOf roomFor openNumber
 listing-bounded s =
-    let rest = linesFrom 1 (blank 0) (walk s 1 .calls) (walk s 1 .stop) in
+    let rest = linesFrom 1 (blank 0 0) (walk s 1 .calls) (walk s 1 .stop) in
     let c = walk-few s 1 in
-    let l = lines-length 1 (blank 0) (walk s 1 .calls) (walk s 1 .stop) in
-    let b : length rest ≤ 47 + 129 * (length s / leastLength) = omega (arith, none-waits 0) in
+    let l = lines-length 1 (blank 0 0) (walk s 1 .calls) (walk s 1 .stop) in
+    let b : length rest ≤ 47 + 129 * (length s / leastLength) = omega (arith, none-waits 0 0) in
     either (ltb 65536 (length s))
     (λ e. rw e (omega (arith, stop-length 14 0 47 [] (omega arith) (omega arith))))
     (λ e. rw e (omega (arith, stop-length (cond (eqb (length s) 0) 12 (cond (known (editionOf s)) 0 11)) 0 (47 + 129 * (length s / leastLength)) rest b (omega arith))))

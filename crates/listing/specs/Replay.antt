@@ -37,7 +37,7 @@ replayIn k m w = replayFrom k m (w .calls) (w .stop)
 
 -- A load that does not open leaves a table without groups.
 unfoldable pub replayOf : List ℕ → Replay
-replayOf load = stoppedOr (openNumber load) 0 (blank 0) (replayIn 1 (blank 0) (walk load 1))
+replayOf load = stoppedOr (openNumber load) 0 (blank 0 0) (replayIn 1 (blank 0 0) (walk load 1))
 
 -- As the code's struct.
 abbrev pub replayed : Replay → Replayed
@@ -58,4 +58,4 @@ modelAfter m (s ∷ ss) = modelAfter (s .model) ss
 pub record ListingReplayed (load : List ℕ) : Type 0 where
   pub ran : List Step
   pub lines : listingOf load ≡ header ++ (entriesFrom 1 ran ++ stopOr (replayOf load .stop) (replayOf load .at) [])
-  pub left : replayOf load .left ≡ modelAfter (blank 0) ran
+  pub left : replayOf load .left ≡ modelAfter (blank 0 0) ran

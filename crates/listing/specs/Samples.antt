@@ -1,8 +1,9 @@
--- The listing that document 01 prints, and those of case 15 of its "Plots to try" and of a dark rig, as one table of loads and texts.
+-- The listing that document 01 prints, those of case 15 of its "Plots to try" and of a dark rig, and one of edition 2, as one table of loads
+-- and texts.
 -- proofs/AllSamples has the theorem that covers the table.
 use mathlib.Core.List.{List, [], _∷_, _++_}
 use Prim.Native.Nat.{ℕ}
-use Rattle.load.specs.Calls.{rig, claim, release, clock}
+use Rattle.load.specs.Calls.{rig, claim, release, clock, rigWith, claimWith}
 use Rattle.load.specs.Bytes.{loadBytes}
 use Rattle.listing.specs.Lines.{header}
 use Rattle.listing.specs.Text.{listingOf}
@@ -56,6 +57,20 @@ samples =
     ∷ sample (0x01 ∷ 0x00 ∷ 0x00 ∷ []) (115 ∷ 116 ∷ 111 ∷ 112 ∷ 32 ∷ 49 ∷ 51 ∷ 32 ∷ 49 ∷ 10 ∷ [])
     -- a dark rig, and nothing after it: stop 1 1
     ∷ sample (loadBytes 1 (rig 0 ∷ clock 1 ∷ [])) (115 ∷ 116 ∷ 111 ∷ 112 ∷ 32 ∷ 49 ∷ 32 ∷ 49 ∷ 10 ∷ [])
+    -- edition 2, a pool of 2: a claim of 2 units, one of 3, and one of a unit alone, which waits for the first
+    ∷ sample (loadBytes 2 (rigWith 0x1 2 ∷ claimWith 0 0x1 10 2 ∷ claimWith 0 0x1 10 3 ∷ claimWith 0 0x0 5 1 ∷ []))
+    (
+    -- 1 0 0 0
+    49 ∷ 32 ∷ 48 ∷ 32 ∷ 48 ∷ 32 ∷ 48 ∷ 10 ∷
+    -- 2 0 1 0
+    50 ∷ 32 ∷ 48 ∷ 32 ∷ 49 ∷ 32 ∷ 48 ∷ 10 ∷
+    -- on 1 0
+    111 ∷ 110 ∷ 32 ∷ 49 ∷ 32 ∷ 48 ∷ 10 ∷
+    -- 3 16 0 0
+    51 ∷ 32 ∷ 49 ∷ 54 ∷ 32 ∷ 48 ∷ 32 ∷ 48 ∷ 10 ∷
+    -- 4 0 2 10
+    52 ∷ 32 ∷ 48 ∷ 32 ∷ 50 ∷ 32 ∷ 49 ∷ 48 ∷ 10 ∷
+    [])
     ∷ []
 
 abbrev pub given : Sample → List ℕ

@@ -14,14 +14,14 @@ use Rattle.listing.specs.Lines.{header, lineOf, onLines, stopLine}
 -- The call of the table that a record says: "2 claim", "3 release", "4 withdraw", "5 clock". (The reader gives no other kind.)
 unfoldable pub saysCall : Call → TableCall
 saysCall c =
-    cond (eqb (c .kind) 2) (claim (c .clock) (record { groups = c .groups; length = c .length }))
+    cond (eqb (c .kind) 2) (claim (c .clock) (record { groups = c .groups; length = c .length; units = c .units }))
     (cond (eqb (c .kind) 3) (release (c .clock) (c .ticket))
     (cond (eqb (c .kind) 4) (withdraw (c .clock) (c .ticket))
     (clock (c .clock))))
 
 -- What a record does: the rig, kind 1, makes the table; each other is a call on it.
 unfoldable pub stepOf : Model → Call → Step
-stepOf m c = cond (eqb (c .kind) 1) (new (c .groups)) (step m (saysCall c))
+stepOf m c = cond (eqb (c .kind) 1) (new (c .groups) (c .pool)) (step m (saysCall c))
 
 -- "one line for each record .. Each grant adds `on TICKET CLOCK`": the call's clock, which is the table's after it.
 unfoldable pub entryOf : ℕ → Step → List ℕ
@@ -51,7 +51,7 @@ linesOf k m w = linesFrom k m (w .calls) (w .stop)
 
 -- "The header, then one line for each record"; "RECORD is 0 for 14, 11 and an empty load", which are told before any record.
 unfoldable pub listingOf : List ℕ → List ℕ
-listingOf load = header ++ stopOr (openNumber load) 0 (linesOf 1 (blank 0) (walk load 1))
+listingOf load = header ++ stopOr (openNumber load) 0 (linesOf 1 (blank 0 0) (walk load 1))
 
 -- ── the player's call ──
 -- "answers the count of bytes written, a stop line included"; "it answers 15 if the whole listing doesn't go in". What it leaves in the

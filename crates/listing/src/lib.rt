@@ -88,19 +88,20 @@ fn ending_of(k: u64, number: u8) -> u8
     number
 }
 
-// What a record does to a table, by its kind: the call of the table that it says. Release and withdrawal (3 and 4) are one call site: the compiler then makes no copy
-// of the table for either.
+// What a record does to a table, by its kind: the call of the table that it says. Release and withdrawal (3 and 4) are one call site: the
+// compiler then makes no copy of the table for either.
 pub fn act(t: Table, call: Call) -> Outcome
     requires { ⌜ Valid t ⌝ }
     ensures { λ r. ⌜ (r ≡ outcome (stepOf (model t) call)) × Valid (r .table) ⌝ }
 {
     let kind = call.kind;
     match kind {
-        1 => table::new(call.groups),
+        1 => table::new(call.groups, call.pool),
         2 => {
             let ask = Request {
                 groups: call.groups,
                 length: call.length,
+                units: call.units,
             };
             table::claim(t, call.clock, ask)
         }
@@ -112,9 +113,9 @@ pub fn act(t: Table, call: Call) -> Outcome
 // The lines of a load's records. What the last call handed back is kept, with its table, so that no table is copied between calls.
 fn records(load: &[u8], out: &mut [u8], from: usize) -> usize
     requires { ⌜ length (now load) ≤ mostBytes ⌝ }
-    ensures { λ r. ⌜ Put (now (out .entry)) from (linesOf 1 (blank 0) (walk (now (load .entry)) 1)) r (now (out .exit)) ⌝ }
+    ensures { λ r. ⌜ Put (now (out .entry)) from (linesOf 1 (blank 0 0) (walk (now (load .entry)) 1)) r (now (out .exit)) ⌝ }
 {
-    let mut o = table::new(0);
+    let mut o = table::new(0, 0);
     let mut at: usize = 1;
     let mut k: u64 = 1;
     let mut n = from;
@@ -198,9 +199,9 @@ pub struct Replayed {
 // The records of a load that opens.
 fn replay_records(load: &[u8]) -> Replayed
     requires { ⌜ length (now load) ≤ mostBytes ⌝ }
-    ensures { λ r. ⌜ (r ≡ replayed (replayIn 1 (blank 0) (walk (now (load .entry)) 1))) × Valid (r .table) ⌝ }
+    ensures { λ r. ⌜ (r ≡ replayed (replayIn 1 (blank 0 0) (walk (now (load .entry)) 1))) × Valid (r .table) ⌝ }
 {
-    let none = table::new(0);
+    let none = table::new(0, 0);
     let mut t = none.table;
     let mut at: usize = 1;
     let mut nth: u64 = 1;
@@ -244,7 +245,7 @@ pub fn replay(load: &[u8]) -> Replayed
 {
     let number = load::open_number(load);
     if number != 0 {
-        let none = table::new(0);
+        let none = table::new(0, 0);
         let t = none.table;
         return Replayed {
             table: t,

@@ -91,6 +91,10 @@ pub record-length : (e : ℕ) (c : Call) → 0 < lengthOf e (c .kind) → length
 unfolding recordBytes
 record-length e c h = let t = length-total e (c .kind) h in simp (length-append, digits-length, field-bytes-length) (omega arith)
 
+pub record-some : (e : ℕ) (c : Call) → 2 < length (recordBytes e c)
+unfolding recordBytes
+record-some e c = simp (length-append, digits-length) (omega arith)
+
 -- ── loads ──
 records-append : (e : ℕ) (cs ds : List Call) → recordsBytes e (cs ++ ds) ≡ recordsBytes e cs ++ recordsBytes e ds
 unfolding recordsBytes

@@ -149,15 +149,18 @@ typed-with f v c l h t g =
     either (eqb g f) (λ p. rw (eqb-true g f p, value-same f v c l) h) (λ p. rw (value-other g f v c p) (t g))
 
 -- The numbers of a call in the code go into their widths.
-pub typed-call : (c : Call) → c .kind < 2 ^ 8 → c .clock < 2 ^ 64 → c .groups < 2 ^ 64 → c .length < 2 ^ 32 → c .ticket < 2 ^ 16 → Typed c
+pub typed-call : (c : Call) → c .kind < 2 ^ 8 → c .clock < 2 ^ 64 → c .groups < 2 ^ 64 → c .length < 2 ^ 32 → c .ticket < 2 ^ 16
+    → c .pool < 2 ^ 16 → c .units < 2 ^ 16 → Typed c
 unfolding valueOf numbers fieldWidth fieldWidths
-typed-call c k t g l n zero = k
-typed-call c k t g l n (suc zero) = t
-typed-call c k t g l n (suc (suc zero)) = g
-typed-call c k t g l n (suc (suc (suc zero))) = l
-typed-call c k t g l n (suc (suc (suc (suc zero)))) = n
-typed-call c k t g l n (suc (suc (suc (suc (suc f))))) = omega arith
+typed-call c k t g l n p u zero = k
+typed-call c k t g l n p u (suc zero) = t
+typed-call c k t g l n p u (suc (suc zero)) = g
+typed-call c k t g l n p u (suc (suc (suc zero))) = l
+typed-call c k t g l n p u (suc (suc (suc (suc zero)))) = n
+typed-call c k t g l n p u (suc (suc (suc (suc (suc zero))))) = p
+typed-call c k t g l n p u (suc (suc (suc (suc (suc (suc zero)))))) = u
+typed-call c k t g l n p u (suc (suc (suc (suc (suc (suc (suc f))))))) = omega arith
 
 pub typed-bare : (k : ℕ) → k < 2 ^ 8 → Typed (bare k)
 unfolding bare made
-typed-bare k h = typed-call (bare k) h (omega arith) (omega arith) (omega arith) (omega arith)
+typed-bare k h = typed-call (bare k) h (omega arith) (omega arith) (omega arith) (omega arith) (omega arith) (omega arith)

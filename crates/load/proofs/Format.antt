@@ -3,7 +3,7 @@ use Prim.Native.Nat.{ℕ, zero, suc, _+_, _≤_, _<_}
 use mathlib.Core.Bool.{Bool, true, false, not, _&&_, _||_, cond, false≢true, and-eq-true-iff}
 use mathlib.Core.List.{List, [], _∷_, _++_, map}
 use mathlib.Core.Logic.{_⊎_, inl, inr, ⊎-elim}
-use mathlib.Core.Path.{_≡_, refl, sym, ap}
+use mathlib.Core.Path.{_≡_, refl, sym, ap, _∙_}
 use native.Mathlib.Omega.{arith}
 use lib.Dec.{ltb, leb, eqb}
 use borrow.Author.Tests.{ltb-true, ltb-false, leb-true, eqb-true, eqb-false, not-true}
@@ -56,7 +56,7 @@ unfoldable pub proper : List ℕ → Bool
 proper [] = true
 proper (f ∷ fs) = (ltb 0 f && ltb f fieldCount) && (not (has f fs) && proper fs)
 
-allRows : (ℕ → ℕ → List ℕ → Bool) → List Row → Bool
+unfoldable pub allRows : (ℕ → ℕ → List ℕ → Bool) → List Row → Bool
 allRows f [] = true
 allRows f (r ∷ rs) = f (r .edition) (r .kind) (r .fields) && allRows f rs
 
@@ -71,9 +71,20 @@ row-passes f (r ∷ rs) e k h =
     (λ p. rw p (row-passes f rs e k (t .1)))
 
 -- A test that is computed over the table.
-tested : (f : ℕ → ℕ → List ℕ → Bool) (e k : ℕ) → allRows f format ≡ true → (fieldsOf e k ≡ []) ⊎ (f e k (fieldsOf e k) ≡ true)
+pub tested : (f : ℕ → ℕ → List ℕ → Bool) (e k : ℕ) → allRows f format ≡ true → (fieldsOf e k ≡ []) ⊎ (f e k (fieldsOf e k) ≡ true)
 unfolding fieldsOf
 tested f e k h = row-passes f format e k h
+
+-- And one of its editions.
+pub known-tested : (f : ℕ → Bool) → allRows (λ e k fs. f e) format ≡ true → (e : ℕ) → known e ≡ true → f e ≡ true
+unfolding known knownIn allRows
+known-tested f h e k = go format h k
+  where
+    go : (rs : List Row) → allRows (λ e k fs. f e) rs ≡ true → knownIn rs e ≡ true → f e ≡ true
+    go [] h k = absurd (false≢true k)
+    go (r ∷ rs) h k =
+        let t = both (f (r .edition)) _ h in
+        either (eqb (r .edition) e) (λ p. ap f (sym (eqb-true (r .edition) e p)) ∙ t .0) (λ p. go rs (t .1) (rw p at k))
 
 pub fields-proper : (e k : ℕ) → proper (fieldsOf e k) ≡ true
 unfolding allRows format proper has fieldWidths
@@ -172,9 +183,12 @@ pub no-row : (e k : ℕ) → fieldsOf e k ≡ [] → replicate 8 0 ≡ rowOf e k
 unfolding rowOf padded lengthOf lengthIn
 no-row e k n = rw n
 
-pub no-edition : (e k : ℕ) → (e ≡ 1 → ⊥) → fieldsOf e k ≡ []
+pub no-edition : (e k : ℕ) → (0 < e → 2 < e) → fieldsOf e k ≡ []
 unfolding allRows format
-no-edition e k h = ⊎-elim (λ n. n) (λ t. absurd (h (eqb-true e 1 t))) (tested (λ e k fs. eqb e 1) e k refl)
+no-edition e k h =
+    ⊎-elim (λ n. n)
+    (λ t. let q = both (ltb 0 e) (ltb e 3) t in absurd (omega (arith, h (ltb-true 0 e (q .0)), ltb-true e 3 (q .1))))
+    (tested (λ e k fs. ltb 0 e && ltb e 3) e k refl)
 
 pub no-kind : (e k : ℕ) → (0 < k → 5 < k) → fieldsOf e k ≡ []
 unfolding allRows format
@@ -182,6 +196,23 @@ no-kind e k h =
     ⊎-elim (λ n. n)
     (λ t. let q = both (ltb 0 k) (ltb k 6) t in absurd (omega (arith, h (ltb-true 0 k (q .0)), ltb-true k 6 (q .1))))
     (tested (λ e k fs. ltb 0 k && ltb k 6) e k refl)
+
+-- Edition 2 has the kinds of edition 1 but for rig and claim.
+pub from-edition-1 : (k : ℕ) → (k ≡ 1 → ⊥) → (k ≡ 2 → ⊥) → rowOf 1 k ≡ rowOf 2 k
+unfolding rowOf lengthOf fieldsOf rowIn format
+from-edition-1 k a b = ap (λ fs. padded 7 fs ++ (lengthIn fs ∷ [])) (go k a b)
+  where
+    past : (k : ℕ) → 5 < k → fieldsOf 1 k ≡ fieldsOf 2 k
+    past k h = no-kind 1 k (λ z. h) ∙ sym (no-kind 2 k (λ z. h))
+
+    go : (k : ℕ) → (k ≡ 1 → ⊥) → (k ≡ 2 → ⊥) → fieldsOf 1 k ≡ fieldsOf 2 k
+    go zero a b = refl
+    go (suc zero) a b = absurd (a refl)
+    go (suc (suc zero)) a b = absurd (b refl)
+    go (suc (suc (suc zero))) a b = refl
+    go (suc (suc (suc (suc zero)))) a b = refl
+    go (suc (suc (suc (suc (suc zero))))) a b = refl
+    go (suc (suc (suc (suc (suc (suc k)))))) a b = past (suc (suc (suc (suc (suc (suc k)))))) (omega arith)
 
 pub no-field : (e k i : ℕ) → 6 < i → 0 ≡ getD (fieldsOf e k) i 0
 no-field e k i h = sym (List·getD-eq-default (fieldsOf e k) 0 (omega (arith, fields-few e k)))

@@ -2,23 +2,25 @@
 use Prim.Native.Nat.{ℕ, zero, suc, _+_, _-_, _*_, _/_, _≤_, _<_}
 use mathlib.Core.Bool.{true, false, not, _||_}
 use mathlib.Core.List.{List, [], _∷_}
-use mathlib.Core.Path.{_≡_, refl, ap}
+use mathlib.Core.Logic.{⊎-elim}
+use mathlib.Core.Path.{_≡_, refl, sym, ap, _∙_}
 use native.Mathlib.Omega.{arith}
 use native.Mathlib.Nat.{le-div-iff-mul-le, div-le-self}
 use lib.Dec.{ltb, eqb}
-use borrow.Author.Tests.{ltb-false, eqb-true, eqb-false, lt-ltb, le-ltb, eq-eqb, ne-eqb, not-false}
+use borrow.Author.Tests.{ltb-false, eqb-true, eqb-false, lt-ltb, le-ltb, eq-eqb, ne-eqb, not-true, not-false}
 use lib.ListN.{length, take, drop, getD, length-drop, drop-of-length-le}
 use lib.Seq.{getD-drop, drop-drop, take-all}
 use Rattle.load.specs.declared.Call.{Call}
 use Rattle.load.specs.declared.Item.{Item}
 use Rattle.load.specs.declared.Item.the-variants.{Record, End, Refused}
-use Rattle.load.specs.Format.{known, widths, lengthOf, leastLength}
-use Rattle.load.specs.Calls.{callOf}
+use Rattle.load.specs.Format.{thePool, theUnits, format, known, fieldsOf, widths, lengthOf, leastLength}
+use Rattle.load.specs.Calls.{numbers, made, valueOf, bare, callOf}
 use Rattle.load.specs.Bytes.{fieldValues, loadBytes}
 use Rattle.load.specs.Answers.{itemValues}
-use Rattle.load.specs.Reading.{inPlace, lengthField, kindField, short, misfit, readAt, editionOf, itemAt, recordNumber, ItemNumbered}
+use Rattle.load.specs.Reading.{inPlace, lengthField, kindField, short, misfit, readAt, editionOf, itemAt, recordNumber, ItemNumbered, Edition1Bare}
 use Rattle.load.specs.Reading.{openNumber, Walk, ended, onto, walkIn, walk, orElse, unlessRefused, reading, loadNumber, ReadingTested}
-use Rattle.load.proofs.Format.{neither, passed, either, least-some, length-least}
+use Rattle.load.proofs.Format.{neither, passed, either, has, allRows, tested, least-some, length-least}
+use Rattle.load.proofs.Calls.{filled-other, kind-of-call}
 
 -- ── what stands at a position ──
 -- The call that bytes say, where they are a record.
@@ -101,6 +103,21 @@ misfit-none e at k h q =
     let z : eqb (lengthOf e k) 0 ≡ false = ne-eqb (lengthOf e k) 0 (λ e. omega arith) in
     rw (z, eq-eqb (lengthOf e k) (lengthOf e k) refl, q)
 
+-- Edition 1 has neither field.
+edition-1-lacks : (k f : ℕ) → allRows (λ e k fs. not (eqb e 1) || not (has f fs)) format ≡ true → has f (fieldsOf 1 k) ≡ false
+unfolding has
+edition-1-lacks k f t = ⊎-elim (λ n. rw n) (λ p. not-true (has f (fieldsOf 1 k)) p) (tested (λ e k fs. not (eqb e 1) || not (has f fs)) 1 k t)
+
+pub edition-1-bare : Edition1Bare
+unfolding allRows format has callOf bare made valueOf numbers
+edition-1-bare s at c next e h =
+    let r = stands s at c next h in
+    let k = kindField (drop at s) in
+    let q : callIn 1 (drop at s) ≡ c = rw e at (r .call) in (
+      sym (ap (λ (x : Call). x .pool) q) ∙ filled-other (fieldsOf 1 k) _ (bare k) thePool (edition-1-lacks k thePool refl),
+      sym (ap (λ (x : Call). x .units) q) ∙ filled-other (fieldsOf 1 k) _ (bare k) theUnits (edition-1-lacks k theUnits refl),
+    )
+
 -- The tests as the code makes them at a position.
 module _ (s : List ℕ) (at : ℕ) where
   pub step-short : at < length s → length s - at < 2 + lengthField (drop at s) → Refused 12 ≡ itemAt s at
@@ -158,21 +175,26 @@ pub walk-refused : (s : List ℕ) (at n : ℕ) → itemAt s at ≡ Refused n →
 unfolding walk walkIn
 walk-refused s at n e = rw e
 
--- A record has so many bytes at least, and a load has few of them.
-record-size : (s : List ℕ) (at : ℕ) (c : Call) (next : ℕ) → itemAt s at ≡ Record c next → at + leastLength ≤ next
+-- A record has the length of its kind; its call tells the kind.
+pub record-size : (s : List ℕ) (at : ℕ) (c : Call) (next : ℕ) → itemAt s at ≡ Record c next
+    → (0 < lengthOf (editionOf s) (c .kind)) × (at + (2 + lengthOf (editionOf s) (c .kind)) ≡ next)
 record-size s at c next h =
+    let e = editionOf s in
     let r = stands s at c next h in
     let n = lengthField (drop at s) in
     let k = kindField (drop at s) in
-    let f = misfit-not (editionOf s) at n k (r .fits) in
-    omega (arith, r .behind, f .0, f .1, length-least (editionOf s) k (omega (arith, f .0, f .1)))
+    let f = misfit-not e at n k (r .fits) in
+    let q : c .kind ≡ k = sym (ap (λ (x : Call). x .kind) (r .call)) ∙ kind-of-call e k _ in
+    let l : lengthOf e (c .kind) ≡ n = ap (lengthOf e) q ∙ sym (f .1) in
+    (omega (arith, f .0, l), omega (arith, r .behind, l))
 
 walk-in-few : (k : ℕ) (s : List ℕ) (at : ℕ) → leastLength * length (walkIn k s at .calls) ≤ length s - at
 unfolding walkIn
 walk-in-few zero s at = omega arith
 walk-in-few (suc k) s at =
     by-item (itemAt s at)
-    (λ c n e. rw e (omega (arith, walk-in-few k s n, record-size s at c n e, step-next s at c n e .1)))
+    (λ c n e. let z = record-size s at c n e in
+    rw e (omega (arith, walk-in-few k s n, length-least (editionOf s) (c .kind) (z .0), z .1, step-next s at c n e .1)))
     (λ e. rw e (omega arith))
     (λ n e. rw e (omega arith))
 

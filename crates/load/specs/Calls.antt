@@ -9,11 +9,19 @@ use Rattle.load.specs.Format.{fieldCount, fieldsOf, lengthOf}
 
 -- Each number stands at the place that names its field.
 unfoldable pub numbers : Call → List ℕ
-numbers c = c .kind ∷ c .clock ∷ c .groups ∷ c .length ∷ c .ticket ∷ []
+numbers c = c .kind ∷ c .clock ∷ c .groups ∷ c .length ∷ c .ticket ∷ c .pool ∷ c .units ∷ []
 
 -- The call of such numbers. One that is not there is 0.
 unfoldable pub made : List ℕ → Call
-made ns = record { kind = getD ns 0 0; clock = getD ns 1 0; groups = getD ns 2 0; length = getD ns 3 0; ticket = getD ns 4 0 }
+made ns = record {
+  kind = getD ns 0 0;
+  clock = getD ns 1 0;
+  groups = getD ns 2 0;
+  length = getD ns 3 0;
+  ticket = getD ns 4 0;
+  pool = getD ns 5 0;
+  units = getD ns 6 0;
+}
 
 unfoldable pub valueOf : ℕ → Call → ℕ
 valueOf f c = getD (numbers c) f 0
@@ -57,7 +65,8 @@ kept e c = callOf e (c .kind) (valuesOf e c)
 unfoldable pub carries : ℕ → Call → Bool
 carries e c = ltb 0 (lengthOf e (c .kind)) && same (kept e c) c
 
--- ── the calls of edition 1, for examples ──
+-- ── calls, for examples ──
+-- Those of edition 1; a rig and a claim of edition 2 with no pool and no units are the same calls.
 abbrev pub rig : ℕ → Call
 rig groups = callOf 1 1 (groups ∷ [])
 
@@ -72,3 +81,10 @@ withdraw clock ticket = callOf 1 4 (clock ∷ ticket ∷ [])
 
 abbrev pub clock : ℕ → Call
 clock at = callOf 1 5 (at ∷ [])
+
+-- Edition 2's own.
+abbrev pub rigWith : ℕ → ℕ → Call
+rigWith groups pool = callOf 2 1 (groups ∷ pool ∷ [])
+
+abbrev pub claimWith : ℕ → ℕ → ℕ → ℕ → Call
+claimWith clock groups length units = callOf 2 2 (clock ∷ groups ∷ length ∷ units ∷ [])

@@ -1,9 +1,10 @@
--- The load format as one table: document 01, "The load". Reader, writer and round trip are driven by it. An edition and a kind are rows of
--- `format`; a field is a name and a width here, and a number of a call (specs/Calls). Quotations are from document 01.
+-- The load format as one table: document 01, "The load", and edition 2 of document 02. Reader, writer and round trip are driven by it. An
+-- edition and a kind are rows of `format`; a field is a name and a width here, and a number of a call (specs/Calls). Quotations are from
+-- document 01, of edition 2 from document 02.
 use Prim.Native.Nat.{ℕ, zero, suc, _+_, min}
 use mathlib.Core.Bool.{Bool, false, _&&_, _||_, cond}
 use mathlib.Core.List.{List, [], _∷_, _++_, map}
-use lib.Dec.{eqb}
+use lib.Dec.{ltb, eqb}
 use lib.ListN.{length, drop, getD}
 
 -- ── fields ──
@@ -23,9 +24,15 @@ theLength = 3
 abbrev pub theTicket : ℕ
 theTicket = 4
 
--- Their widths in bytes, in that order: kind 1, clock 8, groups 8, length 4, ticket 2.
+abbrev pub thePool : ℕ
+thePool = 5
+
+abbrev pub theUnits : ℕ
+theUnits = 6
+
+-- Their widths in bytes, in that order: kind 1, clock 8, groups 8, length 4, ticket 2, pool 2, units 2.
 unfoldable pub fieldWidths : List ℕ
-fieldWidths = 1 ∷ 8 ∷ 8 ∷ 4 ∷ 2 ∷ []
+fieldWidths = 1 ∷ 8 ∷ 8 ∷ 4 ∷ 2 ∷ 2 ∷ 2 ∷ []
 
 abbrev pub fieldCount : ℕ
 fieldCount = length fieldWidths
@@ -34,29 +41,44 @@ unfoldable pub fieldWidth : ℕ → ℕ
 fieldWidth f = getD fieldWidths f 0
 
 -- ── rows ──
--- A kind of an edition: its name, and its fields in their order.
+-- A kind of an edition, and its fields in their order.
 pub record Row : Type 0 where
   pub edition : ℕ
   pub kind : ℕ
-  pub name : List ℕ
   pub fields : List ℕ
 
-abbrev pub row : ℕ → ℕ → List ℕ → List ℕ → Row
-row edition kind name fields = record { edition = edition; kind = kind; name = name; fields = fields }
+abbrev pub row : ℕ → ℕ → List ℕ → Row
+row edition kind fields = record { edition = edition; kind = kind; fields = fields }
+
+-- The same kinds in another edition.
+abbrev pub inEdition : ℕ → List Row → List Row
+inEdition e rs = map (λ r. row e (r .kind) (r .fields)) rs
+
+abbrev pub edition1 : List Row
+edition1 =
+    -- "1 rig", groups
+    row 1 1 (theGroups ∷ [])
+    -- "2 claim", clock, groups, length
+    ∷ row 1 2 (theClock ∷ theGroups ∷ theLength ∷ [])
+    -- "3 release", clock, ticket
+    ∷ row 1 3 (theClock ∷ theTicket ∷ [])
+    -- "4 withdraw", clock, ticket
+    ∷ row 1 4 (theClock ∷ theTicket ∷ [])
+    -- "5 clock", clock
+    ∷ row 1 5 (theClock ∷ [])
+    ∷ []
+
+abbrev pub edition2 : List Row
+edition2 =
+    -- "two bytes of k at the end of the rig (length 11)"
+    row 2 1 (theGroups ∷ thePool ∷ [])
+    -- "and two of units at that of the claim (length 23)"
+    ∷ row 2 2 (theClock ∷ theGroups ∷ theLength ∷ theUnits ∷ [])
+    -- the other kinds are edition 1's
+    ∷ inEdition 2 (drop 2 edition1)
 
 unfoldable pub format : List Row
-format =
-    -- edition 1: "1 rig", groups
-    row 1 1 (114 ∷ 105 ∷ 103 ∷ []) (theGroups ∷ [])
-    -- "2 claim", clock, groups, length
-    ∷ row 1 2 (99 ∷ 108 ∷ 97 ∷ 105 ∷ 109 ∷ []) (theClock ∷ theGroups ∷ theLength ∷ [])
-    -- "3 release", clock, ticket
-    ∷ row 1 3 (114 ∷ 101 ∷ 108 ∷ 101 ∷ 97 ∷ 115 ∷ 101 ∷ []) (theClock ∷ theTicket ∷ [])
-    -- "4 withdraw", clock, ticket
-    ∷ row 1 4 (119 ∷ 105 ∷ 116 ∷ 104 ∷ 100 ∷ 114 ∷ 97 ∷ 119 ∷ []) (theClock ∷ theTicket ∷ [])
-    -- "5 clock", clock
-    ∷ row 1 5 (99 ∷ 108 ∷ 111 ∷ 99 ∷ 107 ∷ []) (theClock ∷ [])
-    ∷ []
+format = edition1 ++ edition2
 
 -- ── from the table ──
 -- The editions that there are.
@@ -67,13 +89,10 @@ knownIn (r ∷ rs) e = eqb (r .edition) e || knownIn rs e
 unfoldable pub known : ℕ → Bool
 known e = knownIn format e
 
--- The row of a kind of an edition; one with no name and no fields where there is none.
+-- The row of a kind of an edition; one with no fields where there is none.
 unfoldable pub rowIn : List Row → ℕ → ℕ → Row
-rowIn [] e k = row 0 0 [] []
+rowIn [] e k = row 0 0 []
 rowIn (r ∷ rs) e k = cond (eqb (r .edition) e && eqb (r .kind) k) r (rowIn rs e k)
-
-unfoldable pub nameOf : ℕ → ℕ → List ℕ
-nameOf e k = rowIn format e k .name
 
 unfoldable pub fieldsOf : ℕ → ℕ → List ℕ
 fieldsOf e k = rowIn format e k .fields
@@ -92,6 +111,26 @@ lengthIn (f ∷ fs) = total (map fieldWidth (theKind ∷ f ∷ fs))
 
 unfoldable pub lengthOf : ℕ → ℕ → ℕ
 lengthOf e k = lengthIn (fieldsOf e k)
+
+-- The names of the kinds, in ASCII, from kind 0 on, which is none.
+unfoldable pub names : List (List ℕ)
+names =
+    []
+    -- "rig"
+    ∷ (114 ∷ 105 ∷ 103 ∷ [])
+    -- "claim"
+    ∷ (99 ∷ 108 ∷ 97 ∷ 105 ∷ 109 ∷ [])
+    -- "release"
+    ∷ (114 ∷ 101 ∷ 108 ∷ 101 ∷ 97 ∷ 115 ∷ 101 ∷ [])
+    -- "withdraw"
+    ∷ (119 ∷ 105 ∷ 116 ∷ 104 ∷ 100 ∷ 114 ∷ 97 ∷ 119 ∷ [])
+    -- "clock"
+    ∷ (99 ∷ 108 ∷ 111 ∷ 99 ∷ 107 ∷ [])
+    ∷ []
+
+-- The name of a kind; none for one that the edition lacks.
+unfoldable pub nameOf : ℕ → ℕ → List ℕ
+nameOf e k = cond (ltb 0 (lengthOf e k)) (getD names k []) []
 
 -- A row as the code has it: the fields, 0 in the places after them up to the seventh, and the length.
 unfoldable pub padded : ℕ → List ℕ → List ℕ

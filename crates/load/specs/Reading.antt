@@ -68,6 +68,10 @@ recordNumber s at =
 abbrev pub ItemNumbered : Type 0
 ItemNumbered = (s : List ℕ) (at : ℕ) → itemValues at (itemAt s at) .number ≡ recordNumber s at
 
+-- Document 02 of pool and units: "edition 1 reads as 0 for both". (Proved in proofs/Reading: edition-1-bare.)
+abbrev pub Edition1Bare : Type 0
+Edition1Bare = (s : List ℕ) (at : ℕ) (c : Call) (next : ℕ) → editionOf s ≡ 1 → itemAt s at ≡ Record c next → (c .pool ≡ 0) × (c .units ≡ 0)
+
 -- ── a whole load ──
 -- 14 "load over 65,536 bytes", 12 "the load is empty", 11 "first byte of a load names no edition the reader knows"; 0 for none of them.
 unfoldable pub openNumber : List ℕ → ℕ

@@ -20,6 +20,8 @@ pub struct Call {
     pub groups: u64,
     pub length: u32,
     pub ticket: u16,
+    pub pool: u16,
+    pub units: u16,
 }
 
 // What stands at a position: a record's call with the position after it, the end, or the number of a refusal.
@@ -36,8 +38,8 @@ pub enum Written {
 }
 
 // ---- the format
-// A field is named by a number: kind 0, clock 1, groups 2, length 3, ticket 4. Their widths in bytes:
-const WIDTHS: [u8; 5] = [1, 8, 8, 4, 2];
+// A field is named by a number: kind 0, clock 1, groups 2, length 3, ticket 4, pool 5, units 6. Their widths in bytes:
+const WIDTHS: [u8; 7] = [1, 8, 8, 4, 2, 2, 2];
 
 // A row of the format: the fields of a kind in their order, 0 after the last; at place 7 the length of a record, its kind byte and its
 // fields. All 0 for a kind that the edition lacks.
@@ -59,11 +61,25 @@ fn edition_1(kind: u8) -> [u8; 8]
     }
 }
 
+// The rig has its pool and the claim its units at the end; the other kinds are edition 1's.
+fn edition_2(kind: u8) -> [u8; 8]
+    ensures { λ r. ⌜ r ≡ rowOf 2 kind ⌝ }
+{
+    match kind {
+        // rig: groups, pool
+        1 => [2, 5, 0, 0, 0, 0, 0, 11],
+        // claim: clock, groups, length, units
+        2 => [1, 2, 3, 6, 0, 0, 0, 23],
+        _ => edition_1(kind),
+    }
+}
+
 fn row_of(edition: u8, kind: u8) -> [u8; 8]
     ensures { λ r. ⌜ r ≡ rowOf edition kind ⌝ }
 {
     match edition {
         1 => edition_1(kind),
+        2 => edition_2(kind),
         _ => [0; 8],
     }
 }
@@ -91,7 +107,7 @@ pub fn length_of(edition: u8, kind: u8) -> usize
 pub fn width_of(field: u8) -> usize
     ensures { λ r. ⌜ (r ≡ fieldWidth field) × (r ≤ 8) ⌝ }
 {
-    if field < 5 {
+    if field < 7 {
         return WIDTHS[field as usize] as usize;
     }
     0
@@ -107,8 +123,10 @@ pub fn value_of(call: Call, field: u8) -> u64
         call.groups,
         call.length as u64,
         call.ticket as u64,
+        call.pool as u64,
+        call.units as u64,
     ];
-    if field < 5 {
+    if field < 7 {
         return numbers[field as usize];
     }
     0
@@ -135,6 +153,12 @@ pub fn with_value(call: Call, field: u8, value: u64) -> Call
         4 => {
             c.ticket = (value % 65536) as u16;
         }
+        5 => {
+            c.pool = (value % 65536) as u16;
+        }
+        6 => {
+            c.units = (value % 65536) as u16;
+        }
         _ => {}
     }
     c
@@ -150,6 +174,8 @@ pub fn bare(kind: u8) -> Call
         groups: 0,
         length: 0,
         ticket: 0,
+        pool: 0,
+        units: 0,
     }
 }
 
@@ -181,7 +207,7 @@ fn kept(edition: u8, call: Call) -> Call
 fn same(a: Call, b: Call) -> bool
     ensures { λ r. ⌜ r ≡ same a b ⌝ }
 {
-    let mut f: u8 = 5;
+    let mut f: u8 = 7;
     while 0 < f {
         f -= 1;
         if value_of(a, f) != value_of(b, f) {
@@ -250,8 +276,8 @@ fn misfits(edition: u8, at: usize, n: usize, kind: u8) -> bool
     !placed(kind, at)
 }
 
-// The call of five numbers, each of which goes into its field.
-fn made(numbers: [u64; 5]) -> Call
+// The call of seven numbers, each of which goes into its field.
+fn made(numbers: [u64; 7]) -> Call
     requires { ⌜ Typed (made numbers) ⌝ }
     ensures { λ r. ⌜ r ≡ made numbers ⌝ }
 {
@@ -261,6 +287,8 @@ fn made(numbers: [u64; 5]) -> Call
         groups: numbers[2],
         length: numbers[3] as u32,
         ticket: numbers[4] as u16,
+        pool: numbers[5] as u16,
+        units: numbers[6] as u16,
     }
 }
 
@@ -269,7 +297,7 @@ fn call_of(edition: u8, kind: u8, fields: &[u8]) -> Call
     ensures { λ r. ⌜ r ≡ callOf edition kind (fieldValues (widths edition kind) (now (fields .entry))) ⌝ }
 {
     let row = row_of(edition, kind);
-    let mut numbers: [u64; 5] = [kind as u64, 0, 0, 0, 0];
+    let mut numbers: [u64; 7] = [kind as u64, 0, 0, 0, 0, 0, 0];
     let mut at: usize = 0;
     let mut i: usize = 0;
     loop {
@@ -277,7 +305,7 @@ fn call_of(edition: u8, kind: u8, fields: &[u8]) -> Call
         if f == 0 {
             return made(numbers);
         }
-        let w = width_of(f);
+        let w = WIDTHS[f as usize] as usize;
         numbers[f as usize] = numerals::number(fields, at, w);
         at += w;
         i += 1;

@@ -1,28 +1,28 @@
 -- Laws of lines: hex digit by digit, and lengths, none of which is long.
-use Prim.Native.Nat.{ℕ, zero, suc, _+_, _-_, _/_, _^_, _≤_, _<_}
-use mathlib.Core.Bool.{Bool, true, false, _||_, cond, false≢true}
+use Prim.Native.Nat.{ℕ, zero, suc, _+_, _-_, _*_, _/_, _^_, _≤_, _<_}
+use mathlib.Core.Bool.{Bool, true, false, _&&_, _||_, cond, false≢true}
 use mathlib.Core.List.{List, [], _∷_, _++_, map}
 use mathlib.Core.Logic.{⊎-elim}
 use mathlib.Core.Path.{_≡_, refl, sym, ap}
 use native.Mathlib.Omega.{arith}
 use lib.Dec.{ltb, leb, eqb}
 use lib.ListN.{length, getD, replicate, length-append, length-replicate}
-use borrow.Author.Tests.{ne-eqb, leb-true}
+use borrow.Author.Tests.{ne-eqb, ltb-true, leb-true}
 use Rattle.numerals.specs.Digits.{digits, widthUpTo, widthOf, decimalOf, column}
 use Rattle.numerals.specs.Laid.{Put, spaceNumber, lentOut}
 use Rattle.numerals.proofs.Laying.{width-small, decimal-length, pair-length, put-short, lent-all, lent-none, lent-known}
 use Rattle.load.specs.declared.Call.{Call}
-use Rattle.load.specs.Format.{theGroups, format, known, rowIn, nameOf, fieldsOf}
+use Rattle.load.specs.Format.{theGroups, fieldWidths, fieldWidth, format, known, fieldsOf, total, lengthIn, lengthOf, names, nameOf}
 use Rattle.load.specs.Calls.{valueOf}
-use Rattle.load.proofs.Format.{allBelow, below-passes}
+use Rattle.load.specs.Bytes.{recordBytes}
+use Rattle.load.proofs.Format.{both, allBelow, below-passes, allRows, tested, known-tested}
+use Rattle.load.proofs.Bytes.{record-some, record-length}
 use Rattle.load_text.specs.declared.print.Printed.the-variants.{Length, Refusal}
-use Rattle.load_text.specs.declared.texts.Key.the-variants.{Kind}
 use Rattle.load_text.specs.Lines.{glyphOf, hexUpTo, wordOf, fieldsText, lineOf, stopLine, headerOf, reasons, reasonTexts, reasonText, reportOf, reported, printed}
 use Rattle.load_text.specs.Parsing.{placeOf, is}
 use Rattle.load_text.specs.Reasons.{noSpace}
 use Rattle.load_text.proofs.Cases.{either, not-refused}
 use Rattle.load_text.proofs.Parts.{place-high}
-use Rattle.load_text.proofs.Tables.{allRows, row-cases, row-kind, known-passes}
 
 -- ── hex ──
 module _ (v b : ℕ) (g : b ≡ glyphOf v) where
@@ -63,24 +63,47 @@ unfolding fieldsText bound
 fields-length [] c = omega arith
 fields-length (f ∷ fs) c = omega (arith, length-append (wordOf f (valueOf f c)) (fieldsText fs c), word-length f (valueOf f c), fields-length fs c)
 
--- The longest line has 65 bytes.
-pub line-length : (e : ℕ) (c : Call) → length (lineOf e c) ≤ 65
-unfolding lineOf nameOf fieldsOf allRows format bound
-line-length e c =
-    let k = c .kind in
-    let r = rowIn format e k in
-    let l = length-append (r .name) (fieldsText (r .fields) c) in
-    let b : length (r .name) + bound (r .fields) ≤ 65 =
-    ⊎-elim (λ n. rw n (omega arith)) (λ t. leb-true (length (r .name) + bound (r .fields)) 65 (t .0)) (rw row-kind at (row-cases (λ r. leb (length (r .name) + bound (r .fields)) 65) e (Kind k) [] format refl)) in
-    omega (arith, fields-length (r .fields) c)
+-- A line with these fields has at most 86 bytes, and at most four for each byte of its record.
+line-test : ℕ → List ℕ → Bool
+line-test k fs =
+    let n = length (getD names k []) + bound fs in
+    ltb 0 (lengthIn fs) && (leb n 86 && leb n (4 * (2 + lengthIn fs)))
+
+module _ (e : ℕ) (c : Call) where
+  line-most : (length (lineOf e c) ≤ 86) × (length (lineOf e c) ≤ 4 * length (recordBytes e c))
+  unfolding lineOf nameOf lengthOf fieldsText line-test bound allRows format lengthIn total fieldWidth fieldWidths names
+  line-most = ⊎-elim none some (tested (λ e k fs. line-test k fs) e k refl)
+    where
+      k : ℕ
+      k = c .kind
+
+      none : fieldsOf e k ≡ [] → (length (lineOf e c) ≤ 86) × (length (lineOf e c) ≤ 4 * length (recordBytes e c))
+      none n = rw n (omega arith, omega (arith, record-some e c))
+
+      some : line-test k (fieldsOf e k) ≡ true → (length (lineOf e c) ≤ 86) × (length (lineOf e c) ≤ 4 * length (recordBytes e c))
+      some t =
+          let fs = fieldsOf e k in
+          let name = getD names k [] in
+          let a = both (ltb 0 (lengthIn fs)) _ t in
+          let n = length name + bound fs in
+          let b = both (leb n 86) (leb n (4 * (2 + lengthIn fs))) (a .1) in
+          let r = record-length e c (ltb-true 0 (lengthIn fs) (a .0)) in
+          let l : length (lineOf e c) ≤ n = rw (a .0) (omega (arith, length-append name (fieldsText fs c), fields-length fs c)) in
+          (omega (arith, l, leb-true n 86 (b .0)), omega (arith, l, leb-true n (4 * (2 + lengthIn fs)) (b .1), r))
+
+  pub line-length : length (lineOf e c) ≤ 86
+  line-length = line-most .0
+
+  pub line-record : length (lineOf e c) ≤ 4 * length (recordBytes e c)
+  line-record = line-most .1
 
 pub line-short : (e : ℕ) (c : Call) → length (lineOf e c) < 2 ^ 64
 line-short e c = omega (arith, line-length e c)
 
 -- The header of an edition that there is has at most 12.
 pub header-length : (e : ℕ) → known e ≡ true → length (headerOf e) ≤ 12
-unfolding allRows known format headerOf column decimalOf widthOf widthUpTo digits
-header-length e k = leb-true (length (headerOf e)) 12 (known-passes (λ i. leb (length (headerOf i)) 12) format refl e k)
+unfolding allRows format headerOf column decimalOf widthOf widthUpTo digits
+header-length e k = leb-true (length (headerOf e)) 12 (known-tested (λ i. leb (length (headerOf i)) 12) refl e k)
 
 pub stop-length : (n k : ℕ) → length (stopLine n k) ≤ 49
 unfolding stopLine
@@ -92,7 +115,7 @@ unfolding reasonText reasonTexts reasons allBelow
 reason-length n =
     let i = placeOf (is n) (map (λ r. r .number) reasons) 0 in
     let h = place-high (is n) (map (λ r. r .number) reasons) 0 in
-    leb-true (length (getD reasonTexts i [])) 29 (below-passes 14 (λ i. leb (length (getD reasonTexts i [])) 29) refl i (omega arith))
+    leb-true (length (getD reasonTexts i [])) 29 (below-passes 16 (λ i. leb (length (getD reasonTexts i [])) 29) refl i (omega arith))
 
 report-length : (line n : ℕ) → length (reportOf line n) ≤ 56
 unfolding reportOf

@@ -3,29 +3,27 @@ use Prim.Native.Nat.{ℕ, zero, suc, _+_, _-_, _*_, _/_, _%_, _^_, _≤_, _<_}
 use mathlib.Core.Path.{_≡_, refl, sym, ap, _∙_}
 use mathlib.Core.Bool.{Bool, true, false, not, _&&_, _||_, cond, false≢true}
 use mathlib.Core.List.{List, [], _∷_, _++_, map, append-assoc}
-use mathlib.Core.Logic.{⊎-elim}
 use native.Mathlib.Nat.{pow-suc, pow-le-pow-right}
 use native.Mathlib.Omega.{arith}
 use lib.Dec.{ltb, leb, eqb}
 use lib.ListN.{length, getD, length-append}
-use borrow.Author.Tests.{eqb-true, ltb-true, leb-false, leb-true, lt-ltb, le-ltb, le-leb, lt-leb, not-true}
+use borrow.Author.Tests.{eqb-true, ne-eqb, ltb-true, leb-false, leb-true, lt-ltb, le-ltb, le-leb, lt-leb, not-true}
 use Rattle.numerals.specs.Digits.{digits, widthUpTo, widthOf, decimalOf, column}
 use Rattle.load.specs.declared.Call.{Call}
-use Rattle.load.specs.Format.{theGroups, fieldWidth, Row, format, known, rowIn, nameOf, fieldsOf, lengthIn, lengthOf}
+use Rattle.load.specs.Format.{theGroups, fieldWidth, format, known, fieldsOf, lengthOf, names, nameOf}
 use Rattle.load.specs.Calls.{valueOf, withValue, bare, filled, callOf, valuesIn, valuesOf, carries}
 use Rattle.load.specs.Reading.{editionOf, walk}
 use Rattle.load.specs.RoundTrip.{Typed}
-use Rattle.load.proofs.Format.{both, width-most}
+use Rattle.load.proofs.Format.{both, allBelow, below-passes, allRows, known-tested, width-most}
 use Rattle.load.proofs.Calls.{carries-length, call-of-values}
 use Rattle.load.proofs.Reading.{load-parts, load-known}
 use Rattle.load.proofs.Loads.{Loadable, read-loadable}
 use Rattle.load_text.specs.declared.parse.Head.the-variants.{Edition, Other}
 use Rattle.load_text.specs.declared.parse.Parsed.the-variants.{Nothing, Said}
-use Rattle.load_text.specs.declared.texts.Key.the-variants.{Kind}
 use Rattle.load_text.specs.declared.words.Field.the-variants.{Value}
 use Rattle.load_text.specs.Lines.{glyphOf, hexUpTo, wordOf, fieldsText, lineOf, linesOf, restOf, headerOf, textOf}
 use Rattle.load_text.specs.Making.{plain, headingIn, heading, saidIn}
-use Rattle.load_text.specs.Parsing.{none, before, parts, inFront, full, is, isFeed, isBlank, isJoint, isList, linesIn, wordsIn, chomped, said, digitOf, noDigit, digitsIn, valueIn, numberIn, groupsIn, fieldIn, filledIn, isWord, isRow, rowFor, kindNamed, kindSays, callIn, lineSays, editionWord, editionOr, editionIn, headIn, headSays}
+use Rattle.load_text.specs.Parsing.{none, before, parts, inFront, full, is, isFeed, isBlank, isJoint, isList, linesIn, wordsIn, chomped, said, digitOf, noDigit, digitsIn, valueIn, numberIn, groupsIn, fieldIn, filledIn, isWord, placeIn, kindOf, kindNamed, kindSays, callIn, lineSays, editionWord, editionOr, editionIn, headIn, headSays}
 use Rattle.load_text.specs.ReadBack.{LineReadBack, TextReadBack}
 use Rattle.load_text.specs.Reasons.{noEdition}
 use Rattle.load_text.proofs.Cases.{either, below}
@@ -33,7 +31,7 @@ use Rattle.load_text.proofs.Fields.{kind-some}
 use Rattle.load_text.proofs.Parts.{none-cons, none-less, none-at, until-none}
 use Rattle.load_text.proofs.Numbers.{digit-ten, digit-upper}
 use Rattle.load_text.proofs.Reading.{full-cons}
-use Rattle.load_text.proofs.Tables.{allRows, row-cases, row-kind, known-passes}
+use Rattle.load_text.proofs.Tables.{kind-few}
 
 -- ── parts of a text in front of a byte that ends one ──
 module _ (p : ℕ → Bool) where
@@ -231,8 +229,10 @@ fields-spaced c rest w (f ∷ fs) =
     ∙ sym (append-assoc w (32 ∷ spaced v (wordsOf fs c)) (10 ∷ rest))
 
 -- ── the names ──
-name-test : Row → Bool
-name-test r = (ltb 0 (r .kind) && eqb (kindNamed (r .edition) (r .name)) (r .kind)) && (not (isWord (r .name) editionWord) && isPlain (r .name))
+name-test : ℕ → Bool
+name-test k =
+    let n = getD names k [] in
+    eqb (kindOf n) k && (not (isWord n editionWord) && (eqb k 0 || isPlain n))
 
 record Named (e k : ℕ) : Type 0 where
   some : 0 < k
@@ -241,28 +241,20 @@ record Named (e k : ℕ) : Type 0 where
   word : Plain (nameOf e k)
 
 -- A kind that an edition has is named by its name alone, which is a plain word.
-named : (e : ℕ) (c : Call) → carries e c ≡ true → Named e (c .kind)
-unfolding nameOf lengthOf fieldsOf lengthIn name-test allRows format kindNamed rowFor isRow isWord isPlain none
-named e c h =
-    ⊎-elim (λ n. absurd (omega (arith, carries-length e c h, ap (λ (r : Row). lengthIn (r .fields)) n))) go
-    (rw row-kind at (row-cases name-test e (Kind (c .kind)) [] format refl))
-  where
-    r : Row
-    r = rowIn format e (c .kind)
-
-    go : (name-test r ≡ true) × (isRow e (Kind (c .kind)) [] r ≡ true) → Named e (c .kind)
-    go t =
-        let x = both (eqb (r .edition) e) (eqb (r .kind) (c .kind)) (t .1) in
-        let k = eqb-true (r .kind) (c .kind) (x .1) in
-        let a = both _ _ (t .0) in
-        let b = both _ _ (a .0) in
-        let d = both _ _ (a .1) in
-        record {
-          some = omega (arith, ltb-true 0 (r .kind) (b .0));
-          kind = ap (λ (n : ℕ). kindNamed n (r .name)) (sym (eqb-true (r .edition) e (x .0))) ∙ eqb-true _ _ (b .1) ∙ k;
-          other = not-true _ (d .0);
-          word = plain-word (r .name) (d .1);
-        }
+named : (e k : ℕ) → 0 < lengthOf e k → Named e k
+unfolding nameOf kindNamed name-test allBelow kindOf placeIn names isWord isPlain none
+named e k h =
+    let n = getD names k [] in
+    let l = kind-few e k h in
+    let t = both (eqb (kindOf n) k) (not (isWord n editionWord) && (eqb k 0 || isPlain n)) (below-passes (length names) name-test refl k (l .1)) in
+    let d = both (not (isWord n editionWord)) (eqb k 0 || isPlain n) (t .1) in
+    let x = lt-ltb 0 (lengthOf e k) h in
+    record {
+      some = l .0;
+      kind = rw (x, eqb-true (kindOf n) k (t .0), x);
+      other = rw x (not-true (isWord n editionWord) (d .0));
+      word = rw x (plain-word n (rw (ne-eqb k 0 (λ z. omega (arith, l .0))) at (d .1)));
+    }
 
 -- ── a line ──
 -- The line of a call, in front of other lines; what it says, and that it is no edition.
@@ -276,7 +268,7 @@ line-of : (e : ℕ) (c : Call) → carries e c ≡ true → Typed c → (rest : 
 unfolding lineOf lineSays callIn headSays headIn valuesOf callOf
 line-of e c h t rest =
     let k = c .kind in
-    let n = named e c h in
+    let n = named e k (carries-length e c h) in
     let fs = fieldsOf e k in
     let ps = fields-plain c t fs in
     let name = nameOf e k in
@@ -307,9 +299,9 @@ lines-plain e k b (c ∷ cs) (Loadable.one v g) i = let l = line-of e c (v .carr
 -- The header of another edition than 1 says it.
 edition-says : (e : ℕ) → known e ≡ true → (t : List ℕ)
     → (linesIn (((editionWord ++ (32 ∷ [])) ++ column e 10) ++ t) ≡ spaced editionWord (decimalOf e ∷ []) ∷ linesIn t) × (headSays (spaced editionWord (decimalOf e ∷ [])) ≡ Edition e)
-unfolding headSays headIn editionIn column decimalOf widthOf spaced isWord isPlain none known format allRows
+unfolding headSays headIn editionIn column decimalOf widthOf spaced isWord isPlain none format allRows
 edition-says e k t =
-    let b = leb-true e 255 (known-passes (λ i. leb i 255) format refl e k) in
+    let b = leb-true e 255 (known-tested (λ i. leb i 255) refl e k) in
     let s = decimal-says 19 e (omega arith) in
     let p = plain-word editionWord refl in
     let d : Plain (decimalOf e) = digits-plain 10 (omega arith) (decimalOf e) (s .digit) (s .some) in (

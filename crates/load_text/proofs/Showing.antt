@@ -1,7 +1,7 @@
 -- A turn of the loop over a load's records: a line, and the ways out.
-use Prim.Native.Nat.{ℕ, zero, suc, _+_, _*_, _/_, _^_, _≤_, _<_}
+use Prim.Native.Nat.{ℕ, zero, suc, _+_, _*_, _^_, _≤_, _<_}
 use mathlib.Core.List.{List, [], _∷_, _++_}
-use mathlib.Core.Path.{_≡_, refl, sym, _∙_}
+use mathlib.Core.Path.{_≡_, sym, _∙_}
 use native.Mathlib.Omega.{arith}
 use mathlib.Core.Bool.{true}
 use lib.Dec.{leb}
@@ -11,12 +11,13 @@ use Rattle.numerals.specs.Laid.{Put}
 use Rattle.numerals.proofs.Going.{Going, going-start, going-step, going-none, going-last}
 use Rattle.load.specs.declared.Call.{Call}
 use Rattle.load.specs.declared.Item.the-variants.{Record, End, Refused}
-use Rattle.load.specs.Format.{fieldWidths, fieldWidth, format, total, lengthIn, leastIn, leastLength}
+use Rattle.load.specs.Bytes.{recordBytes, recordsBytes}
 use Rattle.load.specs.Reading.{editionOf, itemAt, walk, openNumber}
-use Rattle.load.proofs.Reading.{walk-record, walk-end, walk-refused, step-refused, step-next, walk-few, open-known}
+use Rattle.load.proofs.Reading.{walk-record, walk-end, walk-refused, step-refused, step-next, open-known}
+use Rattle.load.proofs.Loads.{read-held}
 use Rattle.load_text.specs.Lines.{lineOf, stopLine, linesOf, restOf, headerOf, textOf}
 use Rattle.load_text.proofs.Cases.{zero-or, refused}
-use Rattle.load_text.proofs.Lines.{line-length, stop-length, header-length}
+use Rattle.load_text.proofs.Lines.{line-record, stop-length, header-length}
 
 -- the loop's invariant
 pub record Turn (e : ℕ) (s o₀ : List ℕ) (from : ℕ) (o : List ℕ) (at k n : ℕ) : Type 0 where
@@ -61,31 +62,27 @@ pub text-read : (s : List ℕ) (n : ℕ) → n ≡ openNumber s → n ≡ 0 → 
 unfolding textOf
 text-read s n p q = rw (sym p ∙ q)
 
--- A line has at most 65 bytes, and a load at most 5,957 records.
-lines-length : (e k : ℕ) (cs : List Call) (stop : ℕ) → length (linesOf e k cs stop) ≤ 49 + 65 * length cs
-unfolding linesOf
+-- A line has at most four bytes for each of its record, and a load has at most 65,535 of records.
+lines-length : (e k : ℕ) (cs : List Call) (stop : ℕ) → length (linesOf e k cs stop) ≤ 49 + 4 * length (recordsBytes e cs)
+unfolding linesOf recordsBytes
 lines-length e k [] zero = omega arith
 lines-length e k [] (suc n) = omega (arith, stop-length (suc n) k)
-lines-length e k (c ∷ cs) stop = omega (arith, length-append (lineOf e c) (linesOf e (k + 1) cs stop), line-length e c, lines-length e (k + 1) cs stop)
+lines-length e k (c ∷ cs) stop =
+    omega (arith, length-append (lineOf e c) (linesOf e (k + 1) cs stop), length-append (recordBytes e c) (recordsBytes e cs), line-record e c, lines-length e (k + 1) cs stop)
 
-least : leastLength ≡ 11
-unfolding leastLength leastIn format lengthIn total fieldWidth fieldWidths
-least = refl
-
-text-length : (s : List ℕ) → length (textOf s) ≤ 387266
+text-length : (s : List ℕ) → length (textOf s) ≤ 262201
 unfolding textOf restOf
 text-length s =
     let e = editionOf s in
     let w = walk s 1 in
     zero-or (openNumber s) (λ z.
     let o = open-known s z in
-    let f : length (w .calls) ≤ length s / 11 = rw least at (walk-few s 1) in
-    rw z (omega (arith, o .2, f, header-length e (o .1), length-append (headerOf e) (linesOf e 1 (w .calls) (w .stop)), lines-length e 1 (w .calls) (w .stop))))
+    rw z (omega (arith, o .2, read-held s 1, header-length e (o .1), length-append (headerOf e) (linesOf e 1 (w .calls) (w .stop)), lines-length e 1 (w .calls) (w .stop))))
     (λ n. rw (refused (λ m. stopLine m 0) (whole s) (openNumber s) n) (omega (arith, stop-length (openNumber s) 0)))
 
 pub text-short : (s : List ℕ) → length (textOf s) < 2 ^ 64
 text-short s = omega (arith, text-length s)
 
 -- Where the room is that much, the text goes in.
-pub text-goes : (s : List ℕ) (room : ℕ) → 387266 ≤ room → true ≡ leb (length (textOf s)) room
+pub text-goes : (s : List ℕ) (room : ℕ) → 262201 ≤ room → true ≡ leb (length (textOf s)) room
 text-goes s room h = sym (le-leb (length (textOf s)) room (omega (arith, text-length s)))

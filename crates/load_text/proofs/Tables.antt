@@ -1,21 +1,19 @@
--- The texts of the code's table; the search for a row of the format; and what holds of every row.
+-- The texts of the code's table, and the search for the kind that a word names.
 use Prim.Native.Nat.{ℕ, zero, suc, _+_, _-_, _≤_, _<_}
 use mathlib.Core.Bool.{Bool, true, false, _&&_, false≢true}
 use mathlib.Core.List.{List, [], _∷_, _++_, map}
-use mathlib.Core.Logic.{_⊎_, inl, inr, ⊎-elim}
+use mathlib.Core.Logic.{⊎-elim}
 use mathlib.Core.Path.{_≡_, refl, sym, ap, _∙_}
 use native.Mathlib.Numerals.{add-one}
 use native.Mathlib.Omega.{arith}
 use lib.Dec.{ltb, eqb}
-use lib.ListN.{length, take, drop, getD, replicate, length-append, drop-of-length-le, List·getD-map}
-use lib.Seq.{drop-cons, getD-drop, take-at}
-use borrow.Author.Tests.{eqb-true, eq-eqb, ne-eqb, ltb-true}
-use Rattle.load.specs.Format.{Row, row, format, knownIn, rowIn}
-use Rattle.load.proofs.Format.{both, allBelow, below-passes}
-use Rattle.load_text.specs.declared.texts.Key.{Key}
-use Rattle.load_text.specs.declared.texts.Key.the-variants.{Kind, Name}
-use Rattle.load_text.specs.Lines.{reasons, reasonTexts, reasonText, texts}
-use Rattle.load_text.specs.Parsing.{placeOf, is, isWord, isRow, rowFor, rowAt, kindNamed}
+use lib.ListN.{length, take, drop, getD, replicate, length-append, drop-of-length-le, List·getD-eq-default}
+use lib.Seq.{drop-cons, take-at}
+use borrow.Author.Tests.{eqb-true, eq-eqb, ltb-true, lt-ltb}
+use Rattle.load.specs.Format.{format, lengthIn, lengthOf, names, nameOf}
+use Rattle.load.proofs.Format.{both, allRows, tested}
+use Rattle.load_text.specs.Lines.{reasons, reasonTexts, reasonText}
+use Rattle.load_text.specs.Parsing.{placeOf, is, isWord, placeIn, kindOf, kindNamed}
 use Rattle.load_text.proofs.Cases.{either}
 
 -- ── words ──
@@ -35,7 +33,8 @@ pub word-test : (r : Bool) (k n : List ℕ) → (r ≡ true → k ≡ n) × (k �
 word-test true k n h = ap (λ w. isWord w n) (h .0 refl) ∙ word-refl n
 word-test false k n h = either (isWord k n) (λ q. q ∙ sym (h .1 (word-same k n q))) (λ q. q)
 
--- ── the code's texts: each padded to 32 bytes, and its length ──
+-- ── the code's texts ──
+-- Those of the reasons are each padded to 32 bytes, with its length; a reason is found by its number's place.
 abbrev padded : List ℕ → List ℕ
 padded t = t ++ replicate (32 - length t) 32
 
@@ -45,78 +44,69 @@ text-is [] i = (omega arith, refl)
 text-is (t ∷ ts) zero = (omega (arith, length-append t (replicate (32 - length t) 32)), take-at t _ (length t) refl)
 text-is (t ∷ ts) (suc i) = text-is ts i
 
--- The first rows are the format's, and one for none.
-first-test : ℕ → Bool
-first-test i = eqb (getD (map (λ r. r .kind) format ++ (0 ∷ [])) i 0) (rowAt i .kind) && isWord (getD texts i []) (rowAt i .name)
+pub reason-is : (n i : ℕ) → i ≡ placeOf (is n) (map (λ r. r .number) reasons) 0 → getD reasonTexts i [] ≡ reasonText n
+unfolding reasonText
+reason-is n i e = ap (λ (k : ℕ). getD reasonTexts k []) e
 
-pub first-is : (i : ℕ) → i ≤ 5 → (getD (map (λ r. r .kind) format ++ (0 ∷ [])) i 0 ≡ rowAt i .kind) × (getD texts i [] ≡ rowAt i .name)
-unfolding first-test allBelow isWord texts reasonTexts format reasons
-first-is i h = let q = both (eqb _ (rowAt i .kind)) _ (below-passes 6 first-test refl i (omega arith)) in (eqb-true _ _ (q .0), word-same _ _ (q .1))
+-- A kind that there is not has no name.
+pub no-name : (k : ℕ) → (0 < k → 5 < k) → getD names k [] ≡ []
+unfolding names
+no-name zero h = refl
+no-name (suc k) h = List·getD-eq-default names [] (h (omega arith))
 
--- The code finds a reason by its number's place.
-pub reason-is : (n i : ℕ) → i ≡ placeOf (is n) (map (λ r. r .number) reasons) 0 → getD texts (6 + i) [] ≡ reasonText n
-unfolding reasonText texts reasonTexts format reasons
-reason-is n i e = sym (getD-drop 6 texts i []) ∙ ap (λ (k : ℕ). getD reasonTexts k []) e
+-- So many bytes of what the code has as a name are the name.
+pub name-taken : (k : ℕ) (t : List ℕ) (n : ℕ) → take (length (getD names k [])) t ≡ getD names k [] → n ≡ length (getD names k []) → take n t ≡ getD names k []
+name-taken k t n h e = ap (λ (m : ℕ). take m t) e ∙ h
 
--- ── a row for a kind or a name ──
-module _ (e : ℕ) (x : Key) (w : List ℕ) where
-  module _ (i : ℕ) (h : i < 5) where
-    edition-at : getD (map (λ r. r .edition) format) i 0 ≡ rowAt i .edition
-    edition-at = List·getD-map (λ r. r .edition) format i (row 0 0 [] [])
+-- ── the kind that a word names ──
+module _ (w : List ℕ) (k : ℕ) (h : k < length names) where
+  pub kind-here : isWord w (getD names k []) ≡ true → placeIn w k (drop k names) ≡ k
+  unfolding placeIn
+  kind-here q = rw (drop-cons names k [] h, q)
 
-    pub row-other : (getD (map (λ r. r .edition) format) i 0 ≡ e → ⊥) → false ≡ isRow e x w (rowAt i)
-    unfolding isRow
-    row-other n = rw (ne-eqb (rowAt i .edition) e (λ q. n (edition-at ∙ q)))
+  pub kind-on : isWord w (getD names k []) ≡ false → placeIn w k (drop k names) ≡ placeIn w (k + 1) (drop (k + 1) names)
+  unfolding placeIn
+  kind-on q = rw (drop-cons names k [] h, q, add-one)
 
-    module _ (q : getD (map (λ r. r .edition) format) i 0 ≡ e) where
-      pub row-kinded : (k : ℕ) → x ≡ Kind k → eqb (getD (map (λ r. r .kind) format ++ (0 ∷ [])) i 0) k ≡ isRow e x w (rowAt i)
-      unfolding isRow
-      row-kinded k z = rw (z, first-is i (omega arith) .0, eq-eqb (rowAt i .edition) e (sym edition-at ∙ q))
+pub kind-none : (w : List ℕ) (k : ℕ) → length names ≤ k → placeIn w k (drop k names) ≡ 0
+unfolding placeIn
+kind-none w k h = rw (drop-of-length-le names h)
 
-      pub row-named : x ≡ Name → (r : Bool) (t : List ℕ) → t ≡ getD texts i [] → (r ≡ true → w ≡ t) × (w ≡ t → r ≡ true) → r ≡ isRow e x w (rowAt i)
-      unfolding isRow
-      row-named z r t u a = rw (z, ← (first-is i (omega arith) .1), ← u, word-test r w t a, eq-eqb (rowAt i .edition) e (sym edition-at ∙ q))
+-- A kind that an edition has is one of those with a name.
+pub kind-few : (e k : ℕ) → 0 < lengthOf e k → (0 < k) × (k < length names)
+unfolding allRows format lengthOf lengthIn names
+kind-few e k h =
+    ⊎-elim (λ n. absurd (omega (arith, ap lengthIn n)))
+    (λ t. let q = both (ltb 0 k) (ltb k (length names)) t in (ltb-true 0 k (q .0), ltb-true k (length names) (q .1)))
+    (tested (λ e k fs. ltb 0 k && ltb k (length names)) e k refl)
 
-    pub row-here : isRow e x w (rowAt i) ≡ true → rowFor e x w (drop i format) ≡ rowAt i
-    unfolding rowFor isRow format
-    row-here q = rw (drop-cons format i (row 0 0 [] []) h, q)
+module _ (e k : ℕ) (h : lengthOf e k ≡ 0 → ⊥) where
+  some : ltb 0 (lengthOf e k) ≡ true
+  some = lt-ltb 0 (lengthOf e k) (omega (arith, h))
 
-    pub row-on : isRow e x w (rowAt i) ≡ false → rowFor e x w (drop i format) ≡ rowFor e x w (drop (i + 1) format)
-    unfolding rowFor isRow format
-    row-on q = rw (drop-cons format i (row 0 0 [] []) h, q, add-one)
+  pub has-name : getD names k [] ≡ nameOf e k
+  unfolding nameOf
+  has-name = rw some
 
-  pub row-none : (i : ℕ) → 5 ≤ i → rowFor e x w (drop i format) ≡ row 0 0 [] []
-  unfolding rowFor format
-  row-none i h = rw (drop-of-length-le format h)
+  pub is-named : (w : List ℕ) → k ≡ kindOf w → k ≡ kindNamed e w
+  unfolding kindNamed
+  is-named w q = rw (← q, some)
 
-pub row-kind : (e k : ℕ) (w : List ℕ) (rs : List Row) → rowFor e (Kind k) w rs ≡ rowIn rs e k
-unfolding rowFor isRow rowIn
-row-kind e k w [] = refl
-row-kind e k w (r ∷ rs) = rw (row-kind e k w rs)
+pub lacks-name : (e k : ℕ) → lengthOf e k ≡ 0 → nameOf e k ≡ []
+unfolding nameOf
+lacks-name e k h = rw h
 
--- ── rows ──
-unfoldable pub allRows : (Row → Bool) → List Row → Bool
-allRows f [] = true
-allRows f (r ∷ rs) = f r && allRows f rs
-
--- A test of all rows holds of the one that is found, unless there is none.
-pub row-cases : (f : Row → Bool) (e : ℕ) (x : Key) (w : List ℕ) (rs : List Row) → allRows f rs ≡ true
-    → (rowFor e x w rs ≡ row 0 0 [] []) ⊎ ((f (rowFor e x w rs) ≡ true) × (isRow e x w (rowFor e x w rs) ≡ true))
-unfolding rowFor isRow allRows
-row-cases f e x w [] h = inl refl
-row-cases f e x w (r ∷ rs) h =
-    let t = both (f r) _ h in
-    either (isRow e x w r) (λ q. rw q (inr (t .0, q))) (λ q. rw q (row-cases f e x w rs (t .1)))
-
--- A test of all editions holds of one that is known.
-pub known-passes : (f : ℕ → Bool) (rs : List Row) → allRows (λ r. f (r .edition)) rs ≡ true → (e : ℕ) → knownIn rs e ≡ true → f e ≡ true
-unfolding knownIn allRows
-known-passes f [] h e k = absurd (false≢true k)
-known-passes f (r ∷ rs) h e k =
-    let t = both (f (r .edition)) _ h in
-    either (eqb (r .edition) e) (λ p. ap f (sym (eqb-true (r .edition) e p)) ∙ t .0) (λ p. known-passes f rs (t .1) e (rw p at k))
+pub not-named : (e k : ℕ) (w : List ℕ) → k ≡ kindOf w → lengthOf e k ≡ 0 → 0 ≡ kindNamed e w
+unfolding kindNamed
+not-named e k w q h = rw (← q, h)
 
 -- The kind that a word names is a byte.
+place-below : (w : List ℕ) (k : ℕ) (ns : List (List ℕ)) → placeIn w k ns ≤ k + length ns
+unfolding placeIn
+place-below w k [] = omega arith
+place-below w k (n ∷ ns) = either (isWord w n) (λ q. rw q (omega arith)) (λ q. rw q (omega (arith, place-below w (k + 1) ns)))
+
 pub kind-below : (e : ℕ) (w : List ℕ) → kindNamed e w < 256
-unfolding kindNamed allRows format
-kind-below e w = ⊎-elim (λ n. omega (arith, ap (λ (r : Row). r .kind) n)) (λ t. ltb-true _ 256 (t .0)) (row-cases (λ r. ltb (r .kind) 256) e Name w format refl)
+unfolding kindNamed kindOf names
+kind-below e w =
+    either (ltb 0 (lengthOf e (kindOf w))) (λ q. rw q (omega (arith, place-below w 0 names))) (λ q. rw q (omega arith))

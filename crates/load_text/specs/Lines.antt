@@ -7,14 +7,14 @@ use lib.ListN.{length, getD, replicate}
 use Rattle.numerals.specs.Digits.{decimalOf, column, pair}
 use Rattle.numerals.specs.Laid.{spaceNumber, lentOut}
 use Rattle.load.specs.declared.Call.{Call}
-use Rattle.load.specs.Format.{theGroups, format, nameOf, fieldsOf}
+use Rattle.load.specs.Format.{theGroups, fieldsOf, nameOf}
 use Rattle.load.specs.Calls.{valueOf}
 use Rattle.load.specs.Reading.{editionOf, Walk, walk, openNumber, unlessRefused}
 use Rattle.load_text.specs.declared.print.Reported.{Reported}
 use Rattle.load_text.specs.declared.print.Printed.{Printed}
 use Rattle.load_text.specs.declared.print.Printed.the-variants.{Length, Refusal}
 use Rattle.load_text.specs.Parsing.{placeOf, is}
-use Rattle.load_text.specs.Reasons.{unknown, missing, tooMany, noClock, noTicket, noLength, noGroups, tooLarge, over63, backward, noEdition, misfit, overlong}
+use Rattle.load_text.specs.Reasons.{unknown, missing, tooMany, noClock, noTicket, noLength, noGroups, tooLarge, over63, backward, noPool, noUnits, noEdition, misfit, overlong}
 
 -- the lowest digit of v in base 16: 0 to 9, A to F
 unfoldable pub glyphOf : ℕ → ℕ
@@ -91,6 +91,10 @@ reasons =
     ∷ reason over63 (103 ∷ 114 ∷ 111 ∷ 117 ∷ 112 ∷ 32 ∷ 111 ∷ 118 ∷ 101 ∷ 114 ∷ 32 ∷ 54 ∷ 51 ∷ 10 ∷ [])
     -- "range runs backward"
     ∷ reason backward (114 ∷ 97 ∷ 110 ∷ 103 ∷ 101 ∷ 32 ∷ 114 ∷ 117 ∷ 110 ∷ 115 ∷ 32 ∷ 98 ∷ 97 ∷ 99 ∷ 107 ∷ 119 ∷ 97 ∷ 114 ∷ 100 ∷ 10 ∷ [])
+    -- "pool is not a number"
+    ∷ reason noPool (112 ∷ 111 ∷ 111 ∷ 108 ∷ 32 ∷ 105 ∷ 115 ∷ 32 ∷ 110 ∷ 111 ∷ 116 ∷ 32 ∷ 97 ∷ 32 ∷ 110 ∷ 117 ∷ 109 ∷ 98 ∷ 101 ∷ 114 ∷ 10 ∷ [])
+    -- "units are not a number"
+    ∷ reason noUnits (117 ∷ 110 ∷ 105 ∷ 116 ∷ 115 ∷ 32 ∷ 97 ∷ 114 ∷ 101 ∷ 32 ∷ 110 ∷ 111 ∷ 116 ∷ 32 ∷ 97 ∷ 32 ∷ 110 ∷ 117 ∷ 109 ∷ 98 ∷ 101 ∷ 114 ∷ 10 ∷ [])
     -- "unknown edition"
     ∷ reason noEdition (117 ∷ 110 ∷ 107 ∷ 110 ∷ 111 ∷ 119 ∷ 110 ∷ 32 ∷ 101 ∷ 100 ∷ 105 ∷ 116 ∷ 105 ∷ 111 ∷ 110 ∷ 10 ∷ [])
     -- "rig must be first"
@@ -108,10 +112,6 @@ reasonTexts = map (λ r. r .text) reasons ++ (notWritten ∷ [])
 
 unfoldable pub reasonText : ℕ → List ℕ
 reasonText n = getD reasonTexts (placeOf (is n) (map (λ r. r .number) reasons) 0) []
-
--- the texts of the code's table: the names of the format's rows, none for a kind that there is not, and those of the reasons
-unfoldable pub texts : List (List ℕ)
-texts = map (λ r. r .name) format ++ ([] ∷ reasonTexts)
 
 -- "line ", the line's number, ": ", and what is wrong
 unfoldable pub reportOf : ℕ → ℕ → List ℕ

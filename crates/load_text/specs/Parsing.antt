@@ -7,19 +7,17 @@ use lib.Dec.{eqb, leb, ltb}
 use lib.ListN.{length, take, drop, getD}
 use Rattle.groups.specs.Groups.{setWhere, union}
 use Rattle.load.specs.declared.Call.{Call}
-use Rattle.load.specs.Format.{theGroups, fieldWidth, Row, row, format, fieldsOf}
+use Rattle.load.specs.Format.{theGroups, fieldWidth, fieldsOf, lengthOf, names}
 use Rattle.load.specs.Calls.{withValue, bare}
 use Rattle.load_text.specs.declared.parse.Head.{Head}
 use Rattle.load_text.specs.declared.parse.Head.the-variants.{Silent, Edition, Other, Misread}
 use Rattle.load_text.specs.declared.parse.Parsed.{Parsed}
 use Rattle.load_text.specs.declared.parse.Parsed.the-variants.{Nothing, Said, Bad}
-use Rattle.load_text.specs.declared.texts.Key.{Key}
-use Rattle.load_text.specs.declared.texts.Key.the-variants.{Kind, Name}
 use Rattle.load_text.specs.declared.words.Field.{Field}
 use Rattle.load_text.specs.declared.words.Field.the-variants.{Value, Wrong}
 use Rattle.load_text.specs.declared.words.Mark.{Mark}
 use Rattle.load_text.specs.declared.words.Mark.the-variants.{Joint, NoDigit}
-use Rattle.load_text.specs.Reasons.{noEdition, unknown, missing, tooMany, noClock, noTicket, noLength, noGroups, tooLarge, over63, backward}
+use Rattle.load_text.specs.Reasons.{noEdition, unknown, missing, tooMany, noClock, noTicket, noLength, noGroups, tooLarge, over63, backward, noPool, noUnits}
 
 -- ── parts of a text ──
 -- How many bytes stand before the first that passes p; these bytes, and those from it on.
@@ -187,9 +185,10 @@ unfoldable pub groupsIn : List ℕ → Field
 groupsIn w = cond (isList w) (withItems 0 (itemsIn w)) (numberIn 16 18446744073709551615 noGroups tooLarge w)
 
 -- ── calls ──
--- The reasons of words that say nothing as a field, in the order of the fields: the kind has no word, then clock, groups, length, ticket.
+-- The reasons of words that say nothing as a field, in the order of the fields: the kind has no word, then clock, groups, length, ticket,
+-- pool, units.
 unfoldable pub noNumbers : List ℕ
-noNumbers = unknown ∷ noClock ∷ noGroups ∷ noLength ∷ noTicket ∷ []
+noNumbers = unknown ∷ noClock ∷ noGroups ∷ noLength ∷ noTicket ∷ noPool ∷ noUnits ∷ []
 
 unfoldable pub noNumber : ℕ → ℕ
 noNumber f = getD noNumbers f unknown
@@ -218,26 +217,18 @@ isWord [] (b ∷ l) = false
 isWord (a ∷ k) [] = false
 isWord (a ∷ k) (b ∷ l) = eqb a b && isWord k l
 
--- A row has an edition, and is of a kind, or its name is a word.
-abbrev pub has : Key → List ℕ → Row → Bool
-has (Kind k) w r = eqb (r .kind) k
-has Name w r = isWord w (r .name)
+-- The place of a word among names, the first of which has place k; 0 where it is none of them.
+unfoldable pub placeIn : List ℕ → ℕ → List (List ℕ) → ℕ
+placeIn w k [] = 0
+placeIn w k (n ∷ ns) = cond (isWord w n) k (placeIn w (k + 1) ns)
 
-unfoldable pub isRow : ℕ → Key → List ℕ → Row → Bool
-isRow e x w r = eqb (r .edition) e && has x w r
+-- The kind that a word names, 0 for none.
+unfoldable pub kindOf : List ℕ → ℕ
+kindOf w = placeIn w 0 names
 
--- The first such row; one with kind 0 and no name where there is none.
-unfoldable pub rowFor : ℕ → Key → List ℕ → List Row → Row
-rowFor e x w [] = row 0 0 [] []
-rowFor e x w (r ∷ rs) = cond (isRow e x w r) r (rowFor e x w rs)
-
--- A row of the format, from 0 on.
-abbrev pub rowAt : ℕ → Row
-rowAt i = getD format i (row 0 0 [] [])
-
--- The kind of an edition that a word names, 0 for none.
+-- The same in an edition, which may lack it.
 unfoldable pub kindNamed : ℕ → List ℕ → ℕ
-kindNamed e w = rowFor e Name w format .kind
+kindNamed e w = cond (ltb 0 (lengthOf e (kindOf w))) (kindOf w) 0
 
 -- The call of a kind that words say.
 abbrev pub kindSays : ℕ → ℕ → List (List ℕ) → Parsed

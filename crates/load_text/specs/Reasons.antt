@@ -32,6 +32,12 @@ over63 = 109
 abbrev pub backward : ℕ
 backward = 110
 
+abbrev pub noPool : ℕ
+noPool = 111
+
+abbrev pub noUnits : ℕ
+noUnits = 112
+
 abbrev pub noEdition : ℕ
 noEdition = 11
 

@@ -150,18 +150,18 @@ fn put_text(out: &mut [u8], load: &[u8]) -> usize
     put_records(out, n, load)
 }
 
-// Whether a load's text goes into so much room. 387,266 bytes are room for any: a record has 11 bytes at least, its line 65 at most.
+// Whether a load's text goes into so much room. 262,201 bytes are room for any: a line has at most four for each byte of its record.
 fn goes_into(load: &[u8], room: usize) -> bool
     ensures { λ r. ⌜ r ≡ leb (length (textOf (now (load .entry)))) room ⌝ }
 {
-    if 387266 <= room {
+    if 262201 <= room {
         return true;
     }
     let mut scrap = [0u8; 1];
     put_text(&mut scrap, load) <= room
 }
 
-// A load as text at the start of a lent buffer. Cost: one pass over the load; two where the buffer has under 387,266 bytes.
+// A load as text at the start of a lent buffer. Cost: one pass over the load; two where the buffer has under 262,201 bytes.
 pub fn show(load: &[u8], out: &mut [u8]) -> Printed
     ensures answer { λ r. ⌜ r ≡ printed (textOf (now (load .entry))) (now (out .entry)) ⌝ }
     ensures buffer { λ _. ⌜ now (out .exit) ≡ lentOut (textOf (now (load .entry))) (now (out .entry)) ⌝ }

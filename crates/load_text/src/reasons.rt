@@ -20,6 +20,10 @@ pub const OVER_63: u8 = 109;
 
 pub const BACKWARD: u8 = 110;
 
+pub const NO_POOL: u8 = 111;
+
+pub const NO_UNITS: u8 = 112;
+
 pub const NO_EDITION: u8 = 11;
 
 pub const MISFIT: u8 = 13;

@@ -62,6 +62,10 @@ overlongNumber = 14
 abbrev pub noSpaceNumber : ℕ
 noSpaceNumber = 15
 
+-- "spots: more units than k" (document 02, P3)
+abbrev pub spotsNumber : ℕ
+spotsNumber = 16
+
 -- "Clocks run from 0 to 1,000,000,000,000."
 abbrev pub mostClock : ℕ
 mostClock = 1000000000000
@@ -73,6 +77,10 @@ mostLength = 3600000
 -- "Tickets are issued 1, 2, 3 up to 65,535"
 abbrev pub mostTickets : ℕ
 mostTickets = 65535
+
+-- "k from 0 to 65,535" (document 02, P3)
+abbrev pub mostUnits : ℕ
+mostUnits = 65535
 
 -- "At most 64 claims are pending"
 abbrev pub mostPending : ℕ

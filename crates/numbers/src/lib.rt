@@ -29,6 +29,8 @@ pub const OVERLONG: u8 = 14;
 
 pub const NO_SPACE: u8 = 15;
 
+pub const SPOTS: u8 = 16;
+
 // The last clock, the longest length in ticks, how many tickets a table issues, how many claims are pending, the bytes of a load.
 pub const MOST_CLOCK: u64 = 1_000_000_000_000;
 

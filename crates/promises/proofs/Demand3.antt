@@ -1,4 +1,4 @@
--- Demand 3 holds of every rig and every list of calls. The pending claims and the ledger are kept side by side, call by call.
+-- Demand 3 holds of every rig, every pool and every list of calls. The pending claims and the ledger are kept side by side, call by call.
 use mathlib.Core.Path.{_≡_, refl, sym, _∙_, ap, subst}
 use mathlib.Core.Logic.{_⊎_, inl, inr, _≢_}
 use mathlib.Core.Bool.{Bool, true, false, not, _&&_, cond}
@@ -34,31 +34,33 @@ use Rattle.rules.proofs.Packing.{moved-cases, moved-at, moved-phase, pack-no-la
 use Rattle.rules.proofs.StartBound.{place-bound}
 use Rattle.rules.proofs.Granting.{granted-cases, granted-at}
 use Rattle.rules.proofs.Invariants.{spaced-packs}
-use Rattle.rules.proofs.Calls.{Clocked, Admissible, advance-packed, finish-invariant, advance-same, finish-e, finish-clock, placed, join-spaced, Leaves, by-release, by-withdraw, by-clock, leaves-spaced, leaves-old, leaves-clock, join-old, Idle, step-cases, blank-invariant, new-cases}
+use Rattle.rules.proofs.Calls.{Clocked, Admissible, advance-packed, advance-drawn, advance-spare, finish-invariant, advance-same, finish-e, finish-clock, placed, fresh-sane, join-spaced, Leaves, by-release, by-withdraw, by-clock, leaves-spaced, leaves-old, leaves-clock, join-old, Idle, step-cases, blank-invariant, new-cases}
 use Rattle.rules.proofs.NoOverrun.{NoOverrunAt, no-overrun-no-later}
 use Rattle.rules.proofs.Lookup.{lookup-absent, none-named, lookup-found, one-named, lookup-waits}
-use Rattle.promises.specs.Ledger.{Turn, turns, tableAfter, Entry, promised, Ledger, opening, issues, without, stay, hold, marked, noted, notedAll, ledgerOf, NoOverrun, NoOverruns, NoOverrunIn, ruledBy, remainingOf, rivalsOf, boundOn}
+use Rattle.promises.specs.Ledger.{Turn, turns, tableAfter, Entry, promised, Ledger, opening, issues, without, stay, hold, marked, noted, notedAll, NoOverrun, NoOverruns, ruledBy, remainingOf, rivalsOf, boundOn}
 use Rattle.promises.specs.Demand3.{TicketsAscend, Now, Next, tells, Demand3}
 use Rattle.promises.proofs.Matching.{Match, m-nil, m-cons, match-map, match-left, match-weaken, match-snoc, match-none, match-keep, match-length, match-sum, partner, partner-of}
 
 -- A pending claim and its entry. P: no accepted call so far bore a clock past the promised end of a holder.
-record Tracks (P : Type 0) (c : Claim) (e : Entry) : Type 0 where
-  ticket : c .ticket ≡ e .ticket
-  groups : c .groups ≡ e .asked .groups
-  length : c .length ≡ e .asked .length
-  held : on c ≡ e .held
-  grant : on c ≡ true → at c ≡ e .grant
-  early : P → on c ≡ false → at c ≤ e .first
+pub record Tracks (P : Type 0) (c : Claim) (e : Entry) : Type 0 where
+  pub ticket : c .ticket ≡ e .ticket
+  pub groups : c .groups ≡ e .asked .groups
+  pub length : c .length ≡ e .asked .length
+  pub units : c .units ≡ e .asked .units
+  pub held : on c ≡ e .held
+  pub grant : on c ≡ true → at c ≡ e .grant
+  pub early : P → on c ≡ false → at c ≤ e .first
 
-record Story (P : Type 0) (l : Ledger) (m : Model) : Type 0 where
-  inv : Invariant m
-  clock : m .clock ≡ l .clock
-  issued : m .issued ≡ l .issued
-  match : Match (Tracks P) (m .pending) (l .claims)
+pub record Story (P : Type 0) (l : Ledger) (m : Model) : Type 0 where
+  pub inv : Invariant m
+  pub clock : m .clock ≡ l .clock
+  pub pool : m .pool ≡ l .pool
+  pub issued : m .issued ≡ l .issued
+  pub match : Match (Tracks P) (m .pending) (l .claims)
 
 tracks-weaken : (P Q : Type 0) → (Q → P) → (c : Claim) (e : Entry) → Tracks P c e → Tracks Q c e
 tracks-weaken P Q f c e r =
-    record { ticket = r .ticket; groups = r .groups; length = r .length; held = r .held; grant = r .grant; early = λ q. r .early (f q) }
+    record { ticket = r .ticket; groups = r .groups; length = r .length; units = r .units; held = r .held; grant = r .grant; early = λ q. r .early (f q) }
 
 -- ── after any number of calls ──
 entries-ascend : (P : Type 0) {ps : List Claim} {l : List Entry} → Match (Tracks P) ps l → Ascending ps → TicketsAscend l
@@ -132,6 +134,7 @@ pack-tracks P v ps c e r h =
       ticket = r .ticket;
       groups = r .groups;
       length = r .length;
+      units = r .units;
       held = sym o ∙ r .held;
       grant = λ q. clash q refl;
       early = λ p q. omega (arith, h p o, r .early p o);
@@ -142,7 +145,7 @@ unfolding marked
 marked-cases Q t ks e true h q = rw (h, marked) q
 marked-cases Q t ks e false h q = rw (h, marked) q
 
-grant-tracks : (P : Type 0) (v : Setting) (ps : List Claim) (ks : List ℕ) (c : Claim) (e : Entry) → Tracks P c e → any (λ k. eqb k (c .ticket)) ks ≡ goes ps c
+grant-tracks : (P : Type 0) (v : Setting) (ps : List Claim) (ks : List ℕ) (c : Claim) (e : Entry) → Tracks P c e → any (λ k. eqb k (c .ticket)) ks ≡ goes v ps c
     → Tracks P (granted v ps c) (marked (v .clock) ks e)
 grant-tracks P v ps ks c e r h =
     granted-cases (λ (x : Claim). Tracks P x (marked (v .clock) ks e)) v ps c
@@ -150,13 +153,14 @@ grant-tracks P v ps ks c e r h =
       ticket = r .ticket;
       groups = r .groups;
       length = r .length;
+      units = r .units;
       held = refl;
       grant = λ q. refl;
       early = λ p q. clash refl q;
     }))
     (λ g. marked-cases (Tracks P c) (v .clock) ks e false (same ∙ g) r)
   where
-    same : any (λ k. eqb k (e .ticket)) ks ≡ goes ps c
+    same : any (λ k. eqb k (e .ticket)) ks ≡ goes v ps c
     same = ap (λ (x : ℕ). any (λ k. eqb k x) ks) (sym (r .ticket)) ∙ h
 
 -- Setting the clock and packing: where no holder overruns, no start rises.
@@ -166,7 +170,7 @@ unfolding advance pack
 advance-match P T l m t i h pr ma =
     match-left (moved (packedStart (ruled m t) (m .pending)))
     (λ c e ci r. pack-tracks (P × T) (ruled m t) (m .pending) c e (tracks-weaken P (P × T) (λ x. x .0) c e r)
-    (λ p o. no-overrun-no-later (m .issued) (settingOf m) (ruled m t) (m .pending) i (record { later = h }) (pr (p .1)) c ci o))
+    (λ p o. no-overrun-no-later (m .issued) (settingOf m) (ruled m t) (m .pending) i (record { later = h; same = refl }) (pr (p .1)) c ci o))
     ma
 
 -- Packing again and granting: no start rises.
@@ -174,9 +178,9 @@ finish-match : (P : Type 0) (l : List Entry) (m : Model) (r : Reply) → IsSpace
     → Match (Tracks P) (finish m r .model .pending) (map (marked (m .clock) (finish m r .answer .grants)) l)
 unfolding finish pack grant grants
 finish-match P l m r i ma =
-    match-map (granted v ps) (marked (m .clock) (grants ps))
-    (λ c e j r. grant-tracks P v ps (grants ps) c e r (named-keep (λ (x : Claim). x .ticket) (goes ps) ps (ascending-same ps (spaced-packs (m .issued) v (m .pending) i .spaced .ascending)) c j))
-    (match-left (moved (packedStart v (m .pending))) (λ c e j r. pack-tracks P v (m .pending) c e r (λ _ o. pack-no-later v (m .pending) (i .fit) (i .low) c j o)) ma)
+    match-map (granted v ps) (marked (m .clock) (grants v ps))
+    (λ c e j r. grant-tracks P v ps (grants v ps) c e r (named-keep (λ (x : Claim). x .ticket) (goes v ps) ps (ascending-same ps (spaced-packs (m .issued) v (m .pending) i .spaced .ascending)) c j))
+    (match-left (moved (packedStart v (m .pending))) (λ c e j r. pack-tracks P v (m .pending) c e r (λ _ o. pack-no-later v (m .pending) (λ x k. i .proper x k .sane) (i .fit) (i .low) c j o)) ma)
   where
     v : Setting
     v = settingOf m
@@ -205,6 +209,16 @@ finish-issued : (m : Model) (r : Reply) → finish m r .model .issued ≡ m .iss
 unfolding finish
 finish-issued m r = refl
 
+finish-pool : (m : Model) (r : Reply) → finish m r .model .pool ≡ m .pool
+unfolding finish
+finish-pool m r = refl
+
+leaves-pool : {m : Model} {c : Call} {t k : ℕ} {q : Model} → Leaves m c t k q → q .pool ≡ m .pool
+unfolding remove advance
+leaves-pool (by-release t k) = refl
+leaves-pool (by-withdraw t k) = refl
+leaves-pool (by-clock t) = refl
+
 -- The holders are prompt where the call's clock is past no promised end.
 no-overrun-of : (P : Type 0) (t : ℕ) (ps : List Claim) (l : List Entry) → Match (Tracks P) ps l → ((e : Entry) → e ∈ l → e .held ≡ true → t ≤ promised e) → NoOverrunAt t ps
 no-overrun-of P t ps l ma h c i o =
@@ -221,8 +235,6 @@ finish-from : (m : Model) (r : Reply) → IsSpaced m → (d : Claim) → d ∈ f
 finish-from m r i d di =
     let v : Setting = settingOf m in
     let f = packedStart v (m .pending) in
-    let p = spaced-packs (m .issued) v (m .pending) i in
-    let sp = p .spaced in
     let r = finish-e m r di in (
       r .0,
       r .1,
@@ -231,9 +243,9 @@ finish-from m r i d di =
           omega (
             arith,
             ap at (r .3 .1),
-            granted-at v (pack v (m .pending)) (sp .holders) (sp .fit) (sp .low) (p .tight) (λ x j. sp .proper x j .sane) (sp .ascending) _ (r .3 .0),
+            granted-at v (pack v (m .pending)) (moved f (r .0)),
             moved-at f (r .0) o,
-            pack-no-later v (m .pending) (i .fit) (i .low) (r .0) (r .1) o,
+            pack-no-later v (m .pending) (λ x k. i .proper x k .sane) (i .fit) (i .low) (r .0) (r .1) o,
           ),
     )
 
@@ -244,7 +256,7 @@ advance-from m t i h pr c d ci di e o =
     let f = packedStart (ruled m t) (m .pending) in
     let q = advance-same m t i c d ci di e in (
       ap on q ∙ moved-phase f c ∙ o,
-      omega (arith, ap at q, moved-at f c o, no-overrun-no-later (m .issued) (settingOf m) (ruled m t) (m .pending) i (record { later = h }) pr c ci o),
+      omega (arith, ap at q, moved-at f c o, no-overrun-no-later (m .issued) (settingOf m) (ruled m t) (m .pending) i (record { later = h; same = refl }) pr c ci o),
     )
 
 -- A call from m to `finish q`, where each claim of q that is not new is one of those that the first packing gave.
@@ -313,12 +325,13 @@ module _ (P : Type 0) (l : Ledger) (m : Model) (s : Story P l m) where
       let z = idle-refused c n i in (
         record {
           ticket-next = λ t ask q e. clash (and-i (timed c) (eqb n 0) (ap timed q) (eq-eqb n 0 e)) z;
-          start-bounded = λ t ask q e. clash (and-i (timed c) (eqb n 0) (ap timed q) (eq-eqb n 0 e)) z;
+          start-bounded = λ t ask q e _. clash (and-i (timed c) (eqb n 0) (ap timed q) (eq-eqb n 0 e)) z;
           never-raised = λ p h k x w. rw z (unraised P (m .pending) (m .pending) (l .claims) (s .match) same k x w);
         },
         record {
           inv = s .inv;
           clock = rw z (s .clock);
+          pool = rw z (s .pool);
           issued = rw z (s .issued);
           match = rw z (match-weaken (λ d e r. tracks-weaken P _ (λ q. q .0) d e r) (s .match));
         },
@@ -332,13 +345,13 @@ module _ (P : Type 0) (l : Ledger) (m : Model) (s : Story P l m) where
 
   -- What the accepted timed calls have in common: q is what they leave before they pack again and grant, es the same of the ledger.
   told-finish : (t j : ℕ) (rep : Reply) (q : Model) (es : List Entry) (T : Type 0) → m .clock ≤ t → (T → (e : Entry) → e ∈ l .claims → e .held ≡ true → t ≤ promised e)
-      → IsSpaced q → q .clock ≡ t → q .issued ≡ j
+      → IsSpaced q → q .clock ≡ t → q .pool ≡ l .pool → q .issued ≡ j
       → ((y : Claim) → y ∈ q .pending → (y ∈ advance m t .pending) ⊎ (m .issued < y .ticket)) → Match (Tracks (P × T)) (q .pending) es
       → (T → Unraised (m .pending) (finish q rep .model .pending) (map (marked t (finish q rep .answer .grants)) es))
-      × Story (P × T) (record { clock = t; issued = j; claims = map (marked t (finish q rep .answer .grants)) es }) (finish q rep .model)
-  told-finish t j rep q es T h tm sp cl is old ma = (
+      × Story (P × T) (record { clock = t; pool = l .pool; issued = j; claims = map (marked t (finish q rep .answer .grants)) es }) (finish q rep .model)
+  told-finish t j rep q es T h tm sp cl po is old ma = (
     λ z. unraised (P × T) (m .pending) (finish q rep .model .pending) (map (marked t (finish q rep .answer .grants)) es) done (finish-not-raised m q t rep (s .inv) h (prompt t (tm z)) sp old),
-    record { inv = finish-invariant q rep sp; clock = finish-clock q rep ∙ cl; issued = finish-issued q rep ∙ is; match = done },
+    record { inv = finish-invariant q rep sp; clock = finish-clock q rep ∙ cl; pool = finish-pool q rep ∙ po; issued = finish-issued q rep ∙ is; match = done },
   )
     where
       done : Match (Tracks (P × T)) (finish q rep .model .pending) (map (marked t (finish q rep .answer .grants)) es)
@@ -351,12 +364,13 @@ module _ (P : Type 0) (l : Ledger) (m : Model) (s : Story P l m) where
       let next : suc (m .issued) ≡ l .issued + 1 = omega (arith, s .issued) in
       let r =
       told-finish t (l .issued + 1) (placing (advance m t) w) q _ T
-      (a .clocked .later) (λ z. z refl) spaced refl next old (match-snoc _ _ first new) in (
+      (a .clocked .later) (λ z. z refl) spaced refl (s .pool) next old (match-snoc _ _ first new) in (
         record {
           ticket-next = λ t′ ask′ e _. omega (arith, s .issued);
-          start-bounded = λ t′ ask′ e _.
+          start-bounded = λ t′ ask′ e _ z′.
               let same : boundOn (ruledBy l t) (l .claims) ask ≡ boundOn (ruledBy l t′) (l .claims) ask′ = cc in
-              omega (arith, place-bound v ps w, bound-is (P × T) v ps (l .claims) w ask refl refl first);
+              let z : ask .units ≡ 0 = cc in
+              omega (arith, place-bound v ps w (fresh-sane (advance m t) ask (a .long) (advance-drawn m t ask a) (advance-spare m t ask a)) z, bound-is (P × T) v ps (l .claims) w ask refl refl first, ap (λ (k : ℕ). boundOn (record { clock = t; pool = k }) (l .claims) ask) (s .pool));
           never-raised = λ _. r .0;
         },
         r .1,
@@ -384,19 +398,19 @@ module _ (P : Type 0) (l : Ledger) (m : Model) (s : Story P l m) where
       first = advance-match P T (l .claims) m t (s .inv) (a .clocked .later) (λ z. prompt t (z refl)) (s .match)
 
       spaced : IsSpaced (join (advance m t) (placed (advance m t) ask))
-      spaced = join-spaced (advance m t) ask (a .long) (a .spare) (advance-packed m t (s .inv) (a .clocked .later) .spaced)
+      spaced = join-spaced (advance m t) ask (a .long) (a .drawn) (a .spare) (advance-packed m t (s .inv) (a .clocked .later) .spaced)
 
       new : Tracks (P × T) (placed (advance m t) ask) (record { ticket = suc (m .issued); asked = ask; first = place (ruled m t) (advance m t .pending) (fresh (advance m t) ask); held = false; grant = 0 })
-      new = record { ticket = refl; groups = refl; length = refl; held = refl; grant = λ e. clash e refl; early = λ p o. omega arith }
+      new = record { ticket = refl; groups = refl; length = refl; units = refl; held = refl; grant = λ e. clash e refl; early = λ p o. omega arith }
 
   -- Release, withdraw and clock.
   left : {c : Call} {t k : ℕ} {q : Model} (a : Answer) (T : Type 0) → Leaves m c t k q → Clocked m t → (T → (e : Entry) → e ∈ l .claims → e .held ≡ true → t ≤ promised e)
       → (let es = map (marked t (finish q (plain k t) .answer .grants)) (stay c (l .claims) ++ issues c a) in
       (T → Unraised (m .pending) (finish q (plain k t) .model .pending) es)
-      × Story (P × T) (record { clock = t; issued = l .issued + length (issues c a); claims = es }) (finish q (plain k t) .model))
+      × Story (P × T) (record { clock = t; pool = l .pool; issued = l .issued + length (issues c a); claims = es }) (finish q (plain k t) .model))
   left {c} {t} {k} {q} a T v o tm =
       told-finish t (l .issued + length (issues c a)) (plain k t) q (stay c (l .claims) ++ issues c a) T (o .later) tm
-      (leaves-spaced v (advance-packed m t (s .inv) (o .later))) (leaves-clock v .0) (omega (arith, leaves-issued a v, s .issued)) (λ y i. inl (leaves-old v y i))
+      (leaves-spaced v (advance-packed m t (s .inv) (o .later))) (leaves-clock v .0) (leaves-pool v ∙ s .pool) (omega (arith, leaves-issued a v, s .issued)) (λ y i. inl (leaves-old v y i))
       (leaves-match (P × T) (l .claims) a v (advance-match P T (l .claims) m t (s .inv) (o .later) (λ z. prompt t (tm z)) (s .match)))
 
   no-claim : {A : Type 0} {c : Call} {t k : ℕ} {q : Model} {u : ℕ} {ask : Request} → Leaves m c t k q → c ≡ claim u ask → A
@@ -408,7 +422,7 @@ module _ (P : Type 0) (l : Ledger) (m : Model) (s : Story P l m) where
       → (let turn : Turn = record { call = c; answer = a } in
       let n : Model = finish q (plain k t) .model in
       (NoOverrun l turn → Unraised (m .pending) (n .pending) (noted l turn .claims)) → Next P l turn (tells m) (tells n))
-  next a v h = record { ticket-next = λ u ask e _. no-claim v e; start-bounded = λ u ask e _. no-claim v e; never-raised = λ _. h }
+  next a v h = record { ticket-next = λ u ask e _. no-claim v e; start-bounded = λ u ask e _ _. no-claim v e; never-raised = λ _. h }
 
   told-left : (c : Call) (t k : ℕ) (q : Model) → Clocked m t → Leaves m c t k q → Told P l m c (finish q (plain k t))
   unfolding finish
@@ -431,7 +445,7 @@ module _ (P : Type 0) (l : Ledger) (m : Model) (s : Story P l m) where
 -- ── the run ──
 story-weaken : (P Q : Type 0) (l : Ledger) (m : Model) → (Q → P) → Story P l m → Story Q l m
 story-weaken P Q l m f s =
-    record { inv = s .inv; clock = s .clock; issued = s .issued; match = match-weaken (λ c e r. tracks-weaken P Q f c e r) (s .match) }
+    record { inv = s .inv; clock = s .clock; pool = s .pool; issued = s .issued; match = match-weaken (λ c e r. tracks-weaken P Q f c e r) (s .match) }
 
 story-after : (cs : List Call) (P : Type 0) (l : Ledger) (m : Model) → Story P l m
     → Story (P × NoOverruns l (turns step m cs)) (notedAll l (turns step m cs)) (tableAfter step m cs)
@@ -442,14 +456,21 @@ story-after (c ∷ cs) P l m s =
     let r = story-after cs (P × NoOverrun l t) (noted l t) (step m c .model) (told P l m s c .1) in
     story-weaken _ (P × (NoOverrun l t × NoOverruns (noted l t) (turns step (step m c .model) cs))) _ _ (λ q. ((q .0, q .1 .0), q .1 .1)) r
 
-start : (g : ℕ) → Story (Unit {0}) opening (new g .model)
-start g = new-cases (λ (s : Step). Story (Unit {0}) opening (s .model)) g (λ e. blank-story 0) (λ e. blank-story g)
-  where
-    blank-story : (r : ℕ) → Story (Unit {0}) opening (blank r)
-    blank-story r = record { inv = blank-invariant r; clock = refl; issued = refl; match = m-nil }
+-- The ledger before any call, by the call that made the table.
+abbrev pub opened : ℕ → ℕ → Ledger
+opened g k = opening k (new g k .answer)
 
-after-calls : (g : ℕ) (cs : List Call) → (let ts = turns step (new g .model) cs in Story (NoOverrunIn ts) (ledgerOf ts) (tableAfter step (new g .model) cs))
-after-calls g cs = story-weaken _ _ _ _ (λ q. (tt, q)) (story-after cs (Unit {0}) opening (new g .model) (start g))
+start : (g k : ℕ) → Story (Unit {0}) (opened g k) (new g k .model)
+start g k = new-cases (λ (s : Step). Story (Unit {0}) (opening k (s .answer)) (s .model)) g k (λ e. blank-story 0 0 1 refl) (λ e. blank-story g k 0 refl)
+  where
+    blank-story : (r n j : ℕ) → n ≡ cond (eqb j 0) k 0 → Story (Unit {0}) (opening k (unchanged (blank r n) j .answer)) (blank r n)
+    blank-story r n j e = record { inv = blank-invariant r n; clock = refl; pool = e; issued = refl; match = m-nil }
+
+pub after-calls : (g k : ℕ) (cs : List Call)
+    → (let l = opened g k in
+    let ts = turns step (new g k .model) cs in
+    Story (NoOverruns l ts) (notedAll l ts) (tableAfter step (new g k .model) cs))
+after-calls g k cs = story-weaken _ _ _ _ (λ q. (tt, q)) (story-after cs (Unit {0}) (opened g k) (new g k .model) (start g k))
 
 -- The rules' own name for the table after a list of calls.
 pub table-after : (m : Model) (cs : List Call) → tableAfter step m cs ≡ after m cs
@@ -458,8 +479,8 @@ table-after m [] = refl
 table-after m (c ∷ cs) = table-after (step m c .model) cs
 
 -- Demand 3, whole.
-pub demand-3 : (rig : ℕ) (calls : List Call) → Demand3 rig calls
-demand-3 rig calls = record {
-  at-any-time = λ before rest e. now-of _ _ _ (after-calls rig before);
-  at-any-call = λ before c rest e. told _ _ _ (after-calls rig before) c .0;
+pub demand-3 : (rig pool : ℕ) (calls : List Call) → Demand3 rig pool calls
+demand-3 rig pool calls = record {
+  at-any-time = λ before rest e. now-of _ _ _ (after-calls rig pool before);
+  at-any-call = λ before c rest e. told _ _ _ (after-calls rig pool before) c .0;
 }

@@ -1,4 +1,5 @@
 pub mod Matching
 pub mod Demand3
+pub mod PoolKept
 pub mod WholeCalls
 pub mod Worthless

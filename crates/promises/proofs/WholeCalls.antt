@@ -14,22 +14,27 @@ use Rattle.rules.specs.Claims.{on, at, withPhase, rival, endOf}
 use Rattle.rules.specs.declared.Phase.the-variants.{On}
 use Rattle.rules.specs.Order.{precedes}
 use Rattle.rules.specs.Packing.{packedStart, moved, pack}
+use Rattle.rules.specs.Placing.{place}
+use Rattle.rules.specs.Plans.{Sane, Spare}
 use Rattle.rules.specs.Granting.{goes, granted, grant}
 use Rattle.rules.specs.declared.Reply.{Reply}
-use Rattle.rules.specs.Calls.{Model, settingOf, plain, ruled, Call, claim, release, withdraw, clock, lookup, common, timed, clockOf, Step, advance, finish, join, admit, step, new, after}
+use Rattle.rules.specs.Calls.{Model, settingOf, plain, ruled, Call, claim, release, withdraw, clock, lookup, common, free, timed, clockOf, Step, advance, finish, join, fresh, admit, step, new, after}
 use Rattle.rules.specs.Invariants.{IsSpaced, IsPacked, Still, Invariant}
 use Rattle.rules.proofs.Bools.{clash}
 use Rattle.rules.proofs.Lists.{here, map-e}
 use Rattle.rules.proofs.Order.{precedes-e, precedes-lt}
 use Rattle.rules.proofs.Packing.{moved-phase, pack-precedes}
 use Rattle.rules.proofs.Granting.{goes-wait, goes-at, granted-cases, grant-precedes}
-use Rattle.rules.proofs.Invariants.{spaced-clear, settled-starts}
-use Rattle.rules.proofs.Calls.{Admissible, advance-packed, finish-invariant, placed, join-spaced, Leaves, by-release, by-withdraw, by-clock, leaves-spaced, Idle, step-cases, clock-accepted, new-invariant, after-invariant, advance-same, finish-e, finish-clock, leaves-old, leaves-clock, join-old, advance-spare, admit-invariant}
+use Rattle.rules.proofs.Invariants.{spaced-clear, settled-packs}
+use Rattle.rules.proofs.Calls.{Admissible, advance-drawn, placed-fits, advance-packed, finish-invariant, placed, join-spaced, Leaves, by-release, by-withdraw, by-clock, leaves-spaced, Idle, step-cases, clock-accepted, new-invariant, after-invariant, advance-same, finish-e, finish-clock, leaves-old, leaves-clock, join-old, advance-spare, admit-invariant}
 use Rattle.rules.proofs.OnePacking.{advance-still, finish-still, joined, joined-cases, claim-pending, joined-at}
 use Rattle.promises.specs.WholeCalls.{Becomes, TimedCall, Stays, ClaimCall, WholeCalls}
 
 -- ── order ──
 -- Through the first packing.
+sane-at : (m : Model) (t : ℕ) → Invariant m → (c : Claim) → c ∈ m .pending → Sane (ruled m t) c
+sane-at m t i c k = let s = i .spaced .proper c k .sane in record { long = s .long; small = s .small; drawn = s .drawn }
+
 advance-precedes : (m : Model) (t : ℕ) → Invariant m → (d w : Claim) → d ∈ m .pending → w ∈ m .pending → on w ≡ false → precedes d w ≡ true
     → (x y : Claim) → x ∈ advance m t .pending → y ∈ advance m t .pending → x .ticket ≡ d .ticket → y .ticket ≡ w .ticket
     → (on y ≡ false) × (precedes x y ≡ true)
@@ -38,21 +43,21 @@ advance-precedes m t i d w di wi o p x y xi yi e h =
     let f = packedStart v (m .pending) in
     let a = advance-same m t i d x di xi e in
     let b = advance-same m t i w y wi yi h in
-    (ap on b ∙ moved-phase f w ∙ o, cc (a, b, pack-precedes v (m .pending) d w (i .spaced .proper d di .sane) di o p))
+    (ap on b ∙ moved-phase f w ∙ o, cc (a, b, pack-precedes v (m .pending) (sane-at m t i) d w di wi o p))
 
 -- Through packing again and granting.
 regranted : Model → Claim → Claim
 regranted m x = granted (settingOf m) (pack (settingOf m) (m .pending)) (moved (packedStart (settingOf m) (m .pending)) x)
 
-finish-precedes : (m : Model) → IsSpaced m → (x y : Claim) → x ∈ m .pending
+finish-precedes : (m : Model) → IsSpaced m → (x y : Claim) → x ∈ m .pending → y ∈ m .pending
     → moved (packedStart (settingOf m) (m .pending)) x ∈ pack (settingOf m) (m .pending)
     → on y ≡ false → precedes x y ≡ true → (on (regranted m y) ≡ false) × (precedes (regranted m x) (regranted m y) ≡ true)
 unfolding regranted
-finish-precedes m i x y xi xj o p =
+finish-precedes m i x y xi yi xj o p =
     let v : Setting = settingOf m in
     let ps : List Claim = pack v (m .pending) in
     let f = packedStart v (m .pending) in
-    let g = grant-precedes v ps (moved f x) (moved f y) xj (pack-precedes v (m .pending) x y (i .proper x xi .sane) xi o p) in
+    let g = grant-precedes v ps (moved f x) (moved f y) xj (pack-precedes v (m .pending) (λ c k. i .proper c k .sane) x y xi yi o p) in
     (ap on (g .0) ∙ moved-phase f y ∙ o, ap (precedes (granted v ps (moved f x))) (g .0) ∙ g .1)
 
 -- Of a call from m to `finish q`, where each claim of q that is not new is one of those that the first packing gave.
@@ -66,7 +71,7 @@ finish-order m q t rep i sp old d d′ w w′ f g o p =
     let xi = mine d (f .old) (x .0) (sym (x .2) ∙ f .same) (old (x .0) (x .1)) in
     let yi = mine w (g .old) (y .0) (sym (y .2) ∙ g .same) (old (y .0) (y .1)) in
     let r = advance-precedes m t i d w (f .old) (g .old) o p (x .0) (y .0) xi yi (sym (x .2) ∙ f .same) (sym (y .2) ∙ g .same) in
-    let z = finish-precedes q sp (x .0) (y .0) (x .1) (x .3 .0) (r .0) (r .1) in
+    let z = finish-precedes q sp (x .0) (y .0) (x .1) (y .1) (x .3 .0) (r .0) (r .1) in
     (ap on (y .3 .1) ∙ z .0, ap (λ (c : Claim). precedes c w′) (x .3 .1) ∙ ap (precedes (regranted q (x .0))) (y .3 .1) ∙ z .1)
   where
     mine : (d : Claim) → d ∈ m .pending → (x : Claim) → x .ticket ≡ d .ticket → (x ∈ advance m t .pending) ⊎ (m .issued < x .ticket) → x ∈ advance m t .pending
@@ -78,7 +83,7 @@ timed-finish : (m q : Model) (c : Call) (t : ℕ) (rep : Reply) → Invariant m 
     → ((x : Claim) → x ∈ q .pending → (x ∈ advance m t .pending) ⊎ (m .issued < x .ticket)) → TimedCall m c (finish q rep)
 timed-finish m q c t rep i sp e h old = record {
   clock-set = finish-clock q rep ∙ e ∙ sym h;
-  starts-packed = settled-starts (r .issued) (settingOf r) (r .pending) (finish-invariant q rep sp);
+  starts-packed = settled-packs (r .issued) (settingOf r) (r .pending) (finish-invariant q rep sp);
   order-kept = λ d d′ w w′ f g x od ow od′ ow′ l.
       let r = finish-order m q t rep i sp old d d′ w w′ f g ow (precedes-lt d w x l) in
       smaller d′ w′ od′ (precedes-e d′ w′ (r .1));
@@ -108,20 +113,23 @@ module _ (m : Model) (i : Invariant m) (t : ℕ) (ask : Request) (a : Admissible
   packed = advance-packed m t i (a .clocked .later)
 
   still : Still first
-  still = advance-still m t (λ c k. i .spaced .proper c k .sane) (i .spaced .ascending)
+  still = advance-still m t (sane-at m t i) (i .spaced .ascending) (i .spaced .holders .stock)
 
   spare : first .issued < mostTickets
   spare = advance-spare m t ask a
 
+  drawn : ask .units ≤ first .pool
+  drawn = advance-drawn m t ask a
+
   claim-timed : TimedCall m (claim t ask) (admit first ask)
   unfolding admit join advance
   claim-timed =
-      timed-finish m (join first (placed first ask)) (claim t ask) t _ i (join-spaced first ask (a .long) spare (packed .spaced)) refl refl
+      timed-finish m (join first (placed first ask)) (claim t ask) t _ i (join-spaced first ask (a .long) drawn spare (packed .spaced)) refl refl
       (join-old first (placed first ask) refl)
 
   -- The others, as after a clock call, and the new one.
   last-is : last ≡ finish first (plain 0 t) .model .pending ++ (w ∷ [])
-  last-is = claim-pending first packed still ask (a .long) spare (plain 0 t)
+  last-is = claim-pending first packed still ask (a .long) drawn spare (plain 0 t)
 
   new-last : w ∈ last
   new-last = subst (λ (l : List Claim). w ∈ l) (sym last-is) (Memᴰ·append-right (finish first (plain 0 t) .model .pending) here)
@@ -132,7 +140,7 @@ module _ (m : Model) (i : Invariant m) (t : ℕ) (ask : Request) (a : Admissible
   stays d j =
       let e = ap (λ (s : Step). s .model .pending) (finish-still first (plain 0 t) still) in
       let r = map-e (granted v ps) ps (subst (λ (l : List Claim). d ∈ l) e j) in
-      (r .0, r .1, subst (Stays t (r .0)) (sym (r .2)) (granted-cases (Stays t (r .0)) v ps (r .0) (went (r .0) (r .1)) (λ e. inl refl)))
+      (r .0, r .1, subst (Stays t (r .0)) (sym (r .2)) (granted-cases (Stays t (r .0)) v ps (r .0) (went (r .0)) (λ e. inl refl)))
     where
       v : Setting
       v = ruled m t
@@ -140,8 +148,8 @@ module _ (m : Model) (i : Invariant m) (t : ℕ) (ask : Request) (a : Admissible
       ps : List Claim
       ps = advance m t .pending
 
-      went : (x : Claim) → x ∈ ps → goes ps x ≡ true → Stays t x (withPhase x (On t))
-      went x k e = inr (goes-wait ps x e, goes-at v ps (packed .spaced .low) (packed .tight) (λ c k. packed .spaced .proper c k .sane) x k e, refl)
+      went : (x : Claim) → goes v ps x ≡ true → Stays t x (withPhase x (On t))
+      went x e = inr (goes-wait v ps x e, goes-at v ps x e, refl)
 
   others : (d : Claim) → d ∈ last → d .ticket ≢ w .ticket → (x : Claim) × x ∈ first .pending × Stays t x d
   others d j ne = go (List·Memᴰ·append-cases (finish first (plain 0 t) .model .pending) (subst (λ (l : List Claim). d ∈ l) last-is j))
@@ -153,7 +161,7 @@ module _ (m : Model) (i : Invariant m) (t : ℕ) (ask : Request) (a : Admissible
   clear-of : (d : Claim) → d ∈ last → d .ticket ≢ w .ticket → rival d w ≡ true
       → (let v : Setting = ruled m t in (endOf v d ≤ at w) ⊎ ((on d ≡ false) × (endOf v w ≤ at d)))
   unfolding admit finish join advance
-  clear-of d j ne h = go (spaced-clear _ v _ (admit-invariant first ask (a .long) spare packed .spaced) d w j new-last ne h)
+  clear-of d j ne h = go (spaced-clear _ v _ (admit-invariant first ask (a .long) drawn spare packed .spaced) d w j new-last ne h)
     where
       v : Setting
       v = ruled m t
@@ -162,15 +170,26 @@ module _ (m : Model) (i : Invariant m) (t : ℕ) (ask : Request) (a : Admissible
       go (inl r) = inl (r .1)
       go (inr r) = inr r
 
+  enough-for : Spare (ruled m t) (first .pending) w (at w)
+  unfolding advance
+  enough-for =
+      subst (Spare (ruled m t) (first .pending) w) (sym (joined-at first packed still ask (a .long) drawn spare))
+      (joined-cases first ask (λ (x : Claim). Spare (ruled m t) (first .pending) x (place (ruled m t) (first .pending) (fresh first ask))) fits fits)
+    where
+      fits : Spare (ruled m t) (first .pending) (placed first ask) (place (ruled m t) (first .pending) (fresh first ask))
+      fits = placed-fits first ask (a .long) drawn spare .spare
+
   claim-whole : ClaimCall m t ask (admit first ask)
   unfolding admit finish
   claim-whole = record {
     new = w;
     groups = joined-cases first ask (λ (x : Claim). x .groups ≡ ask .groups) refl refl;
     length = joined-cases first ask (λ (x : Claim). x .length ≡ ask .length) refl refl;
+    units = joined-cases first ask (λ (x : Claim). x .units ≡ ask .units) refl refl;
     ticket = joined-cases first ask (λ (x : Claim). x .ticket ≡ suc (first .issued)) refl refl;
-    start = joined-at first packed still ask (a .long) spare;
+    start = joined-at first packed still ask (a .long) drawn spare;
     overlaps-none = clear-of;
+    units-enough = enough-for;
     pushes-none = others;
     others-same = last-is ∙ ap (λ (s : Step). s .model .pending ++ (w ∷ [])) (sym (clock-accepted m t (a .clocked)));
   }
@@ -194,6 +213,7 @@ OfClaim m (withdraw t k) s = Unit {0}
 OfClaim m (clock t) s = Unit {0}
 OfClaim m (lookup k) s = Unit {0}
 OfClaim m (common j k) s = Unit {0}
+OfClaim m free s = Unit {0}
 
 pub of-claim : (m : Model) → Invariant m → (t : ℕ) (ask : Request) → step m (claim t ask) .answer .number ≡ 0 → ClaimCall m t ask (step m (claim t ask))
 unfolding OfClaim
@@ -210,5 +230,5 @@ of-claim m i t ask =
 pub whole-calls : (m : Model) → Invariant m → WholeCalls m
 whole-calls m i = record { of-timed = of-timed m i; of-claim = of-claim m i }
 
-pub whole-calls-after : (rig : ℕ) (calls : List Call) → WholeCalls (after (new rig .model) calls)
-whole-calls-after rig calls = whole-calls (after (new rig .model) calls) (after-invariant (new rig .model) calls (new-invariant rig))
+pub whole-calls-after : (rig pool : ℕ) (calls : List Call) → WholeCalls (after (new rig pool .model) calls)
+whole-calls-after rig pool calls = whole-calls (after (new rig pool .model) calls) (after-invariant (new rig pool .model) calls (new-invariant rig pool))

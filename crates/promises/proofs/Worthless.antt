@@ -8,9 +8,11 @@ use Rattle.groups.specs.Groups.{someFrom, lowestFrom, common, shares, empty, wi
 use Rattle.rules.specs.Lists.{_∈_, greatest, least, sum, all, any, keep}
 use Rattle.rules.specs.Claims.{heldUntil, endOf, remaining}
 use Rattle.rules.specs.Order.{precedes, before}
-use Rattle.rules.specs.Packing.{startFor, moved, ahead, startWithin, packedStart, pack}
-use Rattle.rules.specs.Placing.{clear, fits, seek, place, contention, startBound}
-use Rattle.rules.specs.Granting.{goes, granted, grant, grants}
+use Rattle.rules.specs.Pool.{covers, unitsAt, used, enough, spare, heldUnits}
+use Rattle.rules.specs.Seeking.{seek}
+use Rattle.rules.specs.Packing.{ready, startFor, moved, ahead, startWithin, packedStart, pack}
+use Rattle.rules.specs.Placing.{clear, fits, place, contention, startBound}
+use Rattle.rules.specs.Granting.{takenBefore, trulyFree, goesWithin, goes, granted, grant, grants}
 use Rattle.rules.specs.declared.Standing.the-variants.{NotPending, Holds}
 use Rattle.rules.specs.Tests.{firstOf}
 use Rattle.rules.specs.Calls.{Call, clock, tests, advance, finish, join, remove, admit, act, step, new, standingOf}
@@ -20,7 +22,7 @@ use Rattle.promises.specs.Ledger.{Entry, turns, tableAfter, issues, stay
 use Rattle.promises.specs.Worthless.{claim, neverGrants, untouched, echoes, AllRefused}
 
 pub all-refused : AllRefused
-unfolding someFrom lowestFrom common shares empty within greatest least sum all any keep heldUntil endOf remaining precedes before startFor moved ahead startWithin packedStart pack clear fits seek place contention startBound goes granted grant grants firstOf tests advance finish join remove admit act step new standingOf turns tableAfter issues stay marked notedAll neverGrants untouched echoes
+unfolding someFrom lowestFrom common shares empty within greatest least sum all any keep heldUntil endOf remaining precedes before covers unitsAt used enough spare heldUnits ready startFor moved ahead startWithin packedStart pack clear fits seek place contention startBound takenBefore trulyFree goesWithin goes granted grant grants firstOf tests advance finish join remove admit act step new standingOf turns tableAfter issues stay marked notedAll neverGrants untouched echoes
 all-refused = (
   λ d.
       let calls : List Call = claim 0 0x1 10 ∷ clock 1 ∷ [] in

@@ -1,5 +1,5 @@
 -- Demand 3: one statement about a list of calls, "any number, even zero, in any order, with any values, those turned down too". Its words
--- go by the calls, their answers and lookup. proofs/Demand3 has the theorem: it holds for every rig and every list.
+-- go by the calls, their answers and lookup. proofs/Demand3 has the theorem: it holds for every rig, every pool and every list.
 use mathlib.Core.Path.{_≡_}
 use mathlib.Core.Logic.{_⊎_, _≢_}
 use mathlib.Core.Bool.{true, false}
@@ -12,8 +12,8 @@ use Rattle.rules.specs.declared.Common.{Common}
 use Rattle.rules.specs.declared.Common.the-variants.{Unknown}
 use Rattle.rules.specs.declared.Standing.{Standing}
 use Rattle.rules.specs.declared.Standing.the-variants.{NotPending, Waits, Holds}
-use Rattle.rules.specs.Calls.{Model, Call, claim, standingOf, shared, commonOf, step, new}
-use Rattle.promises.specs.Ledger.{Turn, Steps, turns, tableAfter, Entry, promised, Ledger, noted, ledgerOf, NoOverrun, NoOverrunIn, ruledBy, boundOn}
+use Rattle.rules.specs.Calls.{Model, Call, claim, standingOf, shared, commonOf, freeOf, step, new}
+use Rattle.promises.specs.Ledger.{Turn, Steps, turns, tableAfter, Entry, promised, Ledger, opening, noted, notedAll, NoOverrun, NoOverruns, ruledBy, boundOn}
 
 -- "Look, asked after any call of the list, says the same: waiting, on with that promised end, or 8."
 pub record Agrees (l : List Entry) (k : ℕ) (told : Standing) : Type 0 where
@@ -27,10 +27,11 @@ pub record AgreesOnTwo (l : List Entry) (j k : ℕ) (told : Common) : Type 0 whe
   pub pending : (e f : Entry) → e ∈ l → f ∈ l → e .ticket ≡ j → f .ticket ≡ k → told ≡ shared (common (e .asked .groups) (f .asked .groups))
   pub unknown : ((e : Entry) → e ∈ l → e .ticket ≢ j) ⊎ ((e : Entry) → e ∈ l → e .ticket ≢ k) → told ≡ Unknown
 
--- What lookup tells: of each ticket, and of each two.
+-- What lookup tells: of each ticket, of each two, and of the pool the units free.
 pub record Told : Type 0 where
   pub one : ℕ → Standing
   pub two : ℕ → ℕ → Common
+  pub free : ℕ
 
 -- The tickets of the pending claims are in ascending order.
 abbrev pub TicketsAscend : List Entry → Type 0
@@ -51,8 +52,8 @@ pub record Now (P : Type 0) (l : Ledger) (told : Told) : Type 0 where
 pub record Next (P : Type 0) (l : Ledger) (t : Turn) (before after : Told) : Type 0 where
   -- "Tickets are issued 1, 2, 3 .. and never again": that of an accepted claim is one more than the count of claims accepted before it.
   pub ticket-next : (u : ℕ) (ask : Request) → t .call ≡ claim u ask → t .answer .number ≡ 0 → t .answer .ticket ≡ l .issued + 1
-  -- A first planned start is within its bound.
-  pub start-bounded : (u : ℕ) (ask : Request) → t .call ≡ claim u ask → t .answer .number ≡ 0 → t .answer .start ≤ boundOn (ruledBy l u) (l .claims) ask
+  -- A first planned start is within its bound: "the ceiling is promised for claims that draw none" (document 02, P3).
+  pub start-bounded : (u : ℕ) (ask : Request) → t .call ≡ claim u ask → t .answer .number ≡ 0 → ask .units ≡ 0 → t .answer .start ≤ boundOn (ruledBy l u) (l .claims) ask
   -- No start is raised. "A call raises it if the claim waits before the call and after it waits with a greater start, or is on with a
   -- grant greater than that start."
   pub never-raised : P → NoOverrun l t → (k s : ℕ) → before .one k ≡ Waits s
@@ -61,21 +62,23 @@ pub record Next (P : Type 0) (l : Ledger) (t : Turn) (before after : Told) : Typ
 
 -- What it tells of a table.
 abbrev pub tells : Model → Told
-tells m = record { one = λ k. standingOf k (m .pending); two = λ j k. commonOf j k (m .pending) }
+tells m = record { one = λ k. standingOf k (m .pending); two = λ j k. commonOf j k (m .pending); free = freeOf m }
 
--- "The list begins with the table that the call for a new one gave, whatever the rig." The calls are run by `step`.
-pub record Demand3Of (step : Steps) (rig : ℕ) (calls : List Call) : Type 0 where
+-- "The list begins with the table that the call for a new one gave, whatever the rig", and whatever the pool. The calls are run by `step`.
+pub record Demand3Of (step : Steps) (rig pool : ℕ) (calls : List Call) : Type 0 where
   pub at-any-time : (before rest : List Call) → before ++ rest ≡ calls
-      → (let m = new rig .model in
+      → (let m = new rig pool .model in
+      let l = opening pool (new rig pool .answer) in
       let ts = turns step m before in
-      Now (NoOverrunIn ts) (ledgerOf ts) (tells (tableAfter step m before)))
+      Now (NoOverruns l ts) (notedAll l ts) (tells (tableAfter step m before)))
   pub at-any-call : (before : List Call) (c : Call) (rest : List Call) → before ++ (c ∷ rest) ≡ calls
-      → (let m = new rig .model in
+      → (let m = new rig pool .model in
+      let l = opening pool (new rig pool .answer) in
       let ts = turns step m before in
       let n = tableAfter step m before in
       let s = step n c in
-      Next (NoOverrunIn ts) (ledgerOf ts) (record { call = c; answer = s .answer }) (tells n) (tells (s .model)))
+      Next (NoOverruns l ts) (notedAll l ts) (record { call = c; answer = s .answer }) (tells n) (tells (s .model)))
 
 -- Demand 3 of the rules.
-abbrev pub Demand3 : ℕ → List Call → Type 0
-Demand3 rig calls = Demand3Of step rig calls
+abbrev pub Demand3 : ℕ → ℕ → List Call → Type 0
+Demand3 rig pool calls = Demand3Of step rig pool calls

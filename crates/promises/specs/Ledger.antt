@@ -11,7 +11,7 @@ use Rattle.rules.specs.declared.Request.{Request}
 use Rattle.rules.specs.Lists.{_∈_, sum, any, keep}
 use Rattle.rules.specs.declared.Setting.{Setting}
 use Rattle.rules.specs.Claims.{heldUntil}
-use Rattle.rules.specs.Calls.{Model, Call, claim, release, withdraw, clock, lookup, common, timed, clockOf, Answer, Step}
+use Rattle.rules.specs.Calls.{Model, Call, claim, release, withdraw, clock, lookup, common, free, timed, clockOf, Answer, Step}
 
 -- A call with its answer.
 pub record Turn : Type 0 where
@@ -48,15 +48,17 @@ pub record Entry : Type 0 where
 abbrev pub promised : Entry → ℕ
 promised e = e .grant + e .asked .length
 
--- The table's clock, the count of claims accepted so far, and the pending claims.
+-- The table's clock, the units in its pool, the count of claims accepted so far, and the pending claims.
 pub record Ledger : Type 0 where
   pub clock : ℕ
+  pub pool : ℕ
   pub issued : ℕ
   pub claims : List Entry
 
--- Before any call. The clock is "0 before any".
-abbrev pub opening : Ledger
-opening = record { clock = 0; issued = 0; claims = [] }
+-- Before any call, by the call that made the table: the units that it named, and its answer. The clock is "0 before any"; a table that was
+-- refused has no units.
+abbrev pub opening : ℕ → Answer → Ledger
+opening k a = record { clock = 0; pool = cond (eqb (a .number) 0) k 0; issued = 0; claims = [] }
 
 -- "A claim is pending from the accepted call that issued its ticket": what an accepted call issued.
 unfoldable pub issues : Call → Answer → List Entry
@@ -66,6 +68,7 @@ issues (withdraw t k) a = []
 issues (clock t) a = []
 issues (lookup k) a = []
 issues (common j k) a = []
+issues free a = []
 
 -- "until an accepted release or withdrawal takes it away": what an accepted call leaves of the pending claims.
 abbrev pub without : ℕ → List Entry → List Entry
@@ -78,6 +81,7 @@ stay (withdraw t k) l = without k l
 stay (clock t) l = l
 stay (lookup k) l = l
 stay (common j k) l = l
+stay free l = l
 
 -- "from the call whose answer names its ticket as granted, that call included .. Its grant is that call's clock"
 abbrev pub hold : Entry → ℕ → Entry
@@ -92,32 +96,26 @@ noted l t =
     let now = clockOf (t .call) in
     let new = issues (t .call) (t .answer) in
     cond (accepted t)
-    (record { clock = now; issued = l .issued + length new; claims = map (marked now (t .answer .grants)) (stay (t .call) (l .claims) ++ new) })
+    (record { clock = now; pool = l .pool; issued = l .issued + length new; claims = map (marked now (t .answer .grants)) (stay (t .call) (l .claims) ++ new) })
     l
 
+-- The ledger after these calls.
 unfoldable pub notedAll : Ledger → List Turn → Ledger
 notedAll l [] = l
 notedAll l (t ∷ ts) = notedAll (noted l t) ts
-
--- The ledger after these calls.
-abbrev pub ledgerOf : List Turn → Ledger
-ledgerOf ts = notedAll opening ts
 
 -- The call does not bear a clock past the promised end of a claim held when it comes.
 abbrev pub NoOverrun : Ledger → Turn → Type 0
 NoOverrun l t = accepted t ≡ true → (e : Entry) → e ∈ l .claims → e .held ≡ true → clockOf (t .call) ≤ promised e
 
+-- No accepted call of these does.
 abbrev pub NoOverruns : Ledger → List Turn → Type 0
 NoOverruns l [] = Unit {0}
 NoOverruns l (t ∷ ts) = NoOverrun l t × NoOverruns (noted l t) ts
 
--- No accepted call of these did.
-abbrev pub NoOverrunIn : List Turn → Type 0
-NoOverrunIn ts = NoOverruns opening ts
-
 -- The rules at clock t, by what the calls so far set.
 abbrev pub ruledBy : Ledger → ℕ → Setting
-ruledBy l t = record { clock = t }
+ruledBy l t = record { clock = t; pool = l .pool }
 
 -- The bound on a first planned start: "what is pending, on or waiting is taken just before the accepting call; remaining time is as in
 -- the ceiling, the clock being that call's".

@@ -1,4 +1,4 @@
--- The sentences of document 01, "What each call does", of whole calls: of the table m before a call that is accepted and the table after it.
+-- The sentences of document 01, "What each call does", and of document 02, P3, of whole calls: of the table m before a call that is accepted and the table after it.
 -- proofs/WholeCalls has them for every table that calls can make.
 use mathlib.Core.Path.{_≡_}
 use mathlib.Core.Logic.{_⊎_, _≢_}
@@ -8,10 +8,12 @@ use Prim.Native.Nat.{ℕ, _≤_, _<_}
 use Rattle.rules.specs.declared.Claim.{Claim}
 use Rattle.rules.specs.declared.Phase.the-variants.{On}
 use Rattle.rules.specs.declared.Request.{Request}
-use Rattle.rules.specs.Lists.{_∈_, greatest, keep}
+use Rattle.rules.specs.Lists.{_∈_}
 use Rattle.rules.specs.declared.Setting.{Setting}
 use Rattle.rules.specs.Claims.{on, at, withPhase, rival, endOf}
 use Rattle.rules.specs.Order.{precedes}
+use Rattle.rules.specs.Packing.{Packs}
+use Rattle.rules.specs.Plans.{Spare}
 use Rattle.rules.specs.Calls.{Model, settingOf, ruled, Call, claim, clock, timed, clockOf, Step, advance, step}
 
 -- The claim c of the table m is the claim d of the table n: tickets tell.
@@ -24,9 +26,9 @@ pub record Becomes (m n : Model) (c d : Claim) : Type 0 where
 pub record TimedCall (m : Model) (c : Call) (s : Step) : Type 0 where
   -- "first sets the clock"
   pub clock-set : s .model .clock ≡ clockOf c
-  -- "Each waiting claim's planned start becomes the greatest of the clock and the ends of the claims that precede it."
-  pub starts-packed : (w : Claim) → w ∈ s .model .pending → on w ≡ false
-      → at w ≡ greatest (endOf (settingOf (s .model))) (s .model .clock) (keep (λ d. precedes d w) (s .model .pending))
+  -- "Each gets the least start, not below the clock, that comes after the conflicting claims preceding it and leaves units enough beside
+  -- the on claims and those already packed."
+  pub starts-packed : Packs (settingOf (s .model)) (s .model .pending) at
   -- "Of two conflicting waiting claims the one with the smaller planned start precedes. Packing never changes this."
   pub order-kept : (d d′ w w′ : Claim) → Becomes m (s .model) d d′ → Becomes m (s .model) w w′ → rival d w ≡ true
       → on d ≡ false → on w ≡ false → on d′ ≡ false → on w′ ≡ false → at d < at w → at d′ < at w′
@@ -44,6 +46,7 @@ pub record ClaimCall (m : Model) (t : ℕ) (ask : Request) (s : Step) : Type 0 w
   pub new : Claim
   pub groups : new .groups ≡ ask .groups
   pub length : new .length ≡ ask .length
+  pub units : new .units ≡ ask .units
   -- "The answer is ticket, start, ..": it waits at that start, or was granted at it.
   pub ticket : new .ticket ≡ s .answer .ticket
   pub start : at new ≡ s .answer .start
@@ -51,6 +54,8 @@ pub record ClaimCall (m : Model) (t : ℕ) (ask : Request) (s : Step) : Type 0 w
   -- start": it overlaps no claim.
   pub overlaps-none : (d : Claim) → d ∈ s .model .pending → d .ticket ≢ new .ticket → rival d new ≡ true
       → (let v : Setting = ruled m t in (endOf v d ≤ at new) ⊎ ((on d ≡ false) × (endOf v new ≤ at d)))
+  -- "A start must leave, over the whole hold, units enough beside all planned holds."
+  pub units-enough : Spare (ruled m t) (advance m t .pending) new (at new)
   -- It pushes none back: every other claim is where setting the clock and packing put it, or was granted there,
   pub pushes-none : (d : Claim) → d ∈ s .model .pending → d .ticket ≢ new .ticket → (x : Claim) × x ∈ advance m t .pending × Stays t x d
   -- and all of them stand as after a call that only sets the clock.

@@ -14,9 +14,9 @@ use Rattle.promises.specs.Demand3.{Demand3Of}
 abbrev pub claim : ℕ → ℕ → ℕ → Call
 claim t g n = Call.claim t (asking g n)
 
--- Demand 3 does not hold of these steps, this rig and these calls.
+-- Demand 3 does not hold of these steps, this rig without a pool, and these calls.
 abbrev pub Refused : Steps → ℕ → List Call → Type 0
-Refused step rig calls = Demand3Of step rig calls → ⊥
+Refused step rig calls = Demand3Of step rig 0 calls → ⊥
 
 -- "never grants": as the rules, but whoever would go on waits on, and nobody is named.
 unfoldable pub neverGrants : Steps

@@ -5,9 +5,11 @@ use Rattle.groups.specs.Groups.{someFrom, lowestFrom, common, shares, empty, wi
 use Rattle.rules.specs.Lists.{greatest, least, sum, all, any, keep}
 use Rattle.rules.specs.Claims.{heldUntil, endOf, remaining}
 use Rattle.rules.specs.Order.{precedes, before}
-use Rattle.rules.specs.Packing.{startFor, moved, ahead, startWithin, packedStart, pack}
-use Rattle.rules.specs.Placing.{clear, fits, seek, place, contention, startBound}
-use Rattle.rules.specs.Granting.{goes, granted, grant, grants}
+use Rattle.rules.specs.Pool.{covers, unitsAt, used, enough, spare, heldUnits, freeUnits}
+use Rattle.rules.specs.Seeking.{seek}
+use Rattle.rules.specs.Packing.{ready, startFor, moved, ahead, startWithin, packedStart, pack}
+use Rattle.rules.specs.Placing.{clear, fits, place, contention, startBound}
+use Rattle.rules.specs.Granting.{takenBefore, trulyFree, goesWithin, goes, granted, grant, grants}
 use Rattle.rules.specs.Tests.{firstOf}
 use Rattle.rules.specs.Calls.{tests, advance, finish, join, remove, admit, act, step, new, standingOf, commonOf}
 use Rattle.numerals.specs.Digits.{numeral, digits, widthUpTo, widthOf, decimalOf, column, pair}
@@ -21,11 +23,11 @@ use Rattle.listing.specs.Replay.{replayFrom, replayIn, replayOf}
 use Rattle.load_text.specs.Parsing.{none, parts, wordsIn, digitOf, valueIn, numberIn, isWord}
 use Rattle.question.specs.declared.questions.Question.the-variants.{NoQuestion}
 use Rattle.question.specs.Questions.{numbersIn, questionNamed, questionIn, questionOf}
-use Rattle.question.specs.Answers.{worded, lookupText, ticketsText, answerOf, textOf}
+use Rattle.question.specs.Answers.{worded, lookupText, ticketsText, freeText, answerOf, textOf}
 use Rattle.question.specs.Samples.{samples, given, expected, wrongLines}
 
 pub all-samples : map given samples ≡ map expected samples
-unfolding someFrom lowestFrom common shares empty within greatest least sum all any keep heldUntil endOf remaining precedes before startFor moved ahead startWithin packedStart pack clear fits seek place contention startBound goes granted grant grants firstOf tests advance finish join remove admit act step new standingOf commonOf numeral digits widthUpTo widthOf decimalOf fieldWidths fieldWidth format knownIn known rowIn fieldsOf widths total lengthIn lengthOf numbers made valueOf withValue bare filled callOf valuesOf fieldBytes fieldValues recordBytes recordsBytes loadBytes misfit readAt itemAt openNumber walkIn walk column pair stopLine saysCall stepOf ending replayFrom replayIn replayOf none parts wordsIn digitOf valueIn numberIn isWord numbersIn questionNamed questionIn questionOf worded lookupText ticketsText answerOf textOf samples
+unfolding someFrom lowestFrom common shares empty within greatest least sum all any keep heldUntil endOf remaining precedes before covers unitsAt used enough spare heldUnits freeUnits ready startFor moved ahead startWithin packedStart pack clear fits seek place contention startBound takenBefore trulyFree goesWithin goes granted grant grants firstOf tests advance finish join remove admit act step new standingOf commonOf numeral digits widthUpTo widthOf decimalOf fieldWidths fieldWidth format knownIn known rowIn fieldsOf widths total lengthIn lengthOf numbers made valueOf withValue bare filled callOf valuesOf fieldBytes fieldValues recordBytes recordsBytes loadBytes misfit readAt itemAt openNumber walkIn walk column pair stopLine saysCall stepOf ending replayFrom replayIn replayOf none parts wordsIn digitOf valueIn numberIn isWord numbersIn questionNamed questionIn questionOf worded lookupText ticketsText freeText answerOf textOf samples
 all-samples = refl
 
 pub all-wrong : map questionOf wrongLines ≡ map (λ l. NoQuestion) wrongLines

@@ -13,7 +13,7 @@ use Rattle.rules.specs.declared.Common.{Common as Share}
 use Rattle.rules.specs.declared.Common.the-variants.{Unknown, Shared, Apart}
 use Rattle.rules.specs.declared.Standing.{Standing}
 use Rattle.rules.specs.declared.Standing.the-variants.{NotPending, Waits, Holds}
-use Rattle.rules.specs.Calls.{Model, standingOf, commonOf}
+use Rattle.rules.specs.Calls.{Model, standingOf, commonOf, freeOf}
 use Rattle.rules.specs.Tables.{model}
 use Rattle.listing.specs.declared.Replayed.{Replayed}
 use Rattle.listing.specs.Lines.{stopLine}
@@ -22,11 +22,11 @@ use Rattle.listing.specs.Replay.{replayOf, replayed}
 use Rattle.listing.proofs.Replaying.{replayed-left}
 use Rattle.listing.proofs.Sizes.{stop-length}
 use Rattle.question.specs.declared.questions.Question.{Question}
-use Rattle.question.specs.declared.questions.Question.the-variants.{Lookup, Common, NoQuestion}
+use Rattle.question.specs.declared.questions.Question.the-variants.{Lookup, Common, Free, NoQuestion}
 use Rattle.question.specs.declared.Asked.{Asked}
 use Rattle.question.specs.declared.Asked.the-variants.{Written, NoSuch, NoRoom}
 use Rattle.question.specs.Questions.{questionOf, isQuestion}
-use Rattle.question.specs.Answers.{ticketWord, ticketsWord, andWord, waitsWords, onWords, apartWords, shareWords, worded, standingText, lookupText, ticketsText, absentOf, commonText, sentenceOf, answerOf, textOf, usageText, askedValues, writtenAs, written, askedOf, askedOut}
+use Rattle.question.specs.Answers.{ticketWord, ticketsWord, andWord, waitsWords, onWords, apartWords, shareWords, ofWord, freeWords, worded, standingText, lookupText, ticketsText, absentOf, commonText, freeText, sentenceOf, answerOf, textOf, usageText, askedValues, writtenAs, written, askedOf, askedOut}
 
 -- ── lengths ──
 worded-length : (w : List ℕ) (v : ℕ) → length (worded w v) ≤ length w + 20
@@ -51,9 +51,15 @@ common-length j k s Unknown = omega (arith, lookup-length (absentOf j k s) NotPe
 common-length j k s (Shared g) = omega (arith, length-append (ticketsText j k) (worded shareWords g), tickets-length j k, worded-length shareWords g)
 common-length j k s Apart = omega (arith, length-append (ticketsText j k) apartWords, tickets-length j k)
 
+free-length : (n k : ℕ) → length (freeText n k) ≤ 55
+unfolding freeText
+free-length n k =
+    omega (arith, length-append (decimalOf n ++ worded ofWord k) freeWords, length-append (decimalOf n) (worded ofWord k), decimal-length n, width-small n, worded-length ofWord k)
+
 sentence-length : (m : Model) (q : Question) → length (sentenceOf m q) ≤ 86
 sentence-length m (Lookup k) = omega (arith, lookup-length k (standingOf k (m .pending)))
 sentence-length m (Common j k) = common-length j k (standingOf j (m .pending)) (commonOf j k (m .pending))
+sentence-length m Free = omega (arith, free-length (freeOf m) (m .pool))
 sentence-length m NoQuestion = omega arith
 
 -- What is printed goes into 134 bytes.
@@ -64,7 +70,7 @@ text-length load q =
     let a = sentenceOf (r .left) q in
     omega (arith, length-append (stopOr (r .stop) (r .at) []) (a ++ (10 ∷ [])), length-append a (10 ∷ []), sentence-length (r .left) q, stop-length (r .stop) (r .at) 47 [] (omega arith) (omega arith))
 
-pub usage-length : length usageText ≤ 64
+pub usage-length : length usageText ≤ 74
 unfolding usageText
 usage-length = omega arith
 
@@ -88,6 +94,9 @@ module _ {o : List ℕ} {at r : ℕ} {p : List ℕ} where
         → Put o at (commonText j k s c) r p → Put o at (sentenceOf m q) r p
     sentence-common j k e s i c l w =
         put-as _ _ (ap (λ x. commonText j k x c) i ∙ ap (commonText j k (standingOf j (m .pending))) l ∙ ap (sentenceOf m) (sym e)) w
+
+    pub sentence-free : q ≡ Free → (n : ℕ) → n ≡ freeOf m → Put o at (freeText n (m .pool)) r p → Put o at (sentenceOf m q) r p
+    sentence-free e n i w = put-as _ _ (ap (λ x. freeText x (m .pool)) i ∙ ap (sentenceOf m) (sym e)) w
 
     pub sentence-none : q ≡ NoQuestion → Put o at [] r p → Put o at (sentenceOf m q) r p
     sentence-none e w = put-as _ _ (ap (sentenceOf m) (sym e)) w

@@ -10,7 +10,7 @@ use Rattle.load_text.specs.Parsing.{FirstWord, wordAt, wordsIn, isWord}
 use Rattle.question.specs.declared.questions.Numbers.{Numbers}
 use Rattle.question.specs.declared.questions.Numbers.the-variants.{Empty}
 use Rattle.question.specs.declared.questions.Question.the-variants.{NoQuestion}
-use Rattle.question.specs.Questions.{andNumber, numberOf, numbersIn, lookupName, lookupOf, commonName, commonOf, questionNamed, questionIn, questionOf}
+use Rattle.question.specs.Questions.{andNumber, numberOf, numbersIn, lookupName, lookupOf, commonName, commonOf, freeName, freeOf, questionNamed, questionIn, questionOf}
 
 -- ── numbers ──
 module _ {l : List ℕ} {at f t : ℕ} (a : FirstWord l at f t) where
@@ -43,9 +43,14 @@ module _ (w : List ℕ) (p : Numbers) where
     unfolding questionNamed
     named-common e = rw (n, e)
 
-    pub named-none : isWord w commonName ≡ false → NoQuestion ≡ questionNamed w p
-    unfolding questionNamed
-    named-none e = rw (n, e)
+    module _ (m : isWord w commonName ≡ false) where
+      pub named-free : isWord w freeName ≡ true → freeOf p ≡ questionNamed w p
+      unfolding questionNamed
+      named-free e = rw (n, m, e)
+
+      pub named-none : isWord w freeName ≡ false → NoQuestion ≡ questionNamed w p
+      unfolding questionNamed
+      named-none e = rw (n, m, e)
 
 -- ── lines ──
 module _ {l : List ℕ} {f t : ℕ} (a : FirstWord l 0 f t) where

@@ -13,11 +13,11 @@ use Rattle.rules.specs.declared.Standing.{Standing}
 use Rattle.rules.specs.declared.Standing.the-variants.{NotPending, Waits, Holds}
 use Rattle.rules.specs.declared.Common.{Common as Share}
 use Rattle.rules.specs.declared.Common.the-variants.{Unknown, Shared, Apart}
-use Rattle.rules.specs.Calls.{Model, standingOf, commonOf}
+use Rattle.rules.specs.Calls.{Model, standingOf, commonOf, freeOf}
 use Rattle.listing.specs.Text.{stopOr}
 use Rattle.listing.specs.Replay.{replayOf}
 use Rattle.question.specs.declared.questions.Question.{Question}
-use Rattle.question.specs.declared.questions.Question.the-variants.{Lookup, Common, NoQuestion}
+use Rattle.question.specs.declared.questions.Question.the-variants.{Lookup, Common, Free, NoQuestion}
 use Rattle.question.specs.declared.Asked.{Asked}
 use Rattle.question.specs.declared.Asked.the-variants.{Written, NoSuch, NoRoom}
 use Rattle.question.specs.Questions.{questionOf, isQuestion}
@@ -55,6 +55,14 @@ shareWords = 32 ∷ 115 ∷ 104 ∷ 97 ∷ 114 ∷ 101 ∷ 32 ∷ 103 ∷ 114 �
 abbrev pub apartWords : List ℕ
 apartWords = 32 ∷ 115 ∷ 104 ∷ 97 ∷ 114 ∷ 101 ∷ 32 ∷ 110 ∷ 111 ∷ 32 ∷ 103 ∷ 114 ∷ 111 ∷ 117 ∷ 112 ∷ []
 
+-- " of "
+abbrev pub ofWord : List ℕ
+ofWord = 32 ∷ 111 ∷ 102 ∷ 32 ∷ []
+
+-- " units free"
+abbrev pub freeWords : List ℕ
+freeWords = 32 ∷ 117 ∷ 110 ∷ 105 ∷ 116 ∷ 115 ∷ 32 ∷ 102 ∷ 114 ∷ 101 ∷ 101 ∷ []
+
 -- Words, and a number after them.
 unfoldable pub worded : List ℕ → ℕ → List ℕ
 worded words v = words ++ decimalOf v
@@ -89,10 +97,16 @@ commonText j k s Unknown = lookupText (absentOf j k s) NotPending
 commonText j k s (Shared g) = ticketsText j k ++ worded shareWords g
 commonText j k s Apart = ticketsText j k ++ apartWords
 
+-- ── free ──
+-- "N of K units free"
+unfoldable pub freeText : ℕ → ℕ → List ℕ
+freeText n k = (decimalOf n ++ worded ofWord k) ++ freeWords
+
 -- ── the answers ──
 abbrev pub sentenceOf : Model → Question → List ℕ
 sentenceOf m (Lookup k) = lookupText k (standingOf k (m .pending))
 sentenceOf m (Common j k) = commonText j k (standingOf j (m .pending)) (commonOf j k (m .pending))
+sentenceOf m Free = freeText (freeOf m) (m .pool)
 sentenceOf m NoQuestion = []
 
 unfoldable pub answerOf : Model → Question → List ℕ
@@ -107,8 +121,10 @@ unfoldable pub usageText : List ℕ
 usageText =
     -- "no such question; ask lookup TICKET"
     ((110 ∷ 111 ∷ 32 ∷ 115 ∷ 117 ∷ 99 ∷ 104 ∷ 32 ∷ 113 ∷ 117 ∷ 101 ∷ 115 ∷ 116 ∷ 105 ∷ 111 ∷ 110 ∷ 59 ∷ 32 ∷ 97 ∷ 115 ∷ 107 ∷ 32 ∷ 108 ∷ 111 ∷ 111 ∷ 107 ∷ 117 ∷ 112 ∷ 32 ∷ 84 ∷ 73 ∷ 67 ∷ 75 ∷ 69 ∷ 84 ∷ [])
-    -- " or ask common TICKET TICKET"
-    ++ (32 ∷ 111 ∷ 114 ∷ 32 ∷ 97 ∷ 115 ∷ 107 ∷ 32 ∷ 99 ∷ 111 ∷ 109 ∷ 109 ∷ 111 ∷ 110 ∷ 32 ∷ 84 ∷ 73 ∷ 67 ∷ 75 ∷ 69 ∷ 84 ∷ 32 ∷ 84 ∷ 73 ∷ 67 ∷ 75 ∷ 69 ∷ 84 ∷ []))
+    -- ", ask common TICKET TICKET"
+    ++ (44 ∷ 32 ∷ 97 ∷ 115 ∷ 107 ∷ 32 ∷ 99 ∷ 111 ∷ 109 ∷ 109 ∷ 111 ∷ 110 ∷ 32 ∷ 84 ∷ 73 ∷ 67 ∷ 75 ∷ 69 ∷ 84 ∷ 32 ∷ 84 ∷ 73 ∷ 67 ∷ 75 ∷ 69 ∷ 84 ∷ [])
+    -- " or ask free"
+    ++ (32 ∷ 111 ∷ 114 ∷ 32 ∷ 97 ∷ 115 ∷ 107 ∷ 32 ∷ 102 ∷ 114 ∷ 101 ∷ 101 ∷ []))
     ++ (10 ∷ [])
 
 -- ── a call ──

@@ -9,7 +9,7 @@ use Rattle.load_text.specs.Parsing.{isWord, numberIn, wordsIn}
 use Rattle.question.specs.declared.questions.Numbers.{Numbers}
 use Rattle.question.specs.declared.questions.Numbers.the-variants.{Empty, One, Two, Bad}
 use Rattle.question.specs.declared.questions.Question.{Question}
-use Rattle.question.specs.declared.questions.Question.the-variants.{Lookup, Common, NoQuestion}
+use Rattle.question.specs.declared.questions.Question.the-variants.{Lookup, Common, Free, NoQuestion}
 
 -- ── the numbers of a question ──
 -- What a word says as a number up to 65,535. (Why it says none is not told.)
@@ -53,11 +53,22 @@ commonOf (One k) = NoQuestion
 commonOf (Two j k) = Common j k
 commonOf Bad = NoQuestion
 
+-- "free", of no ticket
+abbrev pub freeName : List ℕ
+freeName = 102 ∷ 114 ∷ 101 ∷ 101 ∷ []
+
+abbrev pub freeOf : Numbers → Question
+freeOf Empty = Free
+freeOf (One k) = NoQuestion
+freeOf (Two j k) = NoQuestion
+freeOf Bad = NoQuestion
+
 unfoldable pub questionNamed : List ℕ → Numbers → Question
 questionNamed w p =
     cond (isWord w lookupName) (lookupOf p)
     (cond (isWord w commonName) (commonOf p)
-    NoQuestion)
+    (cond (isWord w freeName) (freeOf p)
+    NoQuestion))
 
 -- ── a line ──
 unfoldable pub questionIn : List (List ℕ) → Question
@@ -71,4 +82,5 @@ questionOf line = questionIn (wordsIn line)
 abbrev pub isQuestion : Question → Bool
 isQuestion (Lookup k) = true
 isQuestion (Common j k) = true
+isQuestion Free = true
 isQuestion NoQuestion = false

@@ -2,7 +2,7 @@
 -- the theorem that covers it.
 use mathlib.Core.List.{List, [], _∷_}
 use Prim.Native.Nat.{ℕ}
-use Rattle.load.specs.Calls.{rig, claim, release, clock}
+use Rattle.load.specs.Calls.{rig, rigWith, claim, claimWith, release}
 use Rattle.load.specs.Bytes.{loadBytes}
 use Rattle.question.specs.Questions.{questionOf}
 use Rattle.question.specs.Answers.{textOf}
@@ -22,6 +22,10 @@ plot = loadBytes 1 (rig 0xF ∷ claim 0 0x8 10 ∷ claim 0 0xC 10 ∷ claim 0 0x
 abbrev pub released : List ℕ
 released = loadBytes 1 (rig 0xF ∷ claim 0 0x8 10 ∷ claim 0 0xC 10 ∷ claim 0 0x6 11 ∷ release 4 1 ∷ [])
 
+-- A pool of 3; claims on groups 0, 1, 2 that draw 2, 2, 0: the first and the third are on.
+abbrev pub pooled : List ℕ
+pooled = loadBytes 2 (rigWith 0xF 3 ∷ claimWith 0 0x1 10 2 ∷ claimWith 0 0x2 10 2 ∷ claimWith 0 0x4 10 0 ∷ [])
+
 unfoldable pub samples : List Sample
 samples =
     -- lookup 3: ticket 3 waits, start 20
@@ -38,6 +42,10 @@ samples =
     ∷ sample plot (99 ∷ 111 ∷ 109 ∷ 109 ∷ 111 ∷ 110 ∷ 32 ∷ 57 ∷ 32 ∷ 56 ∷ []) (116 ∷ 105 ∷ 99 ∷ 107 ∷ 101 ∷ 116 ∷ 32 ∷ 57 ∷ 32 ∷ 105 ∷ 115 ∷ 32 ∷ 110 ∷ 111 ∷ 116 ∷ 32 ∷ 112 ∷ 101 ∷ 110 ∷ 100 ∷ 105 ∷ 110 ∷ 103 ∷ 10 ∷ [])
     -- common 3 9: ticket 9 is not pending
     ∷ sample plot (99 ∷ 111 ∷ 109 ∷ 109 ∷ 111 ∷ 110 ∷ 32 ∷ 51 ∷ 32 ∷ 57 ∷ []) (116 ∷ 105 ∷ 99 ∷ 107 ∷ 101 ∷ 116 ∷ 32 ∷ 57 ∷ 32 ∷ 105 ∷ 115 ∷ 32 ∷ 110 ∷ 111 ∷ 116 ∷ 32 ∷ 112 ∷ 101 ∷ 110 ∷ 100 ∷ 105 ∷ 110 ∷ 103 ∷ 10 ∷ [])
+    -- free: 1 of 3 units free
+    ∷ sample pooled (102 ∷ 114 ∷ 101 ∷ 101 ∷ []) (49 ∷ 32 ∷ 111 ∷ 102 ∷ 32 ∷ 51 ∷ 32 ∷ 117 ∷ 110 ∷ 105 ∷ 116 ∷ 115 ∷ 32 ∷ 102 ∷ 114 ∷ 101 ∷ 101 ∷ 10 ∷ [])
+    -- and with no pool: 0 of 0 units free
+    ∷ sample plot (102 ∷ 114 ∷ 101 ∷ 101 ∷ []) (48 ∷ 32 ∷ 111 ∷ 102 ∷ 32 ∷ 48 ∷ 32 ∷ 117 ∷ 110 ∷ 105 ∷ 116 ∷ 115 ∷ 32 ∷ 102 ∷ 114 ∷ 101 ∷ 101 ∷ 10 ∷ [])
     -- an empty load: stop 12 0, and ticket 1 is not pending
     ∷ sample [] (108 ∷ 111 ∷ 111 ∷ 107 ∷ 117 ∷ 112 ∷ 32 ∷ 49 ∷ []) (115 ∷ 116 ∷ 111 ∷ 112 ∷ 32 ∷ 49 ∷ 50 ∷ 32 ∷ 48 ∷ 10 ∷ 116 ∷ 105 ∷ 99 ∷ 107 ∷ 101 ∷ 116 ∷ 32 ∷ 49 ∷ 32 ∷ 105 ∷ 115 ∷ 32 ∷ 110 ∷ 111 ∷ 116 ∷ 32 ∷ 112 ∷ 101 ∷ 110 ∷ 100 ∷ 105 ∷ 110 ∷ 103 ∷ 10 ∷ [])
     -- a dark rig, and nothing after it: stop 1 1, and ticket 1 is not pending
@@ -50,7 +58,7 @@ given x = textOf (x .load) (questionOf (x .line))
 abbrev pub expected : Sample → List ℕ
 expected x = x .text
 
--- Lines that ask no question: none, and "lookup", "lookup 3 2", "lookup x", "lookup 65536", "common 2", "common 1 2 3", "look 3".
+-- Lines that ask no question: none, and "lookup", "lookup 3 2", "lookup x", "lookup 65536", "common 2", "common 1 2 3", "look 3", "free 1".
 unfoldable pub wrongLines : List (List ℕ)
 wrongLines =
     []
@@ -61,4 +69,5 @@ wrongLines =
     ∷ (99 ∷ 111 ∷ 109 ∷ 109 ∷ 111 ∷ 110 ∷ 32 ∷ 50 ∷ [])
     ∷ (99 ∷ 111 ∷ 109 ∷ 109 ∷ 111 ∷ 110 ∷ 32 ∷ 49 ∷ 32 ∷ 50 ∷ 32 ∷ 51 ∷ [])
     ∷ (108 ∷ 111 ∷ 111 ∷ 107 ∷ 32 ∷ 51 ∷ [])
+    ∷ (102 ∷ 114 ∷ 101 ∷ 101 ∷ 32 ∷ 49 ∷ [])
     ∷ []

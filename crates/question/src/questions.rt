@@ -3,14 +3,15 @@ ghost use mathlib.Core.Path.{_≡_};
 ghost use lib.ListN.{drop};
 ghost use Rattle.load_text.specs.Parsing.{wordsIn};
 ghost use Rattle.question.specs.declared.questions.Numbers.the-variants.{Empty};
-ghost use Rattle.question.specs.Questions.{andNumber, andValue, commonOf, isQuestion, lookupOf, numberOf, numbersIn, questionNamed, questionOf};
+ghost use Rattle.question.specs.Questions.{andNumber, andValue, commonOf, freeOf, isQuestion, lookupOf, numberOf, numbersIn, questionNamed, questionOf};
 use load_text::words;
 use load_text::words::Field;
 
-// A question: how a ticket stands, which group two tickets share, or none that there is.
+// A question: how a ticket stands, which group two tickets share, how many units are free, or none that there is.
 pub enum Question {
     Lookup(u16),
     Common(u16, u16),
+    Free,
     NoQuestion,
 }
 
@@ -85,6 +86,17 @@ fn common_of(p: Numbers) -> Question
     }
 }
 
+fn free_of(p: Numbers) -> Question
+    ensures { λ r. ⌜ r ≡ freeOf p ⌝ }
+{
+    match p {
+        Numbers::Empty => Question::Free,
+        Numbers::One(_k) => Question::NoQuestion,
+        Numbers::Two(_j, _k) => Question::NoQuestion,
+        Numbers::Bad => Question::NoQuestion,
+    }
+}
+
 fn named(name: &[u8], p: Numbers) -> Question
     ensures { λ r. ⌜ r ≡ questionNamed (now (name .entry)) p ⌝ }
 {
@@ -93,6 +105,9 @@ fn named(name: &[u8], p: Numbers) -> Question
     }
     if check::same(name, b"common") {
         return common_of(p);
+    }
+    if check::same(name, b"free") {
+        return free_of(p);
     }
     Question::NoQuestion
 }
@@ -118,6 +133,7 @@ pub fn is_question(q: Question) -> bool
     match q {
         Question::Lookup(_k) => true,
         Question::Common(_j, _k) => true,
+        Question::Free => true,
         Question::NoQuestion => false,
     }
 }

@@ -6,7 +6,7 @@ ghost use Rattle.numerals.specs.Laid.{Put};
 ghost use Rattle.rules.specs.Tables.{model};
 ghost use Rattle.table.specs.Valid.{Valid};
 ghost use Rattle.listing.specs.Text.{stopOr};
-ghost use Rattle.question.specs.Answers.{absentOf, answerOf, commonText, lookupText, sentenceOf, standingText, ticketsText, usageText, worded};
+ghost use Rattle.question.specs.Answers.{absentOf, answerOf, commonText, freeText, lookupText, sentenceOf, standingText, ticketsText, usageText, worded};
 use crate::questions::Question;
 use listing::Replayed;
 use rules::Common;
@@ -76,6 +76,15 @@ fn put_common(out: &mut [u8], at: usize, first: u16, second: u16, s: Standing, c
     }
 }
 
+// ---- free
+fn put_free(out: &mut [u8], at: usize, free: u16, pool: u16) -> usize
+    ensures { λ r. ⌜ Put (now (out .entry)) at (freeText free pool) r (now (out .exit)) ⌝ }
+{
+    let a = numerals::put_decimal(out, at, free as u64);
+    let b = put_number(out, a, b" of ", pool as u64);
+    numerals::put_bytes(out, b, b" units free")
+}
+
 // ---- the answers
 fn put_sentence(out: &mut [u8], at: usize, t: Table, q: Question) -> usize
     requires { ⌜ Valid t ⌝ }
@@ -90,6 +99,10 @@ fn put_sentence(out: &mut [u8], at: usize, t: Table, q: Question) -> usize
             let s = table::lookup(t, first);
             let c = table::common(t, first, second);
             put_common(out, at, first, second, s, c)
+        }
+        Question::Free => {
+            let n = table::free(t);
+            put_free(out, at, n, t.pool)
         }
         Question::NoQuestion => numerals::put_bytes(out, at, b""),
     }
@@ -129,6 +142,7 @@ pub(crate) fn put_usage(out: &mut [u8]) -> usize
     ensures { λ r. ⌜ Put (now (out .entry)) 0 usageText r (now (out .exit)) ⌝ }
 {
     let a = numerals::put_bytes(out, 0, b"no such question; ask lookup TICKET");
-    let b = numerals::put_bytes(out, a, b" or ask common TICKET TICKET");
-    numerals::put_byte(out, b, 10)
+    let b = numerals::put_bytes(out, a, b", ask common TICKET TICKET");
+    let c = numerals::put_bytes(out, b, b" or ask free");
+    numerals::put_byte(out, c, 10)
 }

@@ -1,5 +1,5 @@
--- The loads of case 15 of document 01's "Plots to try" and some more, as one table of what a reader opened on each gives. proofs/AllSamples
--- has the theorem that covers the table, and the law of a load that is too long to be written out.
+-- The loads of case 15 of document 01's "Plots to try", those of document 02's edition 2 and some more, as one table of what a reader opened
+-- on each gives. proofs/AllSamples has the theorem that covers the table, and the law of a load that is too long to be written out.
 use Prim.Native.Nat.{ℕ, _<_}
 use mathlib.Core.List.{List, [], _∷_, _++_}
 use mathlib.Core.Path.{_≡_}
@@ -7,7 +7,7 @@ use lib.ListN.{length}
 use Rattle.load.specs.declared.Call.{Call}
 use Rattle.load.specs.declared.Item.{Item}
 use Rattle.load.specs.declared.Item.the-variants.{Record, End, Refused}
-use Rattle.load.specs.Calls.{rig, claim, release, clock}
+use Rattle.load.specs.Calls.{rig, claim, release, clock, rigWith, claimWith}
 use Rattle.load.specs.Bytes.{recordBytes, loadBytes}
 use Rattle.load.specs.Reading.{Walk, reading}
 use Rattle.reader.specs.Items.{itemOf}
@@ -48,6 +48,20 @@ samples =
     -- the load whose listing the paper prints
     ∷ sample (loadBytes 1 (rig 0xF ∷ claim 0 0x8 10 ∷ claim 0 0xC 10 ∷ claim 0 0x6 11 ∷ claim 0 0x3 20 ∷ release 4 1 ∷ [])) (Record (rig 0xF) 12)
     (rig 0xF ∷ claim 0 0x8 10 ∷ claim 0 0xC 10 ∷ claim 0 0x6 11 ∷ claim 0 0x3 20 ∷ release 4 1 ∷ []) 0
+    -- edition 2 alone, and no edition after it
+    ∷ sample (0x02 ∷ []) End [] 0
+    ∷ sample (0x03 ∷ []) (Refused 11) [] 11
+    -- "two bytes of k at the end of the rig (length 11)": each edition has its own length alone
+    ∷ sample (0x02 ∷ 0x00 ∷ 0x0B ∷ 0x01 ∷ 0x00 ∷ 0x00 ∷ 0x00 ∷ 0x00 ∷ 0x00 ∷ 0x00 ∷ 0x00 ∷ 0x0F ∷ 0x01 ∷ 0x02 ∷ []) (Record (rigWith 0xF 258) 14) (rigWith 0xF 258 ∷ []) 0
+    ∷ sample (0x02 ∷ recordBytes 1 (rig 0xF)) (Refused 13) [] 13
+    ∷ sample (0x01 ∷ recordBytes 2 (rigWith 0xF 3)) (Refused 13) [] 13
+    -- "and two of units at that of the claim (length 23)"
+    ∷ sample (loadBytes 2 (rigWith 0xF 3 ∷ claimWith 0 0x8 10 2 ∷ release 4 1 ∷ clock 5 ∷ [])) (Record (rigWith 0xF 3) 14)
+    (rigWith 0xF 3 ∷ claimWith 0 0x8 10 2 ∷ release 4 1 ∷ clock 5 ∷ []) 0
+    ∷ sample (loadBytes 2 (rigWith 0xF 3 ∷ []) ++ recordBytes 1 (claim 0 0x8 10)) (Record (rigWith 0xF 3) 14) (rigWith 0xF 3 ∷ []) 13
+    ∷ sample (loadBytes 1 (rig 0xF ∷ []) ++ recordBytes 2 (claimWith 0 0x8 10 2)) (Record (rig 0xF) 12) (rig 0xF ∷ []) 13
+    -- "edition 1 reads as 0 for both"
+    ∷ sample (loadBytes 1 (rigWith 0xF 0 ∷ claimWith 0 0x8 10 0 ∷ [])) (Record (rig 0xF) 12) (rig 0xF ∷ claim 0 0x8 10 ∷ []) 0
     ∷ []
 
 -- What the reader gives, and what the table says.

@@ -1,6 +1,6 @@
 // The tests of a call in code, each on what it looks at; its number stands with it in rules, specs/Tests.antt. A comparison or two each.
 ghost use mathlib.Core.Path.{_≡_};
-ghost use Rattle.rules.specs.Tests.{late, backward, dark, offRig, badLength, full, ticketless};
+ghost use Rattle.rules.specs.Tests.{late, backward, dark, nothingAsked, offRig, spots, badLength, full, ticketless};
 
 pub fn late(clock: u64) -> bool
     ensures { λ r. ⌜ r ≡ late clock .fails ⌝ }
@@ -24,6 +24,21 @@ pub fn off_rig(rig: u64, groups: u64) -> bool
     ensures { λ r. ⌜ r ≡ offRig rig groups .fails ⌝ }
 {
     !groups::within(groups, rig)
+}
+
+pub fn nothing_asked(groups: u64, units: u16) -> bool
+    ensures { λ r. ⌜ r ≡ nothingAsked groups units .fails ⌝ }
+{
+    if groups::empty(groups) {
+        return units == 0;
+    }
+    false
+}
+
+pub fn spots(pool: u16, units: u16) -> bool
+    ensures { λ r. ⌜ r ≡ spots pool units .fails ⌝ }
+{
+    pool < units
 }
 
 pub fn bad_length(length: u32) -> bool

@@ -1,7 +1,7 @@
 -- The calls: what accepting one means, its cases, and that every call keeps the invariant.
 use mathlib.Core.Path.{_≡_, refl, sym, _∙_, ap}
 use mathlib.Core.Logic.{_⊎_, inl, inr, ⊎-elim, _≢_}
-use mathlib.Core.Bool.{true, false, not}
+use mathlib.Core.Bool.{true, false, not, _&&_}
 use mathlib.Core.List.{List, [], _∷_, List·Memᴰ·append-cases, List·Memᴰ·eq-of-singleton}
 use Prim.Native.Nat.{ℕ, zero, suc, _≤_, _<_}
 use native.Mathlib.Omega.{arith}
@@ -13,15 +13,16 @@ use Rattle.groups.specs.Groups.{empty, within}
 use Rattle.rules.specs.declared.Claim.{Claim}
 use Rattle.rules.specs.declared.Request.{Request}
 use Rattle.rules.specs.declared.Phase.the-variants.{Waiting}
-use Rattle.rules.specs.Lists.{_∈_}
+use Rattle.rules.specs.Lists.{_∈_, sum}
+use Rattle.rules.specs.Pool.{used, heldUnits}
 use Rattle.rules.specs.declared.Setting.{Setting}
 use Rattle.rules.specs.Claims.{on, at, withPhase}
 use Rattle.rules.specs.Packing.{packedStart, moved, pack, Packs}
 use Rattle.rules.specs.Placing.{place}
 use Rattle.rules.specs.Granting.{granted, grant}
-use Rattle.rules.specs.Tests.{Test, firstOf, late, backward, dark, offRig, badLength, full, ticketless, named}
+use Rattle.rules.specs.Tests.{Test, firstOf, late, backward, nothingAsked, offRig, spots, badLength, full, ticketless, named}
 use Rattle.rules.specs.declared.Reply.{Reply}
-use Rattle.rules.specs.Calls.{Model, settingOf, ruled, Call, claim, release, withdraw, clock, lookup, common, timed, clockOf, Step, tests, unchanged, advance, plain, finish, join, remove, fresh, admit, act, unless, step, blank, new, after}
+use Rattle.rules.specs.Calls.{Model, settingOf, ruled, Call, claim, release, withdraw, clock, lookup, common, free, timed, clockOf, Step, tests, unchanged, advance, plain, finish, join, remove, fresh, admit, act, unless, step, blank, new, after}
 use Rattle.rules.specs.Plans.{Fits, Sane}
 use Rattle.rules.specs.Invariants.{IsSpaced, IsPacked, Invariant}
 use Rattle.rules.proofs.Bools.{by-test, or-fl, or-fr}
@@ -48,8 +49,9 @@ clock-passes m t ts e =
 -- What the tests of an accepted claim say.
 pub record Admissible (m : Model) (t : ℕ) (ask : Request) : Type 0 where
   pub clocked : Clocked m t
-  pub lit : empty (ask .groups) ≡ false
+  pub asks : (empty (ask .groups) && eqb (ask .units) 0) ≡ false
   pub inside : within (ask .groups) (m .rig) ≡ true
+  pub drawn : ask .units ≤ m .pool
   pub long : 1 ≤ ask .length
   pub short : ask .length ≤ mostLength
   pub room : length (m .pending) < mostPending
@@ -59,15 +61,17 @@ pub admissible : (m : Model) (t : ℕ) (ask : Request) → firstOf (tests m (cla
 unfolding tests
 admissible m t ask e =
     let a = clock-passes m t _ e in
-    let b = passes (dark (ask .groups)) _ (omega arith) (a .1) in
+    let b = passes (nothingAsked (ask .groups) (ask .units)) _ (omega arith) (a .1) in
     let c = passes (offRig (m .rig) (ask .groups)) _ (omega arith) (b .1) in
-    let d = passes (badLength (ask .length)) _ (omega arith) (c .1) in
+    let g = passes (spots (m .pool) (ask .units)) _ (omega arith) (c .1) in
+    let d = passes (badLength (ask .length)) _ (omega arith) (g .1) in
     let f = passes (full (length (m .pending))) _ (omega arith) (d .1) in
     let h = passes (ticketless (m .issued)) [] (omega arith) (f .1) in
     record {
       clocked = a .0;
-      lit = b .0;
+      asks = b .0;
       inside = not-false (within (ask .groups) (m .rig)) (c .0);
+      drawn = ltb-false (m .pool) (ask .units) (g .0);
       long = positive (ask .length) (or-fl (eqb (ask .length) 0) _ (d .0));
       short = ltb-false mostLength (ask .length) (or-fr (eqb (ask .length) 0) _ (d .0));
       room = leb-false mostPending _ (f .0);
@@ -82,7 +86,7 @@ admissible m t ask e =
 pub advance-packed : (m : Model) (t : ℕ) → Invariant m → m .clock ≤ t → IsPacked (advance m t)
 unfolding advance
 advance-packed m t i l =
-    packs (m .issued) (ruled m t) (m .pending) (spaced-packable (m .issued) (settingOf m) (ruled m t) (m .pending) (record { later = l }) (i .spaced))
+    packs (m .issued) (ruled m t) (m .pending) (spaced-packable (m .issued) (settingOf m) (ruled m t) (m .pending) (record { later = l; same = refl }) (i .spaced))
 
 pub remove-spaced : (m : Model) (k : ℕ) → IsSpaced m → IsSpaced (remove m k)
 unfolding remove
@@ -96,12 +100,15 @@ finish-invariant m r i = grant-settles (m .issued) (settingOf m) (pack (settingO
 abbrev pub placed : Model → Request → Claim
 placed m ask = withPhase (fresh m ask) (Waiting (place (settingOf m) (m .pending) (fresh m ask)))
 
-module _ (m : Model) (ask : Request) (long : 1 ≤ ask .length) (spare : m .issued < mostTickets) where
-  pub placed-sane : Sane (placed m ask)
-  placed-sane = record { long = long; small = omega arith }
+module _ (m : Model) (ask : Request) (long : 1 ≤ ask .length) (drawn : ask .units ≤ m .pool) (spare : m .issued < mostTickets) where
+  pub fresh-sane : Sane (settingOf m) (fresh m ask)
+  fresh-sane = record { long = long; small = omega arith; drawn = drawn }
+
+  pub placed-sane : Sane (settingOf m) (placed m ask)
+  placed-sane = record { long = long; small = omega arith; drawn = drawn }
 
   pub placed-fits : Fits (settingOf m) (m .pending) (placed m ask) (at (placed m ask))
-  placed-fits = record { room = place-fits (settingOf m) (m .pending) (fresh m ask) .room }
+  placed-fits = let f = place-fits (settingOf m) (m .pending) (fresh m ask) fresh-sane in record { room = f .room; spare = f .spare }
 
   pub join-spaced : IsSpaced m → IsSpaced (join m (placed m ask))
   unfolding join
@@ -202,6 +209,7 @@ step-cases P m no! yes-claim yes-left c = by-tests (P c) m (firstOf (tests m c))
     accepted (clock t) e = yes-left (clock t) t 0 (advance m t) (clock-passes m t _ e .0) (by-clock t)
     accepted (lookup k) e = no! (lookup k) 0 (inl refl)
     accepted (common j k) e = no! (common j k) 0 (inl refl)
+    accepted free e = no! free 0 (inl refl)
 
 -- A clock call whose clock is neither late nor backward is accepted.
 pub clock-accepted : (m : Model) (t : ℕ) → Clocked m t → step m (clock t) ≡ finish (advance m t) (plain 0 t)
@@ -209,51 +217,59 @@ unfolding step act tests firstOf
 clock-accepted m t o = rw (le-ltb mostClock t (o .early), le-ltb t (m .clock) (o .later))
 
 -- ── every call keeps the invariant ──
-pub admit-invariant : (m : Model) (ask : Request) → 1 ≤ ask .length → m .issued < mostTickets → IsPacked m → Invariant (admit m ask .model)
+pub admit-invariant : (m : Model) (ask : Request) → 1 ≤ ask .length → ask .units ≤ m .pool → m .issued < mostTickets → IsPacked m → Invariant (admit m ask .model)
 unfolding admit
-admit-invariant m ask l s p = finish-invariant (join m (placed m ask)) _ (join-spaced m ask l s (p .spaced))
+admit-invariant m ask l d s p = finish-invariant (join m (placed m ask)) _ (join-spaced m ask l d s (p .spaced))
 
 pub advance-spare : (m : Model) (t : ℕ) (ask : Request) → Admissible m t ask → advance m t .issued < mostTickets
 unfolding advance
 advance-spare m t ask a = a .spare
 
+pub advance-drawn : (m : Model) (t : ℕ) (ask : Request) → Admissible m t ask → ask .units ≤ advance m t .pool
+unfolding advance
+advance-drawn m t ask a = a .drawn
+
 pub step-invariant : (m : Model) (c : Call) → Invariant m → Invariant (step m c .model)
 step-invariant m c i =
     step-cases (λ d s. Invariant (s .model)) m (λ d n z. i)
-    (λ t ask a. admit-invariant (advance m t) ask (a .long) (advance-spare m t ask a) (advance-packed m t i (a .clocked .later)))
+    (λ t ask a. admit-invariant (advance m t) ask (a .long) (advance-drawn m t ask a) (advance-spare m t ask a) (advance-packed m t i (a .clocked .later)))
     (λ d t k q o v. finish-invariant q (plain k t) (leaves-spaced v (advance-packed m t i (o .later)))) c
 
-pub blank-invariant : (g : ℕ) → Invariant (blank g)
-blank-invariant g = record {
+pub blank-invariant : (g k : ℕ) → Invariant (blank g k)
+unfolding heldUnits used sum
+blank-invariant g k = record {
   spaced =
       record {
         proper = λ c m. none m;
         ascending = tt;
-        holders = record { apart = λ c d m k. none m };
-        fit = record { behind = λ c d m k. none m };
+        holders = record { apart = λ c d m k. none m; stock = omega arith };
+        fit = record { behind = λ c d m k. none m; supplied = λ x l. omega arith };
         low = λ c m. none m;
       };
   blocked = λ c m. none m;
+  earliest = λ c m. none m;
 }
 
 -- To show something of a new table, show it of a refused one and of the others.
-pub new-cases : (P : Step → Type 0) (g : ℕ) → (empty g ≡ true → P (unchanged (blank 0) 1)) → (empty g ≡ false → P (unchanged (blank g) 0)) → P (new g)
+pub new-cases : (P : Step → Type 0) (g k : ℕ) → (empty g ≡ true → P (unchanged (blank 0 0) 1)) → (empty g ≡ false → P (unchanged (blank g k) 0)) → P (new g k)
 unfolding new
-new-cases P g h k = by-test (empty g) (λ e. rw e (h e)) (λ e. rw e (k e))
+new-cases P g n h k = by-test (empty g) (λ e. rw e (h e)) (λ e. rw e (k e))
 
-pub new-invariant : (g : ℕ) → Invariant (new g .model)
-new-invariant g = new-cases (λ (s : Step). Invariant (s .model)) g (λ e. blank-invariant 0) (λ e. blank-invariant g)
+pub new-invariant : (g k : ℕ) → Invariant (new g k .model)
+new-invariant g k = new-cases (λ (s : Step). Invariant (s .model)) g k (λ e. blank-invariant 0 0) (λ e. blank-invariant g k)
 
 pub after-invariant : (m : Model) (cs : List Call) → Invariant m → Invariant (after m cs)
 unfolding after
 after-invariant m [] i = i
 after-invariant m (c ∷ cs) i = after-invariant (step m c .model) cs (step-invariant m c i)
 
--- ── packing as document 01 has it, at every clock: in every table that calls can make, and in those inside a call ──
-pub packs-as-documented : (m : Model) → IsSpaced m → (v : Setting)
-    → Packs v (m .pending) (packedStart v (m .pending))
-    × ((f : Claim → ℕ) → Packs v (m .pending) f → (w : Claim) → w ∈ m .pending → on w ≡ false → f w ≡ packedStart v (m .pending) w)
-packs-as-documented m i v =
-    let sane : Each Sane (m .pending) = λ c k. i .proper c k .sane in
-    let untied = separated-untied (settingOf m) (m .pending) sane (i .fit) in
+-- ── packing as the papers have it, at every clock: in every table that calls can make, and in those inside a call ──
+pub packs-as-documented : (m : Model) → IsSpaced m → (t : ℕ)
+    → (let v : Setting = ruled m t in
+    Packs v (m .pending) (packedStart v (m .pending))
+    × ((f : Claim → ℕ) → Packs v (m .pending) f → (w : Claim) → w ∈ m .pending → on w ≡ false → f w ≡ packedStart v (m .pending) w))
+packs-as-documented m i t =
+    let v : Setting = ruled m t in
+    let sane : Each (Sane v) (m .pending) = λ c k. (let s = i .proper c k .sane in record { long = s .long; small = s .small; drawn = s .drawn }) in
+    let untied = separated-untied (settingOf m) (m .pending) (λ c k. i .proper c k .sane) (i .fit) in
     (pack-as-documented v (m .pending) sane (i .ascending) untied, pack-unique v (m .pending) sane (i .ascending) untied)

@@ -33,9 +33,9 @@ waitingIn ps = sum waits ps
 unfoldable pub waiting : Model → ℕ
 waiting m = waitingIn (m .pending)
 
-pub waiting-none : (g : ℕ) → waiting (blank g) ≡ 0
+pub waiting-none : (g k : ℕ) → waiting (blank g k) ≡ 0
 unfolding waiting waitingIn sum
-waiting-none g = refl
+waiting-none g k = refl
 
 waiting-map : (f : Claim → Claim) → ((c : Claim) → on (f c) ≡ on c) → (ps : List Claim) → waitingIn (map f ps) ≡ waitingIn ps
 unfolding waitingIn sum
@@ -57,13 +57,13 @@ waiting-snoc [] w = by-test (on w) (λ e. rw e (omega arith)) (λ e. rw e (omega
 waiting-snoc (c ∷ ps) w = omega (arith, waiting-snoc ps w)
 
 -- What goes on waits no longer.
-waiting-grant : (v : Setting) (qs ps : List Claim) → length (keep (goes qs) ps) + waitingIn (map (granted v qs) ps) ≤ waitingIn ps
+waiting-grant : (v : Setting) (qs ps : List Claim) → length (keep (goes v qs) ps) + waitingIn (map (granted v qs) ps) ≤ waitingIn ps
 unfolding waitingIn sum keep
 waiting-grant v qs [] = omega arith
 waiting-grant v qs (c ∷ ps) =
     let h = waiting-grant v qs ps in
-    granted-cases (λ (x : Claim). length (keep (goes qs) (c ∷ ps)) + (waits x + sum waits (map (granted v qs) ps)) ≤ waits c + sum waits ps) v qs c
-    (λ g. rw (g, goes-wait qs c g) (omega arith)) (λ g. rw g (omega arith))
+    granted-cases (λ (x : Claim). length (keep (goes v qs) (c ∷ ps)) + (waits x + sum waits (map (granted v qs) ps)) ≤ waits c + sum waits ps) v qs c
+    (λ g. rw (g, goes-wait v qs c g) (omega arith)) (λ g. rw g (omega arith))
 
 -- A step from the table m.
 pub record Counted (m : Model) (s : Step) : Type 0 where
@@ -80,9 +80,9 @@ module _ (m : Model) where
   finish-counted q r h i =
       let v = settingOf q in
       let ps = pack v (q .pending) in
-      let l = length-map (keep (goes ps) ps) (λ (c : Claim). c .ticket) in
+      let l = length-map (keep (goes v ps) ps) (λ (c : Claim). c .ticket) in
       record {
-        few = omega (arith, l, length-map ps (granted v ps), keep-length (goes ps) ps);
+        few = omega (arith, l, length-map ps (granted v ps), keep-length (goes v ps) ps);
         once = omega (arith, l, waiting-grant v ps ps, waiting-pack v (q .pending));
         issues-few = i;
       }
@@ -111,9 +111,9 @@ module _ (m : Model) where
       (λ d t k q o v. let l = waiting-left v in finish-counted q (plain k t) (omega (arith, l .0)) (omega (arith, l .1))) c
 
   -- A new table has nothing pending.
-  pub new-counted : (g : ℕ) → Counted m (new g)
+  pub new-counted : (g k : ℕ) → Counted m (new g k)
   unfolding waiting waitingIn sum
-  new-counted g = new-cases (Counted m) g (λ e. none) (λ e. none)
+  new-counted g k = new-cases (Counted m) g k (λ e. none) (λ e. none)
     where
-      none : {x n : ℕ} → Counted m (unchanged (blank x) n)
+      none : {x k n : ℕ} → Counted m (unchanged (blank x k) n)
       none = record { few = omega arith; once = omega arith; issues-few = omega arith }

@@ -1,26 +1,28 @@
 -- Packing, granting, one claim more, fewer claims and a later clock: each keeps its part of the invariant.
 use mathlib.Core.Path.{_≡_, refl, ap, subst}
 use mathlib.Core.Logic.{_⊎_, inl, inr, ⊎-elim, _≢_}
-use mathlib.Core.Bool.{Bool, true, false}
+use mathlib.Core.Bool.{Bool, true, false, cond}
 use mathlib.Core.List.{List, [], _∷_, _++_, List·Memᴰ·append-cases, List·Memᴰ·eq-of-singleton, Memᴰ·append-left}
-use Prim.Native.Nat.{ℕ, suc, _≤_, _<_}
+use Prim.Native.Nat.{ℕ, suc, _-_, _≤_, _<_}
 use native.Mathlib.Omega.{arith}
 use Rattle.rules.specs.declared.Claim.{Claim}
 use Rattle.rules.specs.declared.Phase.the-variants.{Waiting, On}
-use Rattle.rules.specs.Lists.{_∈_, greatest, keep}
+use Rattle.rules.specs.Lists.{_∈_, sum, keep}
 use Rattle.rules.specs.declared.Setting.{Setting}
 use Rattle.rules.specs.Claims.{on, at, withPhase, rival, endOf}
-use Rattle.rules.specs.Order.{before, precedes}
-use Rattle.rules.specs.Packing.{packedStart, moved, pack}
+use Rattle.rules.specs.Order.{before}
+use Rattle.rules.specs.Pool.{unitsAt, used, heldBy, heldUnits}
+use Rattle.rules.specs.Packing.{packedStart, moved, pack, Packs}
 use Rattle.rules.specs.Granting.{granted, grant}
 use Rattle.rules.specs.Plans.{Sane, Separated, Behind, Earliest, Fits}
 use Rattle.rules.specs.Invariants.{Proper, Packable, Spaced, Packed, Settled}
 use Rattle.rules.proofs.Bools.{by-test, by-order, clash}
-use Rattle.rules.proofs.Lists.{Each, greatest-ge, greatest-le, keep-e, keep-i, map-each, snoc-each, snoc-each2}
+use Rattle.rules.proofs.Lists.{Each, keep-e, keep-i, map-each, snoc-each, snoc-each2, sum-le, sum-keep, sum-keep-le, sum-snoc}
 use Rattle.rules.proofs.Claims.{conflicts-sym, end-wait}
-use Rattle.rules.proofs.Order.{before-on, ends-before, before-lt, either-before, precedes-conflicts, precedes-before, ends-precedes, ascending-map, ascending-keep, ascending-snoc}
-use Rattle.rules.proofs.Packing.{moved-cases, moved-ticket, pack-starts, pack-tight, pack-apart, pack-separates, pack-earliest}
-use Rattle.rules.proofs.Granting.{granted-cases, granted-ticket, grant-apart, grant-separates, grant-starts, grant-blocked}
+use Rattle.rules.proofs.Order.{before-on, before-key, ends-before, before-lt, either-before, ascending-map, ascending-keep, ascending-snoc}
+use Rattle.rules.proofs.Pool.{Covers, units-le, units-is}
+use Rattle.rules.proofs.Packing.{moved-cases, moved-ticket, pack-starts, pack-tight, pack-apart, pack-separates, pack-earliest, packs-at}
+use Rattle.rules.proofs.Granting.{granted-cases, granted-ticket, grant-apart, grant-separates, grant-starts, grant-blocked, grant-earliest}
 
 pub packs : (k : ℕ) (v : Setting) (ps : List Claim) → Packable k v ps → Packed k v (pack v ps)
 unfolding pack
@@ -30,24 +32,24 @@ packs k v ps f = record {
         proper = map-each (Proper k v) (moved (packedStart v ps)) ps (λ c m. moved-cases (Proper k v) (packedStart v ps) c (λ p. f .proper c m) (λ p. more c (f .proper c m)));
         ascending = ascending-map (moved (packedStart v ps)) ps (moved-ticket (packedStart v ps)) (f .ascending);
         holders = pack-apart v ps (f .holders);
-        fit = pack-separates v ps sane (f .ascending);
+        fit = pack-separates v ps sane (f .ascending) (f .holders .stock);
         low = pack-starts v ps;
       };
-  tight = pack-tight v ps;
+  tight = pack-tight v ps sane;
   earliest = pack-earliest v ps sane;
 }
   where
-    sane : Each Sane ps
+    sane : Each (Sane v) ps
     sane c m = f .proper c m .sane
 
     more : (c : Claim) → Proper k v c → Proper k v (withPhase c (Waiting (packedStart v ps c)))
-    more c p = record { sane = record { long = p .sane .long; small = p .sane .small }; numbered = p .numbered; issued = p .issued; aged = λ e. clash e refl }
+    more c p = record { sane = record { long = p .sane .long; small = p .sane .small; drawn = p .sane .drawn }; numbered = p .numbered; issued = p .issued; aged = λ e. clash e refl }
 
 pub grant-settles : (k : ℕ) (v : Setting) (ps : List Claim) → Packed k v ps → Settled k v (grant v ps)
 unfolding grant
 grant-settles k v ps f =
     let s = f .spaced in
-    let sane : Each Sane ps = λ c m. s .proper c m .sane in
+    let sane : Each (Sane v) ps = λ c m. s .proper c m .sane in
     record {
       spaced =
           record {
@@ -58,10 +60,11 @@ grant-settles k v ps f =
             low = grant-starts v ps (s .holders) (s .fit) (s .low) (f .tight) sane (s .ascending);
           };
       blocked = grant-blocked v ps (s .holders) (s .fit) (s .low) (f .tight) sane (s .ascending);
+      earliest = grant-earliest v ps (f .earliest);
     }
   where
     gone : (c : Claim) → Proper k v c → Proper k v (withPhase c (On (v .clock)))
-    gone c p = record { sane = record { long = p .sane .long; small = p .sane .small }; numbered = p .numbered; issued = p .issued; aged = λ e. omega arith }
+    gone c p = record { sane = record { long = p .sane .long; small = p .sane .small; drawn = p .sane .drawn }; numbered = p .numbered; issued = p .issued; aged = λ e. omega arith }
 
 -- ── what the invariant says of two claims, and of a start ──
 -- Of two conflicting claims one waits, and the other ends at its start or sooner.
@@ -77,46 +80,45 @@ spaced-clear k v ps f c w m n d h =
     after : on c ≡ false → before w c ≡ true → endOf v w ≤ at c
     after p b = f .fit .behind w c n m p b (conflicts-sym c w h)
 
--- A planned start is the greatest of the clock and the ends of the claims that precede it.
-pub settled-starts : (k : ℕ) (v : Setting) (ps : List Claim) → Settled k v ps → (w : Claim) → w ∈ ps → on w ≡ false
-    → at w ≡ greatest (endOf v) (v .clock) (keep (λ c. precedes c w) ps)
-settled-starts k v ps f w m o = omega (arith, le, ge)
-  where
-    le : at w ≤ greatest (endOf v) (v .clock) (keep (λ c. precedes c w) ps)
-    le =
-        let h = f .blocked w m o in
-        let p = ends-precedes v (h .0) w (f .spaced .proper (h .0) (h .1) .sane) (h .2) (omega (arith, h .3)) in
-        omega (arith, h .3, greatest-ge (endOf v) (v .clock) (keep-i (λ c. precedes c w) p (h .1)))
-
-    ge : greatest (endOf v) (v .clock) (keep (λ c. precedes c w) ps) ≤ at w
-    ge = greatest-le (endOf v) (v .clock) (keep (λ c. precedes c w) ps) (at w) (f .spaced .low w m o) (λ c i.
-        let r = keep-e (λ c. precedes c w) ps i in
-        f .spaced .fit .behind c w (r .0) m o (precedes-before c w (f .spaced .proper c (r .0) .sane) (r .1)) (precedes-conflicts c w (r .1)))
+-- Planned starts are packed starts.
+pub settled-packs : (k : ℕ) (v : Setting) (ps : List Claim) → Settled k v ps → Packs v ps at
+settled-packs k v ps f = packs-at v ps (λ c m. f .spaced .proper c m .sane) (f .spaced .ascending) (f .spaced .fit) (f .spaced .low) (f .earliest)
 
 -- The same rules at a later clock, or the same.
 pub record Later (v u : Setting) : Type 0 where
   pub later : v .clock ≤ u .clock
+  pub same : v .pool ≡ u .pool
+
+pub later-sane : {v u : Setting} {c : Claim} → Later v u → Sane v c → Sane u c
+later-sane l s = record { long = s .long; small = s .small; drawn = omega (arith, s .drawn, l .same) }
+
+pub later-self : (v : Setting) → Later v v
+later-self v = record { later = omega arith; same = refl }
 
 pub spaced-packable : (k : ℕ) (v u : Setting) (ps : List Claim) → Later v u → Spaced k v ps → Packable k u ps
 spaced-packable k v u ps l g = record {
   proper = λ c m. older (g .proper c m);
   ascending = g .ascending;
-  holders = g .holders;
+  holders = record { apart = g .holders .apart; stock = omega (arith, g .holders .stock, l .same) };
 }
   where
     older : {c : Claim} → Proper k v c → Proper k u c
-    older p = record { sane = p .sane; numbered = p .numbered; issued = p .issued; aged = λ e. omega (arith, p .aged e) }
+    older p = record { sane = later-sane l (p .sane); numbered = p .numbered; issued = p .issued; aged = λ e. omega (arith, p .aged e) }
 
 pub spaced-packs : (k : ℕ) (v : Setting) (ps : List Claim) → Spaced k v ps → Packed k v (pack v ps)
-spaced-packs k v ps s = packs k v ps (spaced-packable k v v ps (record { later = omega arith }) s)
+spaced-packs k v ps s = packs k v ps (spaced-packable k v v ps (later-self v) s)
 
 -- Some of the claims.
 pub spaced-keep : (k : ℕ) (v : Setting) (ps : List Claim) (p : Claim → Bool) → Spaced k v ps → Spaced k v (keep p ps)
+unfolding heldUnits used
 spaced-keep k v ps p f = record {
   proper = λ c m. f .proper c (old m);
   ascending = ascending-keep p ps (f .ascending);
-  holders = record { apart = λ c d m n. f .holders .apart c d (old m) (old n) };
-  fit = record { behind = λ c w m n. f .fit .behind c w (old m) (old n) };
+  holders = record { apart = λ c d m n. f .holders .apart c d (old m) (old n); stock = omega (arith, f .holders .stock, sum-keep-le heldBy p ps) };
+  fit = record {
+    behind = λ c w m n. f .fit .behind c w (old m) (old n);
+    supplied = λ x l. omega (arith, f .fit .supplied x l, sum-keep-le (unitsAt v x) p ps);
+  };
   low = λ c m. f .low c (old m);
 }
   where
@@ -124,8 +126,9 @@ spaced-keep k v ps p f = record {
     old m = keep-e p ps m .0
 
 -- ── one claim more, where it fits ──
-module _ (k : ℕ) (v : Setting) (ps : List Claim) (w : Claim) (sane : Sane w) (waits : on w ≡ false) (fit : Fits v ps w (at w)) where
-  pub separated-snoc : Each Sane ps → Separated v ps → Separated v (ps ++ (w ∷ []))
+module _ (k : ℕ) (v : Setting) (ps : List Claim) (w : Claim) (sane : Sane v w) (waits : on w ≡ false) (fit : Fits v ps w (at w)) where
+  pub separated-snoc : Each (Sane v) ps → Separated v ps → Separated v (ps ++ (w ∷ []))
+  unfolding used
   separated-snoc sanes p = record {
     behind =
         snoc-each2 (λ (c d : Claim). on d ≡ false → before c d ≡ true → rival c d ≡ true → endOf v c ≤ at d) ps w
@@ -137,9 +140,20 @@ module _ (k : ℕ) (v : Setting) (ps : List Claim) (w : Claim) (sane : Sane w) (
         (λ r. omega (arith, end-wait v w waits, r .1))
         (fit .room c m (conflicts-sym w c h)))
         (λ q b h. absurd (omega (arith, before-lt w w b waits)));
+    supplied = λ x l.
+        omega (
+          arith,
+          p .supplied x l,
+          sum-snoc (unitsAt v x) ps w,
+          units-le v x w (v .pool - sum (unitsAt v x) ps) (λ q z. omega (arith, fit .spare z x (q .begun waits) (omega (arith, q .going, end-wait v w waits)))),
+        );
   }
 
+  pub holds-none : heldBy w ≡ 0
+  holds-none = rw waits
+
   pub spaced-snoc : Spaced k v ps → w .ticket ≡ suc k → v .clock ≤ at w → Spaced (suc k) v (ps ++ (w ∷ []))
+  unfolding heldUnits
   spaced-snoc p e low = record {
     proper =
         snoc-each (Proper (suc k) v) ps w
@@ -150,13 +164,15 @@ module _ (k : ℕ) (v : Setting) (ps : List Claim) (w : Claim) (sane : Sane w) (
       apart =
           snoc-each2 (λ (c d : Claim). c .ticket ≢ d .ticket → rival c d ≡ true → on c ≡ true → on d ≡ true → ⊥) ps w
           (p .holders .apart) (λ c m a b q r. clash r waits) (λ c m a b q r. clash q waits) (λ a b q r. clash q waits);
+      stock = omega (arith, p .holders .stock, sum-snoc heldBy ps w, holds-none);
     };
     fit = separated-snoc (λ c m. p .proper c m .sane) (p .fit);
     low = snoc-each (λ (x : Claim). on x ≡ false → v .clock ≤ at x) ps w (p .low) (λ q. low);
   }
 
   -- Where none of the others could start sooner, and w has the least start that fits, none of them all could.
-  pub earliest-snoc : Each Sane ps → Earliest v ps → ((s : ℕ) → v .clock ≤ s → Fits v ps w s → at w ≤ s) → Earliest v (ps ++ (w ∷ []))
+  pub earliest-snoc : Each (Sane v) ps → Earliest v ps → ((s : ℕ) → v .clock ≤ s → Fits v ps w s → at w ≤ s) → Earliest v (ps ++ (w ∷ []))
+  unfolding used
   earliest-snoc sanes old least x i o s l b =
       ⊎-elim (λ q. old x q o s l few) (λ q. let e = List·Memᴰ·eq-of-singleton q in by-order (at w) s (λ z. omega (arith, ap at e)) (last e)) (List·Memᴰ·append-cases ps i)
     where
@@ -166,6 +182,14 @@ module _ (k : ℕ) (v : Setting) (ps : List Claim) (w : Claim) (sane : Sane w) (
         after = λ c m p.
             let r = keep-e (λ c. before c x) ps m in
             b .after c (keep-i (λ c. before c x) (r .1) (Memᴰ·append-left (w ∷ []) (r .0))) p;
+        spare = λ z t a e.
+            omega (
+              arith,
+              b .spare z t a e,
+              sum-keep (unitsAt v t) (λ c. before c x) ps,
+              sum-keep (unitsAt v t) (λ c. before c x) (ps ++ (w ∷ [])),
+              sum-snoc (λ c. cond (before c x) (unitsAt v t c) 0) ps w,
+            );
       }
 
       -- A start sooner than its own, behind those before it, would fit w.
@@ -176,7 +200,18 @@ module _ (k : ℕ) (v : Setting) (ps : List Claim) (w : Claim) (sane : Sane w) (
             (λ r. inl (k .after c (keep-i (λ c. before c w) (ends-before v c w (sanes c m) r) m) h))
             (λ r. inr (r .0, omega (arith, r .1)))
             (fit .room c m h);
+        spare = λ z t a e.
+            by-order (at w) t
+            (λ q. fit .spare z t q (omega arith))
+            (λ q. omega (arith, k .spare z t a e, sum-keep (unitsAt v t) (λ c. before c w) ps, sum-le (unitsAt v t) (λ c. cond (before c w) (unitsAt v t c) 0) ps (each t q)));
       }
+        where
+          -- What is used before w starts is used by claims before it.
+          each : (t : ℕ) → t < at w → (c : Claim) → c ∈ ps → unitsAt v t c ≤ cond (before c w) (unitsAt v t c) 0
+          each t q c m = units-le v t c (cond (before c w) (unitsAt v t c) 0) (λ y z. rw (first c m y) (omega (arith, units-is v t c y)))
+            where
+              first : (c : Claim) → c ∈ ps → Covers v t c → before c w ≡ true
+              first c m y = by-test (on c) (before-on c w) (λ o. before-key c w (omega (arith, y .begun o, sanes c m .small)))
 
       last : x ≡ w → s < at w → at x ≤ s
       last e q =

@@ -1,14 +1,14 @@
 -- Laws of the functions of specs/Lists, by membership.
 use mathlib.Core.Path.{_≡_, refl, sym, _∙_, ap, subst}
-use mathlib.Core.Logic.{_⊎_, inl, inr, ⊎-elim}
-use mathlib.Core.Bool.{Bool, true, false, true≢false, false≢true}
-use mathlib.Core.List.{List, [], _∷_, _++_, map, List·Memᴰ·head, List·Memᴰ·tail, List·Memᴰ·not-nil, List·Memᴰ·cases-cons, List·Memᴰ·append-cases, List·Memᴰ·eq-of-singleton}
+use mathlib.Core.Logic.{_⊎_, inl, inr, ⊎-elim, _≢_}
+use mathlib.Core.Bool.{Bool, true, false, cond, true≢false, false≢true}
+use mathlib.Core.List.{List, [], _∷_, _++_, map, List·Memᴰ·head, List·Memᴰ·tail, List·Memᴰ·not-nil, List·Memᴰ·cases-cons, List·Memᴰ·append-cases, List·Memᴰ·eq-of-singleton, Memᴰ·append-right}
 use Prim.Native.Nat.{ℕ, zero, suc, _+_, _*_, _≤_, _<_}
 use native.Mathlib.Omega.{arith}
 use native.Mathlib.Nat.{min-eq-left, min-eq-right, le-of-lt}
 use lib.Dec.{eqb}
 use lib.ListN.{length, drop}
-use borrow.Author.Tests.{eqb-true, eq-eqb}
+use borrow.Author.Tests.{eqb-true, eqb-false, eq-eqb}
 use Rattle.rules.specs.Lists.{_∈_, greatest, least, sum, all, any, keep, Ascends}
 use Rattle.rules.proofs.Bools.{and-l, and-r, and-i, or-e, or-l, or-r, or-fl, or-fr, split, clash, by-test, by-order}
 
@@ -71,6 +71,51 @@ module _ {A : Type 0} where
       let q : f y + n ≤ g y = subst (λ (z : A). f z + n ≤ g z) e p in
       omega (arith, sum-le f g l (λ z m. h z (there m)))
   sum-gap f g n (List·Memᴰ·tail {x = y} {xs = l} m) p h = omega (arith, sum-gap f g n m p (λ z k. h z (there k)), h y here)
+
+  pub sum-zero : (f : A → ℕ) (l : List A) → Each (λ x. f x ≡ 0) l → sum f l ≡ 0
+  unfolding sum
+  sum-zero f [] h = refl
+  sum-zero f (x ∷ l) h = omega (arith, sum-zero f l (λ y m. h y (there m)), h x here)
+
+  pub sum-cong : (f g : A → ℕ) (l : List A) → Each (λ x. f x ≡ g x) l → sum f l ≡ sum g l
+  sum-cong f g l h = omega (arith, sum-le f g l (λ x m. omega (arith, h x m)), sum-le g f l (λ x m. omega (arith, h x m)))
+
+  pub sum-both : (f g : A → ℕ) (l : List A) → sum (λ x. f x + g x) l ≡ sum f l + sum g l
+  unfolding sum
+  sum-both f g [] = refl
+  sum-both f g (x ∷ l) = omega (arith, sum-both f g l)
+
+  pub sum-keep : (f : A → ℕ) (p : A → Bool) (l : List A) → sum f (keep p l) ≡ sum (λ x. cond (p x) (f x) 0) l
+  unfolding sum keep
+  sum-keep f p [] = refl
+  sum-keep f p (x ∷ l) = let ih = sum-keep f p l in by-test (p x) (λ e. rw e (omega arith)) (λ e. rw e (omega arith))
+
+  pub sum-keep-le : (f : A → ℕ) (p : A → Bool) (l : List A) → sum f (keep p l) ≤ sum f l
+  unfolding sum keep
+  sum-keep-le f p [] = omega arith
+  sum-keep-le f p (x ∷ l) = let ih = sum-keep-le f p l in by-test (p x) (λ e. rw e (omega arith)) (λ e. rw e (omega arith))
+
+  pub sum-snoc : (f : A → ℕ) (l : List A) (w : A) → sum f (l ++ (w ∷ [])) ≡ sum f l + f w
+  unfolding sum
+  sum-snoc f [] w = omega arith
+  sum-snoc f (x ∷ l) w = omega (arith, sum-snoc f l w)
+
+  pub sum-append : (f : A → ℕ) (a b : List A) → sum f (a ++ b) ≡ sum f a + sum f b
+  unfolding sum
+  sum-append f [] b = omega arith
+  sum-append f (x ∷ a) b = omega (arith, sum-append f a b)
+
+  -- Among elements with ascending numbers, the one of number k alone may take n more.
+  pub sum-but : (ticket f g : A → ℕ) (k n : ℕ) (l : List A) → Ascends ticket l → Each (λ x. ticket x ≢ k → f x ≤ g x) l → Each (λ x. ticket x ≡ k → f x ≤ g x + n) l
+      → sum f l ≤ sum g l + n
+  unfolding sum
+  sum-but ticket f g k n [] u h i = omega arith
+  sum-but ticket f g k n (x ∷ l) u h i =
+      by-test (eqb (ticket x) k)
+      (λ e.
+      let q = eqb-true (ticket x) k e in
+      omega (arith, i x here q, sum-le f g l (λ y m. h y (there m) (λ z. omega (arith, u .0 y m)))))
+      (λ e. omega (arith, h x here (eqb-false (ticket x) k e), sum-but ticket f g k n l (u .1) (λ y m. h y (there m)) (λ y m. i y (there m))))
 
   pub sum-add : (f : A → ℕ) (k : ℕ) (l : List A) → sum (λ x. f x + k) l ≡ sum f l + length l * k
   unfolding sum
@@ -193,6 +238,11 @@ module _ {A B : Type 0} where
   any-map p f [] = refl
   any-map p f (x ∷ l) = rw (any-map p f l)
 
+  pub sum-map : (f : B → ℕ) (g : A → B) (l : List A) → sum f (map g l) ≡ sum (λ x. f (g x)) l
+  unfolding sum
+  sum-map f g [] = refl
+  sum-map f g (x ∷ l) = omega (arith, sum-map f g l)
+
   pub greatest-map : (g : B → ℕ) (f : A → B) (b : ℕ) (l : List A) → greatest g b (map f l) ≡ greatest (λ x. g (f x)) b l
   unfolding greatest
   greatest-map g f b [] = refl
@@ -245,6 +295,13 @@ module _ {A : Type 0} (f : A → ℕ) where
   ascends-drop zero l u = u
   ascends-drop (suc i) [] u = u
   ascends-drop (suc i) (x ∷ l) u = ascends-drop i l (u .1)
+
+  -- What stands before an element is below it, and what stands after it above.
+  pub ascends-around : (a b : List A) (w : A) → Ascends f (a ++ (w ∷ b)) → Each (λ x. f x < f w) a × Each (λ x. f w < f x) b
+  ascends-around [] b w u = (λ x m. none m, u .0)
+  ascends-around (z ∷ a) b w u =
+      let r = ascends-around a b w (u .1) in
+      (λ x m. ⊎-elim (λ e. omega (arith, ap f e, u .0 w (Memᴰ·append-right a here))) (r .0 x) (List·Memᴰ·cases-cons m), r .1)
 
   pub ascends-snoc : (l : List A) (w : A) → Ascends f l → Each (λ x. f x < f w) l → Ascends f (l ++ (w ∷ []))
   ascends-snoc [] w u h = (λ y m. none m, tt)

@@ -12,14 +12,16 @@ use Rattle.rules.specs.declared.Claim.{Claim}
 use Rattle.rules.specs.declared.Phase.the-variants.{Waiting}
 use Rattle.rules.specs.Lists.{_∈_, sum}
 use Rattle.rules.specs.declared.Setting.{Setting}
-use Rattle.rules.specs.Claims.{on, withPhase, rival, endOf}
-use Rattle.rules.specs.Order.{key, before}
+use Rattle.rules.specs.Claims.{on, withPhase, endOf}
+use Rattle.rules.specs.Order.{key, before, meets}
 use Rattle.rules.specs.Packing.{startFor, ahead, packedStart}
-use Rattle.rules.proofs.Lists.{sum-le, sum-gap}
+use Rattle.rules.specs.Plans.{Sane}
+use Rattle.rules.proofs.Lists.{Each, sum-le, sum-gap}
 use Rattle.rules.proofs.Bools.{by-test}
 use Rattle.rules.proofs.Claims.{end-wait}
 use Rattle.rules.proofs.Order.{before-lt, by-key}
-use Rattle.rules.proofs.Packing.{moved-cases, ahead-e, start-eq, for-is}
+use Rattle.rules.proofs.Packing.{moved-cases, ahead-e, start-eq}
+use Rattle.rules.proofs.Starts.{for-is}
 
 -- The length of c, if c is packed before w.
 sooner : Claim → Claim → ℕ
@@ -40,16 +42,16 @@ sooner-gap : (c w : Claim) → key c < key w → sooner c c + c .length ≤ soon
 unfolding sooner
 sooner-gap c w l = rw (lt-ltb (key c) (key w) l, le-ltb (key c) (key c) (omega arith)) (omega arith)
 
-pub start-cap : (v : Setting) (B : ℕ) (ps : List Claim) → v .clock ≤ B → ((c : Claim) → c ∈ ps → on c ≡ true → endOf v c ≤ B)
+pub start-cap : (v : Setting) (B : ℕ) (ps : List Claim) → Each (Sane v) ps → v .clock ≤ B → ((c : Claim) → c ∈ ps → on c ≡ true → endOf v c ≤ B)
     → (w : Claim) → w ∈ ps → on w ≡ false → packedStart v ps w ≤ B + sum (λ c. c .length) ps
-start-cap v B ps h k w m o = omega (arith, near w m o, sum-le (sooner w) (λ (c : Claim). c .length) ps (λ c m. sooner-le w c))
+start-cap v B ps sane h k w m o = omega (arith, near w m o, sum-le (sooner w) (λ (c : Claim). c .length) ps (λ c m. sooner-le w c))
   where
     near : (w : Claim) → w ∈ ps → on w ≡ false → packedStart v ps w ≤ B + sum (sooner w) ps
-    near = by-key (λ (w : Claim). packedStart v ps w ≤ B + sum (sooner w) ps) ps (λ w m o ih. rw (start-eq v ps w) (go w ih (for-is v (ahead (packedStart v ps) ps w) w)))
+    near = by-key (λ (w : Claim). packedStart v ps w ≤ B + sum (sooner w) ps) ps (λ w m o ih. rw (start-eq v ps w) (go w ih (for-is v (ahead (packedStart v ps) ps w) w (sane w m))))
       where
         go : (w : Claim) → ((c : Claim) → c ∈ ps → on c ≡ false → before c w ≡ true → packedStart v ps c ≤ B + sum (sooner c) ps)
             → (startFor v (ahead (packedStart v ps) ps w) w ≡ v .clock)
-            ⊎ ((c : Claim) × c ∈ ahead (packedStart v ps) ps w × (rival c w ≡ true) × (endOf v c ≡ startFor v (ahead (packedStart v ps) ps w) w))
+            ⊎ ((c : Claim) × c ∈ ahead (packedStart v ps) ps w × (meets c w ≡ true) × (endOf v c ≡ startFor v (ahead (packedStart v ps) ps w) w))
             → startFor v (ahead (packedStart v ps) ps w) w ≤ B + sum (sooner w) ps
         go w ih (inl e) = omega arith
         go w ih (inr r) =

@@ -1,19 +1,22 @@
--- The planned start of a new claim is at most its start bound: each number below the start is ruled out by a conflicting claim, and
--- a claim rules out only so many. Proved once for intervals.
-use mathlib.Core.Path.{_≡_}
-use mathlib.Core.Bool.{true, false, cond}
+-- The planned start of a new claim that draws no units is at most its start bound: each number below the start is ruled out by a
+-- conflicting claim, and a claim rules out only so many. Proved once for intervals.
+use mathlib.Core.Path.{_≡_, refl}
+use mathlib.Core.Bool.{Bool, true, false, _&&_, cond}
 use mathlib.Core.List.{List}
 use Prim.Native.Nat.{ℕ, zero, suc, _+_, _-_, _≤_, _<_, min}
 use native.Mathlib.Omega.{arith}
 use Rattle.rules.specs.declared.Claim.{Claim}
-use Rattle.rules.specs.Lists.{_∈_, sum}
+use Rattle.rules.specs.Lists.{_∈_, sum, all}
 use Rattle.rules.specs.declared.Setting.{Setting}
 use Rattle.rules.specs.Claims.{on, at, rival, endOf, remaining}
 use Rattle.rules.specs.Order.{rivals}
+use Rattle.rules.specs.Pool.{spare}
+use Rattle.rules.specs.Plans.{Sane}
 use Rattle.rules.specs.Placing.{clear, fits, place, contention, startBound}
-use Rattle.rules.proofs.Bools.{by-test}
+use Rattle.rules.proofs.Bools.{by-test, clash}
 use Rattle.rules.proofs.Lists.{sum-le, sum-gap, sum-add, all-not, keep-i}
 use Rattle.rules.proofs.Claims.{end-wait}
+use Rattle.rules.proofs.Pool.{spare-none}
 use Rattle.rules.proofs.Placing.{barred, fits-e, place-least}
 
 -- Where each x from a on, n of them, lies in a claim's interval, n is at most the sum of the intervals' parts below a + n.
@@ -35,6 +38,10 @@ covered lo hi l a b h =
     let k = cover lo hi l a (b - a) (λ x p q. h x p (omega arith)) in
     omega (arith, sum-le (λ (c : Claim). min (hi c) (a + (b - a)) - lo c) (λ (c : Claim). hi c - lo c) l (λ c m. omega arith))
 
+and-false-l : (a b : Bool) → b ≡ true → a && b ≡ false → a ≡ false
+and-false-l true b p e = clash p e
+and-false-l false b p e = refl
+
 module _ (v : Setting) (ps : List Claim) (w : Claim) where
   -- The first number that c rules out; the first behind them is its end.
   from : Claim → ℕ
@@ -46,10 +53,10 @@ module _ (v : Setting) (ps : List Claim) (w : Claim) where
       let b = barred v w x c e in
       (b .0, by-test (on c) (λ o. rw o h) (λ o. rw o (omega (arith, b .2 o))), b .1)
 
-  ruled-out : (x : ℕ) → v .clock ≤ x → fits v ps w x ≡ false → (c : Claim) × c ∈ rivals ps w × (from c ≤ x) × (x < endOf v c)
+  ruled-out : w .units ≡ 0 → (x : ℕ) → v .clock ≤ x → fits v ps w x ≡ false → (c : Claim) × c ∈ rivals ps w × (from c ≤ x) × (x < endOf v c)
   unfolding fits
-  ruled-out x h e =
-      let r = all-not (clear v w x) ps e in
+  ruled-out z x h e =
+      let r = all-not (clear v w x) ps (and-false-l (all (clear v w x) ps) (spare v ps w x) (spare-none v ps w z x) e) in
       let q = ruled-by x h (r .0) (r .2) in
       (r .0, keep-i (λ c. rival c w) (q .0) (r .1), q .1, q .2)
 
@@ -58,9 +65,9 @@ module _ (v : Setting) (ps : List Claim) (w : Claim) where
   unfolding from remaining
   count c = by-test (on c) (λ e. rw e (omega arith)) (λ e. rw e (omega (arith, end-wait v c e)))
 
-  pub place-bound : place v ps w ≤ startBound v ps w
+  pub place-bound : Sane v w → w .units ≡ 0 → place v ps w ≤ startBound v ps w
   unfolding startBound contention
-  place-bound =
+  place-bound sane z =
       omega (
         arith,
         covered from (endOf v) (rivals ps w) (v .clock) (place v ps w) below,
@@ -69,4 +76,4 @@ module _ (v : Setting) (ps : List Claim) (w : Claim) where
       )
     where
       below : (x : ℕ) → v .clock ≤ x → x < place v ps w → (c : Claim) × c ∈ rivals ps w × (from c ≤ x) × (x < endOf v c)
-      below x h k = by-test (fits v ps w x) (λ e. absurd (omega (arith, place-least v ps w x h (fits-e v ps w x e)))) (ruled-out x h)
+      below x h k = by-test (fits v ps w x) (λ e. absurd (omega (arith, place-least v ps w sane x h (fits-e v ps w x e)))) (ruled-out z x h)

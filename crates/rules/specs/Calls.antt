@@ -21,36 +21,38 @@ use Rattle.rules.specs.Claims.{on, at, withPhase, conflicts}
 use Rattle.rules.specs.Packing.{pack}
 use Rattle.rules.specs.Placing.{place, contention, startBound}
 use Rattle.rules.specs.Granting.{grant, grants}
-use Rattle.rules.specs.Tests.{Test, firstOf, late, backward, dark, offRig, badLength, full, ticketless, named, unknown, notYetOn, alreadyOn}
+use Rattle.rules.specs.Pool.{freeUnits}
+use Rattle.rules.specs.Tests.{Test, firstOf, late, backward, nothingAsked, offRig, spots, badLength, full, ticketless, named, unknown, notYetOn, alreadyOn}
 
 -- What a table means. The pending claims stand in ascending order of ticket.
 pub record Model : Type 0 where
   pub rig : ℕ
   pub clock : ℕ
+  pub pool : ℕ
   pub issued : ℕ
   pub pending : List Claim
 
 abbrev pub withClock : Model → ℕ → Model
-withClock m t = record { rig = m .rig; clock = t; issued = m .issued; pending = m .pending }
+withClock m t = record { rig = m .rig; clock = t; pool = m .pool; issued = m .issued; pending = m .pending }
 
 abbrev pub withIssued : Model → ℕ → Model
-withIssued m n = record { rig = m .rig; clock = m .clock; issued = n; pending = m .pending }
+withIssued m n = record { rig = m .rig; clock = m .clock; pool = m .pool; issued = n; pending = m .pending }
 
 abbrev pub withPending : Model → List Claim → Model
-withPending m ps = record { rig = m .rig; clock = m .clock; issued = m .issued; pending = ps }
+withPending m ps = record { rig = m .rig; clock = m .clock; pool = m .pool; issued = m .issued; pending = ps }
 
 -- The rules at clock t in this table; and at its own.
 abbrev pub ruled : Model → ℕ → Setting
-ruled m t = record { clock = t }
+ruled m t = record { clock = t; pool = m .pool }
 
 abbrev pub settingOf : Model → Setting
 settingOf m = ruled m (m .clock)
 
 -- A request of groups for a length of time, and nothing else.
 abbrev pub asking : ℕ → ℕ → Request
-asking g n = record { groups = g; length = n }
+asking g n = record { groups = g; length = n; units = 0 }
 
--- The calls of a run: clock and what is asked for, clock and ticket, clock, ticket, two tickets. (Document 01: look is our lookup.)
+-- The calls of a run: clock and what is asked for, clock and ticket, clock, ticket, two tickets, nothing. (Document 01: look is our lookup.)
 pub data Call : Type 0 where
   claim : ℕ → Request → Call
   release : ℕ → ℕ → Call
@@ -58,6 +60,7 @@ pub data Call : Type 0 where
   clock : ℕ → Call
   lookup : ℕ → Call
   common : ℕ → ℕ → Call
+  free : Call
 
 -- "Every accepted timed call (claim, release, withdraw, clock)"
 abbrev pub timed : Call → Bool
@@ -67,6 +70,7 @@ timed (withdraw t k) = true
 timed (clock t) = true
 timed (lookup k) = false
 timed (common j k) = false
+timed free = false
 
 -- The clock that a timed call bears.
 abbrev pub clockOf : Call → ℕ
@@ -76,6 +80,7 @@ clockOf (withdraw t k) = t
 clockOf (clock t) = t
 clockOf (lookup k) = 0
 clockOf (common j k) = 0
+clockOf free = 0
 
 -- What a call answers: 0 or the refusal's number; ticket; start; contention and start bound; "the answer names those tickets".
 pub record Answer : Type 0 where
@@ -92,16 +97,18 @@ pub record Step : Type 0 where
   pub answer : Answer
 
 -- ── tests ──
--- "A claim is tested in the order 5, 4, 1, 2, 3, 6, 7; a release 5, 4, 8, 9; a withdrawal 5, 4, 8, 10; a clock call 5, 4"
+-- "A claim is tested in the order 5, 4, 1, 2, 3, 6, 7; a release 5, 4, 8, 9; a withdrawal 5, 4, 8, 10; a clock call 5, 4"; and of a
+-- claim "16 .. after 2"
 unfoldable pub tests : Model → Call → List Test
 tests m (claim t ask) =
-    late t ∷ backward (m .clock) t ∷ dark (ask .groups) ∷ offRig (m .rig) (ask .groups) ∷ badLength (ask .length) ∷ full (length (m .pending))
-    ∷ ticketless (m .issued) ∷ []
+    late t ∷ backward (m .clock) t ∷ nothingAsked (ask .groups) (ask .units) ∷ offRig (m .rig) (ask .groups) ∷ spots (m .pool) (ask .units)
+    ∷ badLength (ask .length) ∷ full (length (m .pending)) ∷ ticketless (m .issued) ∷ []
 tests m (release t k) = late t ∷ backward (m .clock) t ∷ unknown (named k) (m .pending) ∷ notYetOn (named k) on (m .pending) ∷ []
 tests m (withdraw t k) = late t ∷ backward (m .clock) t ∷ unknown (named k) (m .pending) ∷ alreadyOn (named k) on (m .pending) ∷ []
 tests m (clock t) = late t ∷ backward (m .clock) t ∷ []
 tests m (lookup k) = unknown (named k) (m .pending) ∷ []
 tests m (common j k) = unknown (named j) (m .pending) ∷ unknown (named k) (m .pending) ∷ []
+tests m free = []
 
 -- "A call turned down answers its number, with ticket, start, crowd and ceiling 0 and no grants; the table is the one handed in"
 abbrev pub unchanged : Model → ℕ → Step
@@ -121,7 +128,7 @@ abbrev pub granting : Model → Reply → List Claim → Step
 granting m r ps =
     record {
       model = withPending m (grant (settingOf m) ps);
-      answer = record { number = 0; ticket = r .ticket; start = r .start; contention = r .contention; bound = r .bound; grants = grants ps };
+      answer = record { number = 0; ticket = r .ticket; start = r .start; contention = r .contention; bound = r .bound; grants = grants (settingOf m) ps };
     }
 
 unfoldable pub finish : Model → Reply → Step
@@ -137,7 +144,7 @@ remove m k = withPending m (keep (λ c. not (named k c)) (m .pending))
 
 -- A new claim, before it has its place: waiting from the clock on.
 abbrev pub fresh : Model → Request → Claim
-fresh m ask = record { groups = ask .groups; phase = Waiting (m .clock); length = ask .length; ticket = suc (m .issued) }
+fresh m ask = record { groups = ask .groups; phase = Waiting (m .clock); length = ask .length; ticket = suc (m .issued); units = ask .units }
 
 -- "Claim": placed among the pending claims; "the answer is ticket, start, crowd and ceiling".
 abbrev pub placing : Model → Claim → Reply
@@ -159,6 +166,7 @@ act m (withdraw t k) = finish (remove (advance m t) k) (plain k t)
 act m (clock t) = finish (advance m t) (plain 0 t)
 act m (lookup k) = unchanged m 0
 act m (common j k) = unchanged m 0
+act m free = unchanged m 0
 
 -- The call's own step, or the refusal.
 abbrev pub unless : Model → ℕ → Step → Step
@@ -169,12 +177,13 @@ unfoldable pub step : Model → Call → Step
 step m c = unless m (firstOf (tests m c)) (act m c)
 
 -- ── a new table, lookup, and lists of calls ──
-abbrev pub blank : ℕ → Model
-blank g = record { rig = g; clock = 0; issued = 0; pending = [] }
+abbrev pub blank : ℕ → ℕ → Model
+blank g k = record { rig = g; clock = 0; pool = k; issued = 0; pending = [] }
 
 -- "A new table has clock 0." "A call that would make a table gives, when turned down, one without groups, claims or issued tickets, at clock 0."
-unfoldable pub new : ℕ → Step
-new g = cond (empty g) (unchanged (blank 0) darkNumber) (unchanged (blank g) 0)
+-- A pool without groups is dark too, and leaves no units.
+unfoldable pub new : ℕ → ℕ → Step
+new g k = cond (empty g) (unchanged (blank 0 0) darkNumber) (unchanged (blank g k) 0)
 
 -- "Look gives, for a ticket, waiting with start or on with promised end .. A ticket that isn't pending gives 8."
 -- In numbers: the refusal's, 0 for none; the start of a waiting claim; the promised end of one that is on.
@@ -218,6 +227,10 @@ between [] ds = Unknown
 
 unfoldable pub commonOf : ℕ → ℕ → List Claim → Common
 commonOf j k ps = between (keep (named j) ps) (keep (named k) ps)
+
+-- "A look gives the units free": of the whole table.
+abbrev pub freeOf : Model → ℕ
+freeOf m = freeUnits (m .pool) (m .pending)
 
 -- The table after a list of calls.
 unfoldable pub after : Model → List Call → Model

@@ -13,7 +13,7 @@ use Rattle.rules.specs.Plans.{Ascending, Sane, Apart, Separated, StartsF
 
 -- A claim as it may stand in a table.
 pub record Proper (k : ℕ) (v : Setting) (c : Claim) : Type 0 where
-  pub sane : Sane c
+  pub sane : Sane v c
   pub numbered : 1 ≤ c .ticket
   pub issued : c .ticket ≤ k
   pub aged : on c ≡ true → at c ≤ v .clock
@@ -22,13 +22,13 @@ pub record Proper (k : ℕ) (v : Setting) (c : Claim) : Type 0 where
 pub record Packable (k : ℕ) (v : Setting) (ps : List Claim) : Type 0 where
   pub proper : (c : Claim) → c ∈ ps → Proper k v c
   pub ascending : Ascending ps
-  pub holders : Apart ps
+  pub holders : Apart v ps
 
 -- Nobody overlaps, and no start is below the clock.
 pub record Spaced (k : ℕ) (v : Setting) (ps : List Claim) : Type 0 where
   pub proper : (c : Claim) → c ∈ ps → Proper k v c
   pub ascending : Ascending ps
-  pub holders : Apart ps
+  pub holders : Apart v ps
   pub fit : Separated v ps
   pub low : StartsFrom (v .clock) ps
 
@@ -42,6 +42,7 @@ pub record Packed (k : ℕ) (v : Setting) (ps : List Claim) : Type 0 where
 pub record Settled (k : ℕ) (v : Setting) (ps : List Claim) : Type 0 where
   pub spaced : Spaced k v ps
   pub blocked : Blocked v ps
+  pub earliest : Earliest v ps
 
 -- The same of a model. `Invariant` holds of a new table and after every call.
 abbrev pub IsSpaced : Model → Type 0

@@ -1,12 +1,15 @@
 pub mod Lists
 pub mod Claims
 pub mod Order
+pub mod Pool
+pub mod Seeking
+pub mod Plans
 pub mod Packing
 pub mod Placing
 pub mod Granting
 pub mod Tests
 pub mod Calls
-pub mod Plans
 pub mod Invariants
+pub mod NoUnits
 pub mod Tables
 pub mod Scenarios

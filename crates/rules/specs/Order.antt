@@ -20,6 +20,10 @@ key c = at c * 65536 + c .ticket
 unfoldable pub before : Claim → Claim → Bool
 before c w = on c || ltb (key c) (key w)
 
+-- c and w have something in common: a group, or the pool from which both draw.
+abbrev pub meets : Claim → Claim → Bool
+meets c w = rival c w || (ltb 0 (c .units) && ltb 0 (w .units))
+
 -- Those of the claims that conflict with w.
 abbrev pub rivals : List Claim → Claim → List Claim
 rivals ps w = keep (λ c. rival c w) ps

@@ -1,5 +1,5 @@
 -- The starred plots of document 01 ("Plots to try") as one table, and two cases more: what the first packing of a call is for, and the
--- order of grants. Then what lookup tells of two tickets.
+-- order of grants; then plots of claims that draw on a pool, with the units free. Last what lookup tells of two tickets.
 -- proofs/AllScenarios has the theorem that covers the table.
 use mathlib.Core.List.{List, [], _∷_, map}
 use Prim.Native.Nat.{ℕ}
@@ -7,7 +7,7 @@ use Rattle.rules.specs.declared.Common.{Common}
 use Rattle.rules.specs.declared.Common.the-variants.{Unknown, Shared, Apart}
 use Rattle.rules.specs.declared.Standing.{Standing}
 use Rattle.rules.specs.declared.Standing.the-variants.{NotPending, Waits, Holds}
-use Rattle.rules.specs.Calls.{asking, Call, release, withdraw, clock, Answer, Model, standingOf, commonOf, new, after, answers}
+use Rattle.rules.specs.Calls.{asking, Call, release, withdraw, clock, Answer, Model, standingOf, freeOf, commonOf, new, after, answers}
 
 -- Calls made before, calls made now, their answers, and what lookup then tells of tickets 1 to 4.
 pub record Scenario : Type 0 where
@@ -36,7 +36,7 @@ S = claim 0 0x8 10 ∷ claim 0 0xC 10 ∷ claim 0 0x6 11 ∷ []
 
 -- "Rig F hex, clock 0."
 abbrev pub rigF : Model
-rigF = new 0xF .model
+rigF = new 0xF 0 .model
 
 unfoldable pub scenarios : List Scenario
 scenarios =
@@ -98,6 +98,72 @@ outcome x =
 -- What the paper gives.
 abbrev pub expected : Scenario → Outcome
 expected x = record { answers = x .answers; standings = x .standings }
+
+-- Calls on a table of groups F hex and a pool, their answers, and then what lookup tells of tickets 1 to 4 and of the units free.
+pub record Draw : Type 0 where
+  pub pool : ℕ
+  pub calls : List Call
+  pub answers : List Answer
+  pub standings : List Standing
+  pub free : ℕ
+
+abbrev pub draw : ℕ → List Call → List Answer → List Standing → ℕ → Draw
+draw k c a s f = record { pool = k; calls = c; answers = a; standings = s; free = f }
+
+-- A claim at a clock, of groups (hex), a length and units.
+abbrev pub drawing : ℕ → ℕ → ℕ → ℕ → Call
+drawing t g n u = Call.claim t (record { groups = g; length = n; units = u })
+
+unfoldable pub draws : List Draw
+draws =
+    -- a pool of 2, three claims of one unit and no common group: two on, the third at the first end
+    draw 2 (drawing 0 0x1 10 1 ∷ drawing 0 0x2 7 1 ∷ drawing 0 0x4 5 1 ∷ [])
+    (ok 1 0 0 0 (1 ∷ []) ∷ ok 2 0 0 0 (2 ∷ []) ∷ ok 3 7 0 0 [] ∷ [])
+    (Holds 10 ∷ Holds 7 ∷ Waits 7 ∷ NotPending ∷ []) 0
+    -- a pool of 3: 2 units are planned from 10 on, 1 is held until 10. A claim of 2 for 10 ticks fits the gap before the plan,
+    ∷ draw 3 (drawing 0 0x1 10 1 ∷ drawing 0 0x1 10 2 ∷ drawing 0 0x2 10 2 ∷ [])
+    (ok 1 0 0 0 (1 ∷ []) ∷ ok 2 10 1 19 [] ∷ ok 3 0 0 0 (3 ∷ []) ∷ [])
+    (Holds 10 ∷ Waits 10 ∷ Holds 10 ∷ NotPending ∷ []) 0
+    -- and one for 11 ticks does not
+    ∷ draw 3 (drawing 0 0x1 10 1 ∷ drawing 0 0x1 10 2 ∷ drawing 0 0x2 11 2 ∷ [])
+    (ok 1 0 0 0 (1 ∷ []) ∷ ok 2 10 1 19 [] ∷ ok 3 20 0 0 [] ∷ [])
+    (Holds 10 ∷ Waits 10 ∷ Waits 20 ∷ NotPending ∷ []) 2
+    -- an overrun holder keeps its units: ticket 2 waits though its start is the clock, until the release
+    ∷ draw 2 (drawing 0 0x0 10 2 ∷ drawing 0 0x0 10 1 ∷ clock 12 ∷ drawing 12 0x1 5 0 ∷ release 13 1 ∷ [])
+    (ok 1 0 0 0 (1 ∷ []) ∷ ok 2 10 0 0 [] ∷ ok 0 12 0 0 [] ∷ ok 3 12 0 12 (3 ∷ []) ∷ ok 1 13 0 0 (2 ∷ []) ∷ [])
+    (NotPending ∷ Holds 23 ∷ Holds 17 ∷ NotPending ∷ []) 1
+    -- two claims at one start, granted by ticket while the units last: ticket 2 has overrun and keeps 2 of 4
+    ∷ draw 4 (drawing 0 0x0 10 2 ∷ drawing 0 0x0 10 2 ∷ drawing 0 0x0 10 2 ∷ drawing 0 0x0 10 2 ∷ release 12 1 ∷ [])
+    (ok 1 0 0 0 (1 ∷ []) ∷ ok 2 0 0 0 (2 ∷ []) ∷ ok 3 10 0 0 [] ∷ ok 4 10 0 0 [] ∷ ok 1 12 0 0 (3 ∷ []) ∷ [])
+    (NotPending ∷ Holds 10 ∷ Holds 22 ∷ Waits 12 ∷ []) 0
+    -- while an overrun holder has 2 of 3, ticket 3 asks for 2 and waits, and ticket 4 behind it asks for 1 and goes on
+    ∷ draw 3 (drawing 0 0x0 10 2 ∷ drawing 0 0x1 10 1 ∷ drawing 0 0x0 10 2 ∷ drawing 0 0x1 10 1 ∷ release 12 2 ∷ [])
+    (ok 1 0 0 0 (1 ∷ []) ∷ ok 2 0 0 0 (2 ∷ []) ∷ ok 3 10 0 0 [] ∷ ok 4 10 1 19 [] ∷ ok 2 12 0 0 (4 ∷ []) ∷ [])
+    (Holds 10 ∷ NotPending ∷ Waits 12 ∷ Holds 22 ∷ []) 0
+    -- 16 after 2 and before 3; neither group nor unit is 1; a claim of units alone has contention 0 and the clock for its bound
+    ∷ draw 2 (drawing 5 0x10 10 3 ∷ drawing 5 0x1 0 3 ∷ drawing 5 0x1 0 2 ∷ drawing 5 0x0 10 0 ∷ drawing 5 0x0 10 2 ∷ [])
+    (refused 2 ∷ refused 16 ∷ refused 3 ∷ refused 1 ∷ ok 1 5 0 5 (1 ∷ []) ∷ [])
+    (Holds 15 ∷ NotPending ∷ NotPending ∷ NotPending ∷ []) 0
+    ∷ []
+
+-- What the rules give, and what is expected.
+pub record Drawn : Type 0 where
+  pub answers : List Answer
+  pub standings : List Standing
+  pub free : ℕ
+
+unfoldable pub drawn : Draw → Drawn
+drawn x =
+    let m : Model = new 0xF (x .pool) .model in
+    let n : Model = after m (x .calls) in
+    record {
+      answers = answers m (x .calls);
+      standings = map (λ k. standingOf k (n .pending)) (1 ∷ 2 ∷ 3 ∷ 4 ∷ []);
+      free = freeOf n;
+    }
+
+abbrev pub expectedOf : Draw → Drawn
+expectedOf x = record { answers = x .answers; standings = x .standings; free = x .free }
 
 -- Two tickets of the plots, and what lookup tells of the two.
 pub record Pair : Type 0 where

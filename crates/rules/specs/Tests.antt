@@ -3,7 +3,7 @@ use mathlib.Core.Bool.{Bool, not, _&&_, _||_, cond}
 use mathlib.Core.List.{List, [], _∷_}
 use Prim.Native.Nat.{ℕ}
 use lib.Dec.{ltb, leb, eqb}
-use Rattle.numbers.specs.Numbers.{darkNumber, offRigNumber, lengthNumber, backwardNumber, lateNumber, fullNumber, ticketlessNumber, unknownNumber, notYetOnNumber, alreadyOnNumber, mostClock, mostLength, mostTickets, mostPending}
+use Rattle.numbers.specs.Numbers.{darkNumber, offRigNumber, lengthNumber, backwardNumber, lateNumber, fullNumber, ticketlessNumber, unknownNumber, notYetOnNumber, alreadyOnNumber, spotsNumber, mostClock, mostLength, mostTickets, mostPending}
 use Rattle.groups.specs.Groups.{empty, within}
 use Rattle.rules.specs.declared.Claim.{Claim}
 use Rattle.rules.specs.Lists.{any}
@@ -31,6 +31,13 @@ backward now t = test (ltb t now) backwardNumber
 -- "dark: no group in the claim, or in a new rig", "off-rig: a group outside the rig"
 abbrev pub dark : ℕ → Test
 dark g = test (empty g) darkNumber
+
+-- "1 is now for a claim with neither group nor unit", "spots: more units than k" (document 02, P3)
+abbrev pub nothingAsked : ℕ → ℕ → Test
+nothingAsked g u = test (empty g && eqb u 0) darkNumber
+
+abbrev pub spots : ℕ → ℕ → Test
+spots pool u = test (ltb pool u) spotsNumber
 
 abbrev pub offRig : ℕ → ℕ → Test
 offRig rig g = test (not (within g rig)) offRigNumber

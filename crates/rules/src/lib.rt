@@ -8,19 +8,21 @@ pub enum Phase {
     On(u64),
 }
 
-// A claim: its set of groups (2^g for group g), its phase, its declared length in ticks, its ticket.
+// A claim: its set of groups (2^g for group g), its phase, its declared length in ticks, its ticket, the units that it draws from the pool.
 // Fields in this order make it 32 bytes.
 pub struct Claim {
     pub groups: u64,
     pub phase: Phase,
     pub length: u32,
     pub ticket: u16,
+    pub units: u16,
 }
 
-// What a claim asks for: a set of groups, and a length in ticks.
+// What a claim asks for: a set of groups, a length in ticks, and units of the pool.
 pub struct Request {
     pub groups: u64,
     pub length: u32,
+    pub units: u16,
 }
 
 // What an accepted call answers, beside its grants. `contention` and `bound` are document 01's crowd and ceiling.
@@ -31,15 +33,17 @@ pub struct Reply {
     pub bound: u64,
 }
 
-// What the rules of one call go by: its clock.
+// What the rules of one call go by: its clock, and the units in the pool (k followspots that do the same work).
 pub struct Setting {
     pub clock: u64,
+    pub pool: u16,
 }
 
 // The table. The first `count` places hold the pending claims in ascending order of ticket; the others are vacant.
 pub struct Table {
     pub rig: u64,
     pub clock: u64,
+    pub pool: u16,
     pub issued: u16,
     pub count: usize,
     pub claims: [Claim; 64],
@@ -66,5 +70,6 @@ pub fn asking(groups: u64, length: u32) -> Request
     Request {
         groups: groups,
         length: length,
+        units: 0,
     }
 }

@@ -29,11 +29,11 @@ module _ (o : Outcome) (s : Step) (p : o ≡ outcome s) where
 -- A step that a call promises: of the table m, or a new table.
 pub data Promised (m : Model) : Step → Type 0 where
   by-call : (c : Call) → Promised m (step m c)
-  by-new : (g : ℕ) → Promised m (new g)
+  by-new : (g k : ℕ) → Promised m (new g k)
 
 counted : {m : Model} {s : Step} → Promised m s → Counted m s
 counted {m} (by-call c) = step-counted m c
-counted {m} (by-new g) = new-counted m g
+counted {m} (by-new g k) = new-counted m g k
 
 module _ {m : Model} {s : Step} (q : Promised m s) where
   -- Those named as granted, and those that still wait, waited before or were issued by the call, which issues one ticket at most.
@@ -51,8 +51,8 @@ module _ {m : Model} {s : Step} (q : Promised m s) where
       omega (arith, counted q .few, formed-few (o .table) (v .formed))
 
 -- Nobody waits in a table without claims, and `new` refuses a rig without groups with such a table.
-pub none-waits : (g : ℕ) → waiting (blank g) ≡ 0
-none-waits g = waiting-none g
+pub none-waits : (g k : ℕ) → waiting (blank g k) ≡ 0
+none-waits g k = waiting-none g k
 
-pub new-none : new 0 .model ≡ blank 0
-new-none = new-cases (λ (x : Step). x .model ≡ blank 0) 0 (λ z. refl) (λ z. refl)
+pub new-none : new 0 0 .model ≡ blank 0 0
+new-none = new-cases (λ (x : Step). x .model ≡ blank 0 0) 0 0 (λ z. refl) (λ z. refl)

@@ -1,13 +1,14 @@
 -- Numbers in range stay in range: at a later clock, in packing, in what is counted of a row, and through every part of a call. So no sum in
 -- the code wraps. And what a valid table gives to the code that works on its row.
 use mathlib.Core.Path.{_≡_, refl, sym, _∙_, ap, subst}
+use mathlib.Core.Logic.{⊎-elim}
 use mathlib.Core.Bool.{Bool, not, true, false}
 use mathlib.Core.List.{List, [], _∷_, map}
 use Prim.Native.Nat.{ℕ, suc, _≤_, _<_, _-_}
 use native.Mathlib.Omega.{arith}
 use native.Mathlib.Nat.{mul-le-mul-right}
 use lib.ListN.{length, length-map, length-append, take, length-take}
-use Rattle.numbers.specs.Numbers.{mostClock, mostTickets, mostPending, mostLength}
+use Rattle.numbers.specs.Numbers.{mostClock, mostTickets, mostPending, mostLength, mostUnits}
 use Rattle.rules.specs.declared.Claim.{Claim}
 use Rattle.rules.specs.declared.Phase.the-variants.{On, Waiting}
 use Rattle.rules.specs.declared.Table.{Table}
@@ -22,49 +23,52 @@ use Rattle.rules.specs.Plans.{Sane}
 use Rattle.rules.specs.Tables.{encode, model, pad, vacant}
 use Rattle.rules.specs.Lists.{_∈_, sum}
 use Rattle.rules.specs.Order.{rivals}
+use Rattle.rules.specs.Pool.{heldBy, heldUnits}
 use Rattle.rules.specs.Placing.{place, contention, startBound}
 use Rattle.rules.proofs.Bools.{clash}
 use Rattle.rules.proofs.Claims.{end-le, remaining-le}
-use Rattle.rules.proofs.Lists.{Each, none, keep-e, keep-length, map-each, snoc-each, sum-le-each}
+use Rattle.rules.proofs.Lists.{Each, none, keep-e, keep-length, map-each, snoc-each, sum-le-each, sum-keep-le, sum-snoc}
 use Rattle.rules.proofs.Order.{ascending-map, ascending-keep, ascending-snoc}
-use Rattle.rules.proofs.Packing.{moved-cases, moved-ticket}
-use Rattle.rules.proofs.Granting.{granted-cases, granted-ticket}
+use Rattle.rules.proofs.Packing.{moved-cases, moved-ticket, pack-held}
+use Rattle.rules.proofs.Granting.{granted-cases, granted-ticket, grant-stock}
+use Rattle.rules.proofs.Invariants.{Later, later-sane}
 use Rattle.rules.proofs.Sizes.{start-cap}
-use Rattle.rules.proofs.StartBound.{place-bound}
-use Rattle.table.specs.Rows.{Sized, Row}
+use Rattle.rules.proofs.Placing.{place-is}
+use Rattle.table.specs.Rows.{Sized, Row, Capped}
+use Rattle.table.specs.Parts.{ruledIn}
 use Rattle.table.specs.Valid.{Ranged, Formed}
 use Rattle.rules.proofs.Places.{pad-length, pad-take}
 use Rattle.table.proofs.Rows.{sized-small}
 
 -- ── a later clock, and packing ──
-pub sized-later : (t u : ℕ) (c : Claim) → t ≤ u → Sized t c → Sized u c
-sized-later t u c l s = record { sane = s .sane; short = s .short; aged = λ o. omega (arith, s .aged o); planned = s .planned }
+pub sized-later : (v u : Setting) (c : Claim) → Later v u → Sized v c → Sized u c
+sized-later v u c l s = record { sane = later-sane l (s .sane); short = s .short; aged = λ o. omega (arith, s .aged o, l .later); planned = s .planned }
 
 -- At another start.
-pub sized-waiting : {t s : ℕ} {c : Claim} → Sized t c → s ≤ 2000000000000 → Sized t (withPhase c (Waiting s))
-sized-waiting z h = record { sane = record { long = z .sane .long; small = z .sane .small }; short = z .short; aged = λ o. clash o refl; planned = λ o. h }
+pub sized-waiting : {v : Setting} {s : ℕ} {c : Claim} → Sized v c → s ≤ 2000000000000 → Sized v (withPhase c (Waiting s))
+sized-waiting z h = record { sane = record { long = z .sane .long; small = z .sane .small; drawn = z .sane .drawn }; short = z .short; aged = λ o. clash o refl; planned = λ o. h }
 
 -- A packed start is at most the latest clock and 65 lengths.
-pub start-small : (v : Setting) (ps : List Claim) → v .clock ≤ mostClock → length ps ≤ 64 → Each (Sized (v .clock)) ps → (c : Claim) → c ∈ ps → on c ≡ false
+pub start-small : (v : Setting) (ps : List Claim) → v .clock ≤ mostClock → length ps ≤ 64 → Each (Sized v) ps → (c : Claim) → c ∈ ps → on c ≡ false
     → packedStart v ps c ≤ 1000300000000
 start-small v ps h few sized c m o =
-    omega (arith, start-cap v 1000003600000 ps (omega arith) ends c m o, sum-le-each (λ c. c .length) mostLength ps (λ d i. sized d i .short))
+    omega (arith, start-cap v 1000003600000 ps (λ d i. sized d i .sane) (omega arith) ends c m o, sum-le-each (λ c. c .length) mostLength ps (λ d i. sized d i .short))
   where
     ends : (d : Claim) → d ∈ ps → on d ≡ true → endOf v d ≤ 1000003600000
     ends d i q = end-le v d 1000003600000 (omega (arith, sized d i .aged q, sized d i .short)) (omega arith)
 
-pub packed-small : (v : Setting) (claims : List Claim) (n : ℕ) → Row (v .clock) claims n → (c : Claim) → c ∈ take n claims
+pub packed-small : (v : Setting) (claims : List Claim) (n : ℕ) → Row v claims n → (c : Claim) → c ∈ take n claims
     → at (moved (packedStart v (take n claims)) c) ≤ 1000000000000000000
 packed-small v claims n row c m =
     moved-cases (λ (d : Claim). at d ≤ 1000000000000000000) (packedStart v (take n claims)) c
-    (λ o. sized-small (v .clock) c (row .timely) (row .sized c m))
+    (λ o. sized-small v c (row .timely) (row .sized c m))
     (λ o. omega (arith, start-small v (take n claims) (row .timely) (omega (arith, row .few, length-take n claims)) (row .sized) c m o))
 
 -- ── the conflicting claims, their remaining time, the start bound and the planned start ──
-pub remaining-short : (v : Setting) (c : Claim) → Sized (v .clock) c → remaining v c ≤ mostLength
+pub remaining-short : (v : Setting) (c : Claim) → Sized v c → remaining v c ≤ mostLength
 remaining-short v c s = omega (arith, remaining-le v c (s .aged), s .short)
 
-module _ (v : Setting) (l : List Claim) (n : ℕ) (w : Claim) (r : Row (v .clock) l n) where
+module _ (v : Setting) (l : List Claim) (n : ℕ) (w : Claim) (r : Row v l n) where
   pub rivals-few : contention (take n l) w ≤ 64
   unfolding contention
   rivals-few = omega (arith, keep-length (λ c. rival c w) (take n l), length-take n l, r .few)
@@ -76,16 +80,21 @@ module _ (v : Setting) (l : List Claim) (n : ℕ) (w : Claim) (r : Row (v .clock
       short : Each (λ c. remaining v c ≤ mostLength) (rivals (take n l) w)
       short c m = remaining-short v c (r .sized c (keep-e (λ d. rival d w) (take n l) m .0))
 
-  pub bound-small : Sized (v .clock) w → startBound v (take n l) w ≤ 2000000000000
+  pub bound-small : Sized v w → startBound v (take n l) w ≤ 2000000000000
   unfolding startBound
   bound-small s = omega (arith, time-short, mul-le-mul-right (w .length - 1) rivals-few, r .timely, s .short)
 
-  pub place-small : Sized (v .clock) w → place v (take n l) w ≤ 2000000000000
-  place-small s = omega (arith, place-bound v (take n l) w, bound-small s)
+  -- A planned start is the clock or an end.
+  pub place-small : Sized v w → Capped (take n l) → place v (take n l) w ≤ 2000000000000
+  place-small s low =
+      ⊎-elim
+      (λ e. omega (arith, r .timely))
+      (λ e. omega (arith, e .3, end-le v (e .0) 1000303600000 (omega (arith, low (e .0) (e .1), r .sized (e .0) (e .1) .short)) (omega (arith, r .timely))))
+      (place-is v (take n l) w (s .sane))
 
 -- ── tables and models ──
 pub model-encode : (m : Model) → model (encode m) ≡ m
-model-encode m = ap (λ (l : List Claim). record { rig = m .rig; clock = m .clock; issued = m .issued; pending = l }) (pad-take vacant (m .pending))
+model-encode m = ap (λ (l : List Claim). record { rig = m .rig; clock = m .clock; pool = m .pool; issued = m .issued; pending = l }) (pad-take vacant (m .pending))
 
 -- What a table that encodes a model means.
 pub model-is : (t : Table) (m : Model) → t ≡ encode m → model t ≡ m
@@ -107,59 +116,66 @@ module _ (t : Table) (v : Formed t) where
   pub formed-length : length (t .claims) ≡ 64
   formed-length = sym (ap length formed-claims) ∙ pad-length vacant (model t .pending) (v .ranged .few)
 
-  pub formed-sane : Each Sane (model t .pending)
-  formed-sane c m = v .ranged .sized c m .sane
+  pub formed-sane : (u : ℕ) → Each (Sane (ruledIn t u)) (model t .pending)
+  formed-sane u c m = let s = v .ranged .sized c m .sane in record { long = s .long; small = s .small; drawn = s .drawn }
 
 -- The row of a table, at its clock or a later one.
-pub formed-row : (t : Table) (u : ℕ) → Formed t → t .clock ≤ u → u ≤ mostClock → Row u (t .claims) (t .count)
+pub formed-row : (t : Table) (u : ℕ) → Formed t → t .clock ≤ u → u ≤ mostClock → Row (ruledIn t u) (t .claims) (t .count)
 formed-row t u v l k = record {
   places = formed-length t v;
   few = formed-few t v;
   timely = k;
   ascending = v .ranged .ascending;
-  sized = λ c m. sized-later (t .clock) u c l (v .ranged .sized c m);
+  sized = λ c m. sized-later (settingOf (model t)) (ruledIn t u) c (record { later = l; same = refl }) (v .ranged .sized c m);
+  pooled = v .ranged .pooled;
+  stock = v .ranged .stock;
 }
 
-pub formed-now : (t : Table) → Formed t → Row (t .clock) (t .claims) (t .count)
+pub formed-now : (t : Table) → Formed t → Row (ruledIn t (t .clock)) (t .claims) (t .count)
 formed-now t v = formed-row t (t .clock) v (omega arith) (v .ranged .timely)
 
 -- ── new ──
-pub blank-ranged : (g : ℕ) → Ranged (blank g)
-blank-ranged g = record { few = omega arith; timely = omega arith; numbered = omega arith; ascending = tt; sized = λ c m. none m; issued = λ c m. none m }
+pub blank-ranged : (g k : ℕ) → k ≤ mostUnits → Ranged (blank g k)
+unfolding heldUnits sum
+blank-ranged g k h = record { pooled = h; few = omega arith; timely = omega arith; numbered = omega arith; ascending = tt; sized = λ c m. none m; issued = λ c m. none m; stock = omega arith }
 
 -- ── claims that change one by one, and keep their tickets ──
-map-ranged : (m : Model) (t : ℕ) (f : Claim → Claim) → Ranged m → t ≤ mostClock → ((c : Claim) → f c .ticket ≡ c .ticket) → Each (λ c. Sized t (f c)) (m .pending)
+map-ranged : (m : Model) (t : ℕ) (f : Claim → Claim) → Ranged m → t ≤ mostClock → ((c : Claim) → f c .ticket ≡ c .ticket) → Each (λ c. Sized (ruled m t) (f c)) (m .pending) → heldUnits (map f (m .pending)) ≤ m .pool
     → Ranged (withPending (withClock m t) (map f (m .pending)))
-map-ranged m t f r k e h = record {
+map-ranged m t f r k e h s = record {
   few = omega (arith, length-map (m .pending) f, r .few);
   timely = k;
   numbered = r .numbered;
   ascending = ascending-map f (m .pending) e (r .ascending);
-  sized = map-each (Sized t) f (m .pending) h;
+  sized = map-each (Sized (ruled m t)) f (m .pending) h;
   issued = map-each (λ (c : Claim). c .ticket ≤ m .issued) f (m .pending) (λ c i. omega (arith, e c, r .issued c i));
+  pooled = r .pooled;
+  stock = s;
 }
 
 pub advance-ranged : (m : Model) (t : ℕ) → Ranged m → m .clock ≤ t → t ≤ mostClock → Ranged (advance m t)
 unfolding advance pack
 advance-ranged m t r l k =
     let f = packedStart (ruled m t) (m .pending) in
-    let later : Each (Sized t) (m .pending) = λ c i. sized-later (m .clock) t c l (r .sized c i) in
+    let later : Each (Sized (ruled m t)) (m .pending) = λ c i. sized-later (settingOf m) (ruled m t) c (record { later = l; same = refl }) (r .sized c i) in
     map-ranged m t (moved f) r k (moved-ticket f)
-    (λ c i. moved-cases (Sized t) f c (λ o. later c i) (λ o. sized-waiting (later c i) (omega (arith, start-small (ruled m t) (m .pending) k (r .few) later c i o))))
+    (λ c i. moved-cases (Sized (ruled m t)) f c (λ o. later c i) (λ o. sized-waiting (later c i) (omega (arith, start-small (ruled m t) (m .pending) k (r .few) later c i o))))
+    (omega (arith, pack-held (ruled m t) (m .pending), r .stock))
 
 pub grant-ranged : (m : Model) (r : Reply) → Ranged m → Ranged (granting m r (m .pending) .model)
 unfolding grant
 grant-ranged m rep r =
     let v = settingOf m in
     map-ranged m (m .clock) (granted v (m .pending)) r (r .timely) (granted-ticket v (m .pending))
-    (λ c i. granted-cases (Sized (m .clock)) v (m .pending) c (λ g. held c (r .sized c i)) (λ g. r .sized c i))
+    (λ c i. granted-cases (Sized v) v (m .pending) c (λ g. held c (r .sized c i)) (λ g. r .sized c i))
+    (grant-stock v (m .pending) (λ c i. r .sized c i .sane) (r .ascending) (r .stock))
   where
-    held : (c : Claim) → Sized (m .clock) c → Sized (m .clock) (withPhase c (On (m .clock)))
-    held c s = record { sane = record { long = s .sane .long; small = s .sane .small }; short = s .short; aged = λ o. omega arith; planned = λ o. clash refl o }
+    held : (c : Claim) → Sized (settingOf m) c → Sized (settingOf m) (withPhase c (On (m .clock)))
+    held c s = record { sane = record { long = s .sane .long; small = s .sane .small; drawn = s .sane .drawn }; short = s .short; aged = λ o. omega arith; planned = λ o. clash refl o }
 
 -- ── fewer claims, and one more ──
 pub remove-ranged : (m : Model) (k : ℕ) → Ranged m → Ranged (remove m k)
-unfolding remove
+unfolding remove heldUnits
 remove-ranged m k r =
     let p : Claim → Bool = λ c. not (named k c) in
     record {
@@ -169,15 +185,19 @@ remove-ranged m k r =
       ascending = ascending-keep p (m .pending) (r .ascending);
       sized = λ c i. r .sized c (keep-e p (m .pending) i .0);
       issued = λ c i. r .issued c (keep-e p (m .pending) i .0);
+      pooled = r .pooled;
+      stock = omega (arith, r .stock, sum-keep-le heldBy p (m .pending));
     }
 
-pub join-ranged : (m : Model) (w : Claim) → Ranged m → length (m .pending) < mostPending → m .issued < mostTickets → Sized (m .clock) w → w .ticket ≡ suc (m .issued) → Ranged (join m w)
-unfolding join
-join-ranged m w r few spare s e = record {
+pub join-ranged : (m : Model) (w : Claim) → Ranged m → length (m .pending) < mostPending → m .issued < mostTickets → Sized (settingOf m) w → on w ≡ false → w .ticket ≡ suc (m .issued) → Ranged (join m w)
+unfolding join heldUnits
+join-ranged m w r few spare s o e = record {
   few = omega (arith, length-append (m .pending) (w ∷ []));
   timely = r .timely;
   numbered = omega arith;
   ascending = ascending-snoc (m .pending) w (r .ascending) (λ c i. omega (arith, r .issued c i));
-  sized = snoc-each (Sized (m .clock)) (m .pending) w (r .sized) s;
+  sized = snoc-each (Sized (settingOf m)) (m .pending) w (r .sized) s;
   issued = snoc-each (λ (c : Claim). c .ticket ≤ suc (m .issued)) (m .pending) w (λ c i. omega (arith, r .issued c i)) (omega arith);
+  pooled = r .pooled;
+  stock = let z : heldBy w ≡ 0 = rw o in omega (arith, r .stock, sum-snoc heldBy (m .pending) w);
 }

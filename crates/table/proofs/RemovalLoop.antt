@@ -9,6 +9,7 @@ use lib.ListN.{length, take, drop, getD, set}
 use lib.Seq.{getD-set-other}
 use borrow.Author.Tests.{eq-eqb, ne-eqb}
 use Rattle.rules.specs.declared.Claim.{Claim}
+use Rattle.rules.specs.declared.Setting.{Setting}
 use Rattle.rules.specs.Lists.{keep}
 use Rattle.rules.specs.Plans.{Ascending}
 use Rattle.rules.specs.declared.Standing.{Standing}
@@ -34,8 +35,8 @@ module _ (k : ℕ) (c : Claim) (l : List Claim) where
 -- ── a claim taken out ──
 -- Of the claims l, n of them, the first i are done, and m of these stay: they are the first m of `new`, in which all else is as it was.
 -- The ticket k is still to come, or s is how it stands, and it does not come again.
-pub record Taking (k t : ℕ) (l : List Claim) (n i : ℕ) (s : Standing) (m : ℕ) (new : List Claim) : Type 0 where
-  pub row : Row t l n
+pub record Taking (k : ℕ) (v : Setting) (l : List Claim) (n i : ℕ) (s : Standing) (m : ℕ) (new : List Claim) : Type 0 where
+  pub row : Row v l n
   pub within : i ≤ n
   pub fewer : m ≤ i
   pub rest : (j : ℕ) → i ≤ j → getD new j vacant ≡ getD l j vacant
@@ -43,10 +44,10 @@ pub record Taking (k t : ℕ) (l : List Claim) (n i : ℕ) (s : Standing) (m : �
   pub told : ((m ≡ i) × (s ≡ NotPending) × (standingOf k (drop i (take n l)) ≡ standingOf k (take n l)))
       ⊎ ((m + 1 ≡ i) × (s ≡ standingOf k (take n l)) × Each (λ d. d .ticket ≢ k) (drop i (take n l)))
 
-pub taking-start : {k t : ℕ} {l : List Claim} {n : ℕ} → Row t l n → Taking k t l n 0 NotPending 0 l
+pub taking-start : {k : ℕ} {v : Setting} {l : List Claim} {n : ℕ} → Row v l n → Taking k v l n 0 NotPending 0 l
 taking-start r = record { row = r; within = omega arith; fewer = omega arith; rest = λ j h. refl; stays = store-start; told = inl (refl, refl, refl) }
 
-module _ {k t : ℕ} {l : List Claim} {n i : ℕ} {s : Standing} {m : ℕ} {new : List Claim} (w : Taking k t l n i s m new) where
+module _ {k : ℕ} {v : Setting} {l : List Claim} {n i : ℕ} {s : Standing} {m : ℕ} {new : List Claim} (w : Taking k v l n i s m new) where
   -- The claims, and those that stay.
   abbrev pending : List Claim
   pending = take n l
@@ -69,7 +70,7 @@ module _ {k t : ℕ} {l : List Claim} {n i : ℕ} {s : Standing} {m : ℕ} {new 
     here-next = row-step (w .row) i h
 
     -- The next claim, as it is read from the row, has another ticket: it stays.
-    pub taking-kept : (getD new i vacant .ticket ≡ k → ⊥) → Taking k t l n (i + 1) s (m + 1) (set new m (getD new i vacant))
+    pub taking-kept : (getD new i vacant .ticket ≡ k → ⊥) → Taking k v l n (i + 1) s (m + 1) (set new m (getD new i vacant))
     unfolding keep
     taking-kept d =
         let e : next .ticket ≡ k → ⊥ = λ q. d (ap (λ (c : Claim). c .ticket) taking-rest ∙ q) in
@@ -87,7 +88,7 @@ module _ {k t : ℕ} {l : List Claim} {n i : ℕ} {s : Standing} {m : ℕ} {new 
         }
 
     -- It is that of the ticket: it goes, and no other has its ticket.
-    pub taking-gone : getD new i vacant .ticket ≡ k → (x : Standing) → x ≡ standing (getD new i vacant) → Taking k t l n (i + 1) x m new
+    pub taking-gone : getD new i vacant .ticket ≡ k → (x : Standing) → x ≡ standing (getD new i vacant) → Taking k v l n (i + 1) x m new
     unfolding keep
     taking-gone d x q =
         let e : next .ticket ≡ k = ap (λ (c : Claim). c .ticket) (sym taking-rest) ∙ d in

@@ -7,6 +7,7 @@ use lib.ListN.{length, take, drop, getD}
 use lib.Seq.{length-take-le}
 use Rattle.numbers.specs.Numbers.{mostClock}
 use Rattle.rules.specs.declared.Claim.{Claim}
+use Rattle.rules.specs.declared.Setting.{Setting}
 use Rattle.rules.specs.declared.Table.{Table}
 use Rattle.rules.specs.Lists.{_∈_}
 use Rattle.rules.specs.Claims.{on, at}
@@ -17,10 +18,10 @@ use Rattle.table.specs.Rows.{Sized, Row}
 use Rattle.table.specs.Parts.{withClaims}
 
 -- ── a row's claims are in range ──
-pub sized-small : (t : ℕ) (c : Claim) → t ≤ mostClock → Sized t c → at c ≤ 1000000000000000000
-sized-small t c h s = by-test (on c) (λ o. omega (arith, s .aged o)) (λ o. omega (arith, s .planned o))
+pub sized-small : (v : Setting) (c : Claim) → v .clock ≤ mostClock → Sized v c → at c ≤ 1000000000000000000
+sized-small v c h s = by-test (on c) (λ o. omega (arith, s .aged o)) (λ o. omega (arith, s .planned o))
 
-module _ {t : ℕ} {l : List Claim} {n : ℕ} (r : Row t l n) where
+module _ {v : Setting} {l : List Claim} {n : ℕ} (r : Row v l n) where
   pub row-count : length (take n l) ≡ n
   row-count = length-take-le n l (omega (arith, r .few, r .places))
 
@@ -31,26 +32,26 @@ module _ {t : ℕ} {l : List Claim} {n : ℕ} (r : Row t l n) where
   pub row-member : (i : ℕ) → i < n → getD l i vacant ∈ take n l
   row-member i h = in-prefix vacant l n i h (omega (arith, r .few, r .places))
 
-  pub row-sized : (i : ℕ) → i < n → Sized t (getD l i vacant)
+  pub row-sized : (i : ℕ) → i < n → Sized v (getD l i vacant)
   row-sized i h = r .sized _ (row-member i h)
 
   pub row-small : (i : ℕ) → i < n → at (getD l i vacant) ≤ 1000000000000000000
-  row-small i h = sized-small t _ (r .timely) (row-sized i h)
+  row-small i h = sized-small v _ (r .timely) (row-sized i h)
 
 -- ── reading a row front to back: P holds of the claims that are left at place i ──
-pub record Left (P : List Claim → Type 0) (t : ℕ) (l : List Claim) (n i : ℕ) : Type 0 where
-  pub row : Row t l n
+pub record Left (P : List Claim → Type 0) (v : Setting) (l : List Claim) (n i : ℕ) : Type 0 where
+  pub row : Row v l n
   pub within : i ≤ n
   pub holds : P (drop i (take n l))
 
-pub left-start : {P : List Claim → Type 0} {t : ℕ} {l : List Claim} {n : ℕ} → Row t l n → P (take n l) → Left P t l n 0
+pub left-start : {P : List Claim → Type 0} {v : Setting} {l : List Claim} {n : ℕ} → Row v l n → P (take n l) → Left P v l n 0
 left-start r p = record { row = r; within = omega arith; holds = p }
 
-module _ {P : List Claim → Type 0} {t : ℕ} {l : List Claim} {n i : ℕ} (w : Left P t l n i) where
+module _ {P : List Claim → Type 0} {v : Setting} {l : List Claim} {n i : ℕ} (w : Left P v l n i) where
   pub left-here : i < n → P (getD l i vacant ∷ drop (i + 1) (take n l))
   left-here h = rw (row-step (w .row) i h) at (w .holds)
 
-  pub left-next : {Q : List Claim → Type 0} → i < n → (P (getD l i vacant ∷ drop (i + 1) (take n l)) → Q (drop (i + 1) (take n l))) → Left Q t l n (i + 1)
+  pub left-next : {Q : List Claim → Type 0} → i < n → (P (getD l i vacant ∷ drop (i + 1) (take n l)) → Q (drop (i + 1) (take n l))) → Left Q v l n (i + 1)
   left-next h f = record { row = w .row; within = omega arith; holds = f (left-here h) }
 
   pub left-end : n ≤ i → P []

@@ -6,19 +6,19 @@ use mathlib.Core.List.{List, [], _∷_, _++_}
 use Prim.Native.Nat.{ℕ, _+_, _^_, _≤_, _<_}
 use native.Mathlib.Omega.{arith}
 use native.Mathlib.Numerals.{add-one}
-use lib.ListN.{length, set, replicate, length-append}
-use lib.Dec.{ltb}
-use borrow.Author.Tests.{ltb-false, eqb-true, not-false}
-use Rattle.numbers.specs.Numbers.{mostClock, mostLength, mostPending, mostTickets}
+use lib.ListN.{length, take, set, replicate, length-append}
+use lib.Dec.{ltb, eqb}
+use borrow.Author.Tests.{ltb-false, eq-eqb, eqb-true, not-false}
+use Rattle.numbers.specs.Numbers.{mostClock, mostLength, mostPending, mostTickets, mostUnits}
 use Rattle.groups.specs.Groups.{empty}
 use Rattle.groups.proofs.Words.{empty-word}
 use Rattle.rules.specs.declared.Claim.{Claim}
 use Rattle.rules.specs.declared.Table.{Table}
 use Rattle.rules.specs.declared.Phase.the-variants.{Waiting}
-use Rattle.rules.specs.Lists.{any}
+use Rattle.rules.specs.Lists.{_∈_, any}
 use Rattle.rules.specs.declared.Setting.{Setting}
 use Rattle.rules.specs.Claims.{on, at, withPhase}
-use Rattle.rules.specs.Packing.{pack}
+use Rattle.rules.specs.Packing.{packedStart, moved, pack}
 use Rattle.rules.specs.Placing.{place}
 use Rattle.rules.specs.Granting.{grant, grants}
 use Rattle.rules.specs.Tests.{firstOf}
@@ -27,22 +27,23 @@ use Rattle.rules.specs.declared.Request.{Request}
 use Rattle.rules.specs.Calls.{plain, granting, Model, withPending, withClock, ruled, settingOf, Call, claim, clock, Step, unchanged, advance, finish, join, remove, fresh, admit, act, step, tests, blank, new}
 use Rattle.rules.specs.Tables.{encode, model, pad, vacant}
 use Rattle.rules.specs.Invariants.{Still, Invariant}
-use Rattle.rules.proofs.Bools.{clash}
-use Rattle.rules.proofs.Lists.{any-none}
+use Rattle.rules.proofs.Bools.{clash, by-test}
+use Rattle.rules.proofs.Lists.{any-none, map-e}
 use Rattle.rules.proofs.Calls.{placed, new-cases, blank-invariant, step-invariant}
 use Rattle.rules.proofs.NoOverrun.{NoOverrunAt, no-overrun-still}
-use Rattle.rules.proofs.Packing.{pack-length, pack-holders}
+use Rattle.rules.proofs.Packing.{pack-length, pack-holders, moved-cases}
+use Rattle.rules.proofs.Repacking.{NoneDraws}
 use Rattle.rules.proofs.Granting.{grant-length}
-use Rattle.rules.proofs.OnePacking.{advance-still, join-still, leave-once}
-use Rattle.table.specs.Rows.{Sized, Row}
+use Rattle.rules.proofs.OnePacking.{advance-still, join-still, leave-once, finish-advanced}
+use Rattle.table.specs.Rows.{Sized, Row, Capped}
 use Rattle.rules.proofs.Places.{pad-take, pad-over, pad-more}
 use Rattle.table.specs.declared.granting.Granted.{Granted}
 use Rattle.table.specs.declared.placing.Placed.{Placed}
 use Rattle.table.specs.Parts.{withClaims, ruledIn, atClock, packedTable, grantedIn, placedIn}
 use Rattle.table.specs.declared.Outcome.{Outcome}
 use Rattle.table.specs.Valid.{Formed, Valid}
-use Rattle.table.specs.Outcomes.{outcome, unchangedIn, timeNumber, pastEnd, leaving, without}
-use Rattle.table.proofs.Ranges.{sized-waiting, place-small, model-is, formed-now, formed-is, formed-count, formed-sane, blank-ranged, advance-ranged, remove-ranged, join-ranged, grant-ranged}
+use Rattle.table.specs.Outcomes.{outcome, unchangedIn, timeNumber, pastEnd, departed, leaving, without}
+use Rattle.table.proofs.Ranges.{sized-waiting, start-small, place-small, model-is, formed-now, formed-is, formed-count, formed-sane, blank-ranged, advance-ranged, remove-ranged, join-ranged, grant-ranged}
 use Rattle.table.proofs.Tests.{timed-passes, step-refused, step-accepted}
 
 -- ── refusals ──
@@ -66,28 +67,28 @@ accepted t c r v e f = (
 )
 
 -- ── new ──
--- The table that the code makes for a rig.
-abbrev pub emptyTable : ℕ → Table
-emptyTable g = record { rig = g; clock = 0; issued = 0; count = 0; claims = replicate 64 vacant }
+-- The table that the code makes for a rig and a pool.
+abbrev pub emptyTable : ℕ → ℕ → Table
+emptyTable g k = record { rig = g; clock = 0; pool = k; issued = 0; count = 0; claims = replicate 64 vacant }
 
-opened : (g n : ℕ) (r : Outcome) → r ≡ unchangedIn (emptyTable g) n → (r ≡ outcome (unchanged (blank g) n)) × Valid (r .table)
+opened : (g k n : ℕ) (r : Outcome) → k ≤ mostUnits → r ≡ unchangedIn (emptyTable g k) n → (r ≡ outcome (unchanged (blank g k) n)) × Valid (r .table)
 unfolding pad
-opened g n r e =
-    let f = formed-is (emptyTable g) (blank g) refl (blank-ranged g) in
-    let m = model-is (emptyTable g) (blank g) refl in (
-      e ∙ unchanged-is (emptyTable g) n f ∙ ap (λ (m : Model). outcome (unchanged m n)) m,
-      subst Valid (sym (ap (λ (x : Outcome). x .table) e)) (record { formed = f; settled = subst Invariant (sym m) (blank-invariant g) }),
+opened g k n r h e =
+    let f = formed-is (emptyTable g k) (blank g k) refl (blank-ranged g k h) in
+    let m = model-is (emptyTable g k) (blank g k) refl in (
+      e ∙ unchanged-is (emptyTable g k) n f ∙ ap (λ (m : Model). outcome (unchanged m n)) m,
+      subst Valid (sym (ap (λ (x : Outcome). x .table) e)) (record { formed = f; settled = subst Invariant (sym m) (blank-invariant g k) }),
     )
 
 -- A rig of 64 bits without groups is 0.
-pub new-dark : (g : ℕ) (r : Outcome) → g < 2 ^ 64 → true ≡ empty g → r ≡ unchangedIn (emptyTable g) 1 → (r ≡ outcome (new g)) × Valid (r .table)
-new-dark g r h d e =
+pub new-dark : (g k : ℕ) (r : Outcome) → g < 2 ^ 64 → true ≡ empty g → r ≡ unchangedIn (emptyTable g 0) 1 → (r ≡ outcome (new g k)) × Valid (r .table)
+new-dark g k r h d e =
     let z : g ≡ 0 = eqb-true g 0 (sym (empty-word g h) ∙ sym d) in
-    let o = opened 0 1 r (e ∙ ap (λ (x : ℕ). unchangedIn (emptyTable x) 1) z) in
-    new-cases (λ (s : Step). (r ≡ outcome s) × Valid (r .table)) g (λ q. o) (λ q. clash (sym d) q)
+    let o = opened 0 0 1 r (omega arith) (e ∙ ap (λ (x : ℕ). unchangedIn (emptyTable x 0) 1) z) in
+    new-cases (λ (s : Step). (r ≡ outcome s) × Valid (r .table)) g k (λ q. o) (λ q. clash (sym d) q)
 
-pub new-lit : (g : ℕ) (r : Outcome) → false ≡ empty g → r ≡ unchangedIn (emptyTable g) 0 → (r ≡ outcome (new g)) × Valid (r .table)
-new-lit g r d e = new-cases (λ (s : Step). (r ≡ outcome s) × Valid (r .table)) g (λ q. clash q (sym d)) (λ q. opened g 0 r e)
+pub new-lit : (g k : ℕ) (r : Outcome) → k ≤ mostUnits → false ≡ empty g → r ≡ unchangedIn (emptyTable g k) 0 → (r ≡ outcome (new g k)) × Valid (r .table)
+new-lit g k r h d e = new-cases (λ (s : Step). (r ≡ outcome s) × Valid (r .table)) g k (λ q. clash q (sym d)) (λ q. opened g k 0 r h e)
 
 -- ── the clock set, and packed ──
 -- What packing makes of a table that encodes m.
@@ -101,7 +102,7 @@ packed-is m u =
 advanced-to : (t : Table) (u : ℕ) → Formed t → t .clock ≤ u → u ≤ mostClock → (r : Table) → r ≡ encode (advance (model t) u)
     → (r ≡ encode (advance (model t) u)) × Formed r × Still (model r)
 advanced-to t u v a b r e =
-    (e, formed-is r _ e (advance-ranged (model t) u (v .ranged) a b), subst Still (sym (model-is r _ e)) (advance-still (model t) u (formed-sane t v) (v .ranged .ascending)))
+    (e, formed-is r _ e (advance-ranged (model t) u (v .ranged) a b), subst Still (sym (model-is r _ e)) (advance-still (model t) u (formed-sane t v u) (v .ranged .ascending) (v .ranged .stock)))
 
 pub advanced-is : (t : Table) (u : ℕ) → Formed t → t .clock ≤ u → u ≤ mostClock → (r : Table) → r ≡ packedTable (ruledIn t u) t
     → (r ≡ encode (advance (model t) u)) × Formed r × Still (model r)
@@ -115,7 +116,7 @@ idle-is t u v a b idle r q = advanced-to t u v a b r (q ∙ ap (atClock u) (sym 
 
 -- It would not while nobody overruns, nor where nobody waits.
 pub no-overrun-idle : (t : Table) (u : ℕ) → Valid t → t .clock ≤ u → any (pastEnd u) (model t .pending) ≡ false → pack (ruledIn t u) (model t .pending) ≡ model t .pending
-no-overrun-idle t u v a none = no-overrun-still (t .issued) (settingOf (model t)) (ruledIn t u) (model t .pending) (v .settled) (record { later = a }) prompt
+no-overrun-idle t u v a none = no-overrun-still (t .issued) (settingOf (model t)) (ruledIn t u) (model t .pending) (v .settled) (record { later = a; same = refl }) prompt
   where
     prompt : NoOverrunAt u (model t .pending)
     prompt c m o = let e : (on c && ltb (at c + c .length) u) ≡ false = any-none (pastEnd u) none m in ltb-false (at c + c .length) u (rw o at e)
@@ -126,11 +127,15 @@ waits c = not (on c)
 pub none-waits-idle : (v : Setting) (ps : List Claim) → any waits ps ≡ false → pack v ps ≡ ps
 none-waits-idle v ps none = pack-holders v ps (λ c m. not-false (on c) (any-none waits none m))
 
--- As many claims, and as many tickets.
-pub advanced-counts : (t : Table) (u : ℕ) (r : Table) → Formed t → r ≡ encode (advance (model t) u) → (r .count ≡ t .count) × (r .issued ≡ t .issued)
+-- Nobody waits for units where there are none.
+no-pool-draws : (t : Table) → Formed t → t .pool ≡ 0 → NoneDraws (model t .pending)
+no-pool-draws t v z w m o = omega (arith, v .ranged .sized w m .sane .drawn)
+
+-- As many claims, tickets and units.
+pub advanced-counts : (t : Table) (u : ℕ) (r : Table) → Formed t → r ≡ encode (advance (model t) u) → (r .count ≡ t .count) × (r .issued ≡ t .issued) × (r .pool ≡ t .pool)
 unfolding advance
 advanced-counts t u r v e =
-    (ap (λ (x : Table). x .count) e ∙ pack-length (ruledIn t u) (model t .pending) ∙ formed-count t v, ap (λ (x : Table). x .issued) e)
+    (ap (λ (x : Table). x .count) e ∙ pack-length (ruledIn t u) (model t .pending) ∙ formed-count t v, ap (λ (x : Table). x .issued) e, ap (λ (x : Table). x .pool) e)
 
 -- ── granting ──
 -- What granting gives, by the rules.
@@ -151,7 +156,7 @@ granted-is t rep g v e =
 -- ── fewer claims, and one more ──
 -- A table with other claims, and as many of them.
 abbrev pub counted : Table → ℕ → List Claim → Table
-counted t n l = record { rig = t .rig; clock = t .clock; issued = t .issued; count = n; claims = l }
+counted t n l = record { rig = t .rig; clock = t .clock; pool = t .pool; issued = t .issued; count = n; claims = l }
 
 -- t is the table t₀ with other claims; with l as its claims, m of them, it is t₀ without the claim of ticket k.
 pub removed-is : (t₀ t : Table) (k m : ℕ) (l : List Claim) → Formed t₀ → t ≡ withClaims t₀ (t .claims) → m ≡ length (without k (model t₀ .pending)) → l ≡ pad vacant (without k (model t₀ .pending))
@@ -163,7 +168,7 @@ removed-is t₀ t k m l v e f g r q =
 
 -- A table with the claim w after the others.
 abbrev extended : Table → Claim → Table
-extended t w = record { rig = t .rig; clock = t .clock; issued = t .issued + 1; count = t .count + 1; claims = set (t .claims) (t .count) w }
+extended t w = record { rig = t .rig; clock = t .clock; pool = t .pool; issued = t .issued + 1; count = t .count + 1; claims = set (t .claims) (t .count) w }
 
 extended-is : (m : Model) (w : Claim) → length (m .pending) < 64 → extended (encode m) w ≡ encode (join m w)
 unfolding join
@@ -171,12 +176,12 @@ extended-is m w h =
     let n : length (m .pending ++ (w ∷ [])) ≡ length (m .pending) + 1 = length-append (m .pending) (w ∷ []) in
     cc (pad-more vacant (m .pending) w h, add-one (m .issued))
 
-joined-is : (t : Table) (w : Claim) (r : Table) → Formed t → t .count < mostPending → t .issued < mostTickets → Sized (t .clock) w → w .ticket ≡ t .issued + 1
+joined-is : (t : Table) (w : Claim) (r : Table) → Formed t → t .count < mostPending → t .issued < mostTickets → Sized (ruledIn t (t .clock)) w → on w ≡ false → w .ticket ≡ t .issued + 1
     → r ≡ extended t w → (r ≡ encode (join (model t) w)) × Formed r
-joined-is t w r v c i s e q =
+joined-is t w r v c i s o e q =
     let h : length (model t .pending) < mostPending = omega (arith, formed-count t v) in
     let is : r ≡ encode (join (model t) w) = q ∙ ap (λ (x : Table). extended x w) (sym (v .whole)) ∙ extended-is (model t) w h in
-    (is, formed-is r _ is (join-ranged (model t) w (v .ranged) h i s (e ∙ add-one (t .issued))))
+    (is, formed-is r _ is (join-ranged (model t) w (v .ranged) h i s o (e ∙ add-one (t .issued))))
 
 -- ── the calls, accepted ──
 leave-act : (m : Model) (b : Bool) (t k : ℕ) → finish (remove (advance m t) k) (plain k t) ≡ act m (leaving b t k)
@@ -194,25 +199,74 @@ unfolding tests act firstOf
 clock-is t x n u r e z q f =
     finish-of u (advance (model t) x) (plain 0 x) r q f ∙ ap outcome (sym (step-accepted (model t) (clock x) (timed-passes (model t) x n [] e z)))
 
-pub leave-is : (t : Table) (b : Bool) (x k : ℕ) (rest u : Table) (r : Outcome) → Formed t → firstOf (tests (model t) (leaving b x k)) ≡ 0 → rest ≡ encode (remove (model t) k) → u ≡ encode (advance (model rest) x)
+leave-is : (t : Table) (b : Bool) (x k : ℕ) (rest u : Table) (r : Outcome) → Formed t → NoneDraws (model t .pending) → firstOf (tests (model t) (leaving b x k)) ≡ 0 → rest ≡ encode (remove (model t) k) → u ≡ encode (advance (model rest) x)
     → r ≡ outcome (finish (model u) (plain k x)) → r ≡ outcome (step (model t) (leaving b x k))
-leave-is t b x k rest u r v z p q f =
+leave-is t b x k rest u r v idle z p q f =
     finish-of u (advance (remove (model t) k) x) (plain k x) r (q ∙ ap (λ (m : Model). encode (advance m x)) (model-is rest (remove (model t) k) p)) f
-    ∙ ap outcome (sym (leave-once (model t) x k (plain k x) (formed-sane t v) (v .ranged .ascending)) ∙ leave-act (model t) b x k ∙ sym (step-accepted (model t) (leaving b x k) z))
+    ∙ ap outcome (sym (leave-once (model t) x k (plain k x) (formed-sane t v x) (v .ranged .ascending) (v .ranged .stock) idle) ∙ leave-act (model t) b x k ∙ sym (step-accepted (model t) (leaving b x k) z))
+
+-- With a pool it leaves between two packings.
+leave-packed-is : (t : Table) (b : Bool) (x k : ℕ) (rest u : Table) (r : Outcome) → firstOf (tests (model t) (leaving b x k)) ≡ 0
+    → rest ≡ encode (remove (advance (model t) x) k) → Formed rest → u ≡ encode (advance (model rest) x) → r ≡ outcome (finish (model u) (plain k x))
+    → r ≡ outcome (step (model t) (leaving b x k))
+unfolding remove advance
+leave-packed-is t b x k rest u r z q g s f =
+    let e : model rest ≡ remove (advance (model t) x) k = model-is rest _ q in
+    let clock : rest .clock ≡ x = ap (λ (n : Model). n .clock) e in
+    finish-of u (advance (model rest) x) (plain k x) r s f
+    ∙ ap (λ (y : ℕ). outcome (finish (advance (model rest) y) (plain k x))) (sym clock)
+    ∙ ap outcome (finish-advanced (model rest) (plain k x) (λ c i. g .ranged .sized c i .sane) (g .ranged .ascending) (g .ranged .stock))
+    ∙ ap (λ (n : Model). outcome (finish n (plain k x))) e
+    ∙ ap outcome (leave-act (model t) b x k ∙ sym (step-accepted (model t) (leaving b x k) z))
+
+pub departed-none : (m : Model) (x : ℕ) → m .pool ≡ 0 → departed m x ≡ m
+unfolding departed
+departed-none m x e = rw e
+
+pub departed-some : (m : Model) (x : ℕ) → m .pool ≢ 0 → departed m x ≡ advance m x
+unfolding departed
+departed-some m x n = by-test (eqb (m .pool) 0) (λ e. absurd (n (eqb-true (m .pool) 0 e))) (λ e. rw e)
+
+pub departed-clock : (m : Model) (x : ℕ) → m .clock ≤ x → departed m x .clock ≤ x
+unfolding departed advance
+departed-clock m x l = by-test (eqb (m .pool) 0) (λ e. rw e l) (λ e. rw e (omega arith))
+
+pub leaves-is : (t : Table) (b : Bool) (x k : ℕ) (rest u : Table) (r : Outcome) → Formed t → firstOf (tests (model t) (leaving b x k)) ≡ 0
+    → rest ≡ encode (remove (departed (model t) x) k) → Formed rest → u ≡ encode (advance (model rest) x) → r ≡ outcome (finish (model u) (plain k x))
+    → r ≡ outcome (step (model t) (leaving b x k))
+leaves-is t b x k rest u r v z q g s f =
+    by-test (eqb (t .pool) 0)
+    (λ e. let n = eqb-true (t .pool) 0 e in leave-is t b x k rest u r v (no-pool-draws t v n) z (q ∙ ap (λ (m : Model). encode (remove m k)) (departed-none (model t) x n)) s f)
+    (λ e. leave-packed-is t b x k rest u r z (q ∙ ap (λ (m : Model). encode (remove m k)) (departed-some (model t) x (λ n. clash (eq-eqb (t .pool) 0 n) e))) g s f)
 
 -- A new claim with its ticket as the code counts it.
 abbrev pub asked : Table → Request → Claim
-asked t ask = record { groups = ask .groups; phase = Waiting (t .clock); length = ask .length; ticket = t .issued + 1 }
+asked t ask = record { groups = ask .groups; phase = Waiting (t .clock); length = ask .length; ticket = t .issued + 1; units = ask .units }
 
 pub asked-is : (t : Table) (ask : Request) → asked t ask ≡ fresh (model t) ask
-asked-is t ask = ap (λ (k : ℕ). record { groups = ask .groups; phase = Waiting (t .clock); length = ask .length; ticket = k }) (add-one (t .issued))
+asked-is t ask = ap (λ (k : ℕ). record { groups = ask .groups; phase = Waiting (t .clock); length = ask .length; ticket = k; units = ask .units }) (add-one (t .issued))
+
+-- In a table where packing changes nothing, starts are as low as packed starts.
+still-capped : (t : Table) → Formed t → Still (model t) → Capped (take (t .count) (t .claims))
+unfolding pack
+still-capped t v still c m =
+    let f = packedStart (ruledIn t (t .clock)) (model t .pending) in
+    let r = map-e (moved f) (model t .pending) (subst (λ (l : List Claim). c ∈ l) (sym still) m) in
+    let s = v .ranged .sized (r .0) (r .1) in
+    omega (
+      arith,
+      ap at (r .2),
+      moved-cases (λ (x : Claim). at x ≤ 1000300000000) f (r .0)
+          (λ o. omega (arith, s .aged o, v .ranged .timely))
+          (λ o. start-small (ruledIn t (t .clock)) (model t .pending) (v .ranged .timely) (v .ranged .few) (v .ranged .sized) (r .0) (r .1) o),
+    )
 
 -- A claim placed in a table.
-module _ (t : Table) (ask : Request) (v : Formed t) (few : t .count < mostPending) (i : t .issued < mostTickets) (l : 1 ≤ ask .length) (h : ask .length ≤ mostLength) where
-  pub asked-row : Row (t .clock) (t .claims) (t .count) × Sized (t .clock) (asked t ask) × (t .count < mostPending) × (t .issued < mostTickets)
+module _ (t : Table) (ask : Request) (v : Formed t) (few : t .count < mostPending) (i : t .issued < mostTickets) (l : 1 ≤ ask .length) (h : ask .length ≤ mostLength) (d : ask .units ≤ t .pool) (still : Still (model t)) where
+  pub asked-row : Row (ruledIn t (t .clock)) (t .claims) (t .count) × Sized (ruledIn t (t .clock)) (asked t ask) × Capped (take (t .count) (t .claims)) × (t .count < mostPending) × (t .issued < mostTickets)
   asked-row =
       let k = v .ranged .timely in
-      (formed-now t v, record { sane = record { long = l; small = omega arith }; short = h; aged = λ o. clash o refl; planned = λ o. omega arith }, few, i)
+      (formed-now t v, record { sane = record { long = l; small = omega arith; drawn = d }; short = h; aged = λ o. clash o refl; planned = λ o. omega arith }, still-capped t v still, few, i)
 
   placed-is : withPhase (asked t ask) (Waiting (place (settingOf (model t)) (model t .pending) (asked t ask))) ≡ placed (model t) ask
   placed-is = cc (asked-is t ask)
@@ -221,12 +275,13 @@ module _ (t : Table) (ask : Request) (v : Formed t) (few : t .count < mostPendin
     pub placed-table : (p .table ≡ encode (join (model t) (placed (model t) ask))) × Formed (p .table)
     placed-table =
         let a = asked-row in
-        let s = sized-waiting (a .1) (place-small (ruledIn t (t .clock)) (t .claims) (t .count) (asked t ask) (a .0) (a .1)) in
-        let j = joined-is t _ (p .table) v few i s refl (ap (λ (x : Placed). x .table) q) in
+        let s = sized-waiting (a .1) (place-small (ruledIn t (t .clock)) (t .claims) (t .count) (asked t ask) (a .0) (a .1) (a .2)) in
+        let j = joined-is t _ (p .table) v few i s refl refl (ap (λ (x : Placed). x .table) q) in
         (j .0 ∙ ap (λ (w : Claim). encode (join (model t) w)) placed-is, j .1)
 
-    pub placed-still : Still (model t) → Still (model (p .table))
-    placed-still st = subst Still (sym (model-is (p .table) _ (placed-table .0))) (join-still (model t) ask l i (formed-sane t v) (v .ranged .ascending) st)
+    pub placed-still : Still (model (p .table))
+    placed-still =
+        subst Still (sym (model-is (p .table) _ (placed-table .0))) (join-still (model t) ask l d i (formed-sane t v (t .clock)) (v .ranged .ascending) (v .ranged .stock) still)
 
     pub admitted-is : (r : Outcome) → r ≡ outcome (finish (model (p .table)) (p .reply)) → r ≡ outcome (admit (model t) ask)
     unfolding admit

@@ -2,15 +2,18 @@
 use mathlib.Core.Path.{_≡_, refl, sym, _∙_, ap}
 use mathlib.Core.Logic.{_≢_}
 use mathlib.Core.Bool.{Bool, true, false, not, _&&_, _||_, cond}
-use mathlib.Core.List.{List, [], _∷_}
-use Prim.Native.Nat.{ℕ, zero, suc, _+_}
+use mathlib.Core.List.{List, [], _∷_, map}
+use Prim.Native.Nat.{ℕ, zero, suc, _+_, _≤_}
 use native.Mathlib.Omega.{arith}
-use lib.Dec.{ltb}
+use lib.Dec.{ltb, eqb}
 use lib.ListN.{length}
-use borrow.Author.Tests.{eqb-true, ne-eqb}
+use borrow.Author.Tests.{eqb-true, ne-eqb, le-ltb}
 use Rattle.numbers.specs.Numbers.{mostClock}
 use Rattle.rules.specs.declared.Claim.{Claim}
+use Rattle.rules.specs.declared.Setting.{Setting}
 use Rattle.rules.specs.Lists.{any, keep}
+use Rattle.rules.specs.Packing.{packedStart, moved, pack}
+use Rattle.rules.proofs.Packing.{moved-cases, moved-ticket}
 use Rattle.rules.specs.Claims.{on, at, conflicts}
 use Rattle.groups.specs.declared.MaybeGroup.{MaybeGroup}
 use Rattle.groups.specs.declared.MaybeGroup.the-variants.{Group, NoGroup}
@@ -18,12 +21,12 @@ use Rattle.rules.specs.declared.Common.{Common}
 use Rattle.rules.specs.declared.Standing.{Standing}
 use Rattle.rules.specs.declared.Standing.the-variants.{Waits, Holds}
 use Rattle.rules.specs.Tests.{Test, test, firstOf, named, late, backward}
-use Rattle.rules.specs.Calls.{Model, Call, Step, clock, lookup, tests, unchanged, act, step, unless, standingOf, standingValues, common, shared, between, commonOf, commonValues}
+use Rattle.rules.specs.Calls.{Model, ruled, advance, Call, Step, clock, lookup, tests, unchanged, act, step, unless, standingOf, standingValues, common, free, shared, between, commonOf, commonValues}
 use Rattle.rules.specs.Plans.{Ascending}
 use Rattle.rules.proofs.Bools.{by-test}
 use Rattle.rules.proofs.Lists.{Each, any-false}
 use Rattle.rules.proofs.Calls.{Clocked, clock-passes}
-use Rattle.table.specs.Outcomes.{timeNumber, phaseNumber, orElse, leaving}
+use Rattle.table.specs.Outcomes.{timeNumber, departed, phaseNumber, orElse, leaving}
 
 -- ── the first test that fails ──
 -- What the tests 5 and 4 say, and what comes after them.
@@ -105,6 +108,7 @@ number-first k (c ∷ ps) = by-test (named k c) (λ e. rw e (by-test (on c) (λ 
 pub data Looking : Call → Type 0 where
   of-one : (k : ℕ) → Looking (lookup k)
   of-two : (j k : ℕ) → Looking (common j k)
+  of-pool : Looking free
 
 look-step : (m : Model) (c : Call) → Looking c → step m c ≡ unchanged m (firstOf (tests m c))
 unfolding step act
@@ -117,6 +121,7 @@ look-step m c h = go h (firstOf (tests m c))
     go : {c : Call} → Looking c → (n : ℕ) → unless m n (act m c) ≡ unchanged m n
     go (of-one k) n = idle n
     go (of-two j k) n = idle n
+    go of-pool n = idle n
 
 pub look-idle : (m : Model) (c : Call) → Looking c → step m c .model ≡ m
 look-idle m c h = ap (λ (s : Step). s .model) (look-step m c h)
@@ -160,3 +165,32 @@ common-told m j k s e =
     let n = between-number (keep (named j) (m .pending)) (keep (named k) (m .pending)) in
     let t = ap (λ (x : Step). x .answer .number) (look-step m (common j k) (of-two j k)) in
     (e, ap (λ (x : Common). commonValues x .number) e ∙ n ∙ sym (t ∙ rw (any-keep j (m .pending), any-keep k (m .pending))))
+
+-- A lookup of the units free is never refused.
+pub free-told : (m : Model) → 0 ≡ step m free .answer .number
+unfolding tests firstOf
+free-told m = sym (ap (λ (x : Step). x .answer .number) (look-step m free of-pool))
+
+-- The first packing moves starts and changes no phase, so it may stand before the test of one.
+phase-packed : (b : Bool) (k : ℕ) (v : Setting) (f : Claim → ℕ) (ps : List Claim) → phaseNumber b (standingOf k (map (moved f) ps)) ≡ phaseNumber b (standingOf k ps)
+unfolding standingOf
+phase-packed b k v f [] = refl
+phase-packed b k v f (c ∷ ps) =
+    rw (moved-ticket f c)
+    (by-test (named k c)
+    (λ e. rw e (moved-cases (λ (x : Claim). phaseNumber b (cond (on x) (Holds (at x + x .length)) (Waits (at x))) ≡ phaseNumber b (cond (on c) (Holds (at c + c .length)) (Waits (at c)))) f c
+    (λ o. refl) (λ o. rw o (waits-alike b (f c) (at c)))))
+    (λ e. rw e (phase-packed b k v f ps)))
+  where
+    waits-alike : (b : Bool) (r s : ℕ) → phaseNumber b (Waits r) ≡ phaseNumber b (Waits s)
+    waits-alike true r s = refl
+    waits-alike false r s = refl
+
+-- The tests of a release or a withdrawal at a clock that is right: the phase decides, as in the table that the claim is taken out of.
+pub departed-tests : (m : Model) (b : Bool) (t k : ℕ) → Ascending (m .pending) → m .clock ≤ t → t ≤ mostClock
+    → firstOf (tests m (leaving b t k)) ≡ phaseNumber b (standingOf k (departed m t .pending))
+unfolding departed advance pack timeNumber firstOf
+departed-tests m b t k a l h =
+    leave-tests m b t k 0 a (sym (rw (le-ltb mostClock t h, le-ltb t (m .clock) l))) refl
+    ∙ by-test (eqb (m .pool) 0) (λ e. rw e)
+    (λ e. rw e (sym (phase-packed b k (ruled m t) (packedStart (ruled m t) (m .pending)) (m .pending))))

@@ -1,5 +1,7 @@
 pub mod Rows
 pub mod SortKeys
+pub mod Events
+pub mod Barring
 pub mod LastEnds
 pub mod Holders
 pub mod Parts

@@ -1,8 +1,8 @@
 -- What the calls hand back, by the rules.
-use mathlib.Core.Bool.{Bool, true, false, not, _&&_}
+use mathlib.Core.Bool.{Bool, true, false, not, _&&_, cond}
 use mathlib.Core.List.{List, [], _∷_}
 use Prim.Native.Nat.{ℕ, zero, suc, _+_, _≤_, _<_}
-use lib.Dec.{ltb}
+use lib.Dec.{ltb, eqb}
 use mathlib.Core.Path.{_≡_}
 use lib.ListN.{length, getD, replicate}
 use Rattle.rules.specs.declared.Claim.{Claim}
@@ -11,7 +11,7 @@ use Rattle.rules.specs.declared.Standing.{Standing}
 use Rattle.rules.specs.declared.Standing.the-variants.{NotPending, Waits, Holds}
 use Rattle.numbers.specs.Numbers.{unknownNumber, notYetOnNumber, alreadyOnNumber}
 use Rattle.rules.specs.Tests.{firstOf, late, backward, named}
-use Rattle.rules.specs.Calls.{Call, release, withdraw, Step}
+use Rattle.rules.specs.Calls.{Model, Call, release, withdraw, Step, advance}
 use Rattle.rules.specs.Lists.{keep}
 use Rattle.rules.specs.Claims.{on, at}
 use Rattle.rules.specs.Tables.{vacant, encode, model, pad}
@@ -50,6 +50,10 @@ timeNumber now t = firstOf (late t ∷ backward now t ∷ [])
 -- c is on, and its promised end is below the clock t.
 abbrev pub pastEnd : ℕ → Claim → Bool
 pastEnd t c = on c && ltb (at c + c .length) t
+
+-- The table that a claim is taken out of at clock t: packed where there is a pool. Without one that packing would be lost on the next.
+unfoldable pub departed : Model → ℕ → Model
+departed m t = cond (eqb (m .pool) 0) m (advance m t)
 
 abbrev pub phaseNumber : Bool → Standing → ℕ
 phaseNumber b NotPending = unknownNumber

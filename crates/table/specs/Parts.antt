@@ -9,7 +9,6 @@ use Rattle.rules.specs.declared.Setting.{Setting}
 use Rattle.rules.specs.Claims.{withPhase}
 use Rattle.rules.specs.Packing.{pack}
 use Rattle.rules.specs.Granting.{grant, grants}
-use Rattle.rules.specs.Plans.{StartsFrom, Tight}
 use Rattle.rules.specs.declared.Reply.{Reply}
 use Rattle.rules.specs.Calls.{ruled, placing}
 use Rattle.rules.specs.Tables.{model, pad}
@@ -19,7 +18,7 @@ use Rattle.table.specs.declared.placing.Placed.{Placed}
 
 -- The table with other claims.
 abbrev pub withClaims : Table → List Claim → Table
-withClaims t l = record { rig = t .rig; clock = t .clock; issued = t .issued; count = t .count; claims = l }
+withClaims t l = record { rig = t .rig; clock = t .clock; pool = t .pool; issued = t .issued; count = t .count; claims = l }
 
 -- The rules at clock u in table t.
 abbrev pub ruledIn : Table → ℕ → Setting
@@ -27,20 +26,15 @@ ruledIn t u = ruled (model t) u
 
 -- The table at another clock, and packed in a setting.
 abbrev pub atClock : ℕ → Table → Table
-atClock u t = record { rig = t .rig; clock = u; issued = t .issued; count = t .count; claims = t .claims }
+atClock u t = record { rig = t .rig; clock = u; pool = t .pool; issued = t .issued; count = t .count; claims = t .claims }
 
 abbrev pub packedTable : Setting → Table → Table
 packedTable v t = withClaims (atClock (v .clock) t) (rewritten (pack v) (t .claims) (t .count))
 
--- What packing gives: no planned start is below the clock, and each is the clock or the end of a conflicting claim.
-pub record Planned (v : Setting) (ps : List Claim) : Type 0 where
-  pub low : StartsFrom (v .clock) ps
-  pub tight : Tight v ps
-
 -- The table with those on that are granted, and their tickets.
 abbrev pub grantedIn : Table → Granted
 grantedIn t =
-    let gs = grants (take (t .count) (t .claims)) in
+    let gs = grants (ruledIn t (t .clock)) (take (t .count) (t .claims)) in
     record {
       table = withClaims t (rewritten (grant (ruledIn t (t .clock))) (t .claims) (t .count));
       count = length gs;
@@ -52,4 +46,4 @@ abbrev pub placedIn : Table → Claim → Placed
 placedIn t w =
     let r : Reply = placing (model t) w in
     let row = set (t .claims) (t .count) (withPhase w (Waiting (r .start))) in
-    record { table = record { rig = t .rig; clock = t .clock; issued = t .issued + 1; count = t .count + 1; claims = row }; reply = r }
+    record { table = record { rig = t .rig; clock = t .clock; pool = t .pool; issued = t .issued + 1; count = t .count + 1; claims = row }; reply = r }

@@ -4,26 +4,34 @@ use mathlib.Core.Bool.{true, false}
 use mathlib.Core.List.{List, _++_}
 use Prim.Native.Nat.{ℕ, _≤_}
 use lib.ListN.{length, take, drop}
-use Rattle.numbers.specs.Numbers.{mostClock, mostLength}
+use Rattle.numbers.specs.Numbers.{mostClock, mostLength, mostUnits}
 use Rattle.rules.specs.declared.Claim.{Claim}
+use Rattle.rules.specs.declared.Setting.{Setting}
 use Rattle.rules.specs.Lists.{_∈_}
 use Rattle.rules.specs.Claims.{on, at}
+use Rattle.rules.specs.Pool.{heldUnits}
 use Rattle.rules.specs.Plans.{Ascending, Sane}
 
--- A claim whose numbers are in range at clock t. No sum of a start or grant and a length then wraps.
-pub record Sized (t : ℕ) (c : Claim) : Type 0 where
-  pub sane : Sane c
+-- A claim whose numbers are in range, by the clock and the pool of a setting. No sum of a start or grant and a length then wraps.
+pub record Sized (v : Setting) (c : Claim) : Type 0 where
+  pub sane : Sane v c
   pub short : c .length ≤ mostLength
-  pub aged : on c ≡ true → at c ≤ t
+  pub aged : on c ≡ true → at c ≤ v .clock
   pub planned : on c ≡ false → at c ≤ 2000000000000
 
--- Of 64 places the first n hold claims in ascending order of ticket, each in range.
-pub record Row (t : ℕ) (claims : List Claim) (n : ℕ) : Type 0 where
+-- Of 64 places the first n hold claims in ascending order of ticket, each in range, and no more units are held than there are.
+pub record Row (v : Setting) (claims : List Claim) (n : ℕ) : Type 0 where
   pub places : length claims ≡ 64
   pub few : n ≤ 64
-  pub timely : t ≤ mostClock
+  pub timely : v .clock ≤ mostClock
   pub ascending : Ascending (take n claims)
-  pub sized : (c : Claim) → c ∈ take n claims → Sized t c
+  pub sized : (c : Claim) → c ∈ take n claims → Sized v c
+  pub pooled : v .pool ≤ mostUnits
+  pub stock : heldUnits (take n claims) ≤ v .pool
+
+-- Starts and grants are as low as in a packed row: no end of theirs is too late to be a planned start.
+abbrev pub Capped : List Claim → Type 0
+Capped ps = (c : Claim) → c ∈ ps → at c ≤ 1000300000000
 
 -- The row with other claims in its first n places.
 abbrev pub rewritten : (List Claim → List Claim) → List Claim → ℕ → List Claim

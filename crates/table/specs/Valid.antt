@@ -2,24 +2,27 @@
 use mathlib.Core.Path.{_≡_}
 use Prim.Native.Nat.{_≤_}
 use lib.ListN.{length}
-use Rattle.numbers.specs.Numbers.{mostClock, mostTickets, mostPending}
+use Rattle.numbers.specs.Numbers.{mostClock, mostTickets, mostUnits, mostPending}
 use Rattle.rules.specs.declared.Claim.{Claim}
 use Rattle.rules.specs.declared.Table.{Table}
 use Rattle.rules.specs.Lists.{_∈_}
-use Rattle.rules.specs.Calls.{Model}
+use Rattle.rules.specs.Pool.{heldUnits}
+use Rattle.rules.specs.Calls.{Model, settingOf}
 use Rattle.rules.specs.Plans.{Ascending}
 use Rattle.rules.specs.Invariants.{Invariant}
 use Rattle.rules.specs.Tables.{encode, model}
 use Rattle.table.specs.Rows.{Sized}
 
--- The limits of document 01, "A claim".
+-- The limits of document 01, "A claim", and of the pool.
 pub record Ranged (m : Model) : Type 0 where
   pub few : length (m .pending) ≤ mostPending
   pub timely : m .clock ≤ mostClock
   pub numbered : m .issued ≤ mostTickets
   pub ascending : Ascending (m .pending)
-  pub sized : (c : Claim) → c ∈ m .pending → Sized (m .clock) c
+  pub sized : (c : Claim) → c ∈ m .pending → Sized (settingOf m) c
   pub issued : (c : Claim) → c ∈ m .pending → c .ticket ≤ m .issued
+  pub pooled : m .pool ≤ mostUnits
+  pub stock : heldUnits (m .pending) ≤ m .pool
 
 -- A table as it stands inside a call: in range, and every place after the claims vacant.
 pub record Formed (t : Table) : Type 0 where

@@ -42,6 +42,7 @@ pub(crate) fn waiting_from(c: Claim, start: u64) -> Claim
         phase: Phase::Waiting(start),
         length: c.length,
         ticket: c.ticket,
+        units: c.units,
     }
 }
 
@@ -53,6 +54,7 @@ pub(crate) fn on_since(c: Claim, grant: u64) -> Claim
         phase: Phase::On(grant),
         length: c.length,
         ticket: c.ticket,
+        units: c.units,
     }
 }
 

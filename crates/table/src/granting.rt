@@ -1,10 +1,12 @@
-// Granting, over the claims of a packed row: one pass for the groups that are held, one for those that go on.
-// What is granted is defined in rules, specs/Granting.antt; that two passes tell it is `goes-quick` of its proofs.
+// Granting, over the claims of a packed row: one pass for the groups that are held, one for the units, one for those that go on.
+// What is granted is defined in rules, specs/Granting.antt; that these passes tell it is `goes-quick` of its proofs.
 ghost use mathlib.Core.Path.{_≡_};
 ghost use lib.ListN.{take};
 ghost use Rattle.table.specs.Rows.{Row};
 ghost use Rattle.table.specs.Holders.{HeldWith, goesAt};
-ghost use Rattle.table.specs.Parts.{ruledIn, Planned, grantedIn};
+ghost use Rattle.rules.specs.Pool.{heldBy};
+ghost use Rattle.rules.specs.Plans.{StartsFrom};
+ghost use Rattle.table.specs.Parts.{ruledIn, grantedIn};
 use crate::claims::is_on;
 use crate::claims::on_since;
 use crate::claims::start_or_grant;
@@ -22,9 +24,16 @@ fn held_with(held: u64, c: Claim) -> u64
     }
 }
 
-// Whether `c` waits, starts at the clock and has no group that is held. Cost: a few instructions.
-fn goes(clock: u64, held: u64, c: Claim) -> bool
-    ensures { λ r. ⌜ r ≡ goesAt clock held c ⌝ }
+// The units that `c` holds. Cost: a few instructions.
+pub(crate) fn units_held(c: Claim) -> u16
+    ensures { λ r. ⌜ r ≡ heldBy c ⌝ }
+{
+    if is_on(c) { c.units } else { 0 }
+}
+
+// Whether `c` waits, starts at the clock, has no group that is held and draws no more units than are free. Cost: a few instructions.
+fn goes(clock: u64, held: u64, free: u16, c: Claim) -> bool
+    ensures { λ r. ⌜ r ≡ goesAt clock held free c ⌝ }
 {
     if is_on(c) {
         return false;
@@ -32,7 +41,10 @@ fn goes(clock: u64, held: u64, c: Claim) -> bool
     if start_or_grant(c) != clock {
         return false;
     }
-    !groups::shares(held, c.groups)
+    if groups::shares(held, c.groups) {
+        return false;
+    }
+    c.units <= free
 }
 
 // What granting gives: the table with its grants, and their tickets in ascending order.
@@ -42,10 +54,10 @@ pub struct Granted {
     pub tickets: [u16; 64],
 }
 
-// Grants what no pending claim precedes, and lists the tickets. Both loops stand here, since a table handed on is a table copied.
-// Cost: two passes over the claims.
+// Grants what no pending claim precedes, by ticket while units are free, and lists the tickets. The loops stand here, since a table handed
+// on is a table copied. Cost: two passes over the claims, three where the pool has units.
 pub(crate) fn grant(mut t: Table) -> Granted
-    requires { ⌜ Row (t .clock) (t .claims) (t .count) × Planned (ruledIn t (t .clock)) (take (t .count) (t .claims)) ⌝ }
+    requires { ⌜ Row (ruledIn t (t .clock)) (t .claims) (t .count) × StartsFrom (t .clock) (take (t .count) (t .claims)) ⌝ }
     ensures { λ r. ⌜ r ≡ grantedIn t ⌝ }
 {
     let count = t.count;
@@ -57,12 +69,22 @@ pub(crate) fn grant(mut t: Table) -> Granted
         held = held_with(held, c);
         i += 1;
     }
+    let mut free = t.pool;
+    if free != 0 {
+        let mut g: usize = 0;
+        while g < count {
+            let c = t.claims[g];
+            free -= units_held(c);
+            g += 1;
+        }
+    }
     let mut tickets = [0u16; 64];
     let mut n: usize = 0;
     let mut j: usize = 0;
     while j < count {
         let c = t.claims[j];
-        if goes(clock, held, c) {
+        if goes(clock, held, free, c) {
+            free -= c.units;
             t.claims[j] = on_since(c, clock);
             tickets[n] = c.ticket;
             n += 1;

@@ -1,22 +1,24 @@
-// The claims table: new, claim, release, withdraw, clock, lookup, common. Each call takes a table by value and hands one back with its answer;
-// each packs once at most: a claim and a clock call only where a holder overruns, a release and a withdrawal only where somebody waits.
-// Packing n claims costs at most n² / 2 tests of two words and two steps for each group of each claim, the search for a claim's start n²
-// tests of two sets, everything else a few passes.
+// The claims table: new, claim, release, withdraw, clock, lookup, common, free. Each call takes a table by value and hands one back with its
+// answer. A claim and a clock call pack only where a holder overruns; a release and a withdrawal only where somebody waits, and once more
+// where there is a pool and a holder overruns.
+// Packing n claims costs at most n² / 2 tests of two words and two steps for each group of each claim, and for each claim that draws units
+// a sweep over those that do; the search for a claim's start n² tests of two sets, or insertions and a sweep; everything else a few passes.
 ghost use mathlib.Core.Path.{_≡_};
 ghost use Prim.Native.Nat.{_+_, _≤_, _<_};
 ghost use Rattle.numbers.specs.Numbers.{mostClock, mostLength, mostPending, mostTickets};
 ghost use Rattle.rules.specs.Claims.{at};
 ghost use Rattle.rules.specs.Tests.{firstOf};
-ghost use Rattle.rules.specs.Calls.{Call, step, tests, advance, finish, remove, admit, new, standing, standingOf, standingValues, commonOf, commonValues};
+ghost use Rattle.rules.specs.Calls.{Call, step, tests, advance, finish, remove, admit, new, standing, standingOf, standingValues, commonOf, commonValues, freeOf};
 ghost use Rattle.rules.specs.Tables.{encode, model};
 ghost use Rattle.rules.specs.Invariants.{Still};
 ghost use Rattle.table.specs.Valid.{Formed, Valid};
-ghost use Rattle.table.specs.Outcomes.{outcome, unchangedIn, Found, timeNumber, pastEnd, phaseNumber, leaving};
+ghost use Rattle.table.specs.Outcomes.{outcome, unchangedIn, Found, timeNumber, pastEnd, departed, phaseNumber, leaving};
 
 mod claims;
 mod granting;
 mod packing;
 mod placing;
+mod pool;
 
 use groups::MaybeGroup;
 use rules::Claim;
@@ -57,24 +59,27 @@ fn unchanged(t: Table, number: u8) -> Outcome
     }
 }
 
-// A table with nothing pending, at clock 0. A rig without groups is refused (1).
-pub fn new(rig: u64) -> Outcome
-    ensures { λ r. ⌜ (r ≡ outcome (new rig)) × Valid (r .table) ⌝ }
+// A table with nothing pending, at clock 0, and so many units in its pool. A rig without groups is refused (1), and then has no units.
+pub fn new(rig: u64, pool: u16) -> Outcome
+    ensures { λ r. ⌜ (r ≡ outcome (new rig pool)) × Valid (r .table) ⌝ }
 {
     let vacant = Claim {
         groups: 0,
         phase: Phase::Waiting(0),
         length: 0,
         ticket: 0,
+        units: 0,
     };
-    let t = Table {
+    let mut t = Table {
         rig: rig,
         clock: 0,
+        pool: pool,
         issued: 0,
         count: 0,
         claims: [vacant; 64],
     };
     if groups::empty(rig) {
+        t.pool = 0;
         return unchanged(t, numbers::DARK);
     }
     unchanged(t, 0)
@@ -149,6 +154,22 @@ pub fn common(t: Table, first: u16, second: u16) -> Common
     }
 }
 
+// The units that no claim holds. Cost: one pass.
+pub fn free(t: Table) -> u16
+    requires { ⌜ Valid t ⌝ }
+    ensures { λ r. ⌜ (r ≡ freeOf (model t)) × (0 ≡ step (model t) Call.free .answer .number) ⌝ }
+{
+    let count = t.count;
+    let mut n = t.pool;
+    let mut i: usize = 0;
+    while i < count {
+        let c = t.claims[i];
+        n -= granting::units_held(c);
+        i += 1;
+    }
+    n
+}
+
 // ── the parts of a call ──
 
 // The first of the tests 5 and 4 that a clock fails, or 0.
@@ -186,7 +207,14 @@ fn at_clock(mut t: Table, clock: u64) -> Table
     while i < count {
         let c = t.claims[i];
         if overruns(clock, c) {
-            return packing::pack(t, Setting { clock: clock });
+            let pool = t.pool;
+            return packing::pack(
+                t,
+                Setting {
+                    clock: clock,
+                    pool: pool,
+                },
+            );
         }
         i += 1;
     }
@@ -205,7 +233,14 @@ fn pulled(mut t: Table, clock: u64) -> Table
     while i < count {
         let c = t.claims[i];
         if !claims::is_on(c) {
-            return packing::pack(t, Setting { clock: clock });
+            let pool = t.pool;
+            return packing::pack(
+                t,
+                Setting {
+                    clock: clock,
+                    pool: pool,
+                },
+            );
         }
         i += 1;
     }
@@ -273,11 +308,16 @@ pub struct Taken {
     pub table: Table,
 }
 
-// Takes the claim of a ticket out of a table; those after it move up, and the last place becomes vacant. Cost: one pass.
-fn removed(mut t: Table, ticket: u16) -> Taken
-    requires { ⌜ Formed t ⌝ }
-    ensures { λ r. ⌜ (r .standing ≡ standingOf ticket (model t .pending)) × (r .table ≡ encode (remove (model t) ticket)) × Formed (r .table) ⌝ }
+// Takes the claim of a ticket out of a table; those after it move up, and the last place becomes vacant. Where there is a pool the table is
+// packed first. Cost: one pass.
+fn removed(mut t: Table, clock: u64, ticket: u16) -> Taken
+    requires { ⌜ Valid t × (t .clock ≤ clock) × (clock ≤ mostClock) ⌝ }
+    ensures { λ r. ⌜ (r .standing ≡ standingOf ticket (departed (model t) clock .pending)) × (r .table ≡ encode (remove (departed (model t) clock) ticket))
+        × Formed (r .table) ⌝ }
 {
+    if t.pool != 0 {
+        t = at_clock(t, clock);
+    }
     let count = t.count;
     let mut s = Standing::NotPending;
     let mut n: usize = 0;
@@ -298,6 +338,7 @@ fn removed(mut t: Table, ticket: u16) -> Taken
             phase: Phase::Waiting(0),
             length: 0,
             ticket: 0,
+            units: 0,
         };
     }
     t.count = n;
@@ -316,7 +357,7 @@ pub fn leave(t: Table, releasing: bool, clock: u64, ticket: u16) -> Outcome
     if late != 0 {
         return unchanged(t, late);
     }
-    let k = removed(t, ticket);
+    let k = removed(t, clock, ticket);
     let s = k.standing;
     let wrong = phase_number(releasing, s);
     if wrong != 0 {
@@ -360,11 +401,14 @@ fn claim_number(t: Table, clock: u64, ask: Request) -> u8
     if timing != 0 {
         return timing;
     }
-    if refusals::dark(ask.groups) {
+    if refusals::nothing_asked(ask.groups, ask.units) {
         return numbers::DARK;
     }
     if refusals::off_rig(t.rig, ask.groups) {
         return numbers::OFF_RIG;
+    }
+    if refusals::spots(t.pool, ask.units) {
+        return numbers::SPOTS;
     }
     if refusals::bad_length(ask.length) {
         return numbers::BAD_LENGTH;
@@ -380,7 +424,8 @@ fn claim_number(t: Table, clock: u64, ask: Request) -> u8
 
 // A claim that no test refuses, in a table that is packed.
 fn admitted(t: Table, ask: Request) -> Outcome
-    requires { ⌜ Formed t × Still (model t) × (t .count < mostPending) × (t .issued < mostTickets) × (1 ≤ ask .length) × (ask .length ≤ mostLength) ⌝ }
+    requires { ⌜ Formed t × Still (model t) × (t .count < mostPending) × (t .issued < mostTickets) × (1 ≤ ask .length) × (ask .length ≤ mostLength)
+        × (ask .units ≤ t .pool) ⌝ }
     ensures { λ r. ⌜ (r ≡ outcome (admit (model t) ask)) × Formed (r .table) ⌝ }
 {
     let clock = t.clock;
@@ -390,12 +435,13 @@ fn admitted(t: Table, ask: Request) -> Outcome
         phase: Phase::Waiting(clock),
         length: ask.length,
         ticket: ticket,
+        units: ask.units,
     };
     let p = placing::place(t, w);
     finished(p.table, p.reply)
 }
 
-// Claims what is asked for. Refused: 5, 4, 1, 2, 3, 6, 7.
+// Claims what is asked for. Refused: 5, 4, 1, 2, 16, 3, 6, 7.
 pub fn claim(t: Table, clock: u64, ask: Request) -> Outcome
     requires { ⌜ Valid t ⌝ }
     ensures { λ r. ⌜ (r ≡ outcome (step (model t) (Call.claim clock ask))) × Valid (r .table) ⌝ }

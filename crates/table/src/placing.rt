@@ -5,14 +5,18 @@ ghost use Prim.Native.Nat.{_≤_, _<_};
 ghost use Rattle.numbers.specs.Numbers.{mostTickets, mostPending};
 ghost use Rattle.rules.specs.Claims.{at};
 ghost use Rattle.rules.specs.Placing.{clear};
-ghost use Rattle.table.specs.Rows.{Sized, Row};
-ghost use Rattle.table.specs.Parts.{placedIn};
+ghost use lib.ListN.{take};
+ghost use Rattle.table.specs.Rows.{Sized, Row, Capped};
+ghost use Rattle.table.specs.Parts.{ruledIn, placedIn};
+ghost use Rattle.table.specs.Barring.{barsBy};
 use crate::claims::end_of;
 use crate::claims::is_on;
 use crate::claims::start_or_grant;
 use crate::claims::time_left;
 use crate::claims::waiting_from;
 use crate::claims::wide;
+use crate::pool::draw;
+use crate::pool::enter;
 use rules::Claim;
 use rules::Reply;
 use rules::Setting;
@@ -43,29 +47,72 @@ fn clears(v: Setting, c: Claim, w: Claim, s: u64) -> bool
     s + len <= from
 }
 
-// A new claim put after the others at its planned start, the least that fits. Where a claim bars a candidate, it bars every start from
-// there to its end, which is the next candidate. All loops stand here, since a table handed on is a table copied.
+// The units by which `c` bars `w`: all that there can be where they share a group, else those that it draws. Cost: a test of two sets.
+fn bars_by(c: Claim, w: Claim) -> u16
+    ensures { λ r. ⌜ r ≡ barsBy w c ⌝ }
+{
+    if groups::shares(c.groups, w.groups) {
+        return 65535;
+    }
+    c.units
+}
+
+// A new claim put after the others at its planned start, the least that fits. All loops stand here, since a table handed on is copied.
+// Of a claim that draws no units: where a claim bars a candidate, it bars every start from there to its end, which is the next candidate.
 // Cost: one pass over the claims for each jump, one for the start and one to count; a claim bars at most one candidate.
+// Of a claim that draws units: the holds of those that draw units, and of those that share a group with it as if they drew all, are
+// gathered, and its start is the first time with units enough. Cost: count² insertion steps at most, a few for each claim where starts
+// ascend, one sweep over the events, at most 2 × count, and one pass to count.
 pub(crate) fn place(mut t: Table, w: Claim) -> Placed
-    requires { ⌜ Row (t .clock) (t .claims) (t .count) × Sized (t .clock) w × (t .count < mostPending) × (t .issued < mostTickets) ⌝ }
+    requires { ⌜ Row (ruledIn t (t .clock)) (t .claims) (t .count) × Sized (ruledIn t (t .clock)) w × Capped (take (t .count) (t .claims))
+        × (t .count < mostPending) × (t .issued < mostTickets) ⌝ }
     ensures { λ r. ⌜ r ≡ placedIn t w ⌝ }
 {
     let clock = t.clock;
-    let v = Setting { clock: clock };
-    let count = t.count;
-    let mut s = clock;
-    let start = 'candidates: loop {
-        let mut j = 0;
-        while j < count {
-            let c = t.claims[j];
-            if !clears(v, c, w, s) {
-                s = end_of(v, c);
-                continue 'candidates;
-            }
-            j += 1;
-        }
-        break s;
+    let pool = t.pool;
+    let v = Setting {
+        clock: clock,
+        pool: pool,
     };
+    let count = t.count;
+    let length = wide(w.length);
+    let mut s = clock;
+    if w.units == 0 {
+        'candidates: loop {
+            let mut j = 0;
+            while j < count {
+                let c = t.claims[j];
+                if !clears(v, c, w, s) {
+                    s = end_of(v, c);
+                    continue 'candidates;
+                }
+                j += 1;
+            }
+            break;
+        }
+    } else {
+        let mut starts = [0u64; 64];
+        let mut ends = [0u64; 64];
+        let mut k: usize = 0;
+        let mut g: usize = 0;
+        while g < count {
+            let c = t.claims[g];
+            let u = bars_by(c, w);
+            if u != 0 {
+                enter(
+                    &mut starts,
+                    &mut ends,
+                    k,
+                    start_or_grant(c),
+                    end_of(v, c),
+                    u,
+                );
+                k += 1;
+            }
+            g += 1;
+        }
+        s = draw(&mut starts, &mut ends, k, pool, w.units, clock, w.length);
+    }
     let mut rivals = 0;
     let mut time = 0;
     let mut i = 0;
@@ -77,16 +124,15 @@ pub(crate) fn place(mut t: Table, w: Claim) -> Placed
         }
         i += 1;
     }
-    let length = wide(w.length);
     let bound = clock + time + rivals * (length - 1);
-    t.claims[count] = waiting_from(w, start);
+    t.claims[count] = waiting_from(w, s);
     t.issued = t.issued + 1;
     t.count = count + 1;
     Placed {
         table: t,
         reply: Reply {
             ticket: w.ticket,
-            start: start,
+            start: s,
             contention: rivals,
             bound: bound,
         },

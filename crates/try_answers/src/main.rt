@@ -1,5 +1,5 @@
 // Prints whole answers, for comparison with the second program: for each record of a load on standard input its number, ticket, start,
-// contention and start bound, then how each pending ticket stands, and which group two of them share. A listing prints less.
+// contention and start bound, then the units free, how each pending ticket stands, and which group two of them share. A listing prints less.
 ghost use Prim.Native.Nat.{_≤_, _<_};
 ghost use Rattle.table.specs.Valid.{Valid};
 use load::Item;
@@ -12,6 +12,14 @@ fn put_answer(out: &mut [u8], k: u64, o: Outcome) -> usize {
     let a = numerals::put_pair(out, 0, k, o.number as u64, 32);
     let b = numerals::put_pair(out, a, o.ticket as u64, o.start, 32);
     numerals::put_pair(out, b, o.contention, o.bound, 10)
+}
+
+fn put_free(out: &mut [u8], at: usize, t: Table) -> usize
+    requires { ⌜ Valid t ⌝ }
+{
+    let n = table::free(t);
+    let a = numerals::put_bytes(out, at, b"free ");
+    numerals::put_column(out, a, n as u64, 10)
 }
 
 fn put_standing(out: &mut [u8], at: usize, ticket: u16, s: Standing) -> usize {
@@ -135,8 +143,9 @@ fn print_pairs(t: Table, mut room: [u8; 8192])
 fn print(k: u64, o: Outcome, mut room: [u8; 4096])
     requires { ⌜ Valid (o .table) ⌝ }
 {
-    let m = put_answer(&mut room, k, o);
+    let a = put_answer(&mut room, k, o);
     let t = o.table;
+    let m = put_free(&mut room, a, t);
     let n = put_standings(&mut room, m, t);
     if n <= 4096 {
         io::write_all(1, &room[..n]);
@@ -145,7 +154,7 @@ fn print(k: u64, o: Outcome, mut room: [u8; 4096])
 
 // The records to the load's end or the first refusal of the reader; a rig without groups ends them too. A load has fewer records than bytes.
 fn records(load: &[u8]) {
-    let none = table::new(0);
+    let none = table::new(0, 0);
     let mut t = none.table;
     let mut at: usize = 1;
     let mut k: u64 = 0;

@@ -1,6 +1,7 @@
 // Runs the reader and the writer of loads on standard input and prints what they answer, for comparison with the second program: the scan;
 // each record's position and length, and the stop; the writer's answer to each call so read, written again one after the other; and its
-// answers to four more calls on the load itself, with whether the lent buffer kept its bytes.
+// answers to four more calls on the load itself (a rig and a clock, then a rig with a pool and a claim with units, which edition 1 cannot
+// carry), each with room for any load and with room for one byte, with whether the lent buffer kept its bytes.
 ghost use mathlib.Core.Path.{_≡_};
 ghost use lib.ListN.{length};
 use load::Call;
@@ -176,6 +177,19 @@ fn attempts(load: &[u8], call: Call) {
     attempt(load, call, &mut short);
 }
 
+// A call without a ticket.
+fn call(kind: u8, clock: u64, groups: u64, length: u32, pool: u16, units: u16) -> Call {
+    Call {
+        kind,
+        clock,
+        groups,
+        length,
+        ticket: 0,
+        pool,
+        units,
+    }
+}
+
 fn rewritten(load: &[u8]) {
     let mut a = lent();
     let mut b = lent();
@@ -188,26 +202,10 @@ fn print(load: &[u8]) {
     if load::open_number(load) == 0 {
         rewritten(load);
     }
-    attempts(
-        load,
-        Call {
-            kind: 1,
-            clock: 0,
-            groups: 15,
-            length: 0,
-            ticket: 0,
-        },
-    );
-    attempts(
-        load,
-        Call {
-            kind: 5,
-            clock: 1,
-            groups: 0,
-            length: 0,
-            ticket: 0,
-        },
-    );
+    attempts(load, call(1, 0, 15, 0, 0, 0));
+    attempts(load, call(5, 1, 0, 0, 0, 0));
+    attempts(load, call(1, 0, 15, 0, 3, 0));
+    attempts(load, call(2, 1, 1, 1, 0, 2));
 }
 
 // `room` is for the longest load and one byte more.

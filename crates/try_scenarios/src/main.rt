@@ -111,7 +111,7 @@ fn end() {
 fn rig(groups: u64) -> Table
     ensures { λ r. ⌜ Valid r ⌝ }
 {
-    let r = table::new(groups);
+    let r = table::new(groups, 0);
     r.table
 }
 
@@ -236,7 +236,7 @@ fn line(text: &[u8], n: u64) {
 fn exhausted() -> Table
     ensures { λ r. ⌜ Valid r ⌝ }
 {
-    let o = table::new(0x1);
+    let o = table::new(0x1, 0);
     let mut t = o.table;
     let mut i: u32 = 0;
     while i < 65_535 {

@@ -1,7 +1,7 @@
 //! The proved listing against the reference, byte for byte.
 
 use compare::{listing, output_of, report, seeds};
-use reference::generate::{self, Prng};
+use reference::generate::{self, Prng, Shape};
 use reference::load::{self, Call};
 use reference::table::TimedCall;
 use reference::text;
@@ -69,7 +69,7 @@ fn rooms_around_the_listing() {
 #[test]
 fn truncations_and_flips() {
     let mut prng = Prng::new(7);
-    for seed in 1..=12 {
+    for seed in 1..=24 {
         let load = generate::load(seed);
         let load = &load[..load.len().min(400)];
         for end in 0..=load.len() {
@@ -89,19 +89,54 @@ fn truncations_and_flips() {
 
 #[test]
 fn loads_of_the_greatest_length() {
-    for size in [65_535, 65_536, 65_537] {
-        for seed in 1..=3 {
-            if let Some(load) = generate::sized_load(seed, size) {
-                check(&load);
+    for edition in [1, 2] {
+        for size in [65_535, 65_536, 65_537] {
+            for seed in 1..=3 {
+                if let Some(load) = generate::sized_load(edition, seed, size) {
+                    check(&load);
+                }
+            }
+        }
+        let clock = Call::Timed(TimedCall::Clock { clock: 1 });
+        check(&load::join(edition, &vec![clock; 5_958]));
+        check(&vec![edition; 100_000]);
+    }
+}
+
+/// Every first byte, with nothing behind it, and before the records of both editions.
+#[test]
+fn every_edition() {
+    let claim = Call::Timed(TimedCall::Claim {
+        clock: 0,
+        groups: 1,
+        length: 5,
+        units: 0,
+    });
+    let rig = Call::Rig { groups: 1, pool: 0 };
+    for first in 0..=255 {
+        check(&[first]);
+        for edition in [1, 2] {
+            let mut load = load::join(edition, &[rig, claim]);
+            load[0] = first;
+            check(&load);
+        }
+    }
+}
+
+/// Runs that draw from a pool, in time and not, with ample units, few and none.
+#[test]
+fn pools() {
+    for seed in seeds("COMPARE_POOLS", 4_000) {
+        let shape = [Shape::Pool, Shape::PoolInTime][(seed % 2) as usize];
+        let mut run = generate::run_of(shape, seed);
+        for pool in [run.pool, run.pool / 2, run.pool.saturating_mul(2), 0] {
+            run.pool = pool;
+            let load = run.load();
+            if differs(&load) {
+                report(seed, &load, differs);
             }
         }
     }
-    let mut long = vec![1u8];
-    while long.len() <= 65_537 {
-        long.extend(load::encode(Call::Timed(TimedCall::Clock { clock: 1 })));
-    }
-    check(&long);
-    check(&vec![1u8; 100_000]);
 }
 
 #[test]
@@ -113,7 +148,7 @@ fn the_program_prints_the_same() {
     }
 }
 
-/// Contention, start bound and lookups are in no listing: the program `try_answers` prints them.
+/// Contention, start bound, units free and lookups are in no listing: the program `try_answers` prints them.
 #[test]
 fn whole_answers() {
     let differs = |load: &[u8]| output_of("try_answers", load) != reference::answers::answers(load);
@@ -193,8 +228,103 @@ fn the_fifteen_scenarios() {
         (&[0xFF], "stop 11 0\n"),
         (&[1, 0], "stop 12 1\n"),
         (&[1, 0, 0], "stop 13 1\n"),
+        (&[2], ""),
+        (&[2, 0], "stop 12 1\n"),
+        (&[2, 0, 0], "stop 13 1\n"),
+        (&[3], "stop 11 0\n"),
     ] {
         assert_eq!(agreed(load), format!("{header}{stop}"));
+    }
+}
+
+/// Claims on a pool, by the text of their calls behind the rig and the last lines of their listings.
+const POOLS: [(&str, &str, &str); 12] = [
+    // Two of three have a unit each, the third waits for the first end.
+    (
+        "F 2",
+        "claim 0 1 10 1\nclaim 0 2 7 1\nclaim 0 4 5 1\nrelease 7 2",
+        "4 0 3 7\n5 0 2 7\non 3 7\n",
+    ),
+    // A gap before a planned hold, and one tick more.
+    (
+        "F 2",
+        "claim 0 1 10 1\nclaim 0 2 5 2\nclaim 0 4 10 1",
+        "3 0 2 10\n4 0 3 0\non 3 0\n",
+    ),
+    (
+        "F 2",
+        "claim 0 1 10 1\nclaim 0 2 5 2\nclaim 0 4 11 1",
+        "3 0 2 10\n4 0 3 15\n",
+    ),
+    // An overrun has its units until it is released.
+    (
+        "F 2",
+        "claim 0 1 10 2\nclaim 0 0 5 1\nclock 12\nclaim 12 4 5 1\nrelease 13 1",
+        "3 0 2 10\n4 0 0 12\n5 0 3 12\n6 0 1 13\non 2 13\non 3 13\n",
+    ),
+    // At one start by ticket, while units last.
+    (
+        "F 3",
+        "claim 0 1 10 2\nclaim 0 2 10 1\nclaim 0 0 9 1\nclaim 0 0 8 1\nclaim 0 4 7 1\nrelease 10 1\nrelease 10 2",
+        "6 0 5 10\n7 0 1 10\non 3 10\non 4 10\n8 0 2 10\non 5 10\n",
+    ),
+    // One that lacks units holds up nobody.
+    (
+        "F 3",
+        "claim 0 1 10 2\nclaim 0 2 10 1\nclaim 0 0 9 2\nclaim 0 0 8 1\nrelease 10 2\nrelease 10 1",
+        "6 0 2 10\non 4 10\n7 0 1 10\non 3 10\n",
+    ),
+    // Plans have moved, and a clock call grants.
+    (
+        "F 2",
+        "claim 0 1 5 0\nclaim 0 2 10 1\nclaim 0 1 20 1\nclaim 0 0 8 1\nclock 9\nclock 10\nrelease 10 1\nrelease 11 2",
+        "5 0 4 10\n6 0 0 9\n7 0 0 10\non 4 10\n8 0 1 10\n9 0 2 11\non 3 11\n",
+    ),
+    // Packing by start, then ticket: ticket 5 finds too few units beside 3 and 4.
+    (
+        "F 3",
+        "claim 0 1 5 0\nclaim 0 2 10 2\nclaim 0 1 5 1\nclaim 0 4 10 1\nclaim 0 8 10 2\nclock 7\nclaim 7 0 1 3",
+        "6 0 5 10\n7 0 0 7\n8 0 6 22\n",
+    ),
+    // 16 after 2 and before 3; neither group nor unit is 1.
+    (
+        "F 2",
+        "claim 0 10 0 3\nclaim 0 F 0 3\nclaim 0 F 0 2\nclaim 0 0 0 0\nclaim 0 0 1 2",
+        "2 2 0 0\n3 16 0 0\n4 3 0 0\n5 1 0 0\n6 0 1 0\non 1 0\n",
+    ),
+    // Units of a pool without any, and all of the greatest.
+    ("1 0", "claim 0 0 1 1\nclaim 0 1 1 0", "2 16 0 0\n3 0 1 0\non 1 0\n"),
+    (
+        "1 65535",
+        "claim 0 0 9 65535\nclaim 0 0 9 65535\nclaim 0 0 9 1\nrelease 2 1",
+        "3 0 2 9\n4 0 3 18\n5 0 1 2\non 2 2\n",
+    ),
+    // A rig of units alone is dark.
+    ("0 7", "claim 0 0 1 1", "rec answer ticket start\nstop 1 1\n"),
+];
+
+#[test]
+fn pools_by_hand() {
+    for (rig, calls, last) in POOLS {
+        let text = format!("edition 2\nrig {rig}\n{calls}\n");
+        let load = text::make(text.as_bytes()).expect("a load's text");
+        let listing = agreed(&load);
+        assert!(listing.ends_with(last), "{text}gives\n{listing}");
+    }
+}
+
+/// With no units drawn the listing is that of edition 1, whatever the pool.
+#[test]
+fn the_fifteen_scenarios_in_edition_2() {
+    for text in scenarios() {
+        let load = text::make(text.as_bytes()).expect("a load's text");
+        let listing = agreed(&load);
+        let calls = load::read_all(&load).expect("a good load");
+        for pool in [0, 1, 40, 65_535] {
+            let mut calls = calls.clone();
+            calls[0] = Call::Rig { groups: 0xF, pool };
+            assert_eq!(agreed(&load::join(2, &calls)), listing, "{text}");
+        }
     }
 }
 

@@ -18,15 +18,20 @@ fn agreed(load: &[u8]) -> String {
     String::from_utf8(tries(load)).expect("lines of words and numbers")
 }
 
-/// The last lines: a rig and a clock call appended to the load as it stands, each with much room and with one byte.
+/// The last lines: a rig, a clock call, a rig with a pool and a claim with units appended to the load as it stands, each
+/// with much room and with one byte. Given are the number and the length that each has with much room.
 fn last_lines(answers: [(u8, usize); 4]) -> String {
     answers
         .map(|(number, length)| {
+            let short = if number == 0 { 15 } else { number };
             let kept = u8::from(number != 0);
-            format!("append {number} {length}\nkept {kept}\n")
+            format!("append {number} {length}\nkept {kept}\nappend {short} 0\nkept 1\n")
         })
         .concat()
 }
+
+/// What is refused with 13.
+const MISFIT: (u8, usize) = (13, 0);
 
 /// The load of a seed. The time for one grows with the square of its length: of the long ones that read, one in eight
 /// is whole.
@@ -50,13 +55,18 @@ fn reader_and_writer_on_generated_loads() {
 
 #[test]
 fn reader_and_writer_on_short_loads() {
-    let alone = [(0, 12), (15, 0), (13, 0), (13, 0)];
+    let alone = [(0, 12), MISFIT, MISFIT, MISFIT];
+    let alone_2 = [(0, 14), MISFIT, (0, 14), MISFIT];
     for (load, lines, answers) in [
         (&b""[..], "scan 0 12\nstop 1 12\n", [(12, 0); 4]),
         (&[1], "scan 0 0\nstop 1 0\nsame 1\n", alone),
+        (&[2], "scan 0 0\nstop 1 0\nsame 1\n", alone_2),
+        (&[0], "scan 0 11\nstop 1 11\n", [(11, 0); 4]),
+        (&[3], "scan 0 11\nstop 1 11\n", [(11, 0); 4]),
         (&[0xFF], "scan 0 11\nstop 1 11\n", [(11, 0); 4]),
         (&[1, 0], "scan 0 12\nstop 1 12\nsame 1\n", [(12, 0); 4]),
         (&[1, 0, 0], "scan 0 13\nstop 1 13\nsame 1\n", [(13, 0); 4]),
+        (&[2, 0, 0], "scan 0 13\nstop 1 13\nsame 1\n", [(13, 0); 4]),
     ] {
         assert_eq!(agreed(load), format!("{lines}{}", last_lines(answers)));
     }
@@ -65,22 +75,37 @@ fn reader_and_writer_on_short_loads() {
 #[test]
 fn reader_and_writer_on_refused_records() {
     let clock = Call::Timed(TimedCall::Clock { clock: 7 });
-    let good = load::join(&[Call::Rig(0xF), clock]);
+    let rig = |groups, pool| Call::Rig { groups, pool };
+    let good = load::join(1, &[rig(0xF, 0), clock]);
     let read = "record 1 11\nstop 12 13\nappend 0 12\nsame 1\n";
-    for edition in [0xFF, 2] {
+    for edition in [0xFF, 3] {
         let mut load = good.clone();
         load[0] = edition;
         let lines = last_lines([(11, 0); 4]);
         assert_eq!(agreed(&load), format!("scan 0 11\nstop 1 11\n{lines}"));
     }
-    let dark = load::join(&[Call::Rig(0)]);
-    let lines = last_lines([(13, 0), (13, 0), (0, 23), (15, 0)]);
+    // The records of the other edition.
+    for edition in [1, 2] {
+        let mut load = load::join(3 - edition, &[rig(0xF, 0), clock]);
+        load[0] = edition;
+        let lines = last_lines([MISFIT; 4]);
+        let expected = format!("scan 0 13\nstop 1 13\nsame 1\n{lines}");
+        assert_eq!(agreed(&load), expected);
+    }
+    let dark = load::join(1, &[rig(0, 0)]);
+    let lines = last_lines([MISFIT, (0, 23), MISFIT, MISFIT]);
     assert_eq!(
         agreed(&dark),
         format!("scan 1 0\nrecord 1 11\nstop 12 0\nappend 0 12\nsame 1\n{lines}")
     );
-    let second = load::join(&[Call::Rig(0xF), Call::Rig(0xF), clock]);
-    let lines = last_lines([(13, 0); 4]);
+    let dark = load::join(2, &[rig(0, 65_535)]);
+    let lines = last_lines([MISFIT, (0, 25), MISFIT, (0, 39)]);
+    assert_eq!(
+        agreed(&dark),
+        format!("scan 1 0\nrecord 1 13\nstop 14 0\nappend 0 14\nsame 1\n{lines}")
+    );
+    let second = load::join(1, &[rig(0xF, 0), rig(0xF, 0), clock]);
+    let lines = last_lines([MISFIT; 4]);
     assert_eq!(agreed(&second), format!("scan 1 13\n{read}{lines}"));
     for end in 13..good.len() {
         let lines = last_lines([(12, 0); 4]);
@@ -89,16 +114,25 @@ fn reader_and_writer_on_refused_records() {
     }
 }
 
-/// A clock record has 11 bytes: behind 65,525 it goes in, behind 65,526 it does not.
+/// A clock record has 11 bytes: behind 65,525 it goes in, behind 65,526 it does not. A claim of edition 2 has 25.
 #[test]
 fn reader_and_writer_on_the_longest_loads() {
-    for (size, answers) in [
-        (65_525, [(13, 0), (13, 0), (0, 65_536), (15, 0)]),
-        (65_526, [(13, 0), (13, 0), (14, 0), (14, 0)]),
-        (65_536, [(13, 0), (13, 0), (14, 0), (14, 0)]),
-        (65_537, [(14, 0); 4]),
+    for (edition, size, clock, claim) in [
+        (1, 65_525, (0, 65_536), MISFIT),
+        (1, 65_526, (14, 0), MISFIT),
+        (1, 65_536, (14, 0), MISFIT),
+        (2, 65_511, (0, 65_522), (0, 65_536)),
+        (2, 65_512, (0, 65_523), (14, 0)),
+        (2, 65_525, (0, 65_536), (14, 0)),
+        (2, 65_526, (14, 0), (14, 0)),
+        (2, 65_536, (14, 0), (14, 0)),
     ] {
-        let load = generate::sized_load(1, size).expect("a load of that size");
-        assert!(agreed(&load).ends_with(&last_lines(answers)), "{size}");
+        let load = generate::sized_load(edition, 1, size).expect("a load of that size");
+        let last = last_lines([MISFIT, clock, MISFIT, claim]);
+        assert!(agreed(&load).ends_with(&last), "{size}");
+    }
+    for edition in [1, 2] {
+        let load = generate::sized_load(edition, 1, 65_537).expect("a load of that size");
+        assert!(agreed(&load).ends_with(&last_lines([(14, 0); 4])));
     }
 }

@@ -34,6 +34,10 @@ fn made(text: &str) -> Vec<u8> {
 /// S of document 01: three claims at clock 0.
 const S: &str = "rig F\nclaim 0 8 10\nclaim 0 C 10\nclaim 0 6 11\n";
 
+/// Claims that draw 4, 3, 5 and 0 of nine units, of which the third waits.
+const UNITS: &str =
+    "edition 2\nrig F 9\nclaim 0 1 10 4\nclaim 0 0 10 3\nclaim 0 2 5 5\nclaim 0 4 5 0\n";
+
 #[test]
 fn generated_questions() {
     for seed in seeds("COMPARE_QUESTIONS", 2_000) {
@@ -69,7 +73,36 @@ fn the_answers() {
         let expected = (said.as_bytes().to_vec(), Vec::new());
         assert_eq!(agreed(load, question.as_bytes()), expected, "{question}");
     }
-    for question in ["", "lookup", "look 3", "lookup 65536", "common 1 2 3"] {
+    for (load, said) in [
+        (&plot[..], "0 of 0 units free\n"),
+        (cut, "stop 12 4\n0 of 0 units free\n"),
+        (&made(UNITS), "2 of 9 units free\n"),
+        (
+            &made("edition 2\nrig 1 65535\n"),
+            "65535 of 65535 units free\n",
+        ),
+        (
+            &made("edition 2\nrig 0 7\n"),
+            "stop 1 1\n0 of 0 units free\n",
+        ),
+        (&[2], "0 of 0 units free\n"),
+        (&[3], "stop 11 0\n0 of 0 units free\n"),
+        (&[], "stop 12 0\n0 of 0 units free\n"),
+    ] {
+        let expected = (said.as_bytes().to_vec(), Vec::new());
+        assert_eq!(agreed(load, b"free"), expected);
+    }
+    for question in [
+        "",
+        "lookup",
+        "look 3",
+        "lookup 65536",
+        "common 1 2 3",
+        "free 1",
+        "free free",
+        "frees",
+        "Free",
+    ] {
         let expected = (Vec::new(), WRONG.into());
         assert_eq!(agreed(&plot, question.as_bytes()), expected, "{question}");
     }
@@ -82,10 +115,23 @@ fn every_pair() {
     let load = made(&format!(
         "{S}claim 0 3 20\nrelease 4 1\nclaim 5 F 7\nclaim 5 1 2\nwithdraw 6 6\nclaim 7 9 4\n"
     ));
+    agreed(&load, b"free");
     for first in 0..=8 {
         agreed(&load, format!("lookup {first}").as_bytes());
         for second in 0..=8 {
             agreed(&load, format!("common {first} {second}").as_bytes());
+        }
+    }
+}
+
+/// The units free after each call of a run that draws from a pool.
+#[test]
+fn units_free_at_every_stage() {
+    for seed in 1..=40 {
+        let mut run = generate::run_of(Shape::Pool, seed);
+        run.calls.truncate(40);
+        while run.calls.pop().is_some() {
+            agreed(&run.load(), b"free");
         }
     }
 }
@@ -118,6 +164,10 @@ fn every_byte_in_every_place() {
             b"look?up 3",
             b"common 2?3",
             b"common 2 ?3",
+            b"?free",
+            b"fr?ee",
+            b"free?",
+            b"free?1",
         ] {
             let line: Vec<u8> = line
                 .iter()
@@ -138,6 +188,8 @@ fn questions_of_the_greatest_length() {
             format!("common 2 {:0number$}", 3),
             format!("{:size$}", "common 2 3"),
             format!("{:>size$}", "common 2 3"),
+            format!("{:size$}", "free"),
+            format!("{:>size$}", "free"),
             "x".repeat(size),
         ] {
             assert_eq!(line.len(), size);
@@ -152,12 +204,15 @@ fn questions_of_the_greatest_length() {
 
 #[test]
 fn loads_of_the_greatest_length() {
-    for size in [MAX_LOAD - 1, MAX_LOAD, MAX_LOAD + 1] {
-        let load = generate::sized_load(1, size).expect("a load of that size");
-        let issued = left(&load).0.issued();
-        for ticket in [0, 1, issued, issued.wrapping_add(1)] {
-            agreed(&load, format!("lookup {ticket}").as_bytes());
-            agreed(&load, format!("common {issued} {ticket}").as_bytes());
+    for edition in [1, 2] {
+        for size in [MAX_LOAD - 1, MAX_LOAD, MAX_LOAD + 1] {
+            let load = generate::sized_load(edition, 1, size).expect("a load of that size");
+            let issued = left(&load).0.issued();
+            for ticket in [0, 1, issued, issued.wrapping_add(1)] {
+                agreed(&load, format!("lookup {ticket}").as_bytes());
+                agreed(&load, format!("common {issued} {ticket}").as_bytes());
+            }
+            agreed(&load, b"free");
         }
     }
     agreed(&vec![1; 3 * MAX_LOAD], b"lookup 1");
@@ -166,8 +221,9 @@ fn loads_of_the_greatest_length() {
 /// Loads of a few bytes, and every truncation of a good one.
 #[test]
 fn loads_that_end_early() {
-    for load in [&b""[..], &[1], &[0xFF], &[1, 0], &[1, 0, 0]] {
+    for load in [&b""[..], &[1], &[2], &[0xFF], &[1, 0], &[1, 0, 0]] {
         agreed(load, b"lookup 1");
+        agreed(load, b"free");
     }
     agreed(&made("rig 0\nclaim 0 8 10\n"), b"common 1 1");
     let plot = made(&format!("{S}release 4 1\nrelease 4 1\nclock 3\n"));
@@ -175,5 +231,10 @@ fn loads_that_end_early() {
     for end in 0..=twice.len() {
         agreed(&twice[..end], b"lookup 2");
         agreed(&twice[..end], b"common 2 3");
+    }
+    let units = made(&format!("{UNITS}release 4 1\nrelease 4 2\nclock 3\n"));
+    let twice = [&units[..], &units[1..]].concat();
+    for end in 0..=twice.len() {
+        agreed(&twice[..end], b"free");
     }
 }

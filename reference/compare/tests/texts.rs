@@ -60,6 +60,24 @@ fn the_sample() {
     assert_eq!(agreed(shown.as_bytes()).0, load);
 }
 
+/// A text of edition 2, with its load.
+#[test]
+fn the_sample_of_edition_2() {
+    let text =
+        b"edition 2\nrig 0-3 02    # or: rig F 2\nclaim 0 3, 10 1\nclaim 0 0 10 2\nrelease 4 1\n";
+    let hex = "02000B01000000000000000F0002001702000000000000000000000000000000080000000A0001\
+        001702000000000000000000000000000000000000000A0002000B0300000000000000040001";
+    let load: Vec<u8> = (0..hex.len())
+        .step_by(2)
+        .map(|at| u8::from_str_radix(&hex[at..at + 2], 16).expect("hex"))
+        .collect();
+    assert_eq!(agreed(text), (load.clone(), Vec::new()));
+    assert!(!show_differs(&load));
+    let shown = "edition 2\nrig F 2\nclaim 0 8 10 1\nclaim 0 0 10 2\nrelease 4 1\n";
+    assert_eq!(load_show(&load), shown);
+    assert_eq!(agreed(shown.as_bytes()).0, load);
+}
+
 /// A line for each reason of docs/FORMAT.md that a short text can have.
 #[test]
 fn the_reasons() {
@@ -76,15 +94,42 @@ fn the_reasons() {
         ("claim 0 7-5 1", "range runs backward"),
         ("rig F", "rig must be first"),
         ("edition 1", "unknown call"),
+        ("edition 2", "unknown call"),
+        ("claim 0 F 1 0", "too many words"),
+        ("rig F 0", "too many words"),
     ] {
         let message = format!("line 4: {reason}\n").into_bytes();
         let text = format!("# x\nrig F\n\n{line}\nfoo\n");
         assert_eq!(agreed(text.as_bytes()), (Vec::new(), message), "{line}");
     }
+    for (line, reason) in [
+        ("rig F", "a number is missing"),
+        ("claim 0 F 1", "a number is missing"),
+        ("rig F 0 0", "too many words"),
+        ("claim 0 F 1 0 0", "too many words"),
+        ("clock 0 0", "too many words"),
+        ("rig F x", "pool is not a number"),
+        ("rig x x", "groups are not hex or a list"),
+        ("rig F 65536", "number too large"),
+        ("rig F 65535", "rig must be first"),
+        ("claim 0 F 1 x", "units are not a number"),
+        ("claim 0 F x x", "length is not a number"),
+        ("claim 0 F 1 1,", "units are not a number"),
+        ("claim 0 F 1 65536", "number too large"),
+        (
+            "claim 0 F 1 340282366920938463463374607431768211457",
+            "number too large",
+        ),
+        ("edition 2", "unknown call"),
+    ] {
+        let message = format!("line 4: {reason}\n").into_bytes();
+        let text = format!("edition 2\nrig F 3\n\n{line}\nfoo\n");
+        assert_eq!(agreed(text.as_bytes()), (Vec::new(), message), "{line}");
+    }
     for number in 0..=300 {
         let (load, message) = agreed(format!("\n# x\nedition {number}\n").as_bytes());
-        if number == 1 {
-            assert_eq!((load, message), (vec![1], Vec::new()));
+        if number == 1 || number == 2 {
+            assert_eq!((load, message), (vec![number as u8], Vec::new()));
         } else {
             assert_eq!(message, b"line 3: unknown edition\n", "{number}");
         }
@@ -103,6 +148,10 @@ fn every_byte_in_every_place() {
             b"rig F?# x\n",
             b"r?ig F\n",
             b"edition?1\nrig F",
+            b"edition 2\nrig F?7\n",
+            b"edition 2\nrig F 7?\n",
+            b"edition 2\nrig F 7\nclaim 0 1 1?1\n",
+            b"edition 2\nrig F 7\nclaim 0 1 1 1?",
             b"rig F\nclock 1?\nclock 2\n",
         ] {
             let text: Vec<u8> = text
@@ -125,6 +174,18 @@ fn every_short_list() {
             .collect();
         for word in &words {
             agreed(format!("rig {word}\n").as_bytes());
+        }
+    }
+}
+
+/// Every number of units around the limits of its field, with zeros in front and without.
+#[test]
+fn every_number_of_units() {
+    for number in (0..=300).chain(65_500..=65_600).chain(131_000..131_100) {
+        for zeros in [0, 1, 40] {
+            let word = format!("{}{number}", "0".repeat(zeros));
+            agreed(format!("edition 2\nrig F {word}\nclaim 0 0 1 {word}\n").as_bytes());
+            agreed(format!("edition 2\nrig F 0\nclaim 0 0 1 {word}\n").as_bytes());
         }
     }
 }
@@ -152,9 +213,21 @@ fn loads_of_the_greatest_length() {
     for more in ["clock 1", "rig F", "clock x", "edition 1"] {
         agreed(format!("{full}{more}\nfoo").as_bytes());
     }
-    for size in [65_535, 65_536, 65_537] {
-        let load = generate::sized_load(1, size).expect("a load of that size");
-        assert!(!show_differs(&load), "{size}");
-        agreed(load_show(&load).as_bytes());
+    let full = "edition 2\nrig F 3\n".to_string() + &"claim 1 0 1 1\n".repeat(2_620);
+    assert_eq!(agreed(full.as_bytes()).0.len(), 65_514);
+    for more in [
+        "clock 1\nclock 1",
+        "claim 1 0 1 1",
+        "rig F 3",
+        "claim 1 0 1 x",
+    ] {
+        agreed(format!("{full}{more}\n").as_bytes());
+    }
+    for edition in [1, 2] {
+        for size in [65_535, 65_536, 65_537] {
+            let load = generate::sized_load(edition, 1, size).expect("a load of that size");
+            assert!(!show_differs(&load), "{size}");
+            agreed(load_show(&load).as_bytes());
+        }
     }
 }

@@ -1,6 +1,8 @@
 //! Draws the plan of a load as SVG: a row for each group, time to the right.
 //! A held claim is drawn from its grant to its release (or to its end, where it
-//! is still held), a waiting one, pale, from its planned start to its end.
+//! is still held), a waiting one, pale, from its planned start to its end. Where
+//! there is a pool, a last row has the units in use, those of waiting claims
+//! pale above the others.
 //! Reads a load on standard input, writes the picture on standard output.
 
 use reference::load::{self, Call};
@@ -12,30 +14,29 @@ use std::io::{self, Read, Write};
 struct Bar {
     ticket: u16,
     groups: u64,
+    units: u16,
     from: u64,
     to: u64,
     waiting: bool,
 }
 
 const ROW: u64 = 28;
+/// The height of the pool's row.
+const POOL: u64 = 84;
 const LEFT: u64 = 70;
 const WIDTH: u64 = 800;
 const COLORS: [&str; 6] = [
     "#4878a8", "#b8694a", "#5f9960", "#8f6fa8", "#b59a3c", "#4f9c9c",
 ];
 
-/// The bars of a run of calls.
-fn bars(calls: &[Call]) -> (u64, Vec<Bar>) {
-    let mut rig = 0;
-    let mut table = Table::new(0).0;
+/// The rig, the pool and the bars of a run of calls.
+fn bars(calls: &[Call]) -> (u64, u16, Vec<Bar>) {
+    let mut table = Table::new(0, 0).0;
     let mut bars = Vec::new();
     let mut pending: BTreeMap<u16, Claim> = BTreeMap::new();
     for &call in calls {
         match call {
-            Call::Rig(groups) => {
-                rig = groups;
-                table = Table::new(groups).0;
-            }
+            Call::Rig { groups, pool } => table = Table::new(groups, pool).0,
             Call::Timed(timed) => {
                 table.call(timed);
                 let now: BTreeMap<u16, Claim> =
@@ -57,24 +58,59 @@ fn bars(calls: &[Call]) -> (u64, Vec<Bar>) {
             State::Waiting(start) => bars.push(bar(claim, start, claim.end(table.now()), true)),
         }
     }
-    (rig, bars)
+    (table.rig(), table.pool(), bars)
 }
 
 fn bar(claim: &Claim, from: u64, to: u64, waiting: bool) -> Bar {
     Bar {
         ticket: claim.ticket,
         groups: claim.groups,
+        units: claim.units,
         from,
         to,
         waiting,
     }
 }
 
-fn svg(rig: u64, bars: &[Bar]) -> String {
+/// The units that bars use at a tick.
+fn used<'a>(bars: impl Iterator<Item = &'a Bar>, tick: u64) -> u64 {
+    bars.filter(|b| b.from <= tick && tick < b.to)
+        .map(|b| u64::from(b.units))
+        .sum()
+}
+
+/// The row of the pool, from a height down.
+fn pool_row(pool: u16, bars: &[Bar], top: u64, x: &dyn Fn(u64) -> u64) -> String {
+    let mut out = format!("<text x=\"8\" y=\"{}\">{pool} units</text>\n", top + 18);
+    let mut ticks: Vec<u64> = bars.iter().flat_map(|b| [b.from, b.to]).collect();
+    ticks.sort_unstable();
+    ticks.dedup();
+    for pair in ticks.windows(2) {
+        let held = used(bars.iter().filter(|b| !b.waiting), pair[0]);
+        let all = used(bars.iter(), pair[0]);
+        for (from, to, opacity) in [(0, held, "1"), (held, all, "0.45")] {
+            let height = |units: u64| units * (POOL - 4) / u64::from(pool);
+            if from < to {
+                out += &format!(
+                    "<rect x=\"{}\" y=\"{}\" width=\"{}\" height=\"{}\" fill=\"#808080\" fill-opacity=\"{opacity}\"/>\n",
+                    x(pair[0]),
+                    top + POOL - 4 - height(to),
+                    x(pair[1]) - x(pair[0]),
+                    (height(to) - height(from)).max(1)
+                );
+            }
+        }
+    }
+    out
+}
+
+fn svg(rig: u64, pool: u16, bars: &[Bar]) -> String {
     let groups: Vec<u32> = (0..64).filter(|g| rig >> g & 1 == 1).collect();
     let last = bars.iter().map(|b| b.to).max().unwrap_or(1).max(1);
     let x = |t: u64| LEFT + t * WIDTH / last;
-    let height = ROW * groups.len() as u64 + 50;
+    let rows = 10 + ROW * groups.len() as u64;
+    let base = if pool > 0 { rows + POOL } else { rows };
+    let height = base + 40;
     let mut out = format!(
         "<svg xmlns=\"http://www.w3.org/2000/svg\" width=\"{}\" height=\"{height}\" font-family=\"sans-serif\" font-size=\"12\">\n",
         LEFT + WIDTH + 30
@@ -106,7 +142,9 @@ fn svg(rig: u64, bars: &[Bar]) -> String {
             );
         }
     }
-    let base = 10 + ROW * groups.len() as u64;
+    if pool > 0 {
+        out += &pool_row(pool, bars, rows, &x);
+    }
     for tick in 0..=5 {
         let t = last * tick / 5;
         out += &format!("<text x=\"{}\" y=\"{}\">{t}</text>\n", x(t), base + 18);
@@ -128,6 +166,6 @@ fn main() -> io::Result<()> {
             std::process::exit(1);
         }
     };
-    let (rig, bars) = bars(&calls);
-    io::stdout().write_all(svg(rig, &bars).as_bytes())
+    let (rig, pool, bars) = bars(&calls);
+    io::stdout().write_all(svg(rig, pool, &bars).as_bytes())
 }

@@ -19,10 +19,16 @@ pub fn for_seeds(seeds: Range<u64>, mut case: impl FnMut(u64)) {
 }
 
 pub fn claim(clock: u64, groups: u64, length: u32) -> TimedCall {
+    draw(clock, groups, length, 0)
+}
+
+/// A claim that draws units.
+pub fn draw(clock: u64, groups: u64, length: u32, units: u16) -> TimedCall {
     TimedCall::Claim {
         clock,
         groups,
         length,
+        units,
     }
 }
 
@@ -38,11 +44,25 @@ pub fn clock(clock: u64) -> TimedCall {
     TimedCall::Clock { clock }
 }
 
-/// The load of a rig and calls.
-pub fn load_of(rig: u64, calls: &[TimedCall]) -> Vec<u8> {
-    let mut all = vec![Call::Rig(rig)];
+/// A rig without a pool.
+pub fn rig(groups: u64) -> Call {
+    Call::Rig { groups, pool: 0 }
+}
+
+/// The load of a rig and calls, of edition 1.
+pub fn load_of(groups: u64, calls: &[TimedCall]) -> Vec<u8> {
+    load::join(1, &all(rig(groups), calls))
+}
+
+/// The load of a rig with a pool and calls, of edition 2.
+pub fn pool_load_of(groups: u64, pool: u16, calls: &[TimedCall]) -> Vec<u8> {
+    load::join(2, &all(Call::Rig { groups, pool }, calls))
+}
+
+fn all(rig: Call, calls: &[TimedCall]) -> Vec<Call> {
+    let mut all = vec![rig];
     all.extend(calls.iter().map(|&call| Call::Timed(call)));
-    load::join(&all)
+    all
 }
 
 /// The listing of a load as text.

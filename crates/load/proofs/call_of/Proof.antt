@@ -1,12 +1,12 @@
 -- `load::call_of` meets its contract: the fields read so far, with those left, give the call.
 use borrow.Author.Needs.{needs}
 use native.Mathlib.Omega.{arith}
-use mathlib.Core.Path.{_≡_, _∙_}
-use Prim.Native.Nat.{_-_, _<_}
+use mathlib.Core.Path.{_≡_, refl, _∙_}
+use Prim.Native.Nat.{ℕ, _-_, _≤_, _<_}
 use lib.ListN.{length, getD}
-use Rattle.load.specs.Format.{fieldWidths, fieldCount, fieldsOf}
+use Rattle.load.specs.Format.{fieldWidths, fieldCount, fieldWidth, fieldsOf}
 use Rattle.load.specs.Calls.{filled}
-use Rattle.load.proofs.Format.{row-field, row-under}
+use Rattle.load.proofs.Format.{row-field, row-under, width-most}
 use Rattle.load.proofs.Rows.{Reading, reading-start, reading-early, reading-next, row-end, row-more}
 use Rattle.load.proofs.call_of.Statement.{statement}
 use Rattle.load.proofs.call_of.Tie as tie
@@ -17,27 +17,32 @@ Inv-loop edition kind fields row ns₀ at₀ i₀ ns at i = Reading edition kind
 abbrev μ-loop : tie.MeasureT-loop
 μ-loop edition kind fields row ns₀ at₀ i₀ ns at i = length (fieldsOf edition kind) - i
 
--- What the row has at the loop's place.
+-- What the row has at the loop's place, and its width.
+abbrev at-place : tie.At-loop Inv-loop μ-loop → ℕ
+at-place l = getD (l .before .row-of .result) (l .loop .i) 0
+
 field : (l : tie.At-loop Inv-loop μ-loop)
     → let a = l .before .before .before .args in
-    let f = getD (l .before .row-of .result) (l .loop .i) 0 in
-    (f ≡ getD (fieldsOf (a .edition) (a .kind)) (l .loop .i) 0) × (f < fieldCount) × (l .loop .i < 7)
+    let f = at-place l in
+    (f ≡ getD (fieldsOf (a .edition) (a .kind)) (l .loop .i) 0) × (f < fieldCount) × (l .loop .i < 7) × (fieldWidth f ≤ 8)
 field l =
     let r = l .before .row-of .ensures in
     let i = reading-early (l .loop .inv) in
-    (row-field _ _ _ r (l .loop .i) i, row-under _ _ _ r (l .loop .i) i, i)
+    (row-field _ _ _ r (l .loop .i) i, row-under _ _ _ r (l .loop .i) i, i, width-most (at-place l))
 
 returns : tie.Need-returns Inv-loop μ-loop
 unfolding filled
 returns c = let l = c .before .before in c .made .ensures ∙ rw (row-end _ _ _ _ (field l .0) (c .before .if1 .taken)) at (l .loop .inv .call)
 
 loop-again : tie.Need-loop-again Inv-loop μ-loop
+unfolding fieldWidth fieldWidths
 loop-again c =
-    let z = c .before .before in
-    reading-next _ _ _ _ (field (z .before) .0) (z .if1 .left) _ _ _ _ _ (c .before .width-of .ensures) (c .number .ensures) (z .before .loop .inv)
+    let z = c .before in
+    let f = field (z .before) in
+    reading-next _ _ _ _ (f .0) (z .if1 .left) _ _ _ _ _ (refl, f .3) (c .number .ensures) (z .before .loop .inv)
 
 pub call-of-spec : {M : Type 1} → statement M
-unfolding fieldWidths
+unfolding fieldWidth fieldWidths
 call-of-spec =
     tie.close
     (tie.spec
@@ -48,12 +53,14 @@ call-of-spec =
     (λ c. omega (arith, field c .2))
     (λ c κs. c .before .loop .inv .typed)
     returns
+    (λ c. omega (arith, field (c .before) .1))
+    (λ c. field (c .before) .1)
+    (λ c. omega (arith, field (c .before) .3))
     (λ c κs. search needs)
-    (λ c κs. search needs)
-    (λ c. omega (arith, field (c .before .before .before) .1))
-    (λ c. omega (arith, field (c .before .before .before) .1))
-    (λ c. field (c .before .before .before) .1)
-    (λ c. let l = c .before .before .before in omega (arith, l .loop .inv .bytes, field l .2, c .before .width-of .ensures .1))
-    (λ c. omega (arith, field (c .before .before .before) .2))
-    (λ c. let z = c .before .before in omega (arith, row-more _ _ _ _ (field (z .before) .0) (z .if1 .left)))
+    (λ c. omega (arith, field (c .before .before) .1))
+    (λ c. omega (arith, field (c .before .before) .1))
+    (λ c. field (c .before .before) .1)
+    (λ c. let l = c .before .before in omega (arith, l .loop .inv .bytes, field l .2, field l .3))
+    (λ c. omega (arith, field (c .before .before) .2))
+    (λ c. let z = c .before in omega (arith, row-more _ _ _ _ (field (z .before) .0) (z .if1 .left)))
     loop-again)

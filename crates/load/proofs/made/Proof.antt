@@ -20,4 +20,8 @@ made-spec =
     (λ c. let h = c .pre 3 in omega arith)
     (λ c. search needs)
     (λ c. let h = c .pre 4 in omega arith)
+    (λ c. search needs)
+    (λ c. let h = c .pre 5 in omega arith)
+    (λ c. search needs)
+    (λ c. let h = c .pre 6 in omega arith)
     (λ c. refl))

@@ -18,5 +18,7 @@ value-of-spec =
     (λ c. search needs)
     (λ c. search needs)
     (λ c. search needs)
-    (λ c. (refl, typed-call _ (search needs) (search needs) (search needs) (search needs) (search needs) _))
+    (λ c. search needs)
+    (λ c. search needs)
+    (λ c. (refl, typed-call _ (search needs) (search needs) (search needs) (search needs) (search needs) (search needs) (search needs) _))
     (λ c. no-value _ _ (omega arith)))

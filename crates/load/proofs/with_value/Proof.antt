@@ -1,5 +1,5 @@
 -- `load::with_value` meets its contract: each field has its place among the numbers.
-use Prim.Native.Nat.{_^_}
+use Prim.Native.Nat.{_^_, _≤_}
 use native.Mathlib.Omega.{arith}
 use native.Mathlib.Nat.{mod-eq-of-lt}
 use borrow.Author.Needs.{needs}
@@ -17,9 +17,16 @@ with-value-spec =
     (λ c. search needs)
     (λ c. search needs)
     (λ c. search needs)
+    (λ c. search needs)
+    (λ c. search needs)
     (λ c. rw (c .match .keys1))
     (λ c. rw (c .match .keys2, mod-eq-of-lt {n = c .before .args .value} {m = 256 ^ 8} (search needs)))
     (λ c. rw (c .match .keys3, mod-eq-of-lt {n = c .before .args .value} {m = 256 ^ 8} (search needs)))
     (λ c. rw (c .match .keys4))
     (λ c. rw (c .match .keys5))
-    (λ c. let r = c .match .rest in with-none (c .before .args .field) _ _ (omega (arith, r .1, r .0 .1, r .0 .0 .1, r .0 .0 .0 .1, r .0 .0 .0 .0 .1))))
+    (λ c. rw (c .match .keys6))
+    (λ c. rw (c .match .keys7))
+    (λ c. let r = c .match .rest in
+    let f = c .before .args .field in
+    let l : 4 ≤ f = omega (arith, r .0 .0 .0 .1, r .0 .0 .0 .0 .1, r .0 .0 .0 .0 .0 .1, r .0 .0 .0 .0 .0 .0 .1) in
+    with-none f _ _ (omega (arith, l, r .0 .0 .1, r .0 .1, r .1))))

@@ -4,6 +4,7 @@ use Prim.Native.Nat.{_-_}
 use native.Mathlib.Omega.{arith}
 use lib.ListN.{take}
 use Rattle.rules.specs.Lists.{any}
+use Rattle.table.specs.Parts.{ruledIn}
 use Rattle.table.specs.Outcomes.{pastEnd}
 use Rattle.table.proofs.Rows.{row-small, Left, left-start, left-next, left-end}
 use Rattle.table.proofs.Ranges.{formed-row}
@@ -12,7 +13,7 @@ use Rattle.table.proofs.at_clock.Statement.{statement}
 use Rattle.table.proofs.at_clock.Tie as tie
 
 abbrev Inv-loop : tie.InvT-loop
-Inv-loop clock t count i₀ i = Left (λ r. any (pastEnd clock) r ≡ any (pastEnd clock) (take count (t .claims))) clock (t .claims) count i
+Inv-loop clock t count i₀ i = Left (λ r. any (pastEnd clock) r ≡ any (pastEnd clock) (take count (t .claims))) (ruledIn t clock) (t .claims) count i
 
 abbrev μ-loop : tie.MeasureT-loop
 μ-loop clock t count i₀ i = count - i

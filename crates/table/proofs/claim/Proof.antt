@@ -27,7 +27,7 @@ admitted-requires c κs =
     let h = passed (c .before) in
     let u = c .at-clock .ensures in
     let k = advanced-counts (b .args .t) (b .args .clock) _ (b .pre .formed) (u .0) in
-    (u .1, u .2, omega (arith, k .0, h .room, formed-count (b .args .t) (b .pre .formed)), omega (arith, k .1, h .spare), h .long, h .short)
+    (u .1, u .2, omega (arith, k .0, h .room, formed-count (b .args .t) (b .pre .formed)), omega (arith, k .1, h .spare), h .long, h .short, omega (arith, k .2, h .drawn))
 
 returns-2 : tie.Need-returns-2
 returns-2 c =

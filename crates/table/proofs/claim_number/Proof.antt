@@ -5,7 +5,7 @@ use Prim.Native.Nat.{ℕ}
 use borrow.Author.Needs.{needs}
 use lib.ListN.{length, drop}
 use Rattle.rules.specs.Calls.{Call, tests}
-use Rattle.rules.specs.Tests.{Test, firstOf, dark, full, ticketless}
+use Rattle.rules.specs.Tests.{Test, firstOf, full, ticketless}
 use Rattle.rules.specs.Tables.{model}
 use Rattle.table.proofs.Ranges.{formed-count}
 use Rattle.rules.proofs.Tests.{fails-here, past}
@@ -28,7 +28,7 @@ behind1 c n h =
 
 behind2 : (c : tie.Else2) → Behind 3 (c .before .before .before .before)
 unfolding tests
-behind2 c n h = behind1 (c .before .before) n (past _ _ (sym (c .before .dark .ensures) ∙ c .if2 .left) h)
+behind2 c n h = behind1 (c .before .before) n (past _ _ (sym (c .before .nothing-asked .ensures) ∙ c .if2 .left) h)
 
 behind3 : (c : tie.Else3) → Behind 4 (c .before .before .before .before .before .before)
 unfolding tests
@@ -36,15 +36,21 @@ behind3 c n h = behind2 (c .before .before) n (past _ _ (sym (c .before .off-rig
 
 behind4 : (c : tie.Else4) → Behind 5 (c .before .before .before .before .before .before .before .before)
 unfolding tests
-behind4 c n h = behind3 (c .before .before) n (past _ _ (sym (c .before .bad-length .ensures) ∙ c .if4 .left) h)
+behind4 c n h = behind3 (c .before .before) n (past _ _ (sym (c .before .spots .ensures) ∙ c .if4 .left) h)
+
+behind5 : (c : tie.Else5) → Behind 6 (c .before .before .before .before .before .before .before .before .before .before)
+unfolding tests
+behind5 c n h = behind4 (c .before .before) n (past _ _ (sym (c .before .bad-length .ensures) ∙ c .if5 .left) h)
 
 -- The count of pending claims is the table's.
 counted : (c : tie.Start) → full (length (model (c .args .t) .pending)) .fails ≡ full (c .args .t .count) .fails
 counted c = ap (λ (n : ℕ). full n .fails) (formed-count (c .args .t) (c .pre))
 
-behind5 : (c : tie.Else5) → Behind 6 (c .before .before .before .before .before .before .before .before .before .before)
+behind6 : (c : tie.Else6) → Behind 7 (c .before .before .before .before .before .before .before .before .before .before .before .before)
 unfolding tests
-behind5 c n h = behind4 (c .before .before) n (past _ _ (counted (c .before .before .before .before .before .before .before .before .before .before) ∙ sym (c .before .full .ensures) ∙ c .if5 .left) h)
+behind6 c n h =
+    behind5 (c .before .before) n
+    (past _ _ (counted (c .before .before .before .before .before .before .before .before .before .before .before .before) ∙ sym (c .before .full .ensures) ∙ c .if6 .left) h)
 
 returns : tie.Need-returns
 unfolding tests
@@ -54,7 +60,7 @@ returns c =
 
 returns-2 : tie.Need-returns-2
 unfolding tests
-returns-2 c = behind1 (c .before .before) _ (fails-here _ _ refl (sym (c .before .dark .ensures) ∙ c .if2 .taken))
+returns-2 c = behind1 (c .before .before) _ (fails-here _ _ refl (sym (c .before .nothing-asked .ensures) ∙ c .if2 .taken))
 
 returns-3 : tie.Need-returns-3
 unfolding tests
@@ -62,19 +68,25 @@ returns-3 c = behind2 (c .before .before) _ (fails-here _ _ refl (sym (c .before
 
 returns-4 : tie.Need-returns-4
 unfolding tests
-returns-4 c = behind3 (c .before .before) _ (fails-here _ _ refl (sym (c .before .bad-length .ensures) ∙ c .if4 .taken))
+returns-4 c = behind3 (c .before .before) _ (fails-here _ _ refl (sym (c .before .spots .ensures) ∙ c .if4 .taken))
 
 returns-5 : tie.Need-returns-5
 unfolding tests
-returns-5 c = behind4 (c .before .before) _ (fails-here _ _ refl (counted (c .before .before .before .before .before .before .before .before .before .before) ∙ sym (c .before .full .ensures) ∙ c .if5 .taken))
+returns-5 c = behind4 (c .before .before) _ (fails-here _ _ refl (sym (c .before .bad-length .ensures) ∙ c .if5 .taken))
 
 returns-6 : tie.Need-returns-6
 unfolding tests
-returns-6 c = behind5 (c .before .before) _ (fails-here _ _ refl (sym (c .before .ticketless .ensures) ∙ c .if6 .taken))
+returns-6 c =
+    behind5 (c .before .before) _
+    (fails-here _ _ refl (counted (c .before .before .before .before .before .before .before .before .before .before .before .before) ∙ sym (c .before .full .ensures) ∙ c .if6 .taken))
 
 returns-7 : tie.Need-returns-7
+unfolding tests
+returns-7 c = behind6 (c .before .before) _ (fails-here _ _ refl (sym (c .before .ticketless .ensures) ∙ c .if7 .taken))
+
+returns-8 : tie.Need-returns-8
 unfolding tests firstOf
-returns-7 c = behind5 (c .before .before) _ (past _ [] (sym (c .before .ticketless .ensures) ∙ c .if6 .left) refl)
+returns-8 c = behind6 (c .before .before) _ (past _ [] (sym (c .before .ticketless .ensures) ∙ c .if7 .left) refl)
 
 pub claim-number-spec : {M : Type 1} → statement M
 claim-number-spec =
@@ -92,4 +104,6 @@ claim-number-spec =
     returns-5
     (λ c κs. search needs)
     returns-6
-    returns-7)
+    (λ c κs. search needs)
+    returns-7
+    returns-8)

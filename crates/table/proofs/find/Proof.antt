@@ -6,6 +6,7 @@ use lib.ListN.{take}
 use borrow.Author.Tests.{ne-eqb}
 use Rattle.rules.specs.Lists.{keep}
 use Rattle.rules.specs.Tests.{named}
+use Rattle.table.specs.Parts.{ruledIn}
 use Rattle.table.proofs.Rows.{Left, left-start, left-next, left-end}
 use Rattle.table.proofs.Ranges.{formed-now}
 use Rattle.table.proofs.Finding.{found-here, found-none}
@@ -13,7 +14,7 @@ use Rattle.table.proofs.find.Statement.{statement}
 use Rattle.table.proofs.find.Tie as tie
 
 abbrev Inv-loop : tie.InvT-loop
-Inv-loop ticket t count i₀ i = Left (λ r. keep (named ticket) r ≡ keep (named ticket) (take count (t .claims))) (t .clock) (t .claims) count i
+Inv-loop ticket t count i₀ i = Left (λ r. keep (named ticket) r ≡ keep (named ticket) (take count (t .claims))) (ruledIn t (t .clock)) (t .claims) count i
 
 abbrev μ-loop : tie.MeasureT-loop
 μ-loop ticket t count i₀ i = count - i

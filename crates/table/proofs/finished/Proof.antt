@@ -1,5 +1,5 @@
 use Rattle.rules.specs.Tables.{model}
-use Rattle.rules.proofs.OnePacking.{still-starts, still-tight, finish-still}
+use Rattle.rules.proofs.OnePacking.{still-starts, finish-still}
 use Rattle.table.proofs.Ranges.{formed-now}
 use Rattle.table.proofs.Steps.{granted-is}
 use Rattle.table.proofs.finished.Statement.{statement}
@@ -8,7 +8,7 @@ use Rattle.table.proofs.finished.Tie as tie
 grant-requires : tie.Need-grant-requires
 grant-requires c κs =
     let t = c .args .t in
-    (formed-now t (c .pre .0), record { low = still-starts (model t) (c .pre .1); tight = still-tight (model t) (c .pre .1) })
+    (formed-now t (c .pre .0), still-starts (model t) (c .pre .1))
 
 returns : tie.Need-returns
 returns c =

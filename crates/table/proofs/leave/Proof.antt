@@ -1,10 +1,13 @@
 use mathlib.Core.Path.{_≡_, sym, _∙_, ap}
+use native.Mathlib.Omega.{arith}
+use Rattle.rules.specs.declared.Table.{Table}
 use Rattle.rules.specs.Tests.{firstOf}
 use Rattle.rules.specs.Calls.{Call, remove, tests}
 use Rattle.rules.specs.Tables.{model}
 use Rattle.table.specs.Outcomes.{phaseNumber, leaving}
-use Rattle.table.proofs.Tests.{time-ok, leave-tests, leave-timed}
-use Rattle.table.proofs.Steps.{refused, accepted, leave-is}
+use Rattle.rules.proofs.Calls.{Clocked}
+use Rattle.table.proofs.Tests.{time-ok, leave-timed, departed-tests}
+use Rattle.table.proofs.Steps.{refused, accepted, departed-clock, leaves-is}
 use borrow.Author.Needs.{needs}
 use Rattle.table.proofs.leave.Statement.{statement}
 use Rattle.table.proofs.leave.Tie as tie
@@ -18,14 +21,19 @@ returns c =
     let z = c .before .if1 .taken in
     refused _ (call (n .before)) _ _ (n .before .pre) (c .unchanged .ensures) (leave-timed _ (n .before .args .releasing) _ (n .before .args .ticket) _ (n .time-number .ensures) z) z
 
--- Once the clock is right, the phase decides.
+-- The clock is right.
+right : (c : tie.Else1) → Clocked (model (c .before .before .args .t)) (c .before .before .args .clock)
+right c = time-ok (model (c .before .before .args .t)) _ (sym (c .before .time-number .ensures) ∙ c .if1 .left)
+
+-- Then the phase decides.
 number-is : (c : tie.After-phase-number) →
     let b = c .before .before .before .before in
     firstOf (tests (model (b .args .t)) (call b)) ≡ c .phase-number .result
 number-is c =
     let l = c .before in
-    let n = l .before .before in
-    leave-tests (model (n .before .args .t)) _ _ _ _ (n .before .pre .formed .ranged .ascending) (n .time-number .ensures) (l .before .if1 .left)
+    let e = l .before in
+    let b = e .before .before in
+    departed-tests (model (b .args .t)) (b .args .releasing) _ (b .args .ticket) (b .pre .formed .ranged .ascending) (right e .later) (right e .early)
     ∙ sym (c .phase-number .ensures ∙ ap (phaseNumber _) (l .removed .ensures .0))
 
 returns-2 : tie.Need-returns-2
@@ -38,17 +46,21 @@ pulled-requires : tie.Need-pulled-requires
 unfolding remove
 pulled-requires c κs =
     let l = c .before .before .before in
-    let n = l .before .before in
-    let o = time-ok (model (n .before .args .t)) _ (sym (n .time-number .ensures) ∙ l .before .if1 .left) in
-    (l .removed .ensures .2, rw (l .removed .ensures .1) (o .later), o .early)
+    let e = l .before in (
+      l .removed .ensures .2,
+      omega (arith, ap (λ (x : Table). x .clock) (l .removed .ensures .1), departed-clock (model (e .before .before .args .t)) _ (right e .later)),
+      right e .early,
+    )
 
 returns-3 : tie.Need-returns-3
 returns-3 c =
     let r = c .before .before in
     let p = r .before .before in
-    let b = p .before .before .before .before in
+    let l = p .before in
+    let b = l .before .before .before in
     accepted _ (call b) _ (b .pre)
-    (leave-is (b .args .t) (b .args .releasing) _ _ _ _ _ (b .pre .formed) (number-is p ∙ r .before .if2 .left) (p .before .removed .ensures .1) (c .before .pulled .ensures .0) (c .finished .ensures .0))
+    (leaves-is (b .args .t) (b .args .releasing) _ _ _ _ _ (b .pre .formed) (number-is p ∙ r .before .if2 .left) (l .removed .ensures .1) (l .removed .ensures .2) (c .before .pulled .ensures .0)
+    (c .finished .ensures .0))
     (c .finished .ensures .1)
 
 pub leave-spec : {M : Type 1} → statement M
@@ -58,7 +70,8 @@ leave-spec =
     (λ c κs. search needs)
     (λ c κs. search needs)
     returns
-    (λ c κs. c .before .before .pre .formed)
+    -- removed-requires, phase-number-requires, unchanged-requires-2
+    (λ c κs. (c .before .before .pre, right c .later, right c .early))
     (λ c κs. search needs)
     (λ c κs. search needs)
     returns-2

@@ -4,6 +4,7 @@ use Prim.Native.Nat.{_-_}
 use native.Mathlib.Omega.{arith}
 use lib.ListN.{take}
 use Rattle.rules.specs.Calls.{standingOf}
+use Rattle.table.specs.Parts.{ruledIn}
 use Rattle.table.proofs.Rows.{row-small, Left, left-start, left-here, left-next, left-end}
 use Rattle.table.proofs.Ranges.{formed-now}
 use Rattle.table.proofs.RemovalLoop.{found, passed-by}
@@ -12,7 +13,7 @@ use Rattle.table.proofs.lookup.Statement.{statement}
 use Rattle.table.proofs.lookup.Tie as tie
 
 abbrev Inv-loop : tie.InvT-loop
-Inv-loop ticket t count i₀ i = Left (λ r. standingOf ticket r ≡ standingOf ticket (take count (t .claims))) (t .clock) (t .claims) count i
+Inv-loop ticket t count i₀ i = Left (λ r. standingOf ticket r ≡ standingOf ticket (take count (t .claims))) (ruledIn t (t .clock)) (t .claims) count i
 
 abbrev μ-loop : tie.MeasureT-loop
 μ-loop ticket t count i₀ i = count - i

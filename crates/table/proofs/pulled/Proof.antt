@@ -5,6 +5,7 @@ use Prim.Native.Nat.{_-_}
 use native.Mathlib.Omega.{arith}
 use lib.ListN.{take}
 use Rattle.rules.specs.Lists.{any}
+use Rattle.table.specs.Parts.{ruledIn}
 use Rattle.table.proofs.Rows.{Left, left-start, left-next, left-end}
 use Rattle.table.proofs.Ranges.{formed-row}
 use Rattle.table.proofs.Steps.{advanced-is, idle-is, waits, none-waits-idle}
@@ -13,7 +14,7 @@ use Rattle.table.proofs.pulled.Statement.{statement}
 use Rattle.table.proofs.pulled.Tie as tie
 
 abbrev Inv-loop : tie.InvT-loop
-Inv-loop clock t count i₀ i = Left (λ r. any waits r ≡ any waits (take count (t .claims))) clock (t .claims) count i
+Inv-loop clock t count i₀ i = Left (λ r. any waits r ≡ any waits (take count (t .claims))) (ruledIn t clock) (t .claims) count i
 
 abbrev μ-loop : tie.MeasureT-loop
 μ-loop clock t count i₀ i = count - i

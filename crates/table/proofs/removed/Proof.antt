@@ -1,28 +1,35 @@
--- The loop's invariant is `Taking`: of the claims done those that stay are in the first places.
-use mathlib.Core.Path.{_≡_, refl, sym}
+-- The loop's invariant is `Taking`, over the table that the claim is taken out of: of the claims done those that stay are in the first places.
+use mathlib.Core.Path.{_≡_, refl, sym, ap, _∙_}
 use mathlib.Core.Logic.{⊎-elim}
 use mathlib.Core.List.{List}
 use Prim.Native.Nat.{_-_}
 use native.Mathlib.Omega.{arith}
 use Rattle.rules.specs.declared.Claim.{Claim}
 use Rattle.rules.specs.declared.Table.{Table}
-use Rattle.rules.specs.Calls.{remove, standingOf}
+use Rattle.rules.specs.Calls.{Model, remove, standingOf}
 use Rattle.rules.specs.Tables.{encode, model, pad, vacant}
-use Rattle.table.specs.Parts.{withClaims}
-use Rattle.table.specs.Outcomes.{without}
+use Rattle.table.specs.Parts.{withClaims, ruledIn}
+use Rattle.table.specs.Outcomes.{departed, without}
 use Rattle.table.specs.Valid.{Formed}
 use Rattle.table.proofs.Rows.{row-small, other-claims}
-use Rattle.table.proofs.Ranges.{formed-now, formed-claims}
+use Rattle.table.proofs.Ranges.{model-is, formed-now, formed-claims}
 use Rattle.table.proofs.RemovalLoop.{Taking, taking-start, taking-rest, taking-kept, taking-gone, taking-count, taking-told, taking-none, taking-one}
-use Rattle.table.proofs.Steps.{counted, removed-is}
+use Rattle.table.proofs.Steps.{counted, removed-is, departed-none, departed-some}
 use Rattle.table.proofs.removed.Statement.{statement}
 use Rattle.table.proofs.removed.Tie as tie
 
 abbrev Inv-loop : tie.InvT-loop
-Inv-loop ticket t₀ count s₀ n₀ i₀ t s n i = (t ≡ withClaims t₀ (t .claims)) × Taking ticket (t₀ .clock) (t₀ .claims) count i s n (t .claims)
+Inv-loop clock ticket t₀ count s₀ n₀ i₀ t s n i = (t ≡ withClaims t₀ (t .claims)) × Taking ticket (ruledIn t₀ (t₀ .clock)) (t₀ .claims) count i s n (t .claims)
 
 abbrev μ-loop : tie.MeasureT-loop
-μ-loop ticket t₀ count s₀ n₀ i₀ t s n i = count - i
+μ-loop clock ticket t₀ count s₀ n₀ i₀ t s n i = count - i
+
+start-is : (c : tie.Joined1 Inv-loop μ-loop) → Formed (c .if1 .t) × (model (c .if1 .t) ≡ departed (model (c .before .args .t1)) (c .before .args .clock))
+start-is c =
+    ⊎-elim
+    (λ k. rw (k .2) (k .1 .ensures .1, model-is _ _ (k .1 .ensures .0) ∙ sym (departed-some _ _ (k .0 .taken))))
+    (λ k. rw (k .1) (c .before .pre .0 .formed, sym (departed-none _ _ (k .0 .left))))
+    (c .if1 .came)
 
 shown-requires : tie.Need-shown-requires Inv-loop μ-loop
 shown-requires c κs =
@@ -35,31 +42,35 @@ loop-again c =
     let w = z .loop .inv .1 in
     ⊎-elim
     (λ k. rw (k .2, k .3, k .4) (z .loop .inv .0, taking-gone w (omega arith) (k .0 .taken) _ (k .1 .ensures)))
-    (λ k. rw (k .1, k .2, k .3) (other-claims (z .loop .t) (z .before .args .t1) _ (z .loop .inv .0), taking-kept w (omega arith) (k .0 .left)))
-    (c .if1 .came)
+    (λ k. rw (k .1, k .2, k .3) (other-claims (z .loop .t) (z .before .if1 .t) _ (z .loop .inv .0), taking-kept w (omega arith) (k .0 .left)))
+    (c .if2 .came)
 
 -- After the loop, with the claims l in the row.
 taken : (c : tie.After-loop Inv-loop μ-loop) (l : List Claim) →
-    let t = c .before .before .args .t1 in
-    let k = c .before .before .args .ticket in
+    let t = c .before .before .if1 .t in
+    let b = c .before .before .before in
+    let m = departed (model (b .args .t1)) (b .args .clock) in
+    let k = b .args .ticket in
     l ≡ pad vacant (without k (model t .pending)) → (r : Table) → r ≡ counted (c .before .loop .t) (c .before .loop .n) l
-    → (c .before .loop .s ≡ standingOf k (model t .pending)) × (r ≡ encode (remove (model t) k)) × Formed r
+    → (c .before .loop .s ≡ standingOf k (m .pending)) × (r ≡ encode (remove m k)) × Formed r
 taken c l g r q =
     let z = c .before in
+    let k = z .before .before .args .ticket in
     let w = z .loop .inv .1 in
     let h = c .loop-test .left in
-    let e = removed-is _ (z .loop .t) _ _ l (z .before .pre) (z .loop .inv .0) (taking-count w h) g r q in
-    (taking-told w h, e .0, e .1)
+    let d = start-is (z .before) in
+    let e = removed-is _ (z .loop .t) _ _ l (d .0) (z .loop .inv .0) (taking-count w h) g r q in
+    (taking-told w h ∙ ap (λ (x : Model). standingOf k (x .pending)) (d .1), e .0 ∙ ap (λ (x : Model). encode (remove x k)) (d .1), e .1)
 
 returns : tie.Need-returns Inv-loop μ-loop
 returns c =
     let z = c .before .before in
-    taken (c .before) _ (taking-one (z .loop .inv .1) (c .before .loop-test .left) (sym (formed-claims _ (z .before .pre))) (c .if2 .taken)) _ refl
+    taken (c .before) _ (taking-one (z .loop .inv .1) (c .before .loop-test .left) (sym (formed-claims _ (start-is (z .before) .0))) (c .if3 .taken)) _ refl
 
 returns-2 : tie.Need-returns-2 Inv-loop μ-loop
 returns-2 c =
     let z = c .before .before in
-    taken (c .before) _ (taking-none (z .loop .inv .1) (c .before .loop-test .left) (sym (formed-claims _ (z .before .pre))) (c .if2 .left)) _ refl
+    taken (c .before) _ (taking-none (z .loop .inv .1) (c .before .loop-test .left) (sym (formed-claims _ (start-is (z .before) .0))) (c .if3 .left)) _ refl
 
 pub removed-spec : {M : Type 1} → statement M
 removed-spec =
@@ -67,7 +78,8 @@ removed-spec =
     (tie.spec
     Inv-loop
     μ-loop
-    (λ c. (refl, taking-start (formed-now _ (c .pre))))
+    (λ c κs. c .before .pre)
+    (λ c. (refl, taking-start (formed-now _ (start-is c .0))))
     (λ c. omega arith)
     (λ c. omega arith)
     shown-requires

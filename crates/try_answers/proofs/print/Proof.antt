@@ -6,12 +6,17 @@ use Rattle.try_answers.proofs.print.Statement.{statement}
 use Rattle.try_answers.proofs.print.Tie as tie
 
 slice-aggregate-write-all : tie.Need-slice-aggregate-write-all
-slice-aggregate-write-all c = simp length-take (omega (arith, c .before .before .before .put-standings .kept .0, c .before .before .before .before .before .before .before .put-answer .kept .0))
+slice-aggregate-write-all c =
+    let s = c .before .before .before in
+    let f = s .before .before .before in
+    simp length-take (omega (arith, s .put-standings .kept .0, f .put-free .kept .0, f .before .before .before .before .put-answer .kept .0))
 
 pub print-spec : {M : Type 1} → statement M
 print-spec =
     tie.close
     (tie.spec
+    (λ c. search needs)
+    (λ c κs. search needs)
     (λ c. search needs)
     (λ c κs. search needs)
     (λ c. search needs)

@@ -4,16 +4,21 @@
 use compare::{listing, listing_before, timed};
 use reference::generate::Prng;
 use reference::load::{self, Call};
-use reference::table::{State, Table, TimedCall};
+use reference::table::{State, Table, TimedCall, MAX_PENDING};
 use std::hint::black_box;
 use std::time::Duration;
+
+/// A new table, and the call for it.
+fn begun(groups: u64, pool: u16) -> (Table, Vec<Call>) {
+    let (table, _) = Table::new(groups, pool);
+    (table, vec![Call::Rig { groups, pool }])
+}
 
 /// A load of so many claims of two groups of 64 each, with a release of the
 /// lowest ticket that is on behind about every other one.
 fn workshop(claims: u32, seed: u64) -> Vec<u8> {
     let mut prng = Prng::new(seed);
-    let (mut table, _) = Table::new(u64::MAX);
-    let mut calls = vec![Call::Rig(u64::MAX)];
+    let (mut table, mut calls) = begun(u64::MAX, 0);
     let mut clock = 0;
     for _ in 0..claims {
         clock += prng.below(8);
@@ -23,6 +28,7 @@ fn workshop(claims: u32, seed: u64) -> Vec<u8> {
             clock,
             groups,
             length,
+            units: 0,
         };
         table.call(claim);
         calls.push(Call::Timed(claim));
@@ -39,15 +45,14 @@ fn workshop(claims: u32, seed: u64) -> Vec<u8> {
             table.call(release);
         }
     }
-    load::join(&calls)
+    load::join(1, &calls)
 }
 
 /// A load that keeps about so many claims pending: claims of one group of 16
 /// until there are so many, then a release and a claim in turn.
 fn steady(pending: usize, rounds: usize) -> Vec<u8> {
     let mut prng = Prng::new(pending as u64);
-    let (mut table, _) = Table::new(0xFFFF);
-    let mut calls = vec![Call::Rig(0xFFFF)];
+    let (mut table, mut calls) = begun(0xFFFF, 0);
     let mut push = |table: &mut Table, call: TimedCall| {
         table.call(call);
         calls.push(Call::Timed(call));
@@ -62,6 +67,7 @@ fn steady(pending: usize, rounds: usize) -> Vec<u8> {
                     clock,
                     groups,
                     length,
+                    units: 0,
                 },
             );
         }
@@ -73,7 +79,7 @@ fn steady(pending: usize, rounds: usize) -> Vec<u8> {
             push(&mut table, TimedCall::Release { clock, ticket });
         }
     }
-    load::join(&calls)
+    load::join(1, &calls)
 }
 
 /// A load that keeps a table nearly full with claims of so many of 64 groups,
@@ -81,8 +87,7 @@ fn steady(pending: usize, rounds: usize) -> Vec<u8> {
 /// promised ends of the holders.
 fn crowded(groups: u64, late: bool, rounds: u64) -> Vec<u8> {
     let mut prng = Prng::new(groups);
-    let (mut table, _) = Table::new(u64::MAX);
-    let mut calls = vec![Call::Rig(u64::MAX)];
+    let (mut table, mut calls) = begun(u64::MAX, 0);
     for round in 1..=rounds {
         let clock = if late { round * 2000 } else { round };
         while table.claims().len() < 63 {
@@ -94,6 +99,7 @@ fn crowded(groups: u64, late: bool, rounds: u64) -> Vec<u8> {
                 clock,
                 groups: set,
                 length: prng.range(1, 1000) as u32,
+                units: 0,
             };
             table.call(claim);
             calls.push(Call::Timed(claim));
@@ -108,7 +114,45 @@ fn crowded(groups: u64, late: bool, rounds: u64) -> Vec<u8> {
             calls.push(Call::Timed(release));
         }
     }
-    load::join(&calls)
+    load::join(1, &calls)
+}
+
+/// A load of edition 2 that keeps a table full, with claims of up to two of 64
+/// groups, or none, and of 0 to 20 units of 40, and a release behind each of
+/// them: of the holder whose promised end comes first, at that end, or where
+/// `late` with each call past the promised ends of the holders.
+fn pooled(late: bool, rounds: u64) -> Vec<u8> {
+    let mut prng = Prng::new(40);
+    let (mut table, mut calls) = begun(u64::MAX, 40);
+    for round in 1..=rounds {
+        let clock = if late { round * 2000 } else { table.now() };
+        while table.claims().len() < MAX_PENDING {
+            let mut groups = 0;
+            for _ in 0..prng.below(3) {
+                groups |= 1 << prng.below(64);
+            }
+            let least = u64::from(groups == 0);
+            let claim = TimedCall::Claim {
+                clock,
+                groups,
+                length: prng.range(1, 1000) as u32,
+                units: prng.range(least, 20) as u16,
+            };
+            table.call(claim);
+            calls.push(Call::Timed(claim));
+        }
+        let ends = table
+            .claims()
+            .iter()
+            .filter_map(|c| c.promised_end().map(|end| (end, c.ticket)));
+        if let Some((end, ticket)) = ends.min() {
+            let clock = if late { clock } else { end };
+            let release = TimedCall::Release { clock, ticket };
+            table.call(release);
+            calls.push(Call::Timed(release));
+        }
+    }
+    load::join(2, &calls)
 }
 
 /// The shortest of many times of each, taken in turn.
@@ -161,5 +205,10 @@ fn main() {
         let past = if late { ", past promised ends" } else { "" };
         let name = format!("63 pending, claims of {groups} groups{past}");
         line(&name, &crowded(groups, late, 400), 100);
+    }
+    for late in [false, true] {
+        let past = if late { ", past promised ends" } else { "" };
+        let name = format!("64 pending, pool of 40, draws of 0 to 20{past}");
+        line(&name, &pooled(late, 400), 50);
     }
 }

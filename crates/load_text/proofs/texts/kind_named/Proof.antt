@@ -1,16 +1,14 @@
--- `texts::kind_named` meets its contract: the kind of the row that is found.
-use mathlib.Core.Path.{ap, _∙_}
+-- `texts::kind_named` meets its contract: the kind, unless the edition lacks it.
+use mathlib.Core.Path.{sym, _∙_}
 use borrow.Author.Needs.{needs}
-use Rattle.load.specs.Format.{Row, format}
-use Rattle.load_text.specs.Parsing.{kindNamed}
-use Rattle.load_text.proofs.Tables.{first-is}
+use Rattle.load_text.proofs.Tables.{is-named, not-named}
 use Rattle.load_text.proofs.texts.kind_named.Statement.{statement}
 use Rattle.load_text.proofs.texts.kind_named.Tie as tie
 
 pub kind-named-spec : {M : Type 1} → statement M
-unfolding format kindNamed
 kind-named-spec =
     tie.close
     (tie.spec
-    (λ c κs. search needs) (λ c. search needs)
-    (λ c. let e = c .row-of .ensures in first-is (c .row-of .result) (e .0) .0 ∙ ap (λ (r : Row). r .kind) (e .1)))
+    (λ c κs. search needs) (λ c κs. search needs)
+    (λ c. let l = c .before in not-named _ _ _ (l .before .kind-of .ensures) (sym (l .length-of .ensures) ∙ c .if1 .taken))
+    (λ c. let l = c .before in is-named _ _ (λ z. c .if1 .left (l .length-of .ensures ∙ z)) _ (l .before .kind-of .ensures)))

@@ -1,18 +1,28 @@
--- `texts::put_name` meets its contract: the name of the row that is found.
-use mathlib.Core.Path.{ap, _∙_}
+-- `texts::put_name` meets its contract: the name, or none.
+use lib.ListN.{length-take}
+use mathlib.Core.Path.{sym, _∙_}
+use native.Mathlib.Omega.{arith}
 use borrow.Author.Needs.{needs}
-use Rattle.numerals.proofs.Laying.{put-as}
-use Rattle.load.specs.Format.{Row, format, nameOf}
-use Rattle.load_text.proofs.Tables.{first-is, row-kind}
+use Rattle.numerals.proofs.Laying.{behind-none, laid-none, put, put-as}
+use Rattle.load_text.proofs.Tables.{has-name, lacks-name, name-taken}
 use Rattle.load_text.proofs.texts.put_name.Statement.{statement}
 use Rattle.load_text.proofs.texts.put_name.Tie as tie
 
 returns : tie.Need-returns
-unfolding nameOf
-returns c =
+returns c = put-as _ _ (sym (lacks-name _ _ (sym (c .before .length-of .ensures) ∙ c .if1 .taken))) (put (sym (behind-none _ (search needs)), sym (laid-none _ _)))
+
+returns-2 : tie.Need-returns-2
+returns-2 c =
     let p = c .before .before in
-    let e = p .before .before .row-of .ensures in
-    put-as _ _ (first-is _ (e .0) .1 ∙ ap (λ (r : Row). r .name) (e .1 ∙ row-kind _ _ _ format)) (p .put-row .ensures)
+    let l = p .before .before .before in
+    let e = l .before .before in
+    put-as _ _ (name-taken _ _ _ (l .before .name .ensures) (l .name-length .ensures .0) ∙ has-name _ _ (λ z. e .if1 .left (e .before .length-of .ensures ∙ z))) (put (p .put-bytes .ensures))
 
 pub put-name-spec : {M : Type 1} → statement M
-put-name-spec = tie.close (tie.spec (λ c. search needs) (λ c κs. search needs) (λ c κs. search needs) (λ c. search needs) returns)
+put-name-spec =
+    tie.close
+    (tie.spec
+    (λ c κs. search needs) returns (λ c κs. search needs) (λ c κs. search needs)
+    (λ c. omega (arith, c .before .name-length .ensures .1))
+    (λ c. simp length-take (omega (arith, c .before .before .name-length .ensures .1)))
+    (λ c κs. search needs) (λ c. search needs) returns-2)

@@ -12,5 +12,5 @@ unfolding reasons
 put-reason-spec =
     tie.close
     (tie.spec
-    (λ c. search needs) (λ c κs. search needs) (λ c. omega arith) (λ c κs. omega arith) (λ c. search needs)
+    (λ c. search needs) (λ c κs. search needs) (λ c κs. omega arith) (λ c. search needs)
     (λ c. let p = c .before .before in put-as _ _ (reason-is _ _ (p .before .before .place .ensures .0)) (p .put-row .ensures)))

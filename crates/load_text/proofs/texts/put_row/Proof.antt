@@ -2,23 +2,22 @@
 use lib.ListN.{length-take}
 use native.Mathlib.Omega.{arith}
 use borrow.Author.Needs.{needs}
-use Rattle.load.specs.Format.{format}
 use Rattle.numerals.proofs.Laying.{put, put-as}
-use Rattle.load_text.specs.Lines.{reasons, reasonTexts, texts}
+use Rattle.load_text.specs.Lines.{reasons, reasonTexts}
 use Rattle.load_text.proofs.Tables.{text-is}
 use Rattle.load_text.proofs.texts.put_row.Statement.{statement}
 use Rattle.load_text.proofs.texts.put_row.Tie as tie
 
 returns : tie.Need-returns
-unfolding texts reasonTexts format reasons
-returns c = let p = c .before .before in put-as _ _ (text-is texts (p .before .before .before .before .before .args .i) .1) (put (p .put-bytes .ensures))
+unfolding reasonTexts reasons
+returns c = let p = c .before .before in put-as _ _ (text-is reasonTexts (p .before .before .before .before .before .args .i) .1) (put (p .put-bytes .ensures))
 
 pub put-row-spec : {M : Type 1} → statement M
-unfolding format reasonTexts reasons texts
+unfolding reasonTexts reasons
 put-row-spec =
     tie.close
     (tie.spec
     (λ c. search needs) (λ c. search needs) (λ c. search needs) (λ c. search needs)
-    (λ c. text-is texts (c .before .before .before .args .i) .0)
-    (λ c. simp length-take (omega (arith, text-is texts (c .before .before .before .before .args .i) .0))) (λ c κs. search needs)
+    (λ c. text-is reasonTexts (c .before .before .before .args .i) .0)
+    (λ c. simp length-take (omega (arith, text-is reasonTexts (c .before .before .before .before .args .i) .0))) (λ c κs. search needs)
     (λ c. search needs) returns)

@@ -1,7 +1,7 @@
 -- `questions::named` meets its contract: the name is one of the questions, or not.
 use mathlib.Core.Path.{sym, _∙_}
 use Rattle.load_text.proofs.Tables.{word-test}
-use Rattle.question.proofs.Asking.{named-lookup, named-common, named-none}
+use Rattle.question.proofs.Asking.{named-lookup, named-common, named-free, named-none}
 use borrow.Author.Needs.{needs}
 use Rattle.question.proofs.questions.named.Statement.{statement}
 use Rattle.question.proofs.questions.named.Tie as tie
@@ -17,10 +17,21 @@ returns-2 c =
 
 returns-3 : tie.Need-returns-3
 returns-3 c =
-    let l = c .before .before .before in
-    named-none _ _ (word-test _ _ _ (l .before .same .ensures) ∙ l .if1 .left) (word-test _ _ _ (c .before .same2 .ensures) ∙ c .if2 .left)
+    let i = c .before in
+    let m = i .before .before .before in
+    let l = m .before .before .before in
+    c .free-of .ensures
+    ∙ named-free _ _ (word-test _ _ _ (l .before .same .ensures) ∙ l .if1 .left) (word-test _ _ _ (m .before .same2 .ensures) ∙ m .if2 .left)
+    (word-test _ _ _ (i .before .same3 .ensures) ∙ i .if3 .taken)
+
+returns-4 : tie.Need-returns-4
+returns-4 c =
+    let m = c .before .before .before in
+    let l = m .before .before .before in
+    named-none _ _ (word-test _ _ _ (l .before .same .ensures) ∙ l .if1 .left) (word-test _ _ _ (m .before .same2 .ensures) ∙ m .if2 .left)
+    (word-test _ _ _ (c .before .same3 .ensures) ∙ c .if3 .left)
 
 pub named-spec : {M : Type 1} → statement M
 named-spec =
     tie.close
-    (tie.spec (λ c. search needs) (λ c κs. search needs) (λ c κs. search needs) returns (λ c. search needs) (λ c κs. search needs) (λ c κs. search needs) returns-2 returns-3)
+    (tie.spec (λ c. search needs) (λ c κs. search needs) (λ c κs. search needs) returns (λ c. search needs) (λ c κs. search needs) (λ c κs. search needs) returns-2 (λ c. search needs) (λ c κs. search needs) (λ c κs. search needs) returns-3 returns-4)

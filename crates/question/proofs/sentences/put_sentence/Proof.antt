@@ -1,6 +1,6 @@
 -- `sentences::put_sentence` meets its contract: what the table tells, as text.
 use Rattle.numerals.proofs.Laying.{put}
-use Rattle.question.proofs.Answers.{sentence-lookup, sentence-common, sentence-none}
+use Rattle.question.proofs.Answers.{sentence-lookup, sentence-common, sentence-free, sentence-none}
 use borrow.Author.Needs.{needs}
 use Rattle.question.proofs.sentences.put_sentence.Statement.{statement}
 use Rattle.question.proofs.sentences.put_sentence.Tie as tie
@@ -16,9 +16,14 @@ returns-2 c =
     sentence-common _ _ _ _ (l .before .before .before .q2 .given .1) _ (l .before .lookup2 .ensures .0) _ (l .common .ensures .0) (c .before .before .put-common .ensures)
 
 returns-3 : tie.Need-returns-3
-returns-3 c = sentence-none _ _ (c .before .before .before .before .before .enum-told .given .1) (put (c .before .before .put-bytes .ensures))
+returns-3 c =
+    let f = c .before .before .before .before in
+    sentence-free _ _ (f .before .enum-told .given .1) _ (f .free .ensures .0) (c .before .before .put-free .ensures)
+
+returns-4 : tie.Need-returns-4
+returns-4 c = sentence-none _ _ (c .before .before .before .before .before .enum-told2 .given .1) (put (c .before .before .put-bytes .ensures))
 
 pub put-sentence-spec : {M : Type 1} → statement M
 put-sentence-spec =
     tie.close
-    (tie.spec (λ c. search needs) (λ c κs. search needs) (λ c κs. search needs) (λ c. search needs) (λ c κs. search needs) (λ c κs. search needs) (λ c κs. search needs) (λ c. search needs) (λ c. search needs) (λ c κs. search needs) (λ c. search needs) returns (λ c. search needs) returns-2 (λ c. search needs) returns-3)
+    (tie.spec (λ c. search needs) (λ c κs. search needs) (λ c κs. search needs) (λ c. search needs) (λ c κs. search needs) (λ c κs. search needs) (λ c κs. search needs) (λ c. search needs) (λ c κs. search needs) (λ c κs. search needs) (λ c. search needs) (λ c. search needs) (λ c κs. search needs) (λ c. search needs) returns (λ c. search needs) returns-2 (λ c. search needs) returns-3 (λ c. search needs) returns-4)

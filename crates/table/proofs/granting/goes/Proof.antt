@@ -16,10 +16,16 @@ returns-2 c = rw (← c .before .start-or-grant .ensures, waits (c .before), ne-
 
 returns-3 : tie.Need-returns-3
 returns-3 c =
-    let p = c .before .before in
-    rw (c .shares .ensures, ← p .start-or-grant .ensures, waits p, eq-eqb _ _ (c .before .if2 .left))
+    let p = c .before .before .before in
+    rw (← p .start-or-grant .ensures, waits p, eq-eqb _ _ (c .before .before .if2 .left), sym (c .before .shares .ensures) ∙ c .if3 .taken)
+
+returns-4 : tie.Need-returns-4
+returns-4 c =
+    let e = c .before in
+    let p = e .before .before .before in
+    rw (← p .start-or-grant .ensures, waits p, eq-eqb _ _ (e .before .before .if2 .left), sym (e .before .shares .ensures) ∙ e .if3 .left)
 
 pub goes-spec : {M : Type 1} → statement M
 goes-spec =
     tie.close
-    (tie.spec (λ c κs. search needs) (λ c. search needs) (λ c κs. search needs) returns-2 (λ c κs. search needs) returns-3)
+    (tie.spec (λ c κs. search needs) (λ c. search needs) (λ c κs. search needs) returns-2 (λ c κs. search needs) returns-3 returns-4)

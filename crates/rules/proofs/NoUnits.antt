@@ -1,0 +1,257 @@
+-- Claims that draw no units fare as in document 01, whatever the pool and whatever others draw: `start-documented` of packing,
+-- `fits-documented` of placing, `tests-documented` of the tests, and of granting `goes-documented` (proofs/Granting). Where no call of a
+-- run draws any, the pool changes nothing: `pool-indifferent` of the answers, `pool-alone` of the tables.
+use mathlib.Core.Path.{_≡_, refl, sym, _∙_, ap}
+use mathlib.Core.Bool.{Bool, false, _&&_}
+use mathlib.Core.List.{List, [], _∷_, map}
+use Prim.Native.Nat.{ℕ, zero, suc}
+use native.Mathlib.Omega.{arith}
+use lib.Dec.{eqb}
+use borrow.Author.Tests.{le-ltb, eq-eqb}
+use Rattle.groups.specs.Groups.{empty}
+use Rattle.rules.specs.declared.Claim.{Claim}
+use Rattle.rules.specs.declared.Request.{Request}
+use Rattle.rules.specs.declared.Reply.{Reply}
+use Rattle.rules.specs.declared.Setting.{Setting}
+use Rattle.rules.specs.Lists.{_∈_, greatest, least, all, keep}
+use Rattle.rules.specs.Claims.{on, heldUntil, endOf, remaining}
+use Rattle.rules.specs.Order.{key, before, precedes}
+use Rattle.rules.specs.Seeking.{candidates, seek}
+use Rattle.rules.specs.Packing.{ready, startFor, moved, ahead, startWithin, packedStart, pack, Packs}
+use Rattle.rules.specs.Placing.{clear, fits, place, startBound}
+use Rattle.rules.specs.Granting.{trulyFree, goesWithin, goes, granted, grant, grants}
+use Rattle.rules.specs.Tests.{firstOf}
+use Rattle.rules.specs.Calls.{Model, Call, claim, release, withdraw, clock, lookup, common, free, Answer, Step, withClock, withPending, ruled, settingOf, tests, advance, plain, granting, finish, join, remove, fresh, admit, act, unless, step, blank, after, answers}
+use Rattle.rules.specs.NoUnits.{documentedStart, documentedFits, documentedTests, drawsNone, DrawsNone, withPool}
+use Rattle.rules.proofs.Bools.{and-l, and-i, both-ways}
+use Rattle.rules.proofs.Lists.{Each, none, greatest-base, greatest-ge, greatest-le, keep-e, keep-i, keep-cong, map-each, map-cong, snoc-each}
+use Rattle.rules.proofs.Pool.{spare-none}
+use Rattle.rules.proofs.Packing.{moved-cong, moved-units}
+use Rattle.rules.proofs.Granting.{granted-cases}
+use Rattle.rules.proofs.Calls.{placed, leaves-old, step-cases}
+
+-- ── a claim that draws none ──
+module _ (v : Setting) (ps : List Claim) (w : Claim) (undrawn : w .units ≡ 0) where
+  -- It is packed at the greatest of the clock and the ends of the claims that precede it.
+  pub start-documented : (f : Claim → ℕ) → Packs v ps f → w ∈ ps → on w ≡ false → f w ≡ documentedStart v ps f w
+  start-documented f packs m o =
+      let r = packs w m o in
+      omega (
+        arith,
+        r .1 (documentedStart v ps f w) (record {
+          from-clock = greatest-base (λ c. endOf v (moved f c)) (v .clock) (keep (λ c. precedes c w) ps);
+          after = λ c k p. greatest-ge (λ c. endOf v (moved f c)) (v .clock) (keep-i (λ c. precedes c w) p k);
+          spare = λ z. absurd (omega arith);
+        }),
+        greatest-le (λ c. endOf v (moved f c)) (v .clock) (keep (λ c. precedes c w) ps) (f w) (r .0 .from-clock) (λ c k.
+            let e = keep-e (λ c. precedes c w) ps k in r .0 .after c (e .0) (e .1)),
+      )
+
+  -- A start is tested against the conflicting claims alone.
+  pub fits-documented : (s : ℕ) → fits v ps w s ≡ documentedFits v ps w s
+  unfolding fits
+  fits-documented s = both-ways _ _ (and-l (all (clear v w s) ps) _) (λ e. and-i (all (clear v w s) ps) _ e (spare-none v ps w undrawn s))
+
+-- The call is tested as if there were no pool.
+pub tests-documented : (m : Model) (t : ℕ) (ask : Request) → ask .units ≡ 0 → firstOf (tests m (claim t ask)) ≡ firstOf (documentedTests m t ask)
+unfolding tests firstOf
+tests-documented m t ask z = rw (dark-is, le-ltb (m .pool) (ask .units) (omega arith))
+  where
+    dark-is : (empty (ask .groups) && eqb (ask .units) 0) ≡ empty (ask .groups)
+    dark-is = both-ways _ _ (and-l (empty (ask .groups)) _) (λ e. and-i (empty (ask .groups)) _ e (eq-eqb (ask .units) 0 z))
+
+-- ── seeking by tests that agree ──
+least-cong : (p q : ℕ → Bool) → ((n : ℕ) → p n ≡ q n) → (d : ℕ) (l : List ℕ) → least p d l ≡ least q d l
+unfolding least
+least-cong p q h d [] = refl
+least-cong p q h d (n ∷ l) = rw (h n, least-cong p q h d l)
+
+seek-cong : (v : Setting) (p q : ℕ → Bool) → ((n : ℕ) → p n ≡ q n) → (ps : List Claim) → seek v p ps ≡ seek v q ps
+unfolding seek
+seek-cong v p q h ps = least-cong p q h (greatest (endOf v) (v .clock) ps) (candidates v ps)
+
+-- ── two pools at one clock ──
+-- No claim of the list draws units.
+abbrev Undrawn : List Claim → Type 0
+Undrawn ps = Each (λ c. c .units ≡ 0) ps
+
+-- The rules at clock t with a pool of k.
+abbrev pooled : ℕ → ℕ → Setting
+pooled t k = record { clock = t; pool = k }
+
+module _ (t j k : ℕ) where
+  seek-pool : (p : ℕ → Bool) (ps : List Claim) → seek (pooled t j) p ps ≡ seek (pooled t k) p ps
+  unfolding seek endOf heldUntil
+  seek-pool p ps = refl
+
+  ready-pool : (qs : List Claim) (w : Claim) → w .units ≡ 0 → (s : ℕ) → ready (pooled t j) qs w s ≡ ready (pooled t k) qs w s
+  unfolding ready endOf heldUntil
+  ready-pool qs w z s = rw (spare-none (pooled t j) qs w z s, spare-none (pooled t k) qs w z s)
+
+  for-pool : (qs : List Claim) (w : Claim) → w .units ≡ 0 → startFor (pooled t j) qs w ≡ startFor (pooled t k) qs w
+  unfolding startFor
+  for-pool qs w z = seek-cong (pooled t j) _ (ready (pooled t k) qs w) (ready-pool qs w z) qs ∙ seek-pool (ready (pooled t k) qs w) qs
+
+  within-pool : (n : ℕ) (ps : List Claim) → Undrawn ps → (w : Claim) → w ∈ ps → startWithin n (pooled t j) ps w ≡ startWithin n (pooled t k) ps w
+  unfolding startWithin ahead
+  within-pool zero ps u w m = refl
+  within-pool (suc n) ps u w m =
+      for-pool _ w (u w m)
+      ∙ ap (λ (l : List Claim). startFor (pooled t k) l w)
+      (map-cong _ (moved (λ c. startWithin n (pooled t k) ps c)) (keep (λ c. before c w) ps) (λ c i.
+      moved-cong _ (λ c. startWithin n (pooled t k) ps c) c (λ o. within-pool n ps u c (keep-e (λ c. before c w) ps i .0))))
+
+  pack-pool : (ps : List Claim) → Undrawn ps → pack (pooled t j) ps ≡ pack (pooled t k) ps
+  unfolding pack packedStart
+  pack-pool ps u = map-cong _ (moved (packedStart (pooled t k) ps)) ps (λ c m. moved-cong _ (packedStart (pooled t k) ps) c (λ o. within-pool (suc (key c)) ps u c m))
+
+  place-pool : (ps : List Claim) (w : Claim) → w .units ≡ 0 → place (pooled t j) ps w ≡ place (pooled t k) ps w
+  unfolding place clear endOf heldUntil
+  place-pool ps w z =
+      seek-cong (pooled t j) _ (fits (pooled t k) ps w) (λ s. fits-documented (pooled t j) ps w z s ∙ sym (fits-documented (pooled t k) ps w z s)) ps
+      ∙ seek-pool (fits (pooled t k) ps w) ps
+
+  bound-pool : (ps : List Claim) (w : Claim) → startBound (pooled t j) ps w ≡ startBound (pooled t k) ps w
+  unfolding startBound remaining endOf heldUntil
+  bound-pool ps w = refl
+
+  goes-pool : (ps : List Claim) (w : Claim) → w .units ≡ 0 → goes (pooled t j) ps w ≡ goes (pooled t k) ps w
+  unfolding goes goesWithin trulyFree
+  goes-pool ps w z = rw (eq-eqb (w .units) 0 z)
+
+  granted-pool : (ps : List Claim) (c : Claim) → c .units ≡ 0 → granted (pooled t j) ps c ≡ granted (pooled t k) ps c
+  unfolding granted
+  granted-pool ps c z = rw (goes-pool ps c z, granted)
+
+  grant-pool : (ps : List Claim) → Undrawn ps → grant (pooled t j) ps ≡ grant (pooled t k) ps
+  unfolding grant
+  grant-pool ps u = map-cong _ (granted (pooled t k) ps) ps (λ c m. granted-pool ps c (u c m))
+
+  grants-pool : (ps : List Claim) → Undrawn ps → grants (pooled t j) ps ≡ grants (pooled t k) ps
+  unfolding grants
+  grants-pool ps u = ap (map (λ c. c .ticket)) (keep-cong _ (goes (pooled t k) ps) ps (λ c m. goes-pool ps c (u c m)))
+
+-- ── the calls keep it that nobody draws ──
+pack-undrawn : (v : Setting) (ps : List Claim) → Undrawn ps → Undrawn (pack v ps)
+unfolding pack
+pack-undrawn v ps u = map-each (λ (c : Claim). c .units ≡ 0) (moved (packedStart v ps)) ps (λ c m. moved-units (packedStart v ps) c ∙ u c m)
+
+grant-undrawn : (v : Setting) (ps : List Claim) → Undrawn ps → Undrawn (grant v ps)
+unfolding grant
+grant-undrawn v ps u =
+    map-each (λ (c : Claim). c .units ≡ 0) (granted v ps) ps (λ c m. granted-cases (λ (x : Claim). x .units ≡ 0) v ps c (λ g. u c m) (λ g. u c m))
+
+-- The same of a model.
+abbrev IsUndrawn : Model → Type 0
+IsUndrawn m = Undrawn (m .pending)
+
+advance-undrawn : (m : Model) (t : ℕ) → IsUndrawn m → IsUndrawn (advance m t)
+unfolding advance
+advance-undrawn m t u = pack-undrawn (ruled m t) (m .pending) u
+
+remove-undrawn : (m : Model) (i : ℕ) → IsUndrawn m → IsUndrawn (remove m i)
+unfolding remove
+remove-undrawn m i u c k = u c (keep-e _ (m .pending) k .0)
+
+join-undrawn : (m : Model) (w : Claim) → w .units ≡ 0 → IsUndrawn m → IsUndrawn (join m w)
+unfolding join
+join-undrawn m w z u = snoc-each (λ (c : Claim). c .units ≡ 0) (m .pending) w u z
+
+finish-undrawn : (m : Model) (r : Reply) → IsUndrawn m → IsUndrawn (finish m r .model)
+unfolding finish
+finish-undrawn m r u = grant-undrawn (settingOf m) _ (pack-undrawn (settingOf m) (m .pending) u)
+
+admit-undrawn : (m : Model) (ask : Request) → ask .units ≡ 0 → IsUndrawn m → IsUndrawn (admit m ask .model)
+unfolding admit
+admit-undrawn m ask z u = finish-undrawn (join m (placed m ask)) _ (join-undrawn m (placed m ask) z u)
+
+step-undrawn : (m : Model) (c : Call) → drawsNone c → IsUndrawn m → IsUndrawn (step m c .model)
+step-undrawn m c d u =
+    step-cases (λ c s. drawsNone c → IsUndrawn (s .model)) m (λ c n i d. u)
+    (λ t ask a d. admit-undrawn (advance m t) ask d (advance-undrawn m t u))
+    (λ c t k q o l d. finish-undrawn q (plain k t) (λ y i. advance-undrawn m t u y (leaves-old l y i))) c d
+
+-- ── the calls at two pools ──
+-- The same step with a pool of k.
+abbrev repooled : ℕ → Step → Step
+repooled k s = record { model = withPool k (s .model); answer = s .answer }
+
+module _ (k : ℕ) where
+  advance-pool : (m : Model) (t : ℕ) → IsUndrawn m → advance (withPool k m) t ≡ withPool k (advance m t)
+  unfolding advance
+  advance-pool m t u = ap (λ (ps : List Claim). withPending (withPool k (withClock m t)) ps) (pack-pool t k (m .pool) (m .pending) u)
+
+  remove-pool : (m : Model) (i : ℕ) → remove (withPool k m) i ≡ withPool k (remove m i)
+  unfolding remove
+  remove-pool m i = refl
+
+  granting-pool : (m : Model) (r : Reply) (ps : List Claim) → Undrawn ps → granting (withPool k m) r ps ≡ repooled k (granting m r ps)
+  granting-pool m r ps u = rw (grant-pool (m .clock) k (m .pool) ps u, grants-pool (m .clock) k (m .pool) ps u)
+
+  finish-pool : (m : Model) (r : Reply) → IsUndrawn m → finish (withPool k m) r ≡ repooled k (finish m r)
+  unfolding finish
+  finish-pool m r u =
+      ap (granting (withPool k m) r) (pack-pool (m .clock) k (m .pool) (m .pending) u)
+      ∙ granting-pool m r (pack (settingOf m) (m .pending)) (pack-undrawn (settingOf m) (m .pending) u)
+
+  admit-pool : (m : Model) (ask : Request) → ask .units ≡ 0 → IsUndrawn m → admit (withPool k m) ask ≡ repooled k (admit m ask)
+  unfolding admit join
+  admit-pool m ask z u =
+      rw (place-pool (m .clock) k (m .pool) (m .pending) (fresh m ask) z, bound-pool (m .clock) k (m .pool) (m .pending) (fresh m ask))
+      (finish-pool (join m (placed m ask)) _ (join-undrawn m (placed m ask) z u))
+
+  leave-pool : (m : Model) (t i : ℕ) → IsUndrawn m → finish (remove (advance (withPool k m) t) i) (plain i t) ≡ repooled k (finish (remove (advance m t) i) (plain i t))
+  leave-pool m t i u =
+      ap (λ (n : Model). finish (remove n i) (plain i t)) (advance-pool m t u)
+      ∙ ap (λ (n : Model). finish n (plain i t)) (remove-pool (advance m t) i)
+      ∙ finish-pool (remove (advance m t) i) (plain i t) (remove-undrawn (advance m t) i (advance-undrawn m t u))
+
+  act-pool : (m : Model) (c : Call) → drawsNone c → IsUndrawn m → act (withPool k m) c ≡ repooled k (act m c)
+  unfolding act
+  act-pool m (claim t ask) d u = ap (λ (n : Model). admit n ask) (advance-pool m t u) ∙ admit-pool (advance m t) ask d (advance-undrawn m t u)
+  act-pool m (release t i) d u = leave-pool m t i u
+  act-pool m (withdraw t i) d u = leave-pool m t i u
+  act-pool m (clock t) d u = ap (λ (n : Model). finish n (plain 0 t)) (advance-pool m t u) ∙ finish-pool (advance m t) (plain 0 t) (advance-undrawn m t u)
+  act-pool m (lookup i) d u = refl
+  act-pool m (common i j) d u = refl
+  act-pool m free d u = refl
+
+  tests-pool : (m : Model) (c : Call) → drawsNone c → firstOf (tests (withPool k m) c) ≡ firstOf (tests m c)
+  unfolding tests
+  tests-pool m (claim t ask) d = tests-documented (withPool k m) t ask d ∙ sym (tests-documented m t ask d)
+  tests-pool m (release t i) d = refl
+  tests-pool m (withdraw t i) d = refl
+  tests-pool m (clock t) d = refl
+  tests-pool m (lookup i) d = refl
+  tests-pool m (common i j) d = refl
+  tests-pool m free d = refl
+
+  unless-pool : (m : Model) (n : ℕ) (s : Step) → unless (withPool k m) n (repooled k s) ≡ repooled k (unless m n s)
+  unless-pool m zero s = refl
+  unless-pool m (suc n) s = refl
+
+  step-pool : (m : Model) (c : Call) → drawsNone c → IsUndrawn m → step (withPool k m) c ≡ repooled k (step m c)
+  unfolding step
+  step-pool m c d u = rw (tests-pool m c d, act-pool m c d u) (unless-pool m (firstOf (tests m c)) (act m c))
+
+  answers-pool : (m : Model) (cs : List Call) → DrawsNone cs → IsUndrawn m → answers (withPool k m) cs ≡ answers m cs
+  unfolding answers
+  answers-pool m [] d u = refl
+  answers-pool m (c ∷ cs) d u =
+      ap (λ (s : Step). s .answer ∷ answers (s .model) cs) (step-pool m c (d .0) u)
+      ∙ ap (λ (l : List Answer). step m c .answer ∷ l) (answers-pool (step m c .model) cs (d .1) (step-undrawn m c (d .0) u))
+
+  after-pool : (m : Model) (cs : List Call) → DrawsNone cs → IsUndrawn m → after (withPool k m) cs ≡ withPool k (after m cs)
+  unfolding after
+  after-pool m [] d u = refl
+  after-pool m (c ∷ cs) d u =
+      ap (λ (s : Step). after (s .model) cs) (step-pool m c (d .0) u) ∙ after-pool (step m c .model) cs (d .1) (step-undrawn m c (d .0) u)
+
+-- ── a run that draws none ──
+-- The pool changes no answer.
+pub pool-indifferent : (g j k : ℕ) (cs : List Call) → DrawsNone cs → answers (blank g j) cs ≡ answers (blank g k) cs
+pool-indifferent g j k cs d = sym (answers-pool k (blank g j) cs d (λ c m. none m))
+
+-- The tables differ in the pool alone.
+pub pool-alone : (g j k : ℕ) (cs : List Call) → DrawsNone cs → after (blank g k) cs ≡ withPool k (after (blank g j) cs)
+pool-alone g j k cs d = after-pool k (blank g j) cs d (λ c m. none m)
