@@ -5,12 +5,11 @@ use mathlib.Core.List.{List}
 use Prim.Native.Nat.{ℕ}
 use native.Mathlib.Omega.{arith}
 use Rattle.rules.specs.declared.Claim.{Claim}
-use Rattle.rules.specs.Claims.{on}
 use Rattle.rules.specs.Pool.{heldBy, heldUnits, freeUnits}
 use Rattle.rules.specs.Calls.{Model, Call}
 use Rattle.promises.specs.Ledger.{Entry, Ledger}
 use Rattle.promises.specs.Demand3.{tells}
-use Rattle.promises.specs.PoolKept.{unitsHeld, Kept, PoolKept}
+use Rattle.promises.specs.PoolKept.{Kept, PoolKept}
 use Rattle.promises.proofs.Matching.{match-sum}
 use Rattle.promises.proofs.Demand3.{Tracks, Story, after-calls}
 

@@ -1,7 +1,7 @@
 // The answers as text, laid over a buffer from a place on as far as that goes; each answers the place after it. Their texts are defined in
 // specs/Answers.antt.
 ghost use mathlib.Core.Path.{_≡_};
-ghost use mathlib.Core.List.{[], _∷_, _++_};
+ghost use mathlib.Core.List.{[], _++_};
 ghost use Rattle.numerals.specs.Laid.{Put};
 ghost use Rattle.rules.specs.Tables.{model};
 ghost use Rattle.table.specs.Valid.{Valid};

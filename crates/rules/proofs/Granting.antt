@@ -8,7 +8,7 @@ use Prim.Native.Nat.{ℕ, zero, suc, _+_, _≤_, _<_}
 use native.Mathlib.Omega.{arith}
 use lib.ListN.{length, length-map}
 use lib.Dec.{ltb, leb, eqb}
-use borrow.Author.Tests.{ltb-true, ltb-false, lt-ltb, le-ltb, leb-true, leb-false, le-leb, eqb-true, eqb-false, eq-eqb, ne-eqb, not-true, not-false}
+use borrow.Author.Tests.{ltb-true, ltb-false, lt-ltb, le-ltb, leb-true, leb-false, eqb-true, eqb-false, eq-eqb, not-true}
 use Rattle.rules.specs.declared.Claim.{Claim}
 use Rattle.rules.specs.declared.Phase.the-variants.{On}
 use Rattle.rules.specs.Lists.{_∈_, any, sum, keep}
@@ -19,10 +19,10 @@ use Rattle.rules.specs.Pool.{unitsAt, used, heldBy, heldUnits}
 use Rattle.rules.specs.Granting.{takenBefore, trulyFree, goesWithin, goes, granted, grant}
 use Rattle.rules.specs.Plans.{Ascending, Sane, Apart, Separated, StartsFrom, HeldUp, Tight, Blocked, Behind, Earliest}
 use Rattle.rules.proofs.Bools.{by-test, by-order, clash, and-l, and-r, and-i, or-e, or-l, or-fl, or-fr, both-ways, same?}
-use Rattle.rules.proofs.Lists.{Each, here, there, any-none, any-false, any-some, any-cong, keep-e, keep-i, snoc-each, map-i, map-each, map-each2, map-cong, sum-le, sum-zero, sum-cong, sum-both, sum-map, sum-keep, sum-gap, sum-but, sum-snoc, sum-append, ascends-around}
+use Rattle.rules.proofs.Lists.{Each, here, there, any-none, any-some, any-cong, keep-e, keep-i, snoc-each, map-i, map-each, map-each2, map-cong, sum-le, sum-zero, sum-cong, sum-both, sum-map, sum-keep, sum-gap, sum-but, sum-snoc, sum-append, ascends-around}
 use Rattle.rules.proofs.Claims.{conflicts-sym, end-wait, end-clock, end-no-overrun}
-use Rattle.rules.proofs.Order.{before-on, before-key, before-lt, before-not, keys-differ, either-before, by-key, last-of, meets-rival, meets-units, meets-none, before-precedes, precedes-conflicts, precedes-e, precedes-on, precedes-before, ends-precedes, ascending-same}
-use Rattle.rules.proofs.Pool.{Covers, units-le, units-is, units-mono}
+use Rattle.rules.proofs.Order.{before-on, before-key, before-lt, keys-differ, either-before, by-key, last-of, meets-rival, meets-units, meets-none, before-precedes, precedes-conflicts, precedes-e, precedes-on, precedes-before, ends-precedes, ascending-same}
+use Rattle.rules.proofs.Pool.{units-is, units-mono}
 
 -- ── who goes on ──
 -- What goes on at its turn: its start is the clock, nothing precedes it, and by p its units are free.

@@ -8,7 +8,7 @@ use Prim.Native.Nat.{ℕ, zero, suc, _+_, _≤_, _<_}
 use native.Mathlib.Omega.{arith}
 use lib.Dec.{ltb}
 use lib.ListN.{length, length-map}
-use borrow.Author.Tests.{ltb-true, ltb-false, lt-ltb, not-true}
+use borrow.Author.Tests.{ltb-true, ltb-false, not-true}
 use Rattle.rules.specs.declared.Claim.{Claim}
 use Rattle.rules.specs.declared.Phase.the-variants.{Waiting}
 use Rattle.rules.specs.Lists.{_∈_, sum, keep}
@@ -17,12 +17,12 @@ use Rattle.rules.specs.Claims.{on, at, withPhase, rival, endOf}
 use Rattle.rules.specs.Order.{key, before, precedes, meets}
 use Rattle.rules.specs.Pool.{unitsAt, used, heldBy, heldUnits}
 use Rattle.rules.specs.Packing.{startFor, moved, ahead, startWithin, packedStart, pack, MayStart, Packs}
-use Rattle.rules.specs.Plans.{Ascending, Sane, Apart, Separated, StartsFrom, HeldUp, Tight, Spare, Behind, Earliest}
+use Rattle.rules.specs.Plans.{Ascending, Sane, Apart, Separated, StartsFrom, HeldUp, Tight, Behind, Earliest}
 use Rattle.rules.proofs.Bools.{by-test, by-order, clash, and-l, and-r, same?}
 use Rattle.rules.proofs.Lists.{Each, Each2, here, there, keep-e, keep-i, map-id, map-e, map-i, map-each, map-each2, sum-le, sum-cong, sum-map, sum-keep, sum-gap, sum-but}
 use Rattle.rules.proofs.Claims.{conflicts-sym, waiting-is, end-wait}
 use Rattle.rules.proofs.Order.{before-on, before-key, before-lt, before-not, keys-differ, either-before, by-key, last-of, ends-before, precedes-conflicts, precedes-on, precedes-lt, precedes-before, ascending-same}
-use Rattle.rules.proofs.Pool.{Covers, units-le, units-is, units-cover, units-mono}
+use Rattle.rules.proofs.Pool.{units-le, units-is, units-cover, units-mono}
 use Rattle.rules.proofs.Starts.{for-low, for-behind, for-least, for-is}
 
 -- ── a claim at a new start ──

@@ -13,7 +13,6 @@ use Rattle.rules.specs.declared.Setting.{Setting}
 use Rattle.rules.specs.Claims.{on, at, rival, endOf}
 use Rattle.rules.specs.Order.{meets}
 use Rattle.rules.specs.Pool.{spare}
-use Rattle.rules.specs.Seeking.{seek}
 use Rattle.rules.specs.Placing.{clear, fits, place}
 use Rattle.rules.specs.Plans.{Sane, Room, Fits}
 use Rattle.rules.proofs.Bools.{by-test, and-l, and-r, and-i, or-e, or-r, or-fl, or-fr}

@@ -1,5 +1,5 @@
 -- The pool: what a claim uses at a time, and that testing a hold at its start and at the planned starts within it tests it at every time.
-use mathlib.Core.Path.{_≡_, refl, sym, ap, subst}
+use mathlib.Core.Path.{_≡_, refl, sym, subst}
 use mathlib.Core.Logic.{_⊎_, inl, inr, ⊎-elim}
 use mathlib.Core.Bool.{Bool, true, false, not, _&&_, _||_, cond}
 use mathlib.Core.List.{List}
@@ -8,13 +8,13 @@ use native.Mathlib.Omega.{arith}
 use lib.Dec.{leb, ltb, eqb}
 use borrow.Author.Tests.{ltb-true, lt-ltb, leb-true, le-leb, eqb-true, eqb-false, eq-eqb}
 use Rattle.rules.specs.declared.Claim.{Claim}
-use Rattle.rules.specs.Lists.{_∈_, greatest, sum, all}
+use Rattle.rules.specs.Lists.{_∈_, greatest, all}
 use Rattle.rules.specs.declared.Setting.{Setting}
 use Rattle.rules.specs.Claims.{on, at, endOf}
 use Rattle.rules.specs.Pool.{covers, unitsAt, used, enough, startsWithin, spare}
 use Rattle.rules.specs.Plans.{Spare}
-use Rattle.rules.proofs.Bools.{split, by-test, by-order, clash, and-l, and-r, and-i, or-e, or-l, or-r}
-use Rattle.rules.proofs.Lists.{Each, greatest-base, greatest-ge, greatest-le, greatest-is, sum-le, sum-zero, all-e, all-i}
+use Rattle.rules.proofs.Bools.{by-test, by-order, clash, and-l, and-r, and-i, or-e, or-l, or-r}
+use Rattle.rules.proofs.Lists.{greatest-base, greatest-ge, greatest-le, greatest-is, sum-le, sum-zero, all-e, all-i}
 
 -- ── a claim in use at a time ──
 pub record Covers (v : Setting) (x : ℕ) (c : Claim) : Type 0 where

@@ -5,7 +5,6 @@ use mathlib.Core.Logic.{_⊎_, ⊎-elim}
 use mathlib.Core.Bool.{Bool, true, not, _||_}
 use mathlib.Core.List.{List}
 use Prim.Native.Nat.{ℕ, _≤_}
-use native.Mathlib.Omega.{arith}
 use lib.Dec.{leb}
 use borrow.Author.Tests.{leb-true, le-leb, not-true}
 use Rattle.rules.specs.declared.Claim.{Claim}
@@ -14,7 +13,6 @@ use Rattle.rules.specs.declared.Setting.{Setting}
 use Rattle.rules.specs.Claims.{rival, endOf}
 use Rattle.rules.specs.Order.{meets}
 use Rattle.rules.specs.Pool.{spare}
-use Rattle.rules.specs.Seeking.{seek}
 use Rattle.rules.specs.Packing.{ready, startFor}
 use Rattle.rules.specs.Plans.{Sane, Behind}
 use Rattle.rules.proofs.Bools.{by-test, clash, and-l, and-r, and-i, or-e, or-r}

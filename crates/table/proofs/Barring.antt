@@ -1,27 +1,25 @@
 -- The search for the start of a claim that draws units: barred by no more than the room there is, at every time of the hold, is what fits.
-use mathlib.Core.Path.{_≡_, refl, sym, _∙_, ap}
+use mathlib.Core.Path.{_≡_, sym, _∙_, ap}
 use mathlib.Core.Logic.{_⊎_, inl, inr, ⊎-elim}
-use mathlib.Core.Bool.{Bool, true, false, _&&_, _||_, cond}
+use mathlib.Core.Bool.{Bool, true, cond}
 use mathlib.Core.List.{List}
-use Prim.Native.Nat.{ℕ, _+_, _-_, _≤_, _<_, max}
+use Prim.Native.Nat.{ℕ, _+_, _-_, _≤_, _<_}
 use native.Mathlib.Omega.{arith}
 use native.Mathlib.Numerals.{add-one}
-use lib.Dec.{leb, ltb}
 use lib.ListN.{length, take, replicate}
 use lib.Seq.{take-suc}
-use borrow.Author.Tests.{le-leb, lt-ltb}
 use Rattle.rules.specs.declared.Claim.{Claim}
 use Rattle.rules.specs.declared.Setting.{Setting}
 use Rattle.rules.specs.Lists.{_∈_, sum}
 use Rattle.rules.specs.Claims.{on, at, rival, endOf}
 use Rattle.rules.specs.Pool.{covers, unitsAt, used}
-use Rattle.rules.specs.Plans.{Sane, Room, Fits}
+use Rattle.rules.specs.Plans.{Room, Fits}
 use Rattle.rules.specs.Placing.{place}
 use Rattle.rules.specs.Tables.{vacant}
-use Rattle.rules.proofs.Bools.{by-test, by-order, clash, and-i, or-l, or-r}
+use Rattle.rules.proofs.Bools.{by-test, by-order, clash}
 use Rattle.rules.proofs.Lists.{Each, sum-le, sum-gap, sum-snoc}
-use Rattle.rules.proofs.Claims.{end-wait, end-ge, end-le}
-use Rattle.rules.proofs.Pool.{Covers, covers-e, covers-i, units-le, units-is}
+use Rattle.rules.proofs.Claims.{end-le}
+use Rattle.rules.proofs.Pool.{covers-e, covers-i}
 use Rattle.rules.proofs.Placing.{place-low, place-fits, place-least}
 use Rattle.table.specs.Rows.{Sized, Row, Capped}
 use Rattle.table.proofs.Rows.{row-member}

@@ -2,7 +2,7 @@
 -- the claims over those of the row, the tickets into a row of their own. Rests on `union-shares` of groups and on `goes-quick` of rules.
 use mathlib.Core.Path.{_≡_, refl, sym, _∙_, ap, subst}
 use mathlib.Core.Logic.{⊎-elim}
-use mathlib.Core.Bool.{true, false, not, _&&_, _||_, cond, or-assoc, or-false}
+use mathlib.Core.Bool.{true, false, _||_, cond, or-assoc, or-false}
 use mathlib.Core.List.{List, [], _∷_, _++_, map}
 use Prim.Native.Nat.{ℕ, suc, _+_, _-_, _≤_, _<_}
 use native.Mathlib.Omega.{arith}
@@ -10,7 +10,7 @@ use lib.ListN.{length, take, drop, getD, set, replicate, length-replicate, lengt
 use lib.Dec.{leb, eqb}
 use lib.Seq.{getD-set-other, getD-take, take-suc, split-at}
 use native.Mathlib.Numerals.{add-one}
-use borrow.Author.Tests.{leb-true, le-leb, eqb-true, eqb-false, not-true}
+use borrow.Author.Tests.{leb-true, le-leb, eqb-true}
 use Rattle.groups.specs.Groups.{shares, union}
 use Rattle.groups.proofs.Groups.{union-shares}
 use Rattle.groups.proofs.Words.{zero-shares}
@@ -23,13 +23,13 @@ use Rattle.rules.specs.Pool.{heldBy, heldUnits}
 use Rattle.rules.specs.Plans.{Ascending, Sane, StartsFrom}
 use Rattle.rules.specs.Granting.{takenBefore, trulyFree, goes, granted, grant, grants}
 use Rattle.rules.specs.Tables.{vacant, pad}
-use Rattle.rules.proofs.Bools.{by-test, by-order, clash, both-ways, or-e, or-l, or-r}
+use Rattle.rules.proofs.Bools.{by-test, clash, both-ways, or-e, or-r}
 use Rattle.rules.proofs.Lists.{Each, keep-length, sum-snoc}
 use Rattle.rules.proofs.Granting.{granted-cases, grant-length, goes-at, goes-truly-free, goes-quick, taken-front}
 use Rattle.table.specs.Rows.{Row, rewritten}
 use Rattle.table.specs.Holders.{holds, Held, HeldWith, goesAt}
 use Rattle.rules.proofs.Places.{prefix-end, Storing, store-start, store-more, store-same, store-end, pad-stored}
-use Rattle.table.proofs.Rows.{row-count, row-step, row-member}
+use Rattle.table.proofs.Rows.{row-count, row-step}
 
 -- ── one claim ──
 module _ (h : ℕ) (c : Claim) where

@@ -12,7 +12,7 @@ use Rattle.rules.specs.declared.Table.{Table}
 use Rattle.rules.specs.declared.Phase.the-variants.{Waiting}
 use Rattle.rules.specs.Lists.{_∈_, sum, keep, all}
 use Rattle.rules.specs.declared.Setting.{Setting}
-use Rattle.rules.specs.Claims.{on, at, withPhase, rival, endOf, remaining}
+use Rattle.rules.specs.Claims.{at, withPhase, rival, endOf, remaining}
 use Rattle.rules.specs.Order.{rivals}
 use Rattle.rules.specs.Pool.{spare}
 use Rattle.rules.specs.Plans.{Sane}

@@ -1,17 +1,17 @@
 -- Events that stand for the planned use of a pool: a hold entered adds its units from its start to its end, and a first fit is the first
 -- time from which the use leaves units enough.
-use mathlib.Core.Path.{_≡_, refl, sym, _∙_, ap, subst}
+use mathlib.Core.Path.{_≡_, _∙_, ap}
 use mathlib.Core.Logic.{⊎-elim}
-use mathlib.Core.Bool.{Bool, true, false, _&&_, _||_, cond}
-use mathlib.Core.List.{List, []}
-use Prim.Native.Nat.{ℕ, zero, suc, _+_, _≤_, _<_, max}
+use mathlib.Core.Bool.{Bool, _&&_, cond}
+use mathlib.Core.List.{List}
+use Prim.Native.Nat.{ℕ, _+_, _≤_, _<_}
 use native.Mathlib.Omega.{arith}
 use lib.Dec.{ltb, leb}
 use lib.ListN.{length, take, replicate, length-replicate}
 use borrow.Author.Tests.{le-leb, lt-leb, lt-ltb, le-ltb}
 use Rattle.rules.specs.declared.Claim.{Claim}
 use Rattle.rules.specs.declared.Setting.{Setting}
-use Rattle.rules.specs.Lists.{_∈_, sum}
+use Rattle.rules.specs.Lists.{sum}
 use Rattle.rules.specs.Claims.{on, at, endOf}
 use Rattle.rules.specs.Pool.{covers, unitsAt}
 use Rattle.rules.proofs.Bools.{by-test, by-order}
@@ -19,7 +19,7 @@ use Rattle.rules.proofs.Lists.{none}
 use Rattle.rules.proofs.Claims.{end-wait, end-ge}
 use Rattle.rules.proofs.Pool.{units-le}
 use Rattle.table.specs.Rows.{Sized}
-use Rattle.table.specs.SortKeys.{NeverFalls, Inserted}
+use Rattle.table.specs.SortKeys.{Inserted}
 use Rattle.table.specs.Events.{eventWord, timeIn, unitsIn, upTo, beforeTime, Events, FirstFit}
 use Rattle.table.proofs.Sorting.{inserted-falls, inserted-one}
 use Rattle.table.proofs.Events.{time-of, units-of, inserted-sum, up-to-all, up-to-whole}

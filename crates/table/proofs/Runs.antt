@@ -5,7 +5,7 @@ use Prim.Native.Nat.{ℕ}
 use Rattle.rules.specs.declared.Table.{Table}
 use Rattle.rules.specs.Calls.{Model, Call, lookup, common, free, Answer, Step, step, standingOf, commonOf, freeOf, new}
 use Rattle.rules.specs.Tables.{model}
-use Rattle.promises.specs.Ledger.{Turn, Ledger, opening, turns, tableAfter}
+use Rattle.promises.specs.Ledger.{Turn, opening, turns, tableAfter}
 use Rattle.promises.specs.Demand3.{Told, tells}
 use Rattle.promises.proofs.Demand3.{table-after, demand-3}
 use Rattle.promises.proofs.PoolKept.{pool-kept}

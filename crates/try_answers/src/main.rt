@@ -1,6 +1,6 @@
 // Prints whole answers, for comparison with the second program: for each record of a load on standard input its number, ticket, start,
 // contention and start bound, then the units free, how each pending ticket stands, and which group two of them share. A listing prints less.
-ghost use Prim.Native.Nat.{_≤_, _<_};
+ghost use Prim.Native.Nat.{_<_};
 ghost use Rattle.table.specs.Valid.{Valid};
 use load::Item;
 use rules::Common;

@@ -1,5 +1,4 @@
 -- The loop's invariant is `Freeing`: the units of the holders that are done are taken off those of the pool.
-use mathlib.Core.Path.{_≡_, sym, _∙_}
 use Prim.Native.Nat.{_-_}
 use native.Mathlib.Omega.{arith}
 use lib.ListN.{take}

@@ -3,12 +3,11 @@
 -- the rules is `written-goes`.
 use mathlib.Core.Path.{_≡_, refl, sym, _∙_, ap}
 use mathlib.Core.Logic.{⊎-elim}
-use Prim.Native.Nat.{_+_, _-_}
+use Prim.Native.Nat.{_-_}
 use native.Mathlib.Omega.{arith}
 use borrow.Author.Needs.{needs}
 use lib.ListN.{take, getD}
 use Rattle.rules.specs.declared.Claim.{Claim}
-use Rattle.rules.specs.Pool.{heldUnits}
 use Rattle.rules.specs.Granting.{goes}
 use Rattle.rules.specs.Tables.{vacant}
 use Rattle.table.specs.Parts.{ruledIn, withClaims}

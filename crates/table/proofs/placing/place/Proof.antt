@@ -9,13 +9,13 @@ use native.Mathlib.Omega.{arith}
 use lib.ListN.{length, take}
 use borrow.Author.Needs.{needs}
 use borrow.Author.Tests.{not-true, not-false}
-use Rattle.rules.specs.Lists.{all, sum}
+use Rattle.rules.specs.Lists.{all}
 use Rattle.rules.specs.Placing.{clear, place, contention, startBound}
 use Rattle.rules.proofs.Placing.{place-low}
 use Rattle.table.specs.Parts.{ruledIn}
 use Rattle.table.specs.Barring.{barred}
 use Rattle.table.proofs.Rows.{row-member, row-sized, row-small, Left, left-start, left-next, left-end}
-use Rattle.table.proofs.Plots.{Plot, plot-none}
+use Rattle.table.proofs.Plots.{Plot}
 use Rattle.table.proofs.Barring.{gather-start, gather-none, gather-more, drawn-start, claim-early}
 use Rattle.table.proofs.PlacingLoop.{jump, found-plain, Counted, count-none, count-rival, count-other, count-all, placed-as}
 use Rattle.table.proofs.Ranges.{place-small, remaining-short, bound-small}

@@ -1,9 +1,5 @@
 -- `pool::enter` meets its contract: two insertions. Assumes nothing.
-use mathlib.Core.Path.{_≡_, subst}
-use Prim.Native.Nat.{ℕ, _+_}
-use lib.ListN.{take}
 use borrow.Author.Needs.{needs}
-use Rattle.table.specs.SortKeys.{Inserted}
 use Rattle.table.proofs.pool.enter.Statement.{statement}
 use Rattle.table.proofs.pool.enter.Tie as tie
 
