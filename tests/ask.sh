@@ -53,6 +53,7 @@ load pooled 'edition 2\nrig F 3\nclaim 0 1 10 2\nclaim 0 0 5 1\nclaim 0 2 5 3\n'
 load drawn 'edition 2\nrig F 3\nclaim 0 1 10 2\nclaim 0 0 5 1\nclaim 0 2 5 3\nrelease 4 2\n'
 load overrun 'edition 2\nrig F 3\nclaim 0 1 10 3\nclaim 0 2 5 1\nclock 12\n'
 load dark_pool 'edition 2\nrig 0 3\n'
+load desks 'edition 3\nrig F 9\ndesk 2 1 5\ndesk 9 0 0\nclaim 0 1 10 7 2\nclaim 0 1 10 0 1\ndesk 3 0 5\nclaim 0 2 10 0 2\n'
 : >"$tmp/empty"
 printf '\377' >"$tmp/edition"
 head -c 65537 /dev/zero >"$tmp/overlong"
@@ -121,5 +122,10 @@ wrong "units of a ticket" free 3
 wrong "a line of over 4,096 bytes" lookup "$(printf '%04097d' 3)"
 { "$bin/ask" look 3 2>"$tmp/err"; cat; } <"$tmp/plot" >"$tmp/out"
 try "a wrong question leaves the load unread" cmp "$tmp/out" "$tmp/plot"
+
+# edition 3: a desk's claim, a stranger's, and a declaration that comes late
+answers 'stop 13 6\n2 of 9 units free\n' "units free before a late declaration" desks free
+answers 'stop 13 6\nticket 1 is on, promised end 10\n' "a desk's claim before a late declaration" desks lookup 1
+answers 'stop 13 6\nticket 2 is not pending\n' "nothing behind a late declaration" desks lookup 2
 
 total

@@ -55,7 +55,8 @@ shown() {
 }
 
 rig=000901000000000000000f
-rig2=000b01000000000000000f0003 # of edition 2: a pool of 3
+rig2=000b01000000000000000f0003 # of editions 2 and 3: a pool of 3
+desk=000406020a40 # desk 2, guarantee 10, limit 64
 header='# edition 1\n'
 
 # the sample, there and back
@@ -83,13 +84,27 @@ shown "record of no bytes" 010000 "$header# stop 13 1\n"
 
 # edition 2
 shown "edition 2 alone" 02 'edition 2\n'
-shown "edition 3" 03 '# stop 11 0\n'
 shown "edition 2 with all of its calls" \
     "02${rig2}0017020000000000000007000000000000000c0000000affff000b0300000000000000080001000b040000000000000009000200090500000000000000ff" \
     'edition 2\nrig F 3\nclaim 7 C 10 65535\nrelease 8 1\nwithdraw 9 2\nclock 255\n'
 shown "edition 2 with a rig of edition 1" "02$rig" 'edition 2\n# stop 13 1\n'
 shown "edition 2 with a claim of edition 1" "02${rig2}001502000000000000000700000000000000080000000a" 'edition 2\nrig F 3\n# stop 13 2\n'
 shown "edition 1 with a rig of edition 2" "01$rig2" "$header# stop 13 1\n"
+
+# edition 3
+shown "edition 3 alone" 03 'edition 3\n'
+shown "edition 4" 04 '# stop 11 0\n'
+shown "edition 3 with all of its calls" \
+    "03${rig2}${desk}0018020000000000000007000000000000000c0000000affff02000b0300000000000000080001000b040000000000000009000200090500000000000000ff" \
+    'edition 3\nrig F 3\ndesk 2 10 64\nclaim 7 C 10 65535 2\nrelease 8 1\nwithdraw 9 2\nclock 255\n'
+shown "edition 3 with a rig of edition 1" "03$rig" 'edition 3\n# stop 13 1\n'
+shown "edition 3 with a claim of edition 2" "03${rig2}001702000000000000000700000000000000080000000a0002" 'edition 3\nrig F 3\n# stop 13 2\n'
+shown "edition 2 with a claim of edition 3" "02${rig2}001802000000000000000700000000000000080000000a000202" 'edition 2\nrig F 3\n# stop 13 2\n'
+shown "edition 2 with a desk" "02$rig2$desk" 'edition 2\nrig F 3\n# stop 13 2\n'
+shown "edition 1 with a desk" "01$rig$desk" "${header}rig F\n# stop 13 2\n"
+shown "a desk before the rig" "03$desk" 'edition 3\n# stop 13 1\n'
+shown "a desk without its limit" "03${rig2}000306020a" 'edition 3\nrig F 3\n# stop 13 2\n'
+shown "kind 7 in edition 3" "03${rig2}00040700000000" 'edition 3\nrig F 3\n# stop 13 2\n'
 
 # other refusals of load_show
 shown "second rig" "01$rig$rig" "${header}rig F\n# stop 13 2\n"
@@ -142,7 +157,29 @@ good "edition 2 alone" 'edition 2\n' 02
 good "edition 2" '# x\nedition 2\nrig F 3 # spots\nclaim 7 8 10 2\nrelease 8 1\n' "02${rig2}001702000000000000000700000000000000080000000a0002000b0300000000000000080001"
 good "largest and least pool and units" 'edition 2\nrig 0-63 65535\nclaim 0 0 1 065535\nclaim 0 1 1 0\n' \
     02000b01ffffffffffffffffffff0017020000000000000000000000000000000000000001ffff00170200000000000000000000000000000001000000010000
-bad "edition 3" '# x\nedition 3\nrig F\n' 'line 2: unknown edition'
+good "edition 3 alone" 'edition 3\n' 03
+good "edition 3" 'edition 3\nrig F 3\ndesk 2 10 64 # lights\nclaim 7 8 10 2 2\nrelease 8 1\n' \
+    "03${rig2}${desk}001802000000000000000700000000000000080000000a000202000b0300000000000000080001"
+good "largest and least desk, guarantee and limit" 'edition 3\nrig F 3\ndesk 255 255 0255\ndesk 0 0 0\nclaim 0 1 1 0 255\nclaim 0 1 1 0 0\n' \
+    "03${rig2}000406ffffff00040600000000180200000000000000000000000000000001000000010000ff0018020000000000000000000000000000000100000001000000"
+bad "edition 4" '# x\nedition 4\nrig F\n' 'line 2: unknown edition'
+bad "edition 3 behind a call" 'rig F\nedition 3\n' 'line 2: unknown call'
+bad "a desk in edition 2" 'edition 2\nrig F 3\ndesk 1 64 64\n' 'line 3: unknown call'
+bad "a desk in edition 1" 'rig F\ndesk 1 64 64\n' 'line 2: unknown call'
+bad "edition 2 with a claim's desk" 'edition 2\nrig F 3\nclaim 0 F 1 2 1\n' 'line 3: too many words'
+bad "edition 3 without a claim's desk" 'edition 3\nrig F 3\nclaim 0 F 1 2\n' 'line 3: a number is missing'
+bad "edition 3 without a pool" 'edition 3\nrig F\n' 'line 2: a number is missing'
+bad "a desk without a limit" 'edition 3\nrig F 3\ndesk 1 64\n' 'line 3: a number is missing'
+bad "a desk with a word more" 'edition 3\nrig F 3\ndesk 1 64 64 64\n' 'line 3: too many words'
+bad "desk is no number" 'edition 3\nrig F 3\ndesk A 64 64\n' 'line 3: desk is not a number'
+bad "guarantee is no number" 'edition 3\nrig F 3\ndesk 1 -1 64\n' 'line 3: guarantee is not a number'
+bad "limit is no number" 'edition 3\nrig F 3\ndesk 1 64 x\n' 'line 3: limit is not a number'
+bad "a claim's desk is no number" 'edition 3\nrig F 3\nclaim 0 F 1 2 A\n' 'line 3: desk is not a number'
+bad "desk 256" 'edition 3\nrig F 3\ndesk 256 64 64\n' 'line 3: number too large'
+bad "guarantee of 256" 'edition 3\nrig F 3\ndesk 1 256 64\n' 'line 3: number too large'
+bad "limit of 256" 'edition 3\nrig F 3\ndesk 1 64 256\n' 'line 3: number too large'
+bad "a claim's desk 256" 'edition 3\nrig F 3\nclaim 0 F 1 2 256\n' 'line 3: number too large'
+bad "a desk's line before the rig" 'edition 3\ndesk 1 64 64\nrig F 3\n' 'line 2: rig must be first'
 bad "edition 2 behind a call" 'rig F\nedition 2\n' 'line 2: unknown call'
 bad "edition 1 with a pool" 'rig F 3\n' 'line 1: too many words'
 bad "edition 1 with units" 'edition 1\nrig F\nclaim 0 F 1 2\n' 'line 3: too many words'
@@ -183,6 +220,31 @@ verdict "a full load of edition 2 there and back"
 { cat "$tmp/full"; echo "claim 0 F 1 0"; } | run load_write
 : >"$tmp/want"
 verdict "one claim over a full load of edition 2" "line 2623: load over 65,536 bytes"
+
+# edition 3, there and back: as many records as a load has, and claims whose lines are of the greatest length
+{
+    echo "edition 3"
+    echo "rig FFFFFFFFFFFFFFFF 65535"
+    yes "desk 255 255 255" | head -n 10920
+} >"$tmp/full"
+run load_write <"$tmp/full"
+mv "$tmp/out" "$tmp/load"
+run load_show <"$tmp/load"
+cp "$tmp/full" "$tmp/want"
+verdict "a full load of desks there and back"
+{ cat "$tmp/full"; echo "desk 1 1 1"; } | run load_write
+: >"$tmp/want"
+verdict "one desk over a full load" "line 10923: load over 65,536 bytes"
+{
+    echo "edition 3"
+    echo "rig FFFFFFFFFFFFFFFF 65535"
+    yes "claim 18446744073709551615 FFFFFFFFFFFFFFFF 4294967295 65535 255" | head -n 2520
+} >"$tmp/full"
+run load_write <"$tmp/full"
+mv "$tmp/out" "$tmp/load"
+run load_show <"$tmp/load"
+cp "$tmp/full" "$tmp/want"
+verdict "a full load of edition 3 there and back"
 
 # sizes: the edition byte, the rig and 5,956 clocks are 65,528 bytes
 { echo "rig F"; yes "clock 1" | head -n 5956; } >"$tmp/full"

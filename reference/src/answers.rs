@@ -1,12 +1,13 @@
 //! Whole answers to the calls of a load, which a listing prints only in part.
 
-use crate::load::{Call, Reader};
+use crate::load::{new_table, Call, Reader};
+use crate::refusal::Refusal;
 use crate::table::{Answer, Common, Lookup, Table};
 
 /// For each record its number, ticket, start, contention and start bound, then
 /// the units free, how each pending ticket stands, and which group pairs of
 /// tickets have in common. The records end with the load, where the reader
-/// refuses, or behind a rig without groups.
+/// refuses, or behind a rig without groups or a declaration that comes too late.
 pub fn answers(load: &[u8]) -> Vec<u8> {
     let mut out = String::new();
     let Ok(mut reader) = Reader::open(load) else {
@@ -18,7 +19,7 @@ pub fn answers(load: &[u8]) -> Vec<u8> {
         record += 1;
         match (read.call, &mut table) {
             (Call::Rig { groups, pool }, _) => {
-                let (made, answer) = Table::new(groups, pool);
+                let (made, answer) = new_table(load[0], groups, pool);
                 lines(&mut out, record, &answer, &made);
                 if !answer.accepted() {
                     break;
@@ -29,7 +30,16 @@ pub fn answers(load: &[u8]) -> Vec<u8> {
                 let answer = table.call(call);
                 lines(&mut out, record, &answer, table);
             }
-            (Call::Timed(_), None) => unreachable!("the reader lets only a rig come first"),
+            (Call::Declare(declaration), Some(table)) => {
+                let answer = table.declare(declaration);
+                lines(&mut out, record, &answer, table);
+                if answer.number == Refusal::Misfit.number() {
+                    break;
+                }
+            }
+            (Call::Timed(_) | Call::Declare(_), None) => {
+                unreachable!("the reader lets only a rig come first")
+            }
         }
     }
     out.into_bytes()

@@ -8,7 +8,7 @@
 //! ```
 
 use crate::listing::stop;
-use crate::load::{Call, Reader};
+use crate::load::{new_table, Call, Reader};
 use crate::refusal::Refusal;
 use crate::table::{Common, Lookup, Table};
 use crate::text::number;
@@ -82,9 +82,14 @@ pub fn left(load: &[u8]) -> (Table, Option<(Refusal, usize)>) {
             Err(refusal) => return (table, Some((refusal, record))),
             Ok(Some(read)) => match read.call {
                 Call::Rig { groups: 0, .. } => return (table, Some((Refusal::NoGroup, record))),
-                Call::Rig { groups, pool } => table = Table::new(groups, pool).0,
+                Call::Rig { groups, pool } => table = new_table(load[0], groups, pool).0,
                 Call::Timed(call) => {
                     table.call(call);
+                }
+                Call::Declare(declaration) => {
+                    if table.declare(declaration).number == Refusal::Misfit.number() {
+                        return (table, Some((Refusal::Misfit, record)));
+                    }
                 }
             },
         }

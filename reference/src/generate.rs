@@ -1,9 +1,12 @@
 //! A deterministic generator of runs and loads from a seed, and a damager of
 //! loads. The same seed gives the same bytes everywhere.
 
-use crate::load::{self, Call, Kind, MAX_LOAD};
-use crate::monitor::RunCall;
-use crate::table::{Claim, State, Table, TimedCall, MAX_CLOCK, MAX_LENGTH, MAX_PENDING};
+use std::iter::once;
+
+use crate::load::{self, Call, Kind, FORMATS, MAX_LOAD};
+use crate::monitor::{RunCall, Start};
+use crate::table::{Claim, Declaration, State, Table, TableCall, TimedCall, ONLY_CLIENT};
+use crate::table::{MAX_CLIENT, MAX_CLOCK, MAX_LENGTH, MAX_PENDING};
 
 /// A small generator of numbers (splitmix64).
 #[derive(Clone, Debug)]
@@ -97,10 +100,13 @@ pub enum Shape {
     Pool,
     /// The same, in time.
     PoolInTime,
+    /// Claims of several clients, most of which stay pending: guarantees are
+    /// filled and not, and limits are met.
+    Clients,
 }
 
 /// Every shape.
-pub const SHAPES: [Shape; 14] = [
+pub const SHAPES: [Shape; 15] = [
     Shape::Short,
     Shape::Long,
     Shape::Full,
@@ -115,6 +121,7 @@ pub const SHAPES: [Shape; 14] = [
     Shape::InTime,
     Shape::Pool,
     Shape::PoolInTime,
+    Shape::Clients,
 ];
 
 /// A generated run: the edition of its load, the rig with its pool, and the
@@ -125,18 +132,18 @@ pub struct Run {
     pub edition: u8,
     pub rig: u64,
     pub pool: u16,
-    pub calls: Vec<TimedCall>,
+    pub calls: Vec<TableCall>,
 }
 
 impl Run {
     /// The run as the calls of a load.
     pub fn load_calls(&self) -> Vec<Call> {
-        let mut calls = vec![Call::Rig {
+        let rig = Call::Rig {
             groups: self.rig,
             pool: self.pool,
-        }];
-        calls.extend(self.calls.iter().map(|&call| Call::Timed(call)));
-        calls
+        };
+        let calls = self.calls.iter().map(|&call| call.into());
+        once(rig).chain(calls).collect()
     }
 
     /// The run as a load of at most 65,536 bytes.
@@ -146,13 +153,26 @@ impl Run {
 
     /// The new table that the run begins with.
     pub fn table(&self) -> Table {
-        Table::new(self.rig, self.pool).0
+        load::new_table(self.edition, self.rig, self.pool).0
+    }
+
+    /// The same for a monitor.
+    pub fn start(&self) -> Start {
+        Start {
+            rig: self.rig,
+            pool: self.pool,
+            declared: if self.edition < 3 {
+                &[ONLY_CLIENT]
+            } else {
+                &[]
+            },
+        }
     }
 }
 
 /// The run of a seed, its shape chosen by the seed.
 pub fn run(seed: u64) -> Run {
-    let weights = [4, 1, 2, 2, 4, 4, 3, 4, 3, 2, 1, 3, 5, 3];
+    let weights = [4, 1, 2, 2, 4, 4, 3, 4, 3, 2, 1, 3, 5, 3, 7];
     let shape = SHAPES[Prng::new(!seed).weighted(&weights)];
     run_of(shape, seed)
 }
@@ -172,12 +192,15 @@ pub fn any_load(seed: u64) -> Vec<u8> {
     }
 }
 
-/// The run of a shape and a seed. One in two of those that need no pool is of
-/// edition 1.
+/// The run of a shape and a seed, of any edition that has what the shape needs.
 pub fn run_of(shape: Shape, seed: u64) -> Run {
     let mut prng = Prng::new(seed);
     let drawing = matches!(shape, Shape::Pool | Shape::PoolInTime);
-    let edition = if drawing { 2 } else { prng.pick(&[1, 2]) };
+    let edition = match shape {
+        Shape::Pool | Shape::PoolInTime => prng.pick(&[2, 2, 3]),
+        Shape::Clients => 3,
+        _ => prng.pick(&[1, 2, 3]),
+    };
     let rig = rig(&mut prng, shape);
     let pool = match edition {
         1 => 0,
@@ -185,6 +208,9 @@ pub fn run_of(shape: Shape, seed: u64) -> Run {
     };
     let in_time = matches!(shape, Shape::InTime | Shape::PoolInTime);
     let mut build = Builder::new(prng, (edition, rig, pool), MAX_LOAD, in_time);
+    if edition == 3 {
+        build.declare(shape);
+    }
     match shape {
         Shape::Short => {
             let count = build.prng.below(9);
@@ -254,19 +280,33 @@ pub fn run_of(shape: Shape, seed: u64) -> Run {
             let count = build.prng.range(10, 120);
             build.mix(count, &POOL);
         }
+        Shape::Clients => {
+            let count = build.prng.pick(&[12, 30, 60, 90, 120]);
+            let habits = build.prng.pick(&[&CLIENTS, &CLIENTS, &CLIENTS_LEAVE]);
+            build.mix(count, habits);
+        }
+    }
+    if edition == 3 && build.prng.one_in(4) {
+        build.declare_late();
     }
     build.run(shape)
 }
 
 /// The calls of a run with lookups of one ticket, of two and of the units free
-/// between them.
+/// between them, and with declarations and claims of other clients. These are
+/// refused, or change nothing for the calls of the run: in a table as of the
+/// older editions all places are kept for client 1.
 pub fn with_lookups(run: &Run, seed: u64) -> Vec<RunCall> {
     let mut prng = Prng::new(seed ^ 0x1005_0B07);
     let mut table = run.table();
     let mut calls = Vec::new();
     for &call in &run.calls {
+        if prng.one_in(8) {
+            let more = extra(&mut prng, run, &mut table);
+            calls.extend(more.map(RunCall::from));
+        }
         table.call(call);
-        calls.push(RunCall::Timed(call));
+        calls.push(call.into());
         if prng.one_in(8) {
             calls.push(RunCall::Lookup(lookup_ticket(&mut prng, &table)));
         }
@@ -280,6 +320,39 @@ pub fn with_lookups(run: &Run, seed: u64) -> Vec<RunCall> {
         }
     }
     calls
+}
+
+/// A declaration, or a claim of a client that is not declared or, in a table as
+/// of the older editions, not the first.
+fn extra(prng: &mut Prng, run: &Run, table: &mut Table) -> Option<TableCall> {
+    let client = prng.pick(&[0, 2, 2, 3, 8, 9, 255]);
+    let declared = table.declared().iter().any(|own| own.client == client);
+    if prng.one_in(3) && (run.edition < 3 || !declared) {
+        let claim = TimedCall::Claim {
+            clock: table.now(),
+            groups: run.rig,
+            length: prng.pick(&[0, 1, 10, MAX_LENGTH]),
+            units: prng.pick(&[0, 0, 1, u16::MAX]),
+            client,
+        };
+        return Some(claim.into());
+    }
+    let spare = Declaration {
+        client,
+        reserved: 0,
+        limit: prng.pick(&[0, 1, 40, 64]),
+    };
+    let odd = odd_declaration(prng, table.declared());
+    let declaration = match run.edition {
+        3 => odd,
+        _ => prng.pick(&[spare, spare, odd]),
+    };
+    // In edition 3 the declarations of the run itself are to stand.
+    if run.edition == 3 && table.clone().declare(declaration).accepted() {
+        return None;
+    }
+    table.declare(declaration);
+    Some(declaration.into())
 }
 
 /// A ticket to look up: mostly one that is pending, else one that left or was
@@ -300,10 +373,19 @@ pub fn sized_load(edition: u8, seed: u64, size: usize) -> Option<Vec<u8>> {
     // From 120 on every number is a sum of 11s and 13s.
     const CLOCK: usize = 11;
     const RELEASE: usize = 13;
-    const CLAIM: usize = 25;
+    const CLAIM: usize = 26;
     let pool = if edition == 1 { 0 } else { 5 };
     let rig = (edition, 0xFF, pool);
     let mut build = Builder::new(Prng::new(seed), rig, size, false);
+    if edition == 3 {
+        for (client, reserved, limit) in [(1, 20, 64), (2, 10, 30), (5, 0, 3)] {
+            build.push(Declaration {
+                client,
+                reserved,
+                limit,
+            });
+        }
+    }
     while build.bytes + CLAIM + 120 <= size {
         build.step(&BRISK);
     }
@@ -327,7 +409,7 @@ pub fn sized_load(edition: u8, seed: u64, size: usize) -> Option<Vec<u8>> {
 fn rig(prng: &mut Prng, shape: Shape) -> u64 {
     match shape {
         Shape::AllGroups | Shape::Chain => u64::MAX,
-        Shape::Ties | Shape::Pool | Shape::PoolInTime => {
+        Shape::Ties | Shape::Pool | Shape::PoolInTime | Shape::Clients => {
             prng.pick(&[0x3, 0x7, 0xF, 0x1F, 0x8000_0000_0000_0001])
         }
         Shape::Full => prng.pick(&[0x1, 1 << 63, 0x7, u64::MAX]),
@@ -427,6 +509,24 @@ enum Pace {
     Far,
 }
 
+/// How the clients of a run are declared.
+#[derive(Clone, Copy, PartialEq, Eq)]
+enum Cast {
+    /// The first alone, as a table of the older editions has it.
+    One,
+    /// Some, of which one may have all places.
+    Loose,
+    /// Guarantees that add up to 64.
+    Tight,
+    /// Guarantees that add up to less.
+    Slack,
+    /// Limits of a few claims, or none.
+    Limited,
+    /// Any values.
+    Any,
+    Nobody,
+}
+
 /// How the calls of a run are drawn.
 struct Habits {
     /// Weights of claim, release, withdraw, clock and stray calls.
@@ -437,9 +537,11 @@ struct Habits {
     paces: &'static [Pace],
     /// Once in so many, a claim that draws units has no groups.
     bare: u64,
-    /// Once in so many, a ticket is not aimed at a fitting claim, or units are
-    /// more than the pool has.
+    /// Once in so many, a ticket is not aimed at a fitting claim, units are more
+    /// than the pool has, or a client is not declared.
     miss: u64,
+    /// Once in so many, a claim may be of a client that has no place left.
+    over: u64,
 }
 
 const ALL_ROUND: Habits = Habits {
@@ -450,6 +552,7 @@ const ALL_ROUND: Habits = Habits {
     paces: &[Pace::Still, Pace::Slow, Pace::Event, Pace::Jump],
     bare: 3,
     miss: 8,
+    over: 8,
 };
 
 const ACCEPTED: Habits = Habits {
@@ -460,6 +563,7 @@ const ACCEPTED: Habits = Habits {
     paces: &[Pace::Still, Pace::Still, Pace::Slow, Pace::Event],
     bare: 4,
     miss: 64,
+    over: 16,
 };
 
 /// Few pending claims at any time, so that long loads go fast.
@@ -483,6 +587,7 @@ const MANY_GROUPS: Habits = Habits {
     paces: &[Pace::Still, Pace::Slow, Pace::Event],
     bare: 8,
     miss: 16,
+    over: 8,
 };
 
 const TIES: Habits = Habits {
@@ -498,6 +603,7 @@ const TIES: Habits = Habits {
     paces: &[Pace::Still, Pace::Still, Pace::Event],
     bare: 4,
     miss: 16,
+    over: 8,
 };
 
 const OVERRUN: Habits = Habits {
@@ -508,6 +614,7 @@ const OVERRUN: Habits = Habits {
     paces: &[Pace::Late, Pace::Late, Pace::Still, Pace::Event],
     bare: 4,
     miss: 16,
+    over: 8,
 };
 
 const BOUNDARY: Habits = Habits {
@@ -518,6 +625,7 @@ const BOUNDARY: Habits = Habits {
     paces: &[Pace::Still, Pace::Event, Pace::Far],
     bare: 4,
     miss: 4,
+    over: 4,
 };
 
 const END_OF_TIME: Habits = Habits {
@@ -533,6 +641,7 @@ const END_OF_TIME: Habits = Habits {
     paces: &[Pace::Still, Pace::Still, Pace::Slow, Pace::Event, Pace::Far],
     bare: 4,
     miss: 16,
+    over: 8,
 };
 
 const POOL: Habits = Habits {
@@ -558,6 +667,7 @@ const POOL: Habits = Habits {
     paces: &[Pace::Still, Pace::Still, Pace::Slow, Pace::Event],
     bare: 2,
     miss: 24,
+    over: 8,
 };
 
 const POOL_LATE: Habits = Habits {
@@ -572,6 +682,23 @@ const POOL_LATE: Habits = Habits {
     ..POOL
 };
 
+const CLIENTS: Habits = Habits {
+    weights: [40, 4, 2, 2, 3],
+    groups: &[Groups::One, Groups::One, Groups::Pair],
+    lengths: &[Lengths::Small, Lengths::Equal, Lengths::Touch],
+    draws: &[Draws::None, Draws::None, Draws::One, Draws::Few],
+    paces: &[Pace::Still, Pace::Still, Pace::Slow],
+    bare: 4,
+    miss: 12,
+    over: 3,
+};
+
+/// Claims leave as fast as they come.
+const CLIENTS_LEAVE: Habits = Habits {
+    weights: [20, 10, 8, 2, 3],
+    ..CLIENTS
+};
+
 /// A run being built, with the table that it leads to.
 struct Builder {
     prng: Prng,
@@ -579,7 +706,9 @@ struct Builder {
     rig: u64,
     pool: u16,
     table: Table,
-    calls: Vec<TimedCall>,
+    calls: Vec<TableCall>,
+    /// How many calls there were when the first claim had been accepted.
+    begun: Option<usize>,
     /// The bytes of the load so far.
     bytes: usize,
     /// The most bytes of the load.
@@ -601,8 +730,9 @@ impl Builder {
             edition,
             rig,
             pool,
-            table: Table::new(rig, pool).0,
+            table: load::new_table(edition, rig, pool).0,
             calls: Vec::new(),
+            begun: None,
             bytes: load::join(edition, &[call]).len(),
             limit,
             in_time,
@@ -621,13 +751,18 @@ impl Builder {
 
     /// Adds a call, unless the load has no room for it or a run in time has
     /// none.
-    fn push(&mut self, call: TimedCall) {
-        let record = load::encode(self.edition, Call::Timed(call));
-        let bytes = self.bytes + record.expect("a call that the edition carries").len();
+    fn push(&mut self, call: impl Into<TableCall>) {
+        let call = call.into();
+        let bytes = self.bytes + self.record(call).len();
         if bytes > self.limit {
             return;
         }
-        if self.in_time && self.earliest_end().is_some_and(|end| call.clock() > end) {
+        // A declaration has no clock, and none is less than every other.
+        if self.in_time
+            && self
+                .earliest_end()
+                .is_some_and(|end| call.clock() > Some(end))
+        {
             let answer = self.table.clone().call(call);
             if answer.accepted() {
                 return;
@@ -636,6 +771,187 @@ impl Builder {
         self.bytes = bytes;
         self.table.call(call);
         self.calls.push(call);
+        if self.table.issued() > 0 {
+            self.begun.get_or_insert(self.calls.len());
+        }
+    }
+
+    /// The record of a call.
+    fn record(&self, call: TableCall) -> Vec<u8> {
+        load::encode(self.edition, call.into()).expect("a call that the edition carries")
+    }
+
+    /// Declares clients as suits the shape. Bad declarations and refused calls
+    /// come between.
+    fn declare(&mut self, shape: Shape) {
+        let casts: &[Cast] = match shape {
+            Shape::Full => &[Cast::One, Cast::Loose, Cast::Tight],
+            Shape::Accepted => &[Cast::One, Cast::Loose],
+            Shape::Clients => &[
+                Cast::Tight,
+                Cast::Tight,
+                Cast::Slack,
+                Cast::Slack,
+                Cast::Loose,
+                Cast::Limited,
+                Cast::Any,
+            ],
+            Shape::Short | Shape::Boundary | Shape::Noise => &[
+                Cast::One,
+                Cast::Loose,
+                Cast::Tight,
+                Cast::Limited,
+                Cast::Any,
+                Cast::Nobody,
+            ],
+            _ => &[Cast::One, Cast::Loose, Cast::Loose, Cast::Tight],
+        };
+        let cast = self.prng.pick(casts);
+        let steady = matches!(shape, Shape::Full | Shape::Accepted);
+        let mut clients: Vec<u8> = (1..=MAX_CLIENT).collect();
+        if cast != Cast::One {
+            let turn = self.prng.below(clients.len() as u64) as usize;
+            clients.rotate_left(turn);
+        }
+        let count = match cast {
+            Cast::Nobody => 0,
+            Cast::One => 1,
+            _ => self.prng.pick(&[1, 2, 2, 2, 3, 3, 4, 8]),
+        };
+        clients.truncate(count);
+        for (index, &client) in clients.iter().enumerate() {
+            self.before_declaring(steady);
+            let last = index + 1 == count;
+            let declaration = self.declaration(cast, client, index == 0, last);
+            self.push(declaration);
+        }
+        self.before_declaring(steady);
+    }
+
+    /// Now and then a declaration that is mostly bad, or a call that is no
+    /// accepted claim.
+    fn before_declaring(&mut self, steady: bool) {
+        if steady {
+            return;
+        }
+        if self.prng.one_in(5) {
+            let odd = odd_declaration(&mut self.prng, self.table.declared());
+            self.push(odd);
+        }
+        if self.prng.one_in(6) {
+            let call = self.stray();
+            let mut after = self.table.clone();
+            after.call(call);
+            // The greatest clocks leave little to do behind them.
+            if after.issued() == 0 && after.now() < 1_000 {
+                self.push(call);
+            }
+        }
+    }
+
+    /// A declaration of the cast, perhaps the first or the last of it.
+    fn declaration(&mut self, cast: Cast, client: u8, first: bool, last: bool) -> Declaration {
+        let others = self.table.declared().iter().map(|own| own.reserved);
+        let left = u64::from(ONLY_CLIENT.reserved - others.sum::<u8>());
+        let prng = &mut self.prng;
+        let few = prng.below(13);
+        let part = prng.below(left + 1);
+        let (reserved, limit) = match cast {
+            Cast::One => return ONLY_CLIENT,
+            Cast::Loose => {
+                let reserved = prng.pick(&[0, 0, 1, 2, few]).min(left);
+                let more = prng.below(65 - reserved);
+                let limit = prng.pick(&[64, reserved, reserved + more, reserved + more % 4]);
+                (reserved, if first { 64 } else { limit })
+            }
+            Cast::Tight | Cast::Slack => {
+                let short = prng.pick(&[part, part, 1, few, left / 2, left - left / 8]);
+                let less = prng.pick(&[1, 4, 8, 16, 24, 40]).min(left);
+                let reserved = match (last, cast) {
+                    (false, _) => short.min(left),
+                    (true, Cast::Slack) => left - less,
+                    (true, _) => left,
+                };
+                let more = prng.below(65 - reserved);
+                (reserved, prng.pick(&[reserved, reserved + more, 64, 64]))
+            }
+            Cast::Limited | Cast::Nobody => {
+                let limit = prng.pick(&[0, 1, 1, 2, 3, few]);
+                let reserved = prng.below(limit + 1).min(left);
+                (reserved, limit)
+            }
+            Cast::Any => {
+                let any = prng.below(256);
+                let reserved = prng.pick(&[0, part, part, any]);
+                let any = prng.below(256);
+                (reserved, prng.pick(&[64, 64, reserved, any]))
+            }
+        };
+        Declaration {
+            client,
+            reserved: reserved as u8,
+            limit: limit as u8,
+        }
+    }
+
+    /// A declaration behind the first accepted claim, mostly near the end: a
+    /// listing stops there.
+    fn declare_late(&mut self) {
+        let odd = odd_declaration(&mut self.prng, self.table.declared());
+        let spare = Declaration {
+            client: self.prng.range(1, 8) as u8,
+            reserved: 0,
+            limit: 64,
+        };
+        let outside = Declaration {
+            client: self.prng.pick(&[0, 9, 255]),
+            ..spare
+        };
+        let declaration = self.prng.pick(&[odd, odd, spare, outside, ONLY_CLIENT]);
+        let bytes = self.record(declaration.into()).len();
+        let Some(first) = self.begun else { return };
+        if self.bytes + bytes > self.limit {
+            return;
+        }
+        let last = self.calls.len();
+        let near = first.max(last - last / 5);
+        let at = match self.prng.below(6) {
+            0 => first,
+            1 => last,
+            _ => self.prng.range(near as u64, last as u64) as usize,
+        };
+        self.bytes += bytes;
+        self.calls.insert(at, declaration.into());
+    }
+
+    /// Who makes a claim: mostly a client that has a place left; the first in
+    /// editions that name none.
+    fn client(&mut self, habits: &Habits) -> u8 {
+        if self.edition < 3 {
+            return ONLY_CLIENT.client;
+        }
+        let declared = self.table.declared().iter().map(|own| own.client);
+        let declared: Vec<u8> = declared.collect();
+        if declared.is_empty() || self.prng.one_in(4 * habits.miss) {
+            return self.stray_client();
+        }
+        let mut open = declared.clone();
+        open.retain(|&client| self.table.test_room(client).is_ok());
+        if open.is_empty() || self.prng.one_in(habits.over) {
+            self.prng.pick(&declared)
+        } else {
+            self.prng.pick(&open)
+        }
+    }
+
+    /// A client that is mostly not declared.
+    fn stray_client(&mut self) -> u8 {
+        if self.edition < 3 {
+            return ONLY_CLIENT.client;
+        }
+        let some = self.prng.range(1, 8) as u8;
+        let random = self.prng.draw() as u8;
+        self.prng.pick(&[0, 1, 9, 255, some, some, some, random])
     }
 
     /// The least promised end of a held claim.
@@ -684,6 +1000,7 @@ impl Builder {
             groups: if bare { 0 } else { self.groups(groups) },
             length: self.length(lengths),
             units,
+            client: self.client(habits),
         }
     }
 
@@ -856,12 +1173,18 @@ impl Builder {
     /// A call with boundary values, mostly refused.
     fn stray(&mut self) -> TimedCall {
         let clock = self.stray_clock();
+        let client = if self.prng.one_in(4) {
+            self.stray_client()
+        } else {
+            self.client(&BOUNDARY)
+        };
         match self.prng.below(8) {
             0..=2 => TimedCall::Claim {
                 clock,
                 groups: self.stray_groups(),
                 length: self.stray_length(),
                 units: self.stray_units(),
+                client,
             },
             // Neither group nor unit.
             3 => TimedCall::Claim {
@@ -869,6 +1192,7 @@ impl Builder {
                 groups: 0,
                 length: self.stray_length(),
                 units: 0,
+                client,
             },
             4 | 5 => {
                 let ticket = self.ticket();
@@ -977,6 +1301,7 @@ impl Builder {
                     1 => 0,
                     _ => self.prng.magnitude() as u16,
                 },
+                client: self.stray_client(),
             },
             1 => TimedCall::Release { clock, ticket },
             2 => TimedCall::Withdraw { clock, ticket },
@@ -1012,6 +1337,7 @@ impl Builder {
                     groups: if bare { 0 } else { groups },
                     length: self.length(lengths),
                     units,
+                    client: self.client(&ACCEPTED),
                 };
                 self.push(call);
             }
@@ -1052,6 +1378,7 @@ impl Builder {
                 groups: 0b11 << low,
                 length: self.length(Lengths::Small),
                 units: self.units(draws),
+                client: self.client(&ACCEPTED),
             };
             self.push(call);
         }
@@ -1068,9 +1395,61 @@ impl Builder {
                 groups: self.prng.pick(&[0b1, 0b10, 0b11, 0b101]) << low,
                 length: self.length(lengths),
                 units: self.units(draws),
+                client: self.client(&ACCEPTED),
             };
             self.push(call);
         }
+    }
+}
+
+/// A declaration that is mostly bad beside those that are accepted: for one
+/// reason, or for any.
+fn odd_declaration(prng: &mut Prng, declared: &[Declaration]) -> Declaration {
+    let sum: u64 = declared.iter().map(|own| u64::from(own.reserved)).sum();
+    let left = 64 - sum;
+    let some = prng.range(1, 8);
+    let fresh = (1..=u64::from(MAX_CLIENT))
+        .find(|&client| !declared.iter().any(|own| u64::from(own.client) == client));
+    let fresh = fresh.unwrap_or(some);
+    let part = prng.below(left + 1);
+    let (client, reserved, limit) = match prng.below(10) {
+        // Outside 1 to 8, with whatever else is wrong.
+        0 | 1 => {
+            let client = prng.pick(&[0, 9, 255, 64]);
+            (client, prng.pick(&[0, part, 65]), prng.pick(&[0, 64, 65]))
+        }
+        // One place too many is reserved.
+        2 | 3 => {
+            let reserved = (left + 1).min(64);
+            (fresh, reserved, prng.pick(&[reserved, 64]))
+        }
+        // More than the limit is reserved.
+        4 => {
+            let reserved = part.max(1);
+            let less = prng.below(reserved);
+            (fresh, reserved, prng.pick(&[reserved - 1, less]))
+        }
+        // A limit over 64.
+        5 => (fresh, prng.pick(&[0, part]), prng.pick(&[65, 65, 128, 255])),
+        // Declared already, mostly.
+        6 | 7 => {
+            let client = match declared {
+                [] => some,
+                _ => prng.pick(declared).client.into(),
+            };
+            (client, prng.pick(&[0, 0, part]), prng.pick(&[64, 64, part]))
+        }
+        // Nothing for the client.
+        8 => (fresh, 0, 0),
+        _ => {
+            let reserved = prng.magnitude() % 256;
+            (prng.magnitude() % 256, reserved, prng.magnitude() % 256)
+        }
+    };
+    Declaration {
+        client: client as u8,
+        reserved: reserved as u8,
+        limit: limit as u8,
     }
 }
 
@@ -1085,12 +1464,10 @@ fn places(load: &[u8]) -> Vec<usize> {
     places
 }
 
-/// Where a rig or a claim of a good load begins and ends: the records that have
-/// units in edition 2.
-fn rig_or_claim(prng: &mut Prng, load: &[u8]) -> Option<(usize, usize)> {
-    let kinds = [Kind::Rig as u8, Kind::Claim as u8];
+/// Where a record of a good load begins and ends that is of one of these kinds.
+fn record_of(prng: &mut Prng, load: &[u8], kinds: &[Kind]) -> Option<(usize, usize)> {
     let mut places = places(load);
-    places.retain(|&at| kinds.contains(&load[at + 2]));
+    places.retain(|&at| kinds.iter().any(|&kind| kind as u8 == load[at + 2]));
     if places.is_empty() {
         return None;
     }
@@ -1114,7 +1491,7 @@ pub fn damage(load: &[u8], seed: u64) -> Vec<u8> {
     } else {
         prng.pick(&places)
     };
-    match prng.below(18) {
+    match prng.below(21) {
         // Cut anywhere.
         0 | 1 => {
             let keep = prng.below(load.len() as u64 + 1) as usize;
@@ -1140,8 +1517,10 @@ pub fn damage(load: &[u8], seed: u64) -> Vec<u8> {
                     1,
                     9,
                     11,
+                    4,
                     21,
                     23,
+                    24,
                     length.wrapping_sub(2),
                     length.wrapping_sub(1),
                     length.wrapping_add(1),
@@ -1218,28 +1597,76 @@ pub fn damage(load: &[u8], seed: u64) -> Vec<u8> {
             let keep = prng.below(2) as usize;
             out.truncate(keep);
         }
-        // Editions 1 and 2 changed about, the records as they were.
-        14 => out[0] ^= 3,
-        // A record as the other edition has it, two bytes longer or shorter.
+        // Another known edition, the records as they were.
+        14 => out[0] = other_edition(&mut prng, edition),
+        // A record as another edition has it.
         15 => {
-            if let Some((at, end)) = rig_or_claim(&mut prng, load) {
-                let length = (end - at - 2) as u16;
-                let other = if edition == 1 {
-                    out.splice(end..end, [0, prng.below(3) as u8]);
-                    length + 2
-                } else {
-                    out.drain(end - 2..end);
-                    length - 2
+            if let Some((at, end)) = record_of(&mut prng, load, &[Kind::Rig, Kind::Claim]) {
+                let other = other_edition(&mut prng, edition);
+                let (kind, bytes) = match load[at + 2] {
+                    1 => (Kind::Rig, [0, 2]),
+                    _ => (Kind::Claim, [0, 1]),
                 };
-                out[at..at + 2].copy_from_slice(&other.to_be_bytes());
+                let fields = load::fields(other, kind).expect("every edition has it");
+                let length = 1 + fields.iter().map(|field| field.bytes()).sum::<usize>();
+                let mut record = out[at + 2..end].to_vec();
+                while record.len() < length {
+                    record.push(bytes[record.len() % 2]);
+                }
+                record.truncate(length);
+                out.splice(at + 2..end, record);
+                out[at..at + 2].copy_from_slice(&(length as u16).to_be_bytes());
             }
         }
-        // Other units, or in edition 1 the last bytes of another field.
+        // Other last bytes: units, or a client, or a part of another field.
         16 => {
-            if let Some((_, end)) = rig_or_claim(&mut prng, load) {
+            if let Some((_, end)) = record_of(&mut prng, load, &[Kind::Rig, Kind::Claim]) {
                 let random = prng.magnitude() as u16;
                 let units = prng.pick(&[0, 1, 2, 40, 255, 256, 65_534, 65_535, random]);
                 out[end - 2..end].copy_from_slice(&units.to_be_bytes());
+            }
+        }
+        // A declaration anywhere but first, now and then cut or of another
+        // length.
+        17 | 18 => {
+            let declared = Declaration {
+                client: prng.range(1, 8) as u8,
+                reserved: 0,
+                limit: 64,
+            };
+            let odd = odd_declaration(&mut prng, &[]);
+            let declaration = prng.pick(&[declared, odd]);
+            let call = Call::Declare(declaration);
+            let mut record = load::encode(3, call).expect("edition 3 has it");
+            match prng.below(6) {
+                0 => {
+                    let keep = prng.below(record.len() as u64) as usize;
+                    record.truncate(keep);
+                }
+                1 => {
+                    record.push(0);
+                    record[1] += 1;
+                }
+                2 => {
+                    record.pop();
+                    record[1] -= 1;
+                }
+                _ => {}
+            }
+            let at = match places.get(1..) {
+                Some(later) if !later.is_empty() && !prng.one_in(3) => prng.pick(later),
+                _ => out.len(),
+            };
+            out.splice(at..at, record);
+        }
+        // Other bytes of a declaration, and now and then another kind.
+        19 => {
+            if let Some((at, end)) = record_of(&mut prng, load, &[Kind::Declare]) {
+                let byte = prng.range(at as u64 + 3, end as u64 - 1) as usize;
+                out[byte] = prng.pick(&[0, 1, 2, 8, 9, 63, 64, 65, 255]);
+                if prng.one_in(6) {
+                    out[at + 2] = prng.pick(&[5, 7, 8]);
+                }
             }
         }
         // Any bytes behind the rig.
@@ -1253,4 +1680,11 @@ pub fn damage(load: &[u8], seed: u64) -> Vec<u8> {
         }
     }
     out
+}
+
+/// A known edition other than this one.
+fn other_edition(prng: &mut Prng, edition: u8) -> u8 {
+    let mut others: Vec<u8> = FORMATS.iter().map(|&(known, _)| known).collect();
+    others.retain(|&other| other != edition);
+    prng.pick(&others)
 }

@@ -58,7 +58,7 @@ pub fn any_text(seed: u64) -> Vec<u8> {
 /// many as go in.
 fn calls(prng: &mut Prng, seed: u64) -> (u8, Vec<Call>) {
     if prng.one_in(150) {
-        let edition = prng.pick(&[1, 2]);
+        let edition = prng.pick(&[1, 2, 3]);
         let less = prng.below(24) as usize;
         let size = MAX_LOAD - prng.pick(&[0, less]);
         let load = generate::sized_load(edition, seed, size).expect("a size that goes");
@@ -70,6 +70,7 @@ fn calls(prng: &mut Prng, seed: u64) -> (u8, Vec<Call>) {
         Shape::Ties,
         Shape::Noise,
         Shape::Pool,
+        Shape::Clients,
     ]);
     let run = generate::run_of(shape, seed);
     let mut calls = run.load_calls();
@@ -359,12 +360,17 @@ fn odd_set(prng: &mut Prng) -> String {
 }
 
 /// Words in the place of a line's first.
-const NAMES: [&str; 23] = [
+const NAMES: [&str; 28] = [
     "rig",
     "claim",
     "release",
     "withdraw",
     "clock",
+    "desk",
+    "desk",
+    "desks",
+    "Desk",
+    "client",
     "edition",
     "editions",
     "Edition",
@@ -395,11 +401,12 @@ fn odd_edition(prng: &mut Prng) -> Line {
     let mut line = vec![name.to_string()];
     let count = prng.pick(&[0, 1, 1, 1, 1, 1, 2, 3]);
     for _ in 0..count {
-        line.push(match prng.below(5) {
+        line.push(match prng.below(6) {
             0 => decimal(prng, 1),
             1 => decimal(prng, 2),
             2 => decimal(prng, 3),
-            3 => prng.range(0, 300).to_string(),
+            3 => decimal(prng, 4),
+            4 => prng.range(0, 300).to_string(),
             _ => prng.pick(&NUMBERS).to_string(),
         });
     }

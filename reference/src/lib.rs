@@ -7,7 +7,8 @@
 //! Words of this crate and of document 01: contention is its crowd, start
 //! bound its ceiling, lookup its look, refusal and refused its call turned
 //! down, overrun its overdue holder, scenario its plot. Document 02's
-//! followspots are the units of a pool.
+//! followspots are the units of a pool, its desks are clients, a desk's
+//! guarantee is what is reserved for the client.
 
 #![deny(unsafe_code)]
 

@@ -1,8 +1,8 @@
 //! The listing of a load (document 01: what the program prints).
 
-use crate::load::{Call, Reader};
+use crate::load::{new_table, Call, Reader};
 use crate::refusal::Refusal;
-use crate::table::{Answer, Table};
+use crate::table::Answer;
 
 /// The first line of every listing, its line feed included.
 pub const HEADER: &str = "rec answer ticket start\n";
@@ -30,7 +30,7 @@ pub fn listing(load: &[u8]) -> Vec<u8> {
             }
             Ok(Some(read)) => match (read.call, &mut table) {
                 (Call::Rig { groups, pool }, _) => {
-                    let (made, answer) = Table::new(groups, pool);
+                    let (made, answer) = new_table(load[0], groups, pool);
                     if !answer.accepted() {
                         stop(&mut out, Refusal::NoGroup, record);
                         break;
@@ -42,7 +42,17 @@ pub fn listing(load: &[u8]) -> Vec<u8> {
                     let answer = table.call(call);
                     line(&mut out, record, &answer, call.clock());
                 }
-                (Call::Timed(_), None) => unreachable!("the reader lets only a rig come first"),
+                (Call::Declare(declaration), Some(table)) => {
+                    let answer = table.declare(declaration);
+                    if answer.number == Refusal::Misfit.number() {
+                        stop(&mut out, Refusal::Misfit, record);
+                        break;
+                    }
+                    line(&mut out, record, &answer, 0);
+                }
+                (Call::Timed(_) | Call::Declare(_), None) => {
+                    unreachable!("the reader lets only a rig come first")
+                }
             },
         }
     }

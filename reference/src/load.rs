@@ -2,7 +2,7 @@
 //! and its writer.
 
 use crate::refusal::Refusal;
-use crate::table::TimedCall;
+use crate::table::{Answer, Declaration, Table, TableCall, TimedCall, ONLY_CLIENT};
 
 /// The most bytes of a load.
 pub const MAX_LOAD: usize = 65_536;
@@ -15,6 +15,7 @@ pub enum Kind {
     Release = 3,
     Withdraw = 4,
     Clock = 5,
+    Declare = 6,
 }
 
 /// The fields of records.
@@ -26,28 +27,40 @@ pub enum Field {
     Pool,
     Ticket,
     Units,
+    Client,
+    Reserved,
+    Limit,
 }
 
 /// Every field, in the order of its values in `Values`.
-pub const FIELDS: [Field; 6] = [
+pub const FIELDS: [Field; 9] = [
     Field::Clock,
     Field::Groups,
     Field::Length,
     Field::Pool,
     Field::Ticket,
     Field::Units,
+    Field::Client,
+    Field::Reserved,
+    Field::Limit,
 ];
 
-/// What a field reads as that the edition lacks.
-const ABSENT: u64 = 0;
-
 impl Field {
+    /// What it reads as where a record lacks it.
+    pub fn absent(self) -> u64 {
+        match self {
+            Field::Client => ONLY_CLIENT.client.into(),
+            _ => 0,
+        }
+    }
+
     /// How many bytes it has.
     pub fn bytes(self) -> usize {
         match self {
             Field::Clock | Field::Groups => 8,
             Field::Length => 4,
             Field::Pool | Field::Ticket | Field::Units => 2,
+            Field::Client | Field::Reserved | Field::Limit => 1,
         }
     }
 }
@@ -56,7 +69,7 @@ impl Field {
 pub type Form = (Kind, &'static [Field]);
 
 /// The editions that are known, each with its kinds.
-pub const FORMATS: [(u8, &[Form]); 2] = [
+pub const FORMATS: [(u8, &[Form]); 3] = [
     (
         1,
         &[
@@ -80,6 +93,29 @@ pub const FORMATS: [(u8, &[Form]); 2] = [
             (Kind::Clock, &[Field::Clock]),
         ],
     ),
+    (
+        3,
+        &[
+            (Kind::Rig, &[Field::Groups, Field::Pool]),
+            (
+                Kind::Claim,
+                &[
+                    Field::Clock,
+                    Field::Groups,
+                    Field::Length,
+                    Field::Units,
+                    Field::Client,
+                ],
+            ),
+            (Kind::Release, &[Field::Clock, Field::Ticket]),
+            (Kind::Withdraw, &[Field::Clock, Field::Ticket]),
+            (Kind::Clock, &[Field::Clock]),
+            (
+                Kind::Declare,
+                &[Field::Client, Field::Reserved, Field::Limit],
+            ),
+        ],
+    ),
 ];
 
 /// The kinds of an edition; none for one that is not known.
@@ -94,6 +130,15 @@ pub fn fields(edition: u8, kind: Kind) -> Option<&'static [Field]> {
     form.map(|&(_, fields)| fields)
 }
 
+/// The new table that a load of an edition begins with: where the edition can
+/// declare clients, none is declared.
+pub fn new_table(edition: u8, rig: u64, pool: u16) -> (Table, Answer) {
+    match fields(edition, Kind::Declare) {
+        Some(_) => Table::without_clients(rig, pool),
+        None => Table::new(rig, pool),
+    }
+}
+
 /// A value for each field.
 #[derive(Clone, Copy, PartialEq, Eq, Debug)]
 pub struct Values([u64; FIELDS.len()]);
@@ -101,7 +146,7 @@ pub struct Values([u64; FIELDS.len()]);
 impl Values {
     /// The values of a record without fields.
     pub fn absent() -> Values {
-        Values([ABSENT; FIELDS.len()])
+        Values(FIELDS.map(Field::absent))
     }
 
     pub fn get(&self, field: Field) -> u64 {
@@ -129,12 +174,29 @@ pub enum Call {
         pool: u16,
     },
     Timed(TimedCall),
+    Declare(Declaration),
+}
+
+impl From<TableCall> for Call {
+    fn from(call: TableCall) -> Call {
+        match call {
+            TableCall::Timed(call) => Call::Timed(call),
+            TableCall::Declare(declaration) => Call::Declare(declaration),
+        }
+    }
+}
+
+impl From<TimedCall> for Call {
+    fn from(call: TimedCall) -> Call {
+        Call::Timed(call)
+    }
 }
 
 impl Call {
     pub fn kind(&self) -> Kind {
         match self {
             Call::Rig { .. } => Kind::Rig,
+            Call::Declare(_) => Kind::Declare,
             Call::Timed(TimedCall::Claim { .. }) => Kind::Claim,
             Call::Timed(TimedCall::Release { .. }) => Kind::Release,
             Call::Timed(TimedCall::Withdraw { .. }) => Kind::Withdraw,
@@ -149,6 +211,10 @@ impl Call {
             Call::Rig { groups, pool } => values
                 .with(Field::Groups, groups)
                 .with(Field::Pool, pool.into()),
+            Call::Declare(declaration) => values
+                .with(Field::Client, declaration.client.into())
+                .with(Field::Reserved, declaration.reserved.into())
+                .with(Field::Limit, declaration.limit.into()),
             Call::Timed(call) => {
                 let values = values.with(Field::Clock, call.clock());
                 match call {
@@ -156,11 +222,13 @@ impl Call {
                         groups,
                         length,
                         units,
+                        client,
                         ..
                     } => values
                         .with(Field::Groups, groups)
                         .with(Field::Length, length.into())
-                        .with(Field::Units, units.into()),
+                        .with(Field::Units, units.into())
+                        .with(Field::Client, client.into()),
                     TimedCall::Release { ticket, .. } | TimedCall::Withdraw { ticket, .. } => {
                         values.with(Field::Ticket, ticket.into())
                     }
@@ -175,6 +243,7 @@ impl Call {
         let clock = values.get(Field::Clock);
         let groups = values.get(Field::Groups);
         let ticket = values.get(Field::Ticket) as u16;
+        let client = values.get(Field::Client) as u8;
         Call::Timed(match kind {
             Kind::Rig => {
                 return Call::Rig {
@@ -182,11 +251,19 @@ impl Call {
                     pool: values.get(Field::Pool) as u16,
                 }
             }
+            Kind::Declare => {
+                return Call::Declare(Declaration {
+                    client,
+                    reserved: values.get(Field::Reserved) as u8,
+                    limit: values.get(Field::Limit) as u8,
+                })
+            }
             Kind::Claim => TimedCall::Claim {
                 clock,
                 groups,
                 length: values.get(Field::Length) as u32,
                 units: values.get(Field::Units) as u16,
+                client,
             },
             Kind::Release => TimedCall::Release { clock, ticket },
             Kind::Withdraw => TimedCall::Withdraw { clock, ticket },
@@ -277,7 +354,7 @@ pub fn encode(edition: u8, call: Call) -> Option<Vec<u8>> {
     let fields = fields(edition, call.kind())?;
     let values = call.values();
     let mut lacking = FIELDS.iter().filter(|field| !fields.contains(field));
-    if lacking.any(|&field| values.get(field) != ABSENT) {
+    if lacking.any(|&field| values.get(field) != field.absent()) {
         return None;
     }
     let mut body = vec![call.kind() as u8];

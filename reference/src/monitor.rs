@@ -1,8 +1,14 @@
 //! A monitor of demand 3 (document 01: "A run of calls"), with what document
-//! 02, P3, makes of it. It judges a run from its rig and pool, its calls, their
-//! answers and the lookups asked after each call.
+//! 02, P3 and P4, makes of it. It judges a run from its rig and pool and the
+//! clients declared in its new table, its calls, their answers and the lookups
+//! asked after each call.
 //!
 //! In every run:
+//! - a claim of a client with fewer pending than its guarantee is not answered
+//!   6;
+//! - no client has more claims pending than its limit;
+//! - the pending claims and the unfilled guarantees of all clients together are
+//!   at most 64;
 //! - a call's number is the first in the order of its tests whose condition
 //!   holds by the calls and answers before it, or 0;
 //! - holders share no group;
@@ -20,15 +26,17 @@
 //!   first planned start.
 
 use std::collections::{BTreeMap, BTreeSet};
+use std::fmt::Debug;
 
 use crate::refusal::Refusal;
-use crate::table::{Answer, Common, Lookup, Table, TimedCall};
-use crate::table::{MAX_CLOCK, MAX_LENGTH, MAX_PENDING, MAX_TICKET};
+use crate::table::{Answer, Common, Declaration, Lookup, Table, TableCall, TimedCall};
+use crate::table::{MAX_CLIENT, MAX_CLOCK, MAX_LENGTH, MAX_PENDING, MAX_TICKET};
 
 /// One call of a run's list.
 #[derive(Clone, Copy, PartialEq, Eq, Debug)]
 pub enum RunCall {
     Timed(TimedCall),
+    Declare(Declaration),
     Lookup(u16),
     /// A lookup of two tickets.
     Common(u16, u16),
@@ -42,10 +50,20 @@ impl From<TimedCall> for RunCall {
     }
 }
 
+impl From<TableCall> for RunCall {
+    fn from(call: TableCall) -> RunCall {
+        match call {
+            TableCall::Timed(call) => RunCall::Timed(call),
+            TableCall::Declare(declaration) => RunCall::Declare(declaration),
+        }
+    }
+}
+
 /// One call of a run, with its answer.
 #[derive(Clone, PartialEq, Eq, Debug)]
 pub enum Asked {
     Timed(TimedCall, Answer),
+    Declare(Declaration, Answer),
     /// A lookup that stands in the list itself.
     Lookup(u16, Lookup),
     /// A lookup of two tickets.
@@ -72,11 +90,17 @@ pub struct Violation {
     pub description: String,
 }
 
-/// Which part of demand 3 is violated.
+/// What is violated: a part of demand 3, or another promise.
 #[derive(Clone, Copy, PartialEq, Eq, Debug)]
 pub enum Rule {
     /// A call has another number than its tests give.
     Number,
+    /// A claim of a client below its guarantee is answered 6.
+    Reserved,
+    /// A client has more claims pending than its limit.
+    Limit,
+    /// Pending claims and unfilled guarantees are more than 64 together.
+    Room,
     /// Holders share a group.
     Shared,
     /// Holders have more units than the pool.
@@ -92,8 +116,8 @@ pub enum Rule {
     /// A claim waits past its first planned start.
     Waits,
     /// Calls and answers make no run: a ticket issued twice, a grant of a claim
-    /// that does not wait, a refused call with grants, or no lookup of a
-    /// pending ticket.
+    /// that does not wait, a refused call or a declaration with grants, or no
+    /// lookup of a pending ticket.
     Form,
 }
 
@@ -115,6 +139,14 @@ pub struct Summary {
     /// The same where its start has come, and an overrun or a holder that ends
     /// just then has not left.
     pub held_back: usize,
+    /// Declarations accepted.
+    pub declared: usize,
+    /// Claims answered 6 with fewer than 64 pending.
+    pub kept_out: usize,
+    /// Claims accepted for which only the client's own guarantee had room.
+    pub let_in: usize,
+    /// Claims answered 18.
+    pub over: usize,
 }
 
 /// A pending claim as calls, answers and lookups tell it.
@@ -122,6 +154,7 @@ struct Pending {
     groups: u64,
     length: u32,
     units: u16,
+    client: u8,
     first_start: u64,
     /// The clock of its grant, once held.
     grant: Option<u64>,
@@ -136,14 +169,35 @@ impl Pending {
     }
 }
 
-/// Judges a run from the new table on, which has this rig and pool; the first
-/// violation ends it.
-pub fn judge(rig: u64, pool: u16, steps: &[Step]) -> Result<Summary, Violation> {
+/// The new table that a run begins with: the rig, the pool, and the clients
+/// that are declared without a call.
+#[derive(Clone, Copy, PartialEq, Eq, Debug)]
+pub struct Start {
+    pub rig: u64,
+    pub pool: u16,
+    pub declared: &'static [Declaration],
+}
+
+/// Judges a run from its new table on; the first violation ends it.
+pub fn judge(start: Start, steps: &[Step]) -> Result<Summary, Violation> {
+    judge_by(start, steps, true)
+}
+
+/// The same by the promises alone: the number of a call that breaks none of
+/// them is not looked at.
+pub fn judge_promises(start: Start, steps: &[Step]) -> Result<Summary, Violation> {
+    judge_by(start, steps, false)
+}
+
+fn judge_by(start: Start, steps: &[Step], numbers: bool) -> Result<Summary, Violation> {
+    let declared = start.declared.iter().map(|&own| (own.client, own));
     let mut monitor = Monitor {
-        rig,
+        numbers,
+        rig: start.rig,
         // A refused table has none.
-        pool: if rig == 0 { 0 } else { pool },
+        pool: if start.rig == 0 { 0 } else { start.pool },
         clock: 0,
+        declared: declared.collect(),
         pending: BTreeMap::new(),
         issued: BTreeSet::new(),
         summary: Summary {
@@ -164,10 +218,14 @@ pub fn judge(rig: u64, pool: u16, steps: &[Step]) -> Result<Summary, Violation> 
 }
 
 struct Monitor {
+    /// Every call's number is looked at.
+    numbers: bool,
     rig: u64,
     pool: u16,
     /// The clock of the last accepted timed call.
     clock: u64,
+    /// The clients declared, by the accepted declarations.
+    declared: BTreeMap<u8, Declaration>,
     pending: BTreeMap<u16, Pending>,
     issued: BTreeSet<u16>,
     summary: Summary,
@@ -180,6 +238,17 @@ fn against(rule: Rule, description: String) -> Verdict {
     Err((rule, description))
 }
 
+/// Places that are taken, and those kept for clients, are at most 64.
+fn within(taken: usize) -> Verdict {
+    if taken <= MAX_PENDING {
+        return Ok(());
+    }
+    against(
+        Rule::Room,
+        format!("pending claims and unfilled guarantees are {taken}"),
+    )
+}
+
 impl Monitor {
     fn step(&mut self, step: &Step) -> Verdict {
         match &step.asked {
@@ -187,10 +256,30 @@ impl Monitor {
                 if !answer.accepted() && !answer.grants.is_empty() {
                     return against(Rule::Form, "a refused call names grants".to_string());
                 }
-                self.number(call, answer.number)?;
+                if let TimedCall::Claim { client, .. } = *call {
+                    self.share(client, answer.number)?;
+                }
+                self.number(call, self.refusal(call), answer.number)?;
                 if answer.accepted() {
                     self.accepted(call, answer)?;
                 }
+            }
+            Asked::Declare(declaration, answer) => {
+                let number = answer.number;
+                let expected = Answer {
+                    number,
+                    ..Answer::default()
+                };
+                if *answer != expected {
+                    return against(Rule::Form, format!("{answer:?} to a declaration"));
+                }
+                let refusal = self.overbooked(declaration);
+                if answer.accepted() {
+                    self.declared.insert(declaration.client, *declaration);
+                    self.summary.declared += 1;
+                    self.room()?;
+                }
+                self.number(declaration, refusal, number)?;
             }
             Asked::Lookup(ticket, lookup) => self.lookup(*ticket, *lookup)?,
             Asked::Common(first, second, said) => self.common(*first, *second, *said)?,
@@ -218,15 +307,95 @@ impl Monitor {
     }
 
     /// A call's number is that of its tests.
-    fn number(&self, call: &TimedCall, said: u8) -> Verdict {
-        let number = self.refusal(call).map_or(0, Refusal::number);
-        if said == number {
+    fn number(&self, call: &dyn Debug, refusal: Option<Refusal>, said: u8) -> Verdict {
+        let number = refusal.map_or(0, Refusal::number);
+        if said == number || !self.numbers {
             return Ok(());
         }
         against(
             Rule::Number,
             format!("the number of {call:?} is {said}, not {number}"),
         )
+    }
+
+    /// How many claims of a client are pending.
+    fn pending_of(&self, client: u8) -> usize {
+        let own = self.pending.values().filter(|claim| claim.client == client);
+        own.count()
+    }
+
+    /// The guarantees of all clients but this one, as far as their pending
+    /// claims do not fill them.
+    fn unfilled_but(&self, client: u8) -> usize {
+        let others = self.declared.values().filter(|own| own.client != client);
+        others
+            .map(|own| usize::from(own.reserved).saturating_sub(self.pending_of(own.client)))
+            .sum()
+    }
+
+    /// The pending claims and the unfilled guarantees of all clients together.
+    fn taken(&self) -> usize {
+        // No client is 0.
+        self.pending.len() + self.unfilled_but(0)
+    }
+
+    /// What a claim's number says of its client: none below its guarantee is
+    /// answered 6, none at its limit is accepted.
+    fn share(&mut self, client: u8, number: u8) -> Verdict {
+        let Some(&own) = self.declared.get(&client) else {
+            return Ok(());
+        };
+        let pending = self.pending_of(client);
+        let (reserved, limit) = (usize::from(own.reserved), usize::from(own.limit));
+        if number == Refusal::Full.number() {
+            self.summary.kept_out += usize::from(self.pending.len() < MAX_PENDING);
+            if pending < reserved {
+                return against(
+                    Rule::Reserved,
+                    format!("client {client} has {pending} pending of {reserved} reserved"),
+                );
+            }
+        }
+        self.summary.over += usize::from(number == Refusal::OverLimit.number());
+        if number == 0 {
+            self.summary.let_in += usize::from(self.taken() == MAX_PENDING);
+            if pending >= limit {
+                return against(
+                    Rule::Limit,
+                    format!("client {client} has more pending than its limit {limit}"),
+                );
+            }
+            // This one may fill a part of the client's guarantee.
+            let taken = self.taken() + usize::from(pending >= reserved);
+            return within(taken);
+        }
+        Ok(())
+    }
+
+    /// Pending claims and unfilled guarantees have room beside each other.
+    fn room(&self) -> Verdict {
+        within(self.taken())
+    }
+
+    /// Why a declaration is refused, by the calls and answers before it.
+    fn overbooked(&self, declaration: &Declaration) -> Option<Refusal> {
+        let Declaration {
+            client,
+            reserved,
+            limit,
+        } = *declaration;
+        let others = self.declared.values().map(|own| u32::from(own.reserved));
+        let sum = others.sum::<u32>() + u32::from(reserved);
+        let tests = [
+            (!self.issued.is_empty(), Refusal::Misfit),
+            (!(1..=MAX_CLIENT).contains(&client), Refusal::Stranger),
+            (sum as usize > MAX_PENDING, Refusal::Overbooked),
+            (reserved > limit, Refusal::Overbooked),
+            (usize::from(limit) > MAX_PENDING, Refusal::Overbooked),
+            (self.declared.contains_key(&client), Refusal::Overbooked),
+        ];
+        let mut tests = tests.into_iter();
+        tests.find(|(fails, _)| *fails).map(|(_, refusal)| refusal)
     }
 
     /// Why a call is refused, by the calls and answers before it.
@@ -245,13 +414,16 @@ impl Monitor {
                 groups,
                 length,
                 units,
+                client,
                 ..
             } => vec![
+                (!self.declared.contains_key(&client), Refusal::Stranger),
                 (groups == 0 && units == 0, Refusal::NoGroup),
                 (groups & !self.rig != 0, Refusal::OutsideRig),
                 (units > self.pool, Refusal::OverPool),
                 (length == 0 || length > MAX_LENGTH, Refusal::Length),
-                (self.pending.len() >= MAX_PENDING, Refusal::Full),
+                (self.full(client), Refusal::Full),
+                (self.at_limit(client), Refusal::OverLimit),
                 (
                     self.issued.len() >= usize::from(MAX_TICKET),
                     Refusal::NoTicket,
@@ -271,6 +443,21 @@ impl Monitor {
         tests.find(|(fails, _)| *fails).map(|(_, refusal)| refusal)
     }
 
+    /// A client that has its guarantee finds no place that is not kept for
+    /// others.
+    fn full(&self, client: u8) -> bool {
+        let reserved = self.declared.get(&client).map_or(0, |own| own.reserved);
+        let pending = self.pending.len();
+        self.pending_of(client) >= usize::from(reserved)
+            && pending + self.unfilled_but(client) >= MAX_PENDING
+    }
+
+    /// A client has its limit of claims pending.
+    fn at_limit(&self, client: u8) -> bool {
+        let limit = self.declared.get(&client).map_or(0, |own| own.limit);
+        self.pending_of(client) >= usize::from(limit)
+    }
+
     /// What an accepted call and its answer say.
     fn accepted(&mut self, call: &TimedCall, answer: &Answer) -> Verdict {
         self.summary.accepted += 1;
@@ -284,14 +471,7 @@ impl Monitor {
             self.summary.in_time = false;
         }
         match *call {
-            TimedCall::Claim {
-                groups,
-                length,
-                units,
-                ..
-            } => {
-                self.issue(clock, groups, length, units, answer)?;
-            }
+            TimedCall::Claim { .. } => self.issue(call, answer)?,
             TimedCall::Release { ticket, .. } | TimedCall::Withdraw { ticket, .. } => {
                 self.pending.remove(&ticket);
             }
@@ -310,14 +490,17 @@ impl Monitor {
 
     /// A ticket is issued; its first planned start is within its bound, which
     /// claims that draw units have not.
-    fn issue(
-        &mut self,
-        clock: u64,
-        groups: u64,
-        length: u32,
-        units: u16,
-        answer: &Answer,
-    ) -> Verdict {
+    fn issue(&mut self, call: &TimedCall, answer: &Answer) -> Verdict {
+        let TimedCall::Claim {
+            clock,
+            groups,
+            length,
+            units,
+            client,
+        } = *call
+        else {
+            unreachable!("only a claim issues a ticket");
+        };
         let ticket = answer.ticket;
         if ticket == 0 || !self.issued.insert(ticket) {
             return against(Rule::Form, format!("ticket {ticket} is issued again"));
@@ -349,6 +532,7 @@ impl Monitor {
                 groups,
                 length,
                 units,
+                client,
                 first_start: answer.start,
                 grant: None,
                 start: None,
@@ -524,6 +708,7 @@ impl Monitor {
 /// A table that can be run under the monitor.
 pub trait ClaimsTable {
     fn call(&mut self, call: TimedCall) -> Answer;
+    fn declare(&mut self, declaration: Declaration) -> Answer;
     fn lookup(&self, ticket: u16) -> Lookup;
     fn common(&self, first: u16, second: u16) -> Common;
     fn free(&self) -> u16;
@@ -532,6 +717,10 @@ pub trait ClaimsTable {
 impl ClaimsTable for Table {
     fn call(&mut self, call: TimedCall) -> Answer {
         Table::call(self, call)
+    }
+
+    fn declare(&mut self, declaration: Declaration) -> Answer {
+        Table::declare(self, declaration)
     }
 
     fn lookup(&self, ticket: u16) -> Lookup {
@@ -558,6 +747,9 @@ pub fn run<C: Copy + Into<RunCall>>(table: &mut dyn ClaimsTable, calls: &[C]) ->
     for &call in calls {
         let asked = match call.into() {
             RunCall::Timed(call) => Asked::Timed(call, table.call(call)),
+            RunCall::Declare(declaration) => {
+                Asked::Declare(declaration, table.declare(declaration))
+            }
             RunCall::Lookup(ticket) => Asked::Lookup(ticket, table.lookup(ticket)),
             RunCall::Common(first, second) => {
                 Asked::Common(first, second, table.common(first, second))

@@ -14,7 +14,8 @@ pub enum Refusal {
     Backward = 4,
     /// 5, "late": clock over 1,000,000,000,000.
     Late = 5,
-    /// 6, "full": 64 claims are pending.
+    /// 6, "full": 64 claims are pending, or as many as the guarantees of other
+    /// clients leave room for.
     Full = 6,
     /// 7, "ticketless": 65,535 tickets issued.
     NoTicket = 7,
@@ -28,7 +29,8 @@ pub enum Refusal {
     Edition = 11,
     /// 12, "short": the load is empty or ends inside a record.
     Short = 12,
-    /// 13, "misfit": wrong length, unknown kind, or a rig out of place.
+    /// 13, "misfit": wrong length, unknown kind, a rig out of place, or a
+    /// declaration after an accepted claim.
     Misfit = 13,
     /// 14, "overlong": load over 65,536 bytes.
     Overlong = 14,
@@ -36,6 +38,14 @@ pub enum Refusal {
     NoSpace = 15,
     /// 16, "spots": more units than the pool has.
     OverPool = 16,
+    /// 17, "stranger": a claim of a client that is not declared, or a
+    /// declaration outside 1 to 8.
+    Stranger = 17,
+    /// 18, "over": the client has its limit of claims pending.
+    OverLimit = 18,
+    /// 19, "overbooked": a declaration whose guarantee or limit is too much, or
+    /// of a client that is declared already.
+    Overbooked = 19,
 }
 
 impl Refusal {

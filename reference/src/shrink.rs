@@ -1,11 +1,12 @@
 //! Makes a load smaller while a difference that it shows stays: drops records,
-//! then lowers the values of fields, then the edition. Makes a text smaller:
+//! then lowers the values of fields, then the edition, where that has no clients
+//! without them. Makes a text smaller:
 //! drops lines, then bytes. Makes a question about a load smaller with the
 //! load: lowers tickets.
 
 use crate::ask::{self, Question};
-use crate::load::{self, Call, Field, FORMATS};
-use crate::table::{Table, TimedCall};
+use crate::load::{self, Call, Field, Kind, FORMATS};
+use crate::table::{Table, TimedCall, ONLY_CLIENT};
 
 /// A load in parts: its first byte, whole records by their lengths, and what
 /// is left behind them.
@@ -59,14 +60,25 @@ impl Parts {
     }
 
     /// The same calls in another edition, if it carries them; what is no call
-    /// stays.
+    /// stays. In one without clients all claims are of the first, and none is
+    /// declared.
     fn in_edition(&self, edition: u8) -> Option<Parts> {
+        let clients = load::fields(edition, Kind::Declare).is_some();
         let mut parts = self.clone();
         parts.edition = vec![edition];
-        for (index, record) in parts.records.iter_mut().enumerate() {
-            if let Some(call) = self.call(index) {
-                *record = load::encode(edition, call)?;
-            }
+        parts.records.clear();
+        for (index, record) in self.records.iter().enumerate() {
+            let record = match self.call(index) {
+                None => record.clone(),
+                Some(Call::Declare(_)) if !clients => continue,
+                Some(call) if !clients => {
+                    let only = ONLY_CLIENT.client.into();
+                    let values = call.values().with(Field::Client, only);
+                    load::encode(edition, Call::of(call.kind(), &values))?
+                }
+                Some(call) => load::encode(edition, call)?,
+            };
+            parts.records.push(record);
         }
         Some(parts)
     }
@@ -94,7 +106,12 @@ impl Parts {
         for index in 0..self.records.len() {
             let mut ticket = 0;
             match self.call(index) {
-                Some(Call::Rig { groups, pool }) => table = Table::new(groups, pool).0,
+                Some(Call::Rig { groups, pool }) => {
+                    table = load::new_table(self.edition[0], groups, pool).0;
+                }
+                Some(Call::Declare(declaration)) => {
+                    table.declare(declaration);
+                }
                 Some(Call::Timed(call @ TimedCall::Claim { .. })) => {
                     ticket = table.call(call).ticket;
                 }
@@ -243,6 +260,8 @@ fn lower_record(parts: &mut Parts, index: usize, holds: &mut Holds) -> bool {
         let value = call.values().get(field);
         let lower = match field {
             Field::Groups => fewer(value),
+            // No client is simpler than the first.
+            Field::Client => (1..value).collect(),
             _ => smaller(value),
         };
         lower.into_iter().any(|value| {

@@ -14,6 +14,8 @@ pub const MAX_PENDING: usize = 64;
 pub const MAX_TICKET: u16 = 65_535;
 /// How many groups there can be: 0 to 63.
 pub const GROUPS: u8 = 64;
+/// The last client (document 02, P4: desks 1 to 8).
+pub const MAX_CLIENT: u8 = 8;
 
 /// Document 01: "either waiting, with a planned start, or on, with the clock
 /// of its grant".
@@ -35,6 +37,8 @@ pub struct Claim {
     pub length: u32,
     /// The units that it draws from the pool.
     pub units: u16,
+    /// Who made it (document 02, P4: its desk).
+    pub client: u8,
     pub state: State,
 }
 
@@ -109,6 +113,7 @@ pub enum TimedCall {
         groups: u64,
         length: u32,
         units: u16,
+        client: u8,
     },
     Release {
         clock: u64,
@@ -132,6 +137,52 @@ impl TimedCall {
             | TimedCall::Withdraw { clock, .. }
             | TimedCall::Clock { clock } => clock,
         }
+    }
+}
+
+/// Document 02, P4: a desk with its guarantee and its limit.
+#[derive(Clone, Copy, PartialEq, Eq, PartialOrd, Ord, Hash, Debug)]
+pub struct Declaration {
+    pub client: u8,
+    /// The guarantee: so many places are kept for the client's claims.
+    pub reserved: u8,
+    /// The most claims that it has pending.
+    pub limit: u8,
+}
+
+/// The client that a table as for loads of editions 1 and 2 begins with.
+pub const ONLY_CLIENT: Declaration = Declaration {
+    client: 1,
+    reserved: 64,
+    limit: 64,
+};
+
+/// A call on a table that a load can have.
+#[derive(Clone, Copy, PartialEq, Eq, PartialOrd, Ord, Hash, Debug)]
+pub enum TableCall {
+    Timed(TimedCall),
+    Declare(Declaration),
+}
+
+impl TableCall {
+    /// The clock that a timed call bears.
+    pub fn clock(&self) -> Option<u64> {
+        match self {
+            TableCall::Timed(call) => Some(call.clock()),
+            TableCall::Declare(_) => None,
+        }
+    }
+}
+
+impl From<TimedCall> for TableCall {
+    fn from(call: TimedCall) -> TableCall {
+        TableCall::Timed(call)
+    }
+}
+
+impl From<Declaration> for TableCall {
+    fn from(declaration: Declaration) -> TableCall {
+        TableCall::Declare(declaration)
     }
 }
 
@@ -213,14 +264,26 @@ pub struct Table {
     pool: u16,
     clock: u64,
     issued: u16,
+    /// The clients declared, in their order.
+    declared: Vec<Declaration>,
     /// The pending claims, by ascending ticket.
     claims: Vec<Claim>,
 }
 
 impl Table {
-    /// The call for a new table: the groups that exist, and the units of the
-    /// pool. When refused, the table has neither.
+    /// The call for a new table as loads of editions 1 and 2 begin with it: the
+    /// groups that exist, and the units of the pool; client 1 is declared. When
+    /// refused, the table has neither groups nor units.
     pub fn new(rig: u64, pool: u16) -> (Table, Answer) {
+        Table::begin(rig, pool, &[ONLY_CLIENT])
+    }
+
+    /// The same as loads of edition 3 begin with it: no client is declared.
+    pub fn without_clients(rig: u64, pool: u16) -> (Table, Answer) {
+        Table::begin(rig, pool, &[])
+    }
+
+    fn begin(rig: u64, pool: u16, declared: &[Declaration]) -> (Table, Answer) {
         let (pool, answer) = if rig == 0 {
             (0, Answer::refused(Refusal::NoGroup))
         } else {
@@ -231,6 +294,7 @@ impl Table {
             pool,
             clock: 0,
             issued: 0,
+            declared: declared.to_vec(),
             claims: Vec::new(),
         };
         (table, answer)
@@ -261,24 +325,47 @@ impl Table {
         &self.claims
     }
 
-    /// Does one timed call.
-    pub fn call(&mut self, call: TimedCall) -> Answer {
-        match call {
-            TimedCall::Claim {
+    /// The clients declared, in their order.
+    pub fn declared(&self) -> &[Declaration] {
+        &self.declared
+    }
+
+    /// Does one call.
+    pub fn call(&mut self, call: impl Into<TableCall>) -> Answer {
+        match call.into() {
+            TableCall::Timed(TimedCall::Claim {
                 clock,
                 groups,
                 length,
                 units,
-            } => self.claim(clock, groups, length, units),
-            TimedCall::Release { clock, ticket } => self.release(clock, ticket),
-            TimedCall::Withdraw { clock, ticket } => self.withdraw(clock, ticket),
-            TimedCall::Clock { clock } => self.clock(clock),
+                client,
+            }) => self.claim(clock, groups, length, units, client),
+            TableCall::Timed(TimedCall::Release { clock, ticket }) => self.release(clock, ticket),
+            TableCall::Timed(TimedCall::Withdraw { clock, ticket }) => self.withdraw(clock, ticket),
+            TableCall::Timed(TimedCall::Clock { clock }) => self.clock(clock),
+            TableCall::Declare(declaration) => self.declare(declaration),
         }
     }
 
+    /// Document 02, P4: declares a client, before the first accepted claim.
+    pub fn declare(&mut self, declaration: Declaration) -> Answer {
+        if let Err(refusal) = self.test_declaration(declaration) {
+            return Answer::refused(refusal);
+        }
+        self.declared.push(declaration);
+        Answer::default()
+    }
+
     /// Document 01: "claim".
-    pub fn claim(&mut self, clock: u64, groups: u64, length: u32, units: u16) -> Answer {
-        if let Err(refusal) = self.test_claim(clock, groups, length, units) {
+    pub fn claim(
+        &mut self,
+        clock: u64,
+        groups: u64,
+        length: u32,
+        units: u16,
+        client: u8,
+    ) -> Answer {
+        if let Err(refusal) = self.test_claim(clock, groups, length, units, client) {
             return Answer::refused(refusal);
         }
         self.clock = clock;
@@ -302,6 +389,7 @@ impl Table {
             groups,
             length,
             units,
+            client,
             state: State::Waiting(start),
         });
 
@@ -403,9 +491,80 @@ impl Table {
         Ok(())
     }
 
-    /// The tests of a claim: 5, 4, 1, 2, 16, 3, 6, 7.
-    fn test_claim(&self, clock: u64, groups: u64, length: u32, units: u16) -> Result<(), Refusal> {
+    /// The tests of a declaration: 13, 17, 19.
+    fn test_declaration(&self, declaration: Declaration) -> Result<(), Refusal> {
+        let Declaration {
+            client,
+            reserved,
+            limit,
+        } = declaration;
+        if self.issued > 0 {
+            return Err(Refusal::Misfit);
+        }
+        if client == 0 || client > MAX_CLIENT {
+            return Err(Refusal::Stranger);
+        }
+        let others = self
+            .declared
+            .iter()
+            .map(|other| usize::from(other.reserved));
+        if others.sum::<usize>() + usize::from(reserved) > MAX_PENDING
+            || reserved > limit
+            || usize::from(limit) > MAX_PENDING
+            || self.declaration(client).is_some()
+        {
+            return Err(Refusal::Overbooked);
+        }
+        Ok(())
+    }
+
+    /// What a client is declared with.
+    fn declaration(&self, client: u8) -> Option<&Declaration> {
+        self.declared.iter().find(|other| other.client == client)
+    }
+
+    /// How many claims of a client are pending.
+    fn pending(&self, client: u8) -> usize {
+        let own = self.claims.iter().filter(|claim| claim.client == client);
+        own.count()
+    }
+
+    /// The part of a client's guarantee that its pending claims do not fill.
+    fn unfilled(&self, declaration: &Declaration) -> usize {
+        usize::from(declaration.reserved).saturating_sub(self.pending(declaration.client))
+    }
+
+    /// The tests of a claim by its client alone: 17.
+    fn test_client(&self, client: u8) -> Result<&Declaration, Refusal> {
+        self.declaration(client).ok_or(Refusal::Stranger)
+    }
+
+    /// The tests of a claim by who has how many pending: 6, 18. A client below
+    /// its guarantee never meets 6.
+    pub fn test_room(&self, client: u8) -> Result<(), Refusal> {
+        let own = self.test_client(client)?;
+        let others = self.declared.iter().filter(|other| other.client != client);
+        let kept: usize = others.map(|other| self.unfilled(other)).sum();
+        if self.unfilled(own) == 0 && self.claims.len() + kept >= MAX_PENDING {
+            return Err(Refusal::Full);
+        }
+        if self.pending(client) >= usize::from(own.limit) {
+            return Err(Refusal::OverLimit);
+        }
+        Ok(())
+    }
+
+    /// The tests of a claim: 5, 4, 17, 1, 2, 16, 3, 6, 18, 7.
+    fn test_claim(
+        &self,
+        clock: u64,
+        groups: u64,
+        length: u32,
+        units: u16,
+        client: u8,
+    ) -> Result<(), Refusal> {
         self.test_clock(clock)?;
+        self.test_client(client)?;
         if groups == 0 && units == 0 {
             return Err(Refusal::NoGroup);
         }
@@ -418,9 +577,7 @@ impl Table {
         if length == 0 || length > MAX_LENGTH {
             return Err(Refusal::Length);
         }
-        if self.claims.len() == MAX_PENDING {
-            return Err(Refusal::Full);
-        }
+        self.test_room(client)?;
         if self.issued == MAX_TICKET {
             return Err(Refusal::NoTicket);
         }

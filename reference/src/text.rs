@@ -3,11 +3,13 @@
 //!
 //! ```text
 //! edition NUMBER
-//! rig GROUPS                          in edition 2  rig GROUPS POOL
-//! claim CLOCK GROUPS LENGTH           in edition 2  claim CLOCK GROUPS LENGTH UNITS
+//! rig GROUPS                          from edition 2 on  rig GROUPS POOL
+//! claim CLOCK GROUPS LENGTH           in edition 2       claim CLOCK GROUPS LENGTH UNITS
+//!                                     in edition 3       claim CLOCK GROUPS LENGTH UNITS DESK
 //! release CLOCK TICKET
 //! withdraw CLOCK TICKET
 //! clock CLOCK
+//! desk DESK GUARANTEE LIMIT           in edition 3
 //! ```
 //!
 //! The line of a call has a word for each field of its record in the edition.
@@ -44,10 +46,13 @@ pub enum Reason {
     Backward = 110,
     Pool = 111,
     Units = 112,
+    Client = 113,
+    Reserved = 114,
+    Limit = 115,
 }
 
 /// Every reason.
-pub const REASONS: [Reason; 15] = [
+pub const REASONS: [Reason; 18] = [
     Reason::Edition,
     Reason::RigNotFirst,
     Reason::LoadTooLong,
@@ -63,6 +68,9 @@ pub const REASONS: [Reason; 15] = [
     Reason::Backward,
     Reason::Pool,
     Reason::Units,
+    Reason::Client,
+    Reason::Reserved,
+    Reason::Limit,
 ];
 
 impl Reason {
@@ -88,6 +96,9 @@ impl Reason {
             Reason::Backward => "range runs backward",
             Reason::Pool => "pool is not a number",
             Reason::Units => "units are not a number",
+            Reason::Client => "desk is not a number",
+            Reason::Reserved => "guarantee is not a number",
+            Reason::Limit => "limit is not a number",
         }
     }
 }
@@ -188,12 +199,13 @@ fn edition(words: &[&[u8]]) -> Result<u8, Reason> {
 }
 
 /// The words that calls begin with.
-const NAMES: [(Kind, &str); 5] = [
+const NAMES: [(Kind, &str); 6] = [
     (Kind::Rig, "rig"),
     (Kind::Claim, "claim"),
     (Kind::Release, "release"),
     (Kind::Withdraw, "withdraw"),
     (Kind::Clock, "clock"),
+    (Kind::Declare, "desk"),
 ];
 
 /// The word that a call of a kind begins with.
@@ -227,6 +239,9 @@ fn value(of: Field, word: &[u8]) -> Result<u64, Reason> {
         Field::Pool => field::<u16>(word, Reason::Pool).map(u64::from),
         Field::Ticket => field::<u16>(word, Reason::Ticket).map(u64::from),
         Field::Units => field::<u16>(word, Reason::Units).map(u64::from),
+        Field::Client => field::<u8>(word, Reason::Client).map(u64::from),
+        Field::Reserved => field::<u8>(word, Reason::Reserved).map(u64::from),
+        Field::Limit => field::<u8>(word, Reason::Limit).map(u64::from),
     }
 }
 

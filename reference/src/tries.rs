@@ -1,14 +1,15 @@
 //! What the reader and the writer answer on a load, a line for each answer.
 
 use crate::load::{self, Call, Reader};
-use crate::table::TimedCall;
+use crate::table::{Declaration, TimedCall};
 
 /// What a lent buffer holds before a call.
 const FILL: u8 = 0xAA;
 
-/// Calls to append: a rig and a clock call that every edition carries, then a
-/// rig and a claim with units.
-const APPENDED: [Call; 4] = [
+/// Calls to append: a rig and a clock call that every edition carries; a rig
+/// and a claim with units; a claim of a client other than the first, and a
+/// declaration.
+const APPENDED: [Call; 6] = [
     Call::Rig {
         groups: 15,
         pool: 0,
@@ -23,6 +24,19 @@ const APPENDED: [Call; 4] = [
         groups: 1,
         length: 1,
         units: 2,
+        client: 1,
+    }),
+    Call::Timed(TimedCall::Claim {
+        clock: 1,
+        groups: 1,
+        length: 1,
+        units: 0,
+        client: 2,
+    }),
+    Call::Declare(Declaration {
+        client: 2,
+        reserved: 3,
+        limit: 4,
     }),
 ];
 

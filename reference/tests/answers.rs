@@ -2,7 +2,7 @@
 
 mod common;
 
-use common::{claim, draw, load_of, pool_load_of, release};
+use common::{claim, claim_of, client_load_of, declare, draw, load_of, pool_load_of, release};
 use reference::answers::answers;
 
 fn text(load: &[u8]) -> String {
@@ -71,9 +71,53 @@ fn a_rig_without_groups_has_its_lines() {
     let expected = format!("1 1 0 0 0 0\nfree 0\n{unknown}");
     assert_eq!(text(&load_of(0, &[])), expected);
     assert_eq!(text(&pool_load_of(0, 7, &[])), expected);
+    assert_eq!(text(&client_load_of(0, 7, &[])), expected);
+    assert_eq!(text(&[3]), "");
     assert_eq!(text(&[1]), "");
     assert_eq!(text(&[2]), "");
     assert_eq!(text(&[]), "");
+}
+
+/// A declaration has its lines, as a refused call has; one that comes too late
+/// has the last.
+#[test]
+fn declarations_have_their_lines() {
+    let calls = [
+        declare(2, 1, 1).into(),
+        declare(2, 1, 1).into(),
+        declare(0, 1, 1).into(),
+        claim_of(1, 0, 1, 10).into(),
+        claim_of(2, 0, 1, 10).into(),
+        claim_of(2, 0, 1, 10).into(),
+        declare(3, 1, 1).into(),
+        release(0, 1).into(),
+    ];
+    let text = text(&client_load_of(0x1, 3, &calls));
+    let lines: Vec<&str> = text.lines().filter(|l| !l.starts_with("common")).collect();
+    assert_eq!(
+        lines,
+        [
+            "1 0 0 0 0 0",
+            "free 3",
+            "2 0 0 0 0 0",
+            "free 3",
+            "3 19 0 0 0 0",
+            "free 3",
+            "4 17 0 0 0 0",
+            "free 3",
+            "5 17 0 0 0 0",
+            "free 3",
+            "6 0 1 0 0 0",
+            "free 3",
+            "holds 1 10",
+            "7 18 0 0 0 0",
+            "free 3",
+            "holds 1 10",
+            "8 13 0 0 0 0",
+            "free 3",
+            "holds 1 10",
+        ]
+    );
 }
 
 /// Of up to eight pending claims all pairs; of more those with the first, and

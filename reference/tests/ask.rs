@@ -2,12 +2,13 @@
 
 mod common;
 
-use common::{claim, clock, draw, for_seeds, load_of, pool_load_of, release};
+use common::{claim, claim_of, client_load_of, clock, declare, draw, for_seeds};
+use common::{load_of, pool_load_of, release};
 use reference::ask::{ask, left, read, Question, MAX_QUESTION, WRONG};
 use reference::generate_question::{asked_load, question};
 use reference::listing::listing;
 use reference::load::MAX_LOAD;
-use reference::table::{Common, Lookup, Table, TimedCall};
+use reference::table::{Common, Lookup, Table, TableCall, TimedCall};
 
 /// S of document 01: three claims at clock 0.
 fn s() -> Vec<TimedCall> {
@@ -84,7 +85,7 @@ fn how_many_units_are_free() {
     assert_eq!(answer(&[2], "free"), none);
     for (load, stop) in [
         (&[][..], "stop 12 0\n"),
-        (&[3], "stop 11 0\n"),
+        (&[4], "stop 11 0\n"),
         (&[2; MAX_LOAD + 1], "stop 14 0\n"),
         (&[2, 0, 11], "stop 12 1\n"),
         (&pool_load_of(0, 9, &[]), "stop 1 1\n"),
@@ -123,6 +124,29 @@ fn a_load_that_ends_early_is_said_to() {
     // A refused call ends nothing.
     let refused = load_of(0xF, &[s(), vec![claim(0, 0x10, 1), release(0, 3)]].concat());
     assert_eq!(answer(&refused, "lookup 3"), "ticket 3 waits, start 20\n");
+}
+
+/// A declaration that comes too late ends the load; one that is refused
+/// otherwise does not.
+#[test]
+fn a_late_declaration_ends_a_load() {
+    let calls: [TableCall; 6] = [
+        declare(2, 1, 5).into(),
+        declare(2, 1, 5).into(),
+        declare(9, 1, 5).into(),
+        claim_of(2, 0, 1, 10).into(),
+        declare(3, 0, 5).into(),
+        release(3, 1).into(),
+    ];
+    let load = client_load_of(0xF, 9, &calls);
+    let on = "ticket 1 is on, promised end 10\n";
+    assert_eq!(answer(&load, "lookup 1"), format!("stop 13 6\n{on}"));
+    let load = client_load_of(0xF, 9, &calls[..4]);
+    assert_eq!(answer(&load, "lookup 1"), on);
+    assert_eq!(answer(&load, "free"), "9 of 9 units free\n");
+    let load = client_load_of(0xF, 9, &calls[..3]);
+    assert_eq!(answer(&load, "lookup 1"), "ticket 1 is not pending\n");
+    assert_eq!(answer(&[3], "lookup 1"), "ticket 1 is not pending\n");
 }
 
 #[test]

@@ -8,7 +8,7 @@ use std::collections::{BTreeMap, BTreeSet};
 use common::{for_seeds, listing};
 use reference::generate::{self, Prng, Shape, SHAPES};
 use reference::load::{self, Call, MAX_LOAD};
-use reference::table::{Answer, Claim, Table, TimedCall};
+use reference::table::{Answer, Claim, Declaration, Table, TableCall, TimedCall};
 
 #[test]
 fn the_numbers_are_those_of_splitmix64() {
@@ -37,9 +37,9 @@ fn good_loads_are_good() {
         assert!(load::read_all(&load).is_ok());
         *editions.entry(load[0]).or_default() += 1;
     });
-    assert_eq!(editions.len(), 2);
+    assert_eq!(editions.len(), 3);
     for (edition, count) in editions {
-        assert!(count >= 100, "edition {edition}: {count}");
+        assert!(count >= 60, "edition {edition}: {count}");
     }
 }
 
@@ -64,9 +64,11 @@ fn every_shape_and_every_number_comes() {
             "{shape:?}"
         );
     }
-    for number in [0, 1, 2, 3, 4, 5, 6, 8, 9, 10, 16] {
+    for number in [0, 1, 2, 3, 4, 5, 6, 8, 9, 10, 13, 16, 17, 18, 19] {
         let count = numbers.get(&number).copied().unwrap_or(0);
-        assert!(count >= 50, "number {number}: {count}");
+        // The one 13 of a run ends its listing.
+        let least = if number == 13 { 20 } else { 50 };
+        assert!(count >= least, "number {number}: {count}");
     }
     assert!(several >= 100, "{several}");
 }
@@ -77,22 +79,43 @@ fn every_boundary_value_comes() {
     let mut lengths = BTreeSet::new();
     let mut tickets = BTreeSet::new();
     let mut rigs = BTreeSet::new();
-    for_seeds(0..400, |seed| {
+    let mut clients = BTreeSet::new();
+    let mut declared = BTreeSet::new();
+    let mut reserved = BTreeSet::new();
+    let mut limits = BTreeSet::new();
+    for_seeds(0..600, |seed| {
         let run = generate::run_of(Shape::Boundary, seed);
         rigs.insert(run.rig);
         for call in run.calls {
-            clocks.insert(call.clock());
+            clocks.extend(call.clock());
             match call {
-                TimedCall::Claim { length, .. } => {
+                TableCall::Timed(TimedCall::Claim { length, client, .. }) => {
                     lengths.insert(length);
+                    clients.insert(client);
                 }
-                TimedCall::Release { ticket, .. } | TimedCall::Withdraw { ticket, .. } => {
+                TableCall::Timed(
+                    TimedCall::Release { ticket, .. } | TimedCall::Withdraw { ticket, .. },
+                ) => {
                     tickets.insert(ticket);
                 }
-                TimedCall::Clock { .. } => {}
+                TableCall::Timed(TimedCall::Clock { .. }) => {}
+                TableCall::Declare(declaration) => {
+                    declared.insert(declaration.client);
+                    reserved.insert(declaration.reserved);
+                    limits.insert(declaration.limit);
+                }
             }
         }
     });
+    for client in [0, 1, 2, 7, 8, 9, 255] {
+        assert!(clients.contains(&client), "client {client}");
+        assert!(declared.contains(&client), "client {client} declared");
+    }
+    for share in [0, 1, 63, 64, 65] {
+        assert!(reserved.contains(&share), "reserved {share}");
+        assert!(limits.contains(&share), "limit {share}");
+    }
+    assert!(limits.contains(&255));
     let last = 1_000_000_000_000;
     for clock in [0, 1, last - 1, last, last + 1, u64::MAX] {
         assert!(clocks.contains(&clock), "clock {clock}");
@@ -109,13 +132,13 @@ fn every_boundary_value_comes() {
 }
 
 /// What a claim of edition 2 is like, by its answer and the table behind it.
-fn features(call: TimedCall, answer: &Answer, table: &Table) -> Vec<(&'static str, bool)> {
-    let TimedCall::Claim {
+fn features(call: TableCall, answer: &Answer, table: &Table) -> Vec<(&'static str, bool)> {
+    let TableCall::Timed(TimedCall::Claim {
         groups,
         length,
         units,
         ..
-    } = call
+    }) = call
     else {
         return Vec::new();
     };
@@ -158,7 +181,9 @@ fn pools_are_drawn_from_in_every_way() {
     for_seeds(0..1_500, |seed| {
         let run = generate::run(seed);
         if run.edition == 1 {
-            let drawn = |call: &TimedCall| matches!(call, TimedCall::Claim { units: 1.., .. });
+            let drawn = |call: &TableCall| {
+                matches!(call, TableCall::Timed(TimedCall::Claim { units: 1.., .. }))
+            };
             assert!(run.pool == 0 && !run.calls.iter().any(drawn));
             return;
         }
@@ -181,8 +206,164 @@ fn pools_are_drawn_from_in_every_way() {
     }
 }
 
+/// What a call of edition 3 is like, by the table before it and its answer.
+fn client_features(
+    call: TableCall,
+    before: &Table,
+    refused: bool,
+    answer: &Answer,
+) -> Vec<(&'static str, bool)> {
+    let declared = before.declared();
+    let pending = |client| {
+        before
+            .claims()
+            .iter()
+            .filter(|c| c.client == client)
+            .count()
+    };
+    let unfilled =
+        |own: &Declaration| usize::from(own.reserved).saturating_sub(pending(own.client));
+    let sum: u32 = declared.iter().map(|own| u32::from(own.reserved)).sum();
+    let number = answer.number;
+    match call {
+        TableCall::Declare(Declaration {
+            client,
+            reserved,
+            limit,
+        }) => {
+            let sum = sum + u32::from(reserved);
+            let again = declared.iter().any(|own| own.client == client);
+            let reasons = [sum > 64, reserved > limit, limit > 64, again];
+            let only = |index: usize| {
+                let count = reasons.iter().filter(|&&holds| holds).count();
+                number == 19 && count == 1 && reasons[index]
+            };
+            vec![
+                ("declared", number == 0),
+                ("guarantees over 64", only(0)),
+                ("guarantees of 65", only(0) && sum == 65),
+                ("above its limit", only(1)),
+                ("limit over 64", only(2)),
+                ("limit 65", only(2) && limit == 65),
+                ("twice", only(3)),
+                ("guarantees of 64", number == 0 && sum == 64),
+                ("nothing", number == 0 && limit == 0),
+                ("behind a refused claim", number == 0 && refused),
+                ("outside", number == 17),
+                (
+                    "outside and overbooked",
+                    number == 17 && reasons.contains(&true),
+                ),
+                ("late", number == 13),
+                (
+                    "late and outside",
+                    number == 13 && !(1..=8).contains(&client),
+                ),
+                ("late and twice", number == 13 && again),
+                ("0", client == 0),
+                ("9", client == 9),
+                ("255", client == 255),
+            ]
+        }
+        TableCall::Timed(TimedCall::Claim { client, groups, .. }) => {
+            let own = declared.iter().find(|own| own.client == client);
+            let left = own.map_or(0, unfilled);
+            let kept: usize = declared.iter().map(unfilled).sum();
+            let taken = before.claims().len() + kept;
+            let over = own.is_some_and(|own| pending(client) >= own.limit.into());
+            let full = before.claims().len() == 64;
+            vec![
+                ("stranger", number == 17),
+                ("stranger without groups", number == 17 && groups == 0),
+                ("claim of 0", client == 0),
+                ("claim of 9", client == 9),
+                ("claim of 255", client == 255),
+                ("64 pending", number == 6 && full),
+                ("kept for others", number == 6 && !full),
+                ("one place less", number == 6 && taken - left == 64),
+                ("last place", number == 0 && left == 0 && taken == 63),
+                ("only by its guarantee", number == 0 && taken == 64),
+                (
+                    "at 63 pending",
+                    number == 0 && left > 0 && before.claims().len() == 63,
+                ),
+                ("fills its guarantee", number == 0 && left == 1),
+                ("above its guarantee", number == 0 && left == 0),
+                ("over", number == 18),
+                ("over a limit of 0", number == 18 && pending(client) == 0),
+                ("full and over", number == 6 && over),
+                ("seven others", number == 0 && declared.len() == 8),
+            ]
+        }
+        _ => Vec::new(),
+    }
+}
+
+/// Clients are declared and make claims in every way.
+#[test]
+fn clients_come_in_every_way() {
+    let mut counts: BTreeMap<&str, u64> = BTreeMap::new();
+    for_seeds(0..1_500, |seed| {
+        let run = generate::run(seed);
+        let clients = |call: &TableCall| match call {
+            TableCall::Declare(_) => true,
+            TableCall::Timed(TimedCall::Claim { client, .. }) => *client != 1,
+            TableCall::Timed(_) => false,
+        };
+        if run.edition < 3 {
+            assert!(!run.calls.iter().any(clients));
+            return;
+        }
+        let mut table = run.table();
+        let mut refused = false;
+        for &call in run.calls.iter().take(200) {
+            let before = table.clone();
+            let answer = table.call(call);
+            for (name, holds) in client_features(call, &before, refused, &answer) {
+                *counts.entry(name).or_default() += u64::from(holds);
+            }
+            let claim = matches!(call, TableCall::Timed(TimedCall::Claim { .. }));
+            refused |= claim && !answer.accepted();
+        }
+    });
+    assert_eq!(counts.len(), 18 + 17);
+    for (name, count) in counts {
+        assert!(count >= 12, "{name}: {count}");
+    }
+}
+
+/// How often each number comes in the listings of the loads that the comparison
+/// takes: as lines, and where a listing stops with 13 though its load reads to
+/// the end.
+#[test]
+fn numbers_come_often_in_listings() {
+    let mut lines: BTreeMap<String, u64> = BTreeMap::new();
+    let mut late = 0;
+    let seeds = 1..2_001;
+    for_seeds(seeds, |seed| {
+        let load = generate::any_load(seed);
+        let load = &load[..load.len().min(2_500)];
+        let text = listing(load);
+        for line in text.lines().skip(1) {
+            let words: Vec<&str> = line.split(' ').collect();
+            if let [_, number, _, _] = words[..] {
+                *lines.entry(number.to_string()).or_default() += 1;
+            }
+        }
+        let stops = text.lines().any(|line| line.starts_with("stop 13"));
+        late += u64::from(stops && load::read_all(load).is_ok());
+    });
+    for (number, least) in [("6", 800), ("17", 500), ("18", 500), ("19", 200)] {
+        let count = lines.get(number).copied().unwrap_or(0);
+        assert!(count >= least, "{number}: {count}");
+    }
+    assert!(late >= 100, "{late}");
+    println!("{lines:?}, {late} late declarations");
+}
+
 #[test]
 fn shapes_keep_what_they_say() {
+    let mut all = (0, 0);
     for_seeds(0..60, |seed| {
         let count = |shape| {
             let run = generate::run_of(shape, seed);
@@ -196,13 +377,16 @@ fn shapes_keep_what_they_say() {
             (run.calls.len(), most, refused)
         };
         assert_eq!(count(Shape::Full).1, 64);
-        assert!(count(Shape::Short).0 <= 8);
+        // With at most two calls before each declaration, and behind the last.
+        assert!(count(Shape::Short).0 <= 8 + 8 + 2 * 9 + 1);
         let (calls, _, refused) = count(Shape::Accepted);
-        assert!(refused * 2 <= calls, "{refused} of {calls}");
+        assert!(refused * 3 <= calls * 2, "{refused} of {calls}");
+        all = (all.0 + calls, all.1 + refused);
         if seed < 6 {
             assert!(count(Shape::Long).0 >= 150);
         }
     });
+    assert!(all.1 * 5 <= all.0, "{all:?}");
 }
 
 #[test]
@@ -211,22 +395,29 @@ fn damage_gives_every_stop() {
     let mut sizes = BTreeSet::new();
     let mut editions = BTreeSet::new();
     let (mut turned, mut longer, mut shorter, mut units) = (0, 0, 0, 0);
+    let (mut byte, mut declarations, mut foreign) = (0, 0, 0);
     for_seeds(0..1_200, |seed| {
         let good = generate::run_of(Shape::Short, seed).load();
         let load = generate::damage(&good, seed);
         sizes.insert(load.len());
         editions.insert(load.first().copied());
-        if load.len() == good.len() && load[1..] == good[1..] && load[0] == good[0] ^ 3 {
-            turned += 1;
+        if load.len() == good.len() && load[1..] == good[1..] && (1..=3).contains(&load[0]) {
+            turned += u64::from(load[0] != good[0]);
         }
         let added = load.len() as i64 - good.len() as i64;
         let read = load::read_all(&load);
         longer += u64::from(good[0] == 1 && added == 2);
         shorter += u64::from(good[0] == 2 && added == -2);
+        byte += u64::from(good[0] == 2 && added == 1 || good[0] == 3 && added == -1);
         if let (0, 2, Ok(calls)) = (added, good[0], &read) {
             let before = load::read_all(&good).unwrap();
             units += u64::from(*calls != before);
         }
+        if let (6, Ok(calls)) = (added, &read) {
+            let declared = calls.iter().any(|call| matches!(call, Call::Declare(_)));
+            declarations += u64::from(declared);
+        }
+        foreign += u64::from(good[0] < 3 && added == 6 && read.is_err());
         if load.len() > MAX_LOAD - 2 && load.len() <= MAX_LOAD {
             return;
         }
@@ -244,17 +435,17 @@ fn damage_gives_every_stop() {
     for size in [0, 1, MAX_LOAD - 1, MAX_LOAD, MAX_LOAD + 1] {
         assert!(sizes.contains(&size), "size {size}");
     }
-    for edition in [0, 1, 2, 3, 255] {
+    for edition in [0, 1, 2, 3, 4, 255] {
         assert!(editions.contains(&Some(edition)), "edition {edition}");
     }
-    let counts = [turned, longer, shorter, units];
+    let counts = [turned, longer, shorter, units, byte, declarations, foreign];
     assert!(counts.iter().all(|&count| count >= 10), "{counts:?}");
 }
 
 #[test]
 fn sized_loads_have_their_size() {
-    for (edition, pool) in [(1, 0), (2, 5)] {
-        for size in (134..400).chain([1_000, 12_345]) {
+    for (edition, pool, least) in [(1, 0, 134), (2, 5, 134), (3, 5, 152)] {
+        for size in (least..400).chain([1_000, 12_345]) {
             let load = generate::sized_load(edition, size as u64, size).unwrap();
             assert_eq!((load[0], load.len()), (edition, size));
             let calls = load::read_all(&load).unwrap();

@@ -12,7 +12,7 @@ use reference::text::{make, MAX_TEXT, REASONS};
 
 #[test]
 fn good_texts_make_their_loads() {
-    let mut sizes = BTreeMap::from([(1, BTreeSet::new()), (2, BTreeSet::new())]);
+    let mut sizes = BTreeMap::from([1, 2, 3].map(|edition| (edition, BTreeSet::new())));
     for_seeds(0..3_000, |seed| {
         let (text, load) = good_text(seed);
         assert_eq!(make(&text), Ok(load.clone()));

@@ -2,13 +2,12 @@
 
 mod common;
 
-use common::{
-    claim, clock, draw, for_seeds, listing, load_of, pool_load_of, release, rig, withdraw,
-};
+use common::{claim, claim_of, client_load_of, clock, declare, draw, for_seeds, listing};
+use common::{load_of, pool_load_of, release, rig, withdraw};
 use reference::generate;
 use reference::listing::{write_listing, HEADER};
 use reference::load::{self, Call, MAX_LOAD};
-use reference::table::{TimedCall, MAX_CLOCK};
+use reference::table::{TableCall, TimedCall, MAX_CLOCK};
 
 /// The sample of document 01: S, the claim of case 5, and a release.
 fn sample() -> Vec<u8> {
@@ -130,9 +129,11 @@ on 4 14
 fn an_edition_without_units_changes_nothing() {
     for_seeds(0..150, |seed| {
         let mut run = generate::run(seed);
+        run.calls.retain(|call| call.clock().is_some());
         for call in &mut run.calls {
-            if let TimedCall::Claim { units, .. } = call {
+            if let TableCall::Timed(TimedCall::Claim { units, client, .. }) = call {
                 *units = 0;
+                *client = 1;
             }
         }
         run.edition = 1;
@@ -150,19 +151,78 @@ fn an_edition_without_units_changes_nothing() {
     });
 }
 
+/// The numbers of declarations and claims, and a declaration that comes too
+/// late, before 17.
+#[test]
+fn declarations_are_listed() {
+    let calls: Vec<TableCall> = vec![
+        claim_of(1, 0, 1, 5).into(),
+        declare(1, 1, 2).into(),
+        declare(1, 1, 2).into(),
+        declare(0, 1, 2).into(),
+        declare(2, 64, 64).into(),
+        clock(3).into(),
+        declare(2, 63, 64).into(),
+        claim_of(3, 3, 0, 0).into(),
+        declare(3, 0, 0).into(),
+        claim_of(3, 3, 0, 0).into(),
+        claim_of(3, 3, 1, 5).into(),
+        claim_of(1, 3, 1, 5).into(),
+        claim_of(1, 3, 1, 5).into(),
+        claim_of(2, 3, 1, 5).into(),
+        declare(9, 65, 1).into(),
+        clock(4).into(),
+    ];
+    let lines = "\
+rec answer ticket start
+1 0 0 0
+2 17 0 0
+3 0 0 0
+4 19 0 0
+5 17 0 0
+6 19 0 0
+7 0 0 3
+8 0 0 0
+9 17 0 0
+10 0 0 0
+11 1 0 0
+12 6 0 0
+13 0 1 3
+on 1 3
+14 6 0 0
+15 0 2 8
+";
+    let load = client_load_of(0x3, 0, &calls);
+    assert_eq!(listing(&load), format!("{lines}stop 13 16\n"));
+    let load = client_load_of(0x3, 0, &calls[..14]);
+    assert_eq!(listing(&load), lines);
+    // A dark rig ends before any declaration.
+    let load = client_load_of(0, 9, &calls);
+    assert_eq!(listing(&load), format!("{HEADER}stop 1 1\n"));
+    // In the older editions kind 6 is none of theirs.
+    let record = [0, 4, 6, 2, 0, 1];
+    let load = [&load_of(1, &[])[..], &record].concat();
+    assert_eq!(listing(&load), format!("{HEADER}1 0 0 0\nstop 13 2\n"));
+    let load = [&pool_load_of(1, 1, &[])[..], &record].concat();
+    assert_eq!(listing(&load), format!("{HEADER}1 0 0 0\nstop 13 2\n"));
+}
+
 #[test]
 fn the_header_comes_before_an_early_stop_too() {
-    let cases: [(&[u8], &str); 10] = [
+    let cases: [(&[u8], &str); 13] = [
         (&[], "stop 12 0\n"),
         (&[0xFF], "stop 11 0\n"),
         (&[0x00], "stop 11 0\n"),
-        (&[0x03], "stop 11 0\n"),
+        (&[0x04], "stop 11 0\n"),
         (&[0x01], ""),
         (&[0x01, 0x00], "stop 12 1\n"),
         (&[0x01, 0x00, 0x00], "stop 13 1\n"),
         (&[0x02], ""),
         (&[0x02, 0x00], "stop 12 1\n"),
         (&[0x02, 0x00, 0x00], "stop 13 1\n"),
+        (&[0x03], ""),
+        (&[0x03, 0x00], "stop 12 1\n"),
+        (&[0x03, 0x00, 0x00], "stop 13 1\n"),
     ];
     for (load, rest) in cases {
         assert_eq!(listing(load), format!("{HEADER}{rest}"));
@@ -240,7 +300,7 @@ fn a_count_is_never_a_number() {
 #[test]
 fn loads_of_about_the_greatest_size() {
     for seed in 0..4 {
-        let edition = 1 + seed as u8 % 2;
+        let edition = 1 + seed as u8 % 3;
         for size in [MAX_LOAD - 1, MAX_LOAD] {
             let load = generate::sized_load(edition, seed, size).unwrap();
             assert_eq!(load.len(), size);
@@ -278,7 +338,8 @@ fn check_truncations(load: &[u8]) {
         let records = ends.iter().filter(|(end, _)| *end <= length).count();
         let (end, text) = &ends[records - 1];
         let mut expected = text.clone();
-        if *end < length {
+        // Behind a declaration that comes too late nothing is read.
+        if *end < length && !text.contains("stop") {
             expected.push_str(&format!("stop 12 {records}\n"));
         }
         assert_eq!(listing(&load[..length]), expected, "length {length}");

@@ -2,10 +2,12 @@
 
 mod common;
 
-use common::{claim, clock, draw, for_seeds, load_of, pool_load_of, release, rig, withdraw};
+use common::{claim, claim_of, client_load_of, clock, declare, draw, for_seeds, load_of};
+use common::{pool_load_of, release, rig, withdraw};
 use reference::generate;
 use reference::load::{self, Call, Field, Next, Reader, Values, FIELDS, FORMATS, MAX_LOAD};
 use reference::refusal::Refusal;
+use reference::table::TimedCall;
 
 /// A good load with every kind of record.
 fn good() -> Vec<u8> {
@@ -89,15 +91,26 @@ fn units_stand_last_in_edition_2() {
 #[test]
 fn an_edition_carries_the_fields_that_it_has() {
     let values = FIELDS.map(|field| field as usize);
-    assert_eq!(values, [0, 1, 2, 3, 4, 5]);
-    // Editions 1 and 2 have the same calls but for units.
+    assert_eq!(values, [0, 1, 2, 3, 4, 5, 6, 7, 8]);
+    // Editions 1 and 2 have the same calls but for units, and 3 has clients.
     for (edition, _) in FORMATS {
         for (pool, units) in [(0, 0), (1, 0), (0, 1), (65_535, 65_535)] {
             let rig = Call::Rig { groups: 7, pool };
             let claim = Call::Timed(draw(1, 2, 3, units));
             for (call, carried) in [(rig, pool == 0), (claim, units == 0)] {
                 let record = load::encode(edition, call);
-                assert_eq!(record.is_some(), edition == 2 || carried);
+                assert_eq!(record.is_some(), edition > 1 || carried);
+                if let Some(record) = record {
+                    assert_eq!(load::decode(edition, &record[2..]), Some(call));
+                }
+            }
+        }
+        for client in 0..=255 {
+            let claim = Call::Timed(claim_of(client, 1, 2, 3));
+            let declaration = Call::Declare(declare(client, 255, 0));
+            for (call, carried) in [(claim, client == 1), (declaration, false)] {
+                let record = load::encode(edition, call);
+                assert_eq!(record.is_some(), edition == 3 || carried);
                 if let Some(record) = record {
                     assert_eq!(load::decode(edition, &record[2..]), Some(call));
                 }
@@ -105,7 +118,7 @@ fn an_edition_carries_the_fields_that_it_has() {
         }
     }
     // No call is of an edition that is not known.
-    for edition in [0, 3, 255] {
+    for edition in [0, 4, 255] {
         assert_eq!(load::encode(edition, rig(1)), None);
         assert_eq!(load::decode(edition, &record(rig(1))[2..]), None);
     }
@@ -122,6 +135,8 @@ fn a_call_is_its_kind_and_values() {
         Call::Timed(release(1, 65_535)),
         Call::Timed(withdraw(2, 1)),
         Call::Timed(clock(3)),
+        Call::Timed(claim_of(255, 0, 0, 0)),
+        Call::Declare(declare(8, 64, 65)),
     ];
     for call in calls {
         assert_eq!(Call::of(call.kind(), &call.values()), call);
@@ -129,6 +144,9 @@ fn a_call_is_its_kind_and_values() {
     let values = Values::absent().with(Field::Units, 9);
     assert_eq!(values.get(Field::Units), 9);
     assert_eq!(values.get(Field::Pool), 0);
+    // A record without a client is of the first.
+    assert_eq!(values.get(Field::Client), 1);
+    assert_eq!(values.get(Field::Reserved), 0);
 }
 
 #[test]
@@ -167,7 +185,7 @@ fn the_reader_shows_each_record_as_a_part_of_the_load() {
 fn a_whole_load_is_tested_14_12_11() {
     assert_eq!(load::open(&[]), Err(Refusal::Short));
     for edition in 0..=255 {
-        if edition == 1 || edition == 2 {
+        if (1..=3).contains(&edition) {
             assert_eq!(load::open(&[edition]), Ok(1));
             assert_eq!(load::next_call(&[edition], 1), Ok(Next::End));
         } else {
@@ -209,16 +227,21 @@ fn a_record_is_tested_12_before_13() {
 #[test]
 fn the_length_of_each_kind_is_its_own() {
     let lengths = |edition| match edition {
-        1 => [9, 21, 11, 11, 9],
-        _ => [11, 23, 11, 11, 9],
+        1 => vec![9, 21, 11, 11, 9],
+        2 => vec![11, 23, 11, 11, 9],
+        _ => vec![11, 24, 11, 11, 9, 4],
     };
-    for (edition, rig) in [(1, load_of(1, &[])), (2, pool_load_of(1, 0, &[]))] {
+    for (edition, rig) in [
+        (1, load_of(1, &[])),
+        (2, pool_load_of(1, 0, &[])),
+        (3, client_load_of(1, 0, &[])),
+    ] {
         for kind in 0..=255_u8 {
             for length in 1..40_u16 {
                 let mut record = length.to_be_bytes().to_vec();
                 record.push(kind);
                 record.resize(usize::from(length) + 2, 0);
-                let mut forms = (1..=5).zip(lengths(edition));
+                let mut forms = (1..).zip(lengths(edition));
                 let fits = forms.any(|form| form == (kind, length));
                 // As the first record only a rig is good, behind it only the
                 // others are.
@@ -235,6 +258,54 @@ fn the_length_of_each_kind_is_its_own() {
                 }
             }
         }
+    }
+}
+
+/// Edition 3: the client at the end of the claim, and kind 6.
+#[test]
+fn clients_stand_last_in_edition_3() {
+    let calls = [
+        declare(0x61, 0x62, 0x63).into(),
+        TimedCall::Claim {
+            clock: 0x1112_1314_1516_1718,
+            groups: 0x2122_2324_2526_2728,
+            length: 0x3132_3334,
+            units: 0x3536,
+            client: 0x37,
+        }
+        .into(),
+        release(1, 0x4142).into(),
+        withdraw(2, 0x5152).into(),
+        clock(3).into(),
+    ];
+    let expected = [
+        &[3][..],
+        &[0, 11, 1, 1, 2, 3, 4, 5, 6, 7, 8, 9, 10],
+        &[0, 4, 6, 0x61, 0x62, 0x63],
+        &[0, 24, 2, 0x11, 0x12, 0x13, 0x14, 0x15, 0x16, 0x17, 0x18],
+        &[0x21, 0x22, 0x23, 0x24, 0x25, 0x26, 0x27, 0x28],
+        &[0x31, 0x32, 0x33, 0x34, 0x35, 0x36, 0x37],
+        &[0, 11, 3, 0, 0, 0, 0, 0, 0, 0, 1, 0x41, 0x42],
+        &[0, 11, 4, 0, 0, 0, 0, 0, 0, 0, 2, 0x51, 0x52],
+        &[0, 9, 5, 0, 0, 0, 0, 0, 0, 0, 3],
+    ]
+    .concat();
+    let load = client_load_of(0x0102_0304_0506_0708, 0x090A, &calls);
+    assert_eq!(load, expected);
+    // Only the rig comes first.
+    let first = [&[3][..], &expected[14..]].concat();
+    assert_eq!(load::next_call(&first, 1), Err(Refusal::Misfit));
+    // Kinds 7 and 8 are not known, nor is 6 in the older editions.
+    for kind in [7, 8] {
+        let mut other = expected.clone();
+        other[16] = kind;
+        assert_eq!(load::next_call(&other, 14), Err(Refusal::Misfit));
+    }
+    for rig in [load_of(1, &[]), pool_load_of(1, 0, &[])] {
+        let other = [&rig[..], &expected[14..20]].concat();
+        assert_eq!(load::next_call(&other, rig.len()), Err(Refusal::Misfit));
+        let cut = &other[..other.len() - 1];
+        assert_eq!(load::next_call(cut, rig.len()), Err(Refusal::Short));
     }
 }
 
@@ -325,6 +396,35 @@ fn the_writer_begins_from_the_edition_byte_alone() {
     assert_eq!(append(&pool_load_of(1, 0, &[]), call, 39), Ok(39));
 }
 
+/// What the older editions cannot carry is 13.
+#[test]
+fn clients_are_written_in_edition_3_only() {
+    let second = Call::Timed(claim_of(2, 1, 1, 1));
+    let declared = Call::Declare(declare(1, 64, 64));
+    let good_clients = client_load_of(0xF, 3, &[clock(4).into()]);
+    for room in [0, 11, 70_000] {
+        for load in [good(), good_pool()] {
+            assert_eq!(append(&load, second, room), Err(Refusal::Misfit));
+            assert_eq!(append(&load, declared, room), Err(Refusal::Misfit));
+            assert_eq!(append(&load[..1], declared, room), Err(Refusal::Misfit));
+        }
+        assert_eq!(append(&[3], declared, room), Err(Refusal::Misfit));
+        assert_eq!(append(&[3], second, room), Err(Refusal::Misfit));
+    }
+    let length = good_clients.len();
+    assert_eq!(append(&good_clients, second, 70_000), Ok(length + 26));
+    assert_eq!(append(&good_clients, declared, 70_000), Ok(length + 6));
+    // Client 1 goes into every edition.
+    let first = Call::Timed(claim_of(1, 1, 1, 1));
+    for (load, bytes) in [(good(), 23), (good_pool(), 25), (good_clients, 26)] {
+        assert_eq!(append(&load, first, 70_000), Ok(load.len() + bytes));
+    }
+    let most = generate::sized_load(3, 1, MAX_LOAD).unwrap();
+    assert_eq!(append(&most, declared, 70_000), Err(Refusal::Overlong));
+    let most = generate::sized_load(2, 1, MAX_LOAD).unwrap();
+    assert_eq!(append(&most, declared, 70_000), Err(Refusal::Misfit));
+}
+
 /// What edition 1 cannot carry is 13, as a rig out of place is.
 #[test]
 fn units_are_written_in_edition_2_only() {
@@ -343,7 +443,7 @@ fn units_are_written_in_edition_2_only() {
     assert_eq!(append(&most, pool, 70_000), Err(Refusal::Misfit));
     // The faults of the given load come before.
     assert_eq!(append(&[1, 0], pool, 0), Err(Refusal::Short));
-    assert_eq!(append(&[3], pool, 0), Err(Refusal::Edition));
+    assert_eq!(append(&[4], pool, 0), Err(Refusal::Edition));
 }
 
 #[test]
@@ -352,7 +452,7 @@ fn the_writer_refuses_in_order() {
     let rig = rig(1);
     // The given load's own faults come first, whatever else is wrong.
     assert_eq!(append(&[], timed, 0), Err(Refusal::Short));
-    assert_eq!(append(&[3], timed, 0), Err(Refusal::Edition));
+    assert_eq!(append(&[4], timed, 0), Err(Refusal::Edition));
     assert_eq!(append(&[1, 0], timed, 0), Err(Refusal::Short));
     assert_eq!(append(&[1, 0, 0], rig, 0), Err(Refusal::Misfit));
     let long = generate::sized_load(1, 1, MAX_LOAD + 1).unwrap();
@@ -374,7 +474,7 @@ fn the_writer_refuses_in_order() {
 #[test]
 fn the_writer_fills_a_load_to_its_last_byte() {
     let timed = Call::Timed(clock(0));
-    for edition in [1, 2] {
+    for edition in [1, 2, 3] {
         for (size, answer) in [
             (MAX_LOAD - 12, Ok(MAX_LOAD - 1)),
             (MAX_LOAD - 11, Ok(MAX_LOAD)),

@@ -2,10 +2,11 @@
 
 mod common;
 
-use common::{claim, clock, draw, for_seeds, release, withdraw};
+use common::{claim, claim_of, clock, draw, for_seeds, release, withdraw};
 use reference::generate::{self, Prng};
+use reference::load;
 use reference::pool::Plan;
-use reference::table::{Answer, Lookup, Table, TimedCall};
+use reference::table::{Answer, Lookup, Table, TableCall, TimedCall};
 use reference::table::{MAX_CLOCK, MAX_LENGTH};
 
 /// Rig F hex with a pool, at clock 0.
@@ -491,25 +492,27 @@ fn a_pool_that_is_not_drawn_from_changes_nothing() {
     let mut drew = 0;
     for_seeds(0..400, |seed| {
         let run = generate::run(seed);
-        let calls: Vec<TimedCall> = run
+        let calls: Vec<TableCall> = run
             .calls
             .iter()
             .map(|&call| match call {
-                TimedCall::Claim {
+                TableCall::Timed(TimedCall::Claim {
                     clock,
                     groups,
                     length,
                     units,
-                } => {
+                    client,
+                }) => {
                     drew += u64::from(units > 0);
-                    claim(clock, groups, length)
+                    claim_of(client, clock, groups, length).into()
                 }
                 other => other,
             })
             .take(200)
             .collect();
-        let mut plain = Table::new(run.rig, 0).0;
-        let mut pools = [1, 2, 40, 65_535].map(|pool| Table::new(run.rig, pool).0);
+        let new = |pool| load::new_table(run.edition, run.rig, pool).0;
+        let mut plain = new(0);
+        let mut pools = [1, 2, 40, 65_535].map(new);
         for call in calls {
             let answer = plain.call(call);
             for table in &mut pools {

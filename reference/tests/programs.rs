@@ -7,7 +7,7 @@ use std::path::{Path, PathBuf};
 use std::process::{Command, Output, Stdio};
 use std::{env, fs, process};
 
-use common::{claim, draw, load_of, pool_load_of, release};
+use common::{claim, claim_of, client_load_of, declare, draw, load_of, pool_load_of, release};
 use reference::dance::beat;
 use reference::generate;
 use reference::listing::listing;
@@ -57,7 +57,16 @@ fn the_plan_program_draws_groups_and_pool() {
     // Without a pool the second claim is refused.
     let (units, rects, _) = bars(&load_of(0xF, &[claim(0, 0x8, 10)]));
     assert_eq!((units, rects), (0, 1));
-    let output = print(env!("CARGO_BIN_EXE_plan"), &[3]);
+    // Nothing behind a declaration that comes too late.
+    let calls = [
+        declare(2, 0, 1).into(),
+        claim_of(2, 0, 0x8, 10).into(),
+        declare(2, 0, 1).into(),
+        claim_of(2, 0, 0x4, 10).into(),
+    ];
+    assert_eq!(bars(&client_load_of(0xF, 0, &calls[..2])).1, 1);
+    assert_eq!(bars(&client_load_of(0xF, 0, &calls)).1, 1);
+    let output = print(env!("CARGO_BIN_EXE_plan"), &[4]);
     assert_eq!(output.status.code(), Some(1));
 }
 

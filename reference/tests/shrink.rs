@@ -2,7 +2,10 @@
 
 mod common;
 
-use common::{claim, clock, draw, for_seeds, listing, load_of, pool_load_of, release, withdraw};
+use common::{
+    claim, claim_of, client_load_of, clock, declare, draw, for_seeds, listing, load_of,
+    pool_load_of, release, withdraw,
+};
 use reference::ask::{ask, left};
 use reference::generate::{self, Shape};
 use reference::load::{self, Call};
@@ -38,9 +41,10 @@ fn a_refused_withdrawal_shrinks_to_three_records() {
         let Call::Rig { groups: rig, .. } = calls[0] else {
             unreachable!("a rig comes first");
         };
-        assert_eq!((small[0], rig.count_ones()), (1, 1));
-        let rest = [claim(0, rig, 1), withdraw(0, 1)].map(Call::Timed);
-        assert_eq!(calls[1..], rest);
+        assert_eq!(rig.count_ones(), 1);
+        // One of units alone stays one.
+        let held = [claim(0, rig, 1), draw(0, 0, 1, 1)][usize::from(small[0] - 1)];
+        assert_eq!(calls[1..], [held, withdraw(0, 1)].map(Call::Timed));
     });
     assert!(shrunk >= 3, "{shrunk}");
 }
@@ -53,7 +57,11 @@ fn release_grants(load: &[u8]) -> bool {
     let mut table = Table::new(0, 0).0;
     calls.into_iter().any(|call| match call {
         Call::Rig { groups, pool } => {
-            table = Table::new(groups, pool).0;
+            table = load::new_table(load[0], groups, pool).0;
+            false
+        }
+        Call::Declare(declaration) => {
+            table.declare(declaration);
             false
         }
         Call::Timed(call) => {
@@ -118,6 +126,43 @@ fn units_and_the_edition_are_lowered() {
     load.extend([0, 1, 9]);
     let last = |load: &[u8]| load.ends_with(&[0, 1, 9]) && listing(load).contains("stop 13");
     assert_eq!(shrink(&load, last), [1, 0, 1, 9]);
+}
+
+/// What needs no clients is shown without, what does with few.
+#[test]
+fn clients_are_lowered() {
+    let calls = [
+        declare(3, 10, 20).into(),
+        declare(5, 30, 40).into(),
+        clock(3).into(),
+        claim_of(5, 3, 1, 9).into(),
+        claim_of(3, 4, 2, 9).into(),
+        claim_of(3, 4, 2, 9).into(),
+        release(5, 2).into(),
+    ];
+    let load = client_load_of(0xF, 9, &calls);
+    let small = shrink(&load, release_grants);
+    let expected = load_of(1, &[claim(0, 1, 1), claim(0, 1, 1), release(0, 1)]);
+    // The groups are those of the claims that show it.
+    let groups = load_of(2, &[claim(0, 2, 1), claim(0, 2, 1), release(0, 1)]);
+    assert!(small == expected || small == groups);
+    // A limit, and a client that is not declared.
+    let calls = [&calls[..], &[claim_of(7, 5, 1, 1).into()]].concat();
+    let strange = client_load_of(0xF, 9, &calls);
+    let small = shrink(&strange, |load| answers(load, "17"));
+    let calls = load::read_all(&small).unwrap();
+    assert_eq!((small[0], calls.len()), (3, 2));
+    assert!(matches!(
+        calls[1],
+        Call::Timed(TimedCall::Claim { client: 1, .. })
+    ));
+    let calls = [declare(4, 0, 1).into(), claim_of(4, 0, 1, 9).into()];
+    let calls = [&calls[..], &[claim_of(4, 9, 2, 7).into(), clock(9).into()]].concat();
+    let over = client_load_of(0xF, 9, &calls);
+    let small = shrink(&over, |load| answers(load, "18"));
+    let calls = load::read_all(&small).unwrap();
+    assert_eq!(calls.len(), 3);
+    assert_eq!(calls[1], Call::Declare(declare(4, 0, 0)));
 }
 
 /// Three claims that draw units, with others before and behind them.

@@ -5,7 +5,7 @@ mod common;
 
 use common::for_seeds;
 use reference::generate::{self, Shape};
-use reference::table::{Answer, Claim, Common, Lookup, State, Table, TimedCall};
+use reference::table::{Answer, Claim, Common, Lookup, State, Table, TableCall, TimedCall};
 use reference::table::{MAX_CLOCK, MAX_LENGTH};
 
 fn new_table(rig: u64) -> Table {
@@ -33,9 +33,9 @@ fn a_rig_without_groups_is_refused() {
     assert_eq!((table.rig(), table.now(), table.issued()), (0, 0, 0));
     assert_eq!((table.pool(), table.free()), (0, 0));
     assert!(table.claims().is_empty());
-    assert_eq!(number(&table.claim(0, 0, 1, 0)), 1);
-    assert_eq!(number(&table.claim(0, 1, 1, 0)), 2);
-    assert_eq!(number(&table.claim(0, 0, 1, 1)), 16);
+    assert_eq!(number(&table.claim(0, 0, 1, 0, 1)), 1);
+    assert_eq!(number(&table.claim(0, 1, 1, 0, 1)), 2);
+    assert_eq!(number(&table.claim(0, 0, 1, 1, 1)), 16);
     assert_eq!(number(&table.clock(7)), 0);
     assert_eq!(table.now(), 7);
 }
@@ -46,22 +46,22 @@ fn tests_of_a_claim_come_in_order() {
     table.clock(5);
     let late = MAX_CLOCK + 1;
     // Each line mends the fault of the line before.
-    assert_eq!(number(&table.claim(late, 0, 0, 0)), 5);
-    assert_eq!(number(&table.claim(4, 0, 0, 0)), 4);
-    assert_eq!(number(&table.claim(5, 0, 0, 0)), 1);
-    assert_eq!(number(&table.claim(5, 0x10, 0, 0)), 2);
-    assert_eq!(number(&table.claim(5, 0x1F, 0, 0)), 2);
-    assert_eq!(number(&table.claim(5, 0xF, 0, 0)), 3);
-    assert_eq!(number(&table.claim(5, 0xF, MAX_LENGTH + 1, 0)), 3);
-    assert_eq!(number(&table.claim(5, 0xF, u32::MAX, 0)), 3);
-    assert_eq!(number(&table.claim(5, 0xF, 1, 0)), 0);
+    assert_eq!(number(&table.claim(late, 0, 0, 0, 1)), 5);
+    assert_eq!(number(&table.claim(4, 0, 0, 0, 1)), 4);
+    assert_eq!(number(&table.claim(5, 0, 0, 0, 1)), 1);
+    assert_eq!(number(&table.claim(5, 0x10, 0, 0, 1)), 2);
+    assert_eq!(number(&table.claim(5, 0x1F, 0, 0, 1)), 2);
+    assert_eq!(number(&table.claim(5, 0xF, 0, 0, 1)), 3);
+    assert_eq!(number(&table.claim(5, 0xF, MAX_LENGTH + 1, 0, 1)), 3);
+    assert_eq!(number(&table.claim(5, 0xF, u32::MAX, 0, 1)), 3);
+    assert_eq!(number(&table.claim(5, 0xF, 1, 0, 1)), 0);
 }
 
 #[test]
 fn tests_of_the_other_calls_come_in_order() {
     let mut table = new_table(0xF);
-    table.claim(5, 0xF, 10, 0);
-    table.claim(5, 0xF, 10, 0);
+    table.claim(5, 0xF, 10, 0, 1);
+    table.claim(5, 0xF, 10, 0, 1);
     let late = MAX_CLOCK + 1;
     for ticket in [0, 1, 2, 3, 65_535] {
         assert_eq!(number(&table.release(late, ticket)), 5);
@@ -87,28 +87,28 @@ fn tests_of_the_other_calls_come_in_order() {
 fn tickets_end_at_65535_and_full_is_tested_before() {
     let mut table = new_table(u64::MAX);
     for ticket in 1..=65_535 - 64 {
-        assert_eq!(table.claim(0, 1, 1, 0).ticket, ticket);
+        assert_eq!(table.claim(0, 1, 1, 0, 1).ticket, ticket);
         assert_eq!(number(&table.release(0, ticket)), 0);
     }
     for group in 0..64 {
-        assert_eq!(number(&table.claim(0, 1 << group, 1, 0)), 0);
+        assert_eq!(number(&table.claim(0, 1 << group, 1, 0, 1)), 0);
     }
     assert_eq!(table.issued(), 65_535);
     assert_eq!(table.lookup(65_535), Lookup::On(1));
-    assert_eq!(number(&table.claim(0, 1, 1, 0)), 6);
+    assert_eq!(number(&table.claim(0, 1, 1, 0, 1)), 6);
     assert_eq!(number(&table.release(0, 65_535)), 0);
     let before = table.clone();
-    assert_eq!(number(&table.claim(0, 1, 1, 0)), 7);
-    assert_eq!(number(&table.claim(0, 1, 0, 0)), 3);
+    assert_eq!(number(&table.claim(0, 1, 1, 0, 1)), 7);
+    assert_eq!(number(&table.claim(0, 1, 0, 0, 1)), 3);
     assert_eq!(table, before);
 }
 
 #[test]
 fn the_first_packing_counts_for_the_place() {
     let mut table = new_table(0xF);
-    table.claim(0, 0x1, 10, 0);
-    table.claim(0, 0x3, 10, 0);
-    let answer = table.claim(15, 0x2, 3, 0);
+    table.claim(0, 0x1, 10, 0, 1);
+    table.claim(0, 0x3, 10, 0, 1);
+    let answer = table.claim(15, 0x2, 3, 0, 1);
     assert_eq!(
         answer,
         Answer {
@@ -128,12 +128,12 @@ fn the_first_packing_counts_for_the_place() {
 #[test]
 fn an_overrun_still_precedes() {
     let mut table = new_table(0x1);
-    table.claim(0, 0x1, 10, 0);
+    table.claim(0, 0x1, 10, 0, 1);
     // At its promised end and past it nobody else is granted.
     for clock in [10, 11, 50] {
         assert_eq!(table.clock(clock).grants, []);
     }
-    let answer = table.claim(50, 0x1, 5, 0);
+    let answer = table.claim(50, 0x1, 5, 0, 1);
     assert_eq!((answer.start, answer.grants), (50, vec![]));
     assert_eq!((answer.contention, answer.start_bound), (1, 54));
     assert_eq!(table.lookup(1), Lookup::On(10));
@@ -147,12 +147,12 @@ fn an_overrun_still_precedes() {
 #[test]
 fn grants_come_by_ticket_and_not_by_start() {
     let mut table = new_table(0xF);
-    table.claim(0, 0xF, 10, 0);
-    table.claim(0, 0x3, 10, 0);
+    table.claim(0, 0xF, 10, 0, 1);
+    table.claim(0, 0x3, 10, 0, 1);
     // Ticket 3 waits behind 2; ticket 4 starts before 3; all are freed by 1
     // and 2 together.
-    table.claim(0, 0x1, 5, 0);
-    table.claim(0, 0xC, 5, 0);
+    table.claim(0, 0x1, 5, 0, 1);
+    table.claim(0, 0xC, 5, 0, 1);
     assert_eq!(table.lookup(3), Lookup::Waiting(20));
     assert_eq!(table.lookup(4), Lookup::Waiting(10));
     assert_eq!(table.withdraw(0, 2).grants, []);
@@ -163,11 +163,11 @@ fn grants_come_by_ticket_and_not_by_start() {
 #[test]
 fn grants_ascend_though_planned_starts_descend() {
     let mut table = new_table(0x7);
-    table.claim(0, 0x7, 10, 0);
-    table.claim(0, 0x1, 100, 0);
+    table.claim(0, 0x7, 10, 0, 1);
+    table.claim(0, 0x1, 100, 0, 1);
     // Ticket 3 needs groups 0 and 1 and waits until 110.
-    table.claim(0, 0x3, 10, 0);
-    table.claim(0, 0x4, 10, 0);
+    table.claim(0, 0x3, 10, 0, 1);
+    table.claim(0, 0x4, 10, 0, 1);
     assert_eq!(table.lookup(3), Lookup::Waiting(110));
     assert_eq!(table.release(10, 1).grants, [2, 4]);
     assert_eq!(table.release(11, 2).grants, [3]);
@@ -179,18 +179,18 @@ fn starts_may_pass_the_greatest_clock() {
     table.clock(MAX_CLOCK);
     let mut start = MAX_CLOCK;
     for ticket in 1..=64 {
-        let answer = table.claim(MAX_CLOCK, 1, MAX_LENGTH, 0);
+        let answer = table.claim(MAX_CLOCK, 1, MAX_LENGTH, 0, 1);
         assert_eq!((answer.ticket, answer.start), (ticket, start));
         start += u64::from(MAX_LENGTH);
     }
-    assert_eq!(number(&table.claim(MAX_CLOCK, 1, MAX_LENGTH, 0)), 6);
+    assert_eq!(number(&table.claim(MAX_CLOCK, 1, MAX_LENGTH, 0, 1)), 6);
 }
 
 #[test]
 fn two_tickets_share_their_lowest_common_group() {
     let mut table = new_table(u64::MAX);
     for groups in [0xC, 0x6, 0x9, 1 << 63, u64::MAX, 0x8000_0000_0000_0001] {
-        table.claim(0, groups, 10, 0);
+        table.claim(0, groups, 10, 0, 1);
     }
     for (first, second, said) in [
         (1, 2, Common::Group(2)),
@@ -214,9 +214,9 @@ fn two_tickets_share_their_lowest_common_group() {
 #[test]
 fn a_ticket_that_is_not_pending_shares_nothing() {
     let mut table = new_table(0xF);
-    table.claim(0, 0xF, 10, 0);
-    table.claim(0, 0xF, 10, 0);
-    table.claim(0, 0xF, 10, 0);
+    table.claim(0, 0xF, 10, 0, 1);
+    table.claim(0, 0xF, 10, 0, 1);
+    table.claim(0, 0xF, 10, 0, 1);
     assert_eq!(table.common(1, 2), Common::Group(0));
     table.release(1, 1);
     table.withdraw(1, 3);
@@ -238,10 +238,10 @@ fn every_group_can_be_the_lowest() {
     for one in 0..64 {
         for other in 0..64 {
             let (mut table, _) = Table::new(u64::MAX, 0);
-            table.claim(0, 1 << one, 1, 0);
-            table.claim(0, 1 << other, 1, 0);
-            table.claim(0, u64::MAX << one, 1, 0);
-            table.claim(0, u64::MAX << other, 1, 0);
+            table.claim(0, 1 << one, 1, 0, 1);
+            table.claim(0, 1 << other, 1, 0, 1);
+            table.claim(0, u64::MAX << one, 1, 0, 1);
+            table.claim(0, u64::MAX << other, 1, 0, 1);
             let single = if one == other {
                 Common::Group(one)
             } else {
@@ -331,6 +331,24 @@ fn fits(table: &Table, groups: u64, length: u32, start: u64) -> bool {
     })
 }
 
+/// Every client keeps its limit, and there is room for every guarantee.
+fn check_shares(table: &Table) {
+    let claims = table.claims();
+    let pending = |client| claims.iter().filter(|claim| claim.client == client).count();
+    let mut taken = claims.len();
+    for own in table.declared() {
+        let reserved = usize::from(own.reserved);
+        assert!(pending(own.client) <= usize::from(own.limit));
+        taken += reserved.saturating_sub(pending(own.client));
+        if pending(own.client) < reserved {
+            assert_eq!(table.test_room(own.client), Ok(()));
+        }
+    }
+    assert!(taken <= 64);
+    let mut clients = claims.iter().map(|claim| claim.client);
+    assert!(clients.all(|client| table.declared().iter().any(|own| own.client == client)));
+}
+
 /// What holds of a table after any accepted call.
 fn check_laws(table: &Table) {
     let claims = table.claims();
@@ -341,6 +359,7 @@ fn check_laws(table: &Table) {
         let tick = hold.from.max(now);
         assert!(used(&plan, tick) <= u64::from(table.pool()), "planned");
     }
+    check_shares(table);
     let on = claims.iter().filter(|claim| claim.is_on());
     let held: u64 = on.map(|claim| u64::from(claim.units)).sum();
     assert_eq!(u64::from(table.free()) + held, u64::from(table.pool()));
@@ -436,6 +455,7 @@ fn check_claim(before: &Table, call: TimedCall, answer: &Answer) {
         groups,
         length,
         units,
+        ..
     } = call
     else {
         unreachable!("a claim");
@@ -487,8 +507,9 @@ fn rules_hold_on_generated_runs() {
         Shape::Pool,
         Shape::PoolInTime,
         Shape::Full,
+        Shape::Clients,
     ];
-    for_seeds(0..600, |seed| {
+    for_seeds(0..650, |seed| {
         let run = generate::run_of(shapes[seed as usize % shapes.len()], seed);
         let mut table = run.table();
         for &call in &run.calls {
@@ -506,6 +527,15 @@ fn rules_hold_on_generated_runs() {
                 );
                 continue;
             }
+            let TableCall::Timed(call) = call else {
+                // A declaration changes nothing else.
+                assert_eq!(answer, Answer::default());
+                assert_eq!(table.declared().len(), before.declared().len() + 1);
+                assert_eq!((table.now(), table.issued()), (before.now(), 0));
+                assert!(table.claims().is_empty());
+                continue;
+            };
+            assert_eq!(table.declared(), before.declared());
             assert_eq!(table.now(), call.clock());
             check_packing(&before, call.clock());
             check_laws(&table);

@@ -2,9 +2,11 @@
 
 mod common;
 
-use common::{claim, clock, draw, for_seeds, load_of, pool_load_of, release, rig, withdraw};
+use common::{claim, claim_of, client_load_of, clock, declare, draw, for_seeds, load_of};
+use common::{pool_load_of, release, rig, withdraw};
 use reference::generate;
 use reference::load::{self, Call, MAX_LOAD};
+use reference::table::TableCall;
 use reference::text::{
     edition_line, groups, line, load_show, load_write, make, Reason, Wrong, MAX_TEXT, REASONS,
 };
@@ -142,6 +144,81 @@ fn the_words_are_those_of_the_edition() {
         ("rig F 65536", Reason::TooLarge),
     ] {
         wrong(&format!("edition 2\nrig F 1\n{call}\n"), 3, reason);
+    }
+}
+
+/// In edition 3 a claim has its client, and clients are declared.
+#[test]
+fn clients_of_edition_3_have_their_words() {
+    let declaration = |client, reserved, limit| TableCall::from(declare(client, reserved, limit));
+    for (call, text) in [
+        (declaration(1, 64, 64), "desk 1 64 64\n"),
+        (declaration(0, 0, 0), "desk 0 0 0\n"),
+        (declaration(255, 255, 255), "desk 255 255 255\n"),
+        (claim_of(2, 12, 0xAB, 10).into(), "claim 12 AB 10 0 2\n"),
+        (claim_of(255, 0, 0, 0).into(), "claim 0 0 0 0 255\n"),
+        (draw(0, 0, 1, 65_535).into(), "claim 0 0 1 65535 1\n"),
+        (release(4, 1).into(), "release 4 1\n"),
+        (withdraw(0, 65_535).into(), "withdraw 0 65535\n"),
+        (clock(u64::MAX).into(), "clock 18446744073709551615\n"),
+    ] {
+        assert_eq!(line(3, call.into()), text);
+        let whole = format!("edition 3\nrig F 9\n{text}");
+        assert_eq!(made(&whole), client_load_of(0xF, 9, &[call]));
+    }
+    let calls = [declaration(3, 2, 10), claim_of(3, 1, 9, 5).into()];
+    let text = "edition 03\nrig 0-3 0\n desk\t03 2 000000000000000000000000000000000000010#\n\
+                # desk 1 1 1\nclaim 1 0,3 5 0 0003\r";
+    assert_eq!(made(text), client_load_of(0xF, 0, &calls));
+    for (text, line, reason) in [
+        ("edition 3\nrig F\n", 2, Reason::Missing),
+        ("edition 3\nrig F 0 1\n", 2, Reason::TooMany),
+        ("edition 3\nrig F 0\nclaim 0 1 1 0\n", 3, Reason::Missing),
+        (
+            "edition 3\nrig F 0\nclaim 0 1 1 0 1 1\n",
+            3,
+            Reason::TooMany,
+        ),
+        ("edition 3\nrig F 0\ndesk 1 2\n", 3, Reason::Missing),
+        ("edition 3\nrig F 0\ndesk\n", 3, Reason::Missing),
+        ("edition 3\nrig F 0\ndesk 1 2 3 4\n", 3, Reason::TooMany),
+        ("edition 3\ndesk 1 2 3\n", 2, Reason::RigNotFirst),
+        ("edition 3\ndesk 1 2 x\n", 2, Reason::Limit),
+        ("edition 3\nrig F 0\nDesk 1 2 3\n", 3, Reason::UnknownCall),
+        ("edition 3\nrig F 0\ndesks 1 2 3\n", 3, Reason::UnknownCall),
+        // The older editions have none.
+        ("rig F\ndesk 1 2 3\n", 2, Reason::UnknownCall),
+        ("desk 1 2 3\n", 1, Reason::UnknownCall),
+        ("desk\n", 1, Reason::UnknownCall),
+        ("edition 2\nrig F 0\ndesk 1 2 3\n", 3, Reason::UnknownCall),
+        ("edition 2\nrig F 0\nclaim 0 1 1 0 1\n", 3, Reason::TooMany),
+    ] {
+        wrong(text, line, reason);
+    }
+    for (word, [client, reserved, limit]) in [
+        ("x", [Reason::Client, Reason::Reserved, Reason::Limit]),
+        ("-1", [Reason::Client, Reason::Reserved, Reason::Limit]),
+        ("1,", [Reason::Client, Reason::Reserved, Reason::Limit]),
+        ("0x1", [Reason::Client, Reason::Reserved, Reason::Limit]),
+        ("9999x", [Reason::Client, Reason::Reserved, Reason::Limit]),
+        ("256", [Reason::TooLarge; 3]),
+        ("257", [Reason::TooLarge; 3]),
+        ("65537", [Reason::TooLarge; 3]),
+        ("18446744073709551617", [Reason::TooLarge; 3]),
+        (
+            "340282366920938463463374607431768211457",
+            [Reason::TooLarge; 3],
+        ),
+    ] {
+        let text = |call: &str| format!("edition 3\nrig F 0\n{call}\n");
+        wrong(&text(&format!("desk {word} 1 1")), 3, client);
+        wrong(&text(&format!("desk 1 {word} 1")), 3, reserved);
+        wrong(&text(&format!("desk 1 1 {word}")), 3, limit);
+        wrong(&text(&format!("claim 0 1 1 0 {word}")), 3, client);
+        // From left to right.
+        wrong(&text(&format!("desk {word} y y")), 3, client);
+        wrong(&text(&format!("desk 1 {word} y")), 3, reserved);
+        wrong(&text(&format!("claim 0 1 1 y {word}")), 3, Reason::Units);
     }
 }
 
@@ -306,10 +383,11 @@ fn an_edition_may_stand_before_the_first_call() {
     }
     assert_eq!(made("edition 1"), [1]);
     assert_eq!(made("edition 2"), [2]);
+    assert_eq!(made("edition 3"), [3]);
     assert_eq!(made("# edition 2\n"), [1]);
     for number in [
         "0",
-        "3",
+        "4",
         "255",
         "256",
         "257",
@@ -355,6 +433,7 @@ fn an_edition_may_stand_before_the_first_call() {
 fn editions_other_than_1_are_printed() {
     assert_eq!(edition_line(1), "# edition 1\n");
     assert_eq!(edition_line(2), "edition 2\n");
+    assert_eq!(edition_line(3), "edition 3\n");
     assert_eq!(edition_line(255), "edition 255\n");
 }
 
@@ -380,7 +459,14 @@ fn a_load_has_its_greatest_length() {
         Reason::LoadTooLong,
     );
     assert_eq!(made(&format!("{full}clock 1\nclock 1\n")).len(), MAX_LOAD);
-    for edition in [1, 2] {
+    // In edition 3 a claim has 26 bytes, and a declaration 6.
+    let full = "edition 3\nrig F 3\n".to_string() + &"claim 1 0 1 1 2\n".repeat(2_520);
+    assert_eq!(made(&full).len(), 65_534);
+    wrong(&format!("{full}desk 1 1 1\n"), 2_523, Reason::LoadTooLong);
+    let full = "edition 3\nrig F 3\n".to_string() + &"desk 1 1 1\n".repeat(10_920);
+    assert_eq!(made(&full).len(), 65_534);
+    wrong(&format!("{full}desk 1 1 1\n"), 10_923, Reason::LoadTooLong);
+    for edition in [1, 2, 3] {
         for size in [MAX_LOAD - 1, MAX_LOAD] {
             let load = generate::sized_load(edition, 1, size).expect("a load of that size");
             assert_eq!(made(&load_show(&load)), load);
@@ -406,7 +492,7 @@ fn a_wrong_line_is_reported_and_nothing_written() {
     assert_eq!(load_write(b"rig F\nclock\n"), (Vec::new(), message));
     let numbers: Vec<u8> = REASONS.iter().map(|reason| reason.number()).collect();
     let expected = [
-        11, 13, 14, 101, 102, 103, 104, 105, 106, 107, 108, 109, 110, 111, 112,
+        11, 13, 14, 101, 102, 103, 104, 105, 106, 107, 108, 109, 110, 111, 112, 113, 114, 115,
     ];
     assert_eq!(numbers, expected);
     for (line, words) in [
@@ -416,6 +502,16 @@ fn a_wrong_line_is_reported_and_nothing_written() {
         let text = format!("edition 2\n{line}");
         let at = text.lines().count();
         let message = format!("line {at}: {words}\n").into_bytes();
+        assert_eq!(load_write(text.as_bytes()), (Vec::new(), message));
+    }
+    for (line, words) in [
+        ("desk x 1 1", "desk is not a number"),
+        ("desk 1 x 1", "guarantee is not a number"),
+        ("desk 1 1 x", "limit is not a number"),
+        ("claim 0 1 1 0 x", "desk is not a number"),
+    ] {
+        let text = format!("edition 3\nrig F 0\n{line}");
+        let message = format!("line 3: {words}\n").into_bytes();
         assert_eq!(load_write(text.as_bytes()), (Vec::new(), message));
     }
 }
@@ -429,7 +525,9 @@ fn loads_are_shown() {
     for (load, text) in [
         (&b""[..], "# stop 12 0\n".to_string()),
         (&[0xFF], "# stop 11 0\n".to_string()),
-        (&[3, 0, 0], "# stop 11 0\n".to_string()),
+        (&[4, 0, 0], "# stop 11 0\n".to_string()),
+        (&[3], "edition 3\n".to_string()),
+        (&[3, 0, 0], "edition 3\n# stop 13 1\n".to_string()),
         (&[2], "edition 2\n".to_string()),
         (&[2, 0, 0], "edition 2\n# stop 13 1\n".to_string()),
         (&[1; MAX_LOAD + 1], "# stop 14 0\n".to_string()),
@@ -451,6 +549,17 @@ fn loads_are_shown() {
     assert_eq!(
         load_show(&load),
         "edition 2\nrig F 40\nclaim 0 0 10 2\nclaim 0 A 10 0\nclock 7\nrelease 8 1\n# stop 13 6\n"
+    );
+    // A declaration that comes too late is shown as any other.
+    let calls = [
+        declare(4, 0, 9).into(),
+        claim_of(4, 0, 0xA, 10).into(),
+        declare(0, 65, 255).into(),
+        clock(7).into(),
+    ];
+    assert_eq!(
+        load_show(&client_load_of(0xF, 40, &calls)),
+        "edition 3\nrig F 40\ndesk 4 0 9\nclaim 0 A 10 0 4\ndesk 0 65 255\nclock 7\n"
     );
 }
 

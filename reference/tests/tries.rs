@@ -2,7 +2,7 @@
 
 mod common;
 
-use common::{clock, draw, load_of, pool_load_of};
+use common::{claim_of, client_load_of, clock, declare, draw, load_of, pool_load_of};
 use reference::generate::sized_load;
 use reference::load::MAX_LOAD;
 use reference::tries::tries;
@@ -11,32 +11,37 @@ fn text(load: &[u8]) -> String {
     String::from_utf8(tries(load)).expect("lines of words and numbers")
 }
 
-/// The last lines: a rig, a clock call, a rig with a pool and a claim with
-/// units appended, each with much room and with one byte.
-fn last_lines(answers: [(u8, usize); 8]) -> String {
+/// The last lines: a rig, a clock call, a rig with a pool, a claim with units, a
+/// claim of client 2 and a declaration appended, each with much room, for which
+/// its answer is given, and with one byte.
+fn last_lines(answers: [(u8, usize); 6]) -> String {
     answers
         .map(|(number, length)| {
+            let short = if number == 0 { 15 } else { number };
             let kept = u8::from(number != 0);
-            format!("append {number} {length}\nkept {kept}\n")
+            format!("append {number} {length}\nkept {kept}\nappend {short} 0\nkept 1\n")
         })
         .concat()
 }
 
+/// What is refused with 13.
+const MISFIT: (u8, usize) = (13, 0);
+
 #[test]
 fn each_load_has_its_lines() {
-    let misfit = (13, 0);
-    let first = |length| [(0, length), (15, 0)];
-    let alone = [first(12), [misfit; 2], [misfit; 2], [misfit; 2]].concat();
-    let alone_2 = [first(14), [misfit; 2], first(14), [misfit; 2]].concat();
-    let rig = [[misfit; 2], first(23), [misfit; 2], [misfit; 2]].concat();
-    let rig_2 = [[misfit; 2], first(25), [misfit; 2], first(39)].concat();
+    let alone = [(0, 12), MISFIT, MISFIT, MISFIT, MISFIT, MISFIT];
+    let alone_2 = [(0, 14), MISFIT, (0, 14), MISFIT, MISFIT, MISFIT];
+    let rig = [MISFIT, (0, 23), MISFIT, MISFIT, MISFIT, MISFIT];
+    let rig_2 = [MISFIT, (0, 25), MISFIT, (0, 39), MISFIT, MISFIT];
+    let rig_3 = [MISFIT, (0, 25), MISFIT, (0, 40), (0, 40), (0, 20)];
     for (load, lines, answers) in [
-        (&[][..], "scan 0 12\nstop 1 12\n", vec![(12, 0); 8]),
-        (&[0xFF], "scan 0 11\nstop 1 11\n", vec![(11, 0); 8]),
-        (&[3], "scan 0 11\nstop 1 11\n", vec![(11, 0); 8]),
+        (&[][..], "scan 0 12\nstop 1 12\n", [(12, 0); 6]),
+        (&[0xFF], "scan 0 11\nstop 1 11\n", [(11, 0); 6]),
+        (&[4], "scan 0 11\nstop 1 11\n", [(11, 0); 6]),
         (&[1], "scan 0 0\nstop 1 0\nsame 1\n", alone),
         (&[2], "scan 0 0\nstop 1 0\nsame 1\n", alone_2),
-        (&[2, 0], "scan 0 12\nstop 1 12\nsame 1\n", vec![(12, 0); 8]),
+        (&[3], "scan 0 0\nstop 1 0\nsame 1\n", alone_2),
+        (&[2, 0], "scan 0 12\nstop 1 12\nsame 1\n", [(12, 0); 6]),
         (
             &load_of(0, &[]),
             "scan 1 0\nrecord 1 11\nstop 12 0\nappend 0 12\nsame 1\n",
@@ -47,8 +52,12 @@ fn each_load_has_its_lines() {
             "scan 1 0\nrecord 1 13\nstop 14 0\nappend 0 14\nsame 1\n",
             rig_2,
         ),
+        (
+            &client_load_of(0, 65_535, &[]),
+            "scan 1 0\nrecord 1 13\nstop 14 0\nappend 0 14\nsame 1\n",
+            rig_3,
+        ),
     ] {
-        let answers = answers.try_into().expect("eight answers");
         assert_eq!(text(load), format!("{lines}{}", last_lines(answers)));
     }
 }
@@ -62,40 +71,64 @@ fn calls_are_written_again_as_they_were_read() {
         "scan 2 12\nrecord 1 13\nrecord 14 25\nstop 39 12\n\
          append 0 14\nappend 0 39\nsame 1\n"
             .to_string()
-            + &last_lines([(12, 0); 8])
+            + &last_lines([(12, 0); 6])
     );
     let mut other = load.clone();
     other[0] = 1;
     assert_eq!(
         text(&other),
-        "scan 0 13\nstop 1 13\nsame 1\n".to_string() + &last_lines([(13, 0); 8])
+        "scan 0 13\nstop 1 13\nsame 1\n".to_string() + &last_lines([MISFIT; 6])
+    );
+    // Reader and writer judge no declaration.
+    let calls = [
+        declare(9, 2, 1).into(),
+        claim_of(0, 0, 0, 5).into(),
+        declare(0, 255, 255).into(),
+        claim_of(255, 0, 0, 5).into(),
+    ];
+    let load = client_load_of(0xF, 3, &calls);
+    assert_eq!(
+        text(&load),
+        "scan 5 0\nrecord 1 13\nrecord 14 6\nrecord 20 26\nrecord 46 6\nrecord 52 26\n\
+         stop 78 0\nappend 0 14\nappend 0 20\nappend 0 46\nappend 0 52\nappend 0 78\nsame 1\n"
+            .to_string()
+            + &last_lines([MISFIT, (0, 89), MISFIT, (0, 104), (0, 104), (0, 84)])
     );
 }
 
-/// A clock record has 11 bytes, a claim of edition 2 has 25.
+/// A clock record has 11 bytes, a claim of edition 2 has 25, one of edition 3
+/// has 26, and a declaration has 6.
 #[test]
 fn loads_of_about_the_greatest_size() {
-    for (edition, size, clock, claim) in [
-        (1, MAX_LOAD - 11, (0, MAX_LOAD), (13, 0)),
-        (1, MAX_LOAD, (14, 0), (13, 0)),
-        (2, MAX_LOAD - 25, (0, MAX_LOAD - 14), (0, MAX_LOAD)),
-        (2, MAX_LOAD - 24, (0, MAX_LOAD - 13), (14, 0)),
-        (2, MAX_LOAD - 11, (0, MAX_LOAD), (14, 0)),
-        (2, MAX_LOAD - 10, (14, 0), (14, 0)),
+    let over = (14, 0);
+    for (edition, size, [clock, claim, own, declaration]) in [
+        (1, MAX_LOAD - 11, [(0, MAX_LOAD), MISFIT, MISFIT, MISFIT]),
+        (
+            2,
+            MAX_LOAD - 25,
+            [(0, MAX_LOAD - 14), (0, MAX_LOAD), MISFIT, MISFIT],
+        ),
+        (2, MAX_LOAD - 24, [(0, MAX_LOAD - 13), over, MISFIT, MISFIT]),
+        (
+            3,
+            MAX_LOAD - 26,
+            [
+                (0, MAX_LOAD - 15),
+                (0, MAX_LOAD),
+                (0, MAX_LOAD),
+                (0, MAX_LOAD - 20),
+            ],
+        ),
+        (
+            3,
+            MAX_LOAD - 25,
+            [(0, MAX_LOAD - 14), over, over, (0, MAX_LOAD - 19)],
+        ),
+        (3, MAX_LOAD - 6, [over, over, over, (0, MAX_LOAD)]),
+        (3, MAX_LOAD - 5, [over; 4]),
     ] {
         let load = sized_load(edition, 1, size).expect("a load of that size");
-        let misfit = (13, 0);
-        let short = |(number, length)| if length > 0 { (15, 0) } else { (number, 0) };
-        let last = last_lines([
-            misfit,
-            misfit,
-            clock,
-            short(clock),
-            misfit,
-            misfit,
-            claim,
-            short(claim),
-        ]);
+        let last = last_lines([MISFIT, clock, MISFIT, claim, own, declaration]);
         assert!(text(&load).ends_with(&last), "edition {edition}, {size}");
     }
 }

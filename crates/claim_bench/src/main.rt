@@ -12,7 +12,7 @@ fn pair(a: u64, b: u64) -> u64 {
 fn pending() -> Table
     ensures { λ r. ⌜ Valid r ⌝ }
 {
-    let o = table::new(0xFFFF, 0);
+    let o = table::new(0xFFFF, 0, true);
     let mut t = o.table;
     let mut i: u32 = 0;
     while i < 63 {

@@ -12,10 +12,10 @@ fn load_buffer() -> [u8; 65537]
 }
 
 // Room for every listing: no load that is read has over 65,536 bytes.
-fn listing_buffer() -> [u8; 1048576]
-    ensures { λ r. ⌜ (1048576 ≡ length r) × (roomFor 65536 ≤ 1048576) ⌝ }
+fn listing_buffer() -> [u8; 1409024]
+    ensures { λ r. ⌜ (1409024 ≡ length r) × (roomFor 65536 ≤ 1409024) ⌝ }
 {
-    [0; 1048576]
+    [0; 1409024]
 }
 
 fn print(load: &[u8]) {

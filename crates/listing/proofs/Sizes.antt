@@ -1,7 +1,7 @@
 -- No listing is longer than its load's length allows: it has few records (`walk-few`), a record's line has 84 bytes at most, an `on` line 45,
 -- and over a load there are no more `on` lines than tickets issued, one a record at most.
 use mathlib.Core.Path.{_≡_, sym}
-use mathlib.Core.Bool.{true, cond}
+use mathlib.Core.Bool.{Bool, true, cond}
 use mathlib.Core.List.{List, [], _∷_, _++_}
 use Prim.Native.Nat.{ℕ, zero, suc, _+_, _*_, _/_, _^_, _≤_, _<_}
 use native.Mathlib.Omega.{arith}
@@ -9,7 +9,7 @@ use native.Mathlib.Nat.{div-le-self}
 use lib.Dec.{ltb, leb, eqb}
 use borrow.Author.Tests.{le-leb, ltb-false}
 use lib.ListN.{length, length-append}
-use Rattle.rules.specs.Calls.{Model, Step, blank}
+use Rattle.rules.specs.Calls.{Model, Step}
 use Rattle.table.proofs.Promised.{waiting, none-waits, granted-once, issues-few}
 use Rattle.load.specs.declared.Call.{Call}
 use Rattle.load.specs.Format.{known, leastLength}
@@ -17,7 +17,7 @@ use Rattle.load.specs.Reading.{editionOf, walk, openNumber}
 use Rattle.load.proofs.Format.{either}
 use Rattle.load.proofs.Reading.{walk-few}
 use Rattle.listing.specs.Lines.{lineOf, onLines, stopLine}
-use Rattle.listing.specs.Text.{stepOf, entryOf, ending, stopOr, linesFrom, linesOf, listingOf}
+use Rattle.listing.specs.Text.{aloneIn, stepOf, entryOf, ending, stopOr, linesFrom, linesOf, unrigged, listingOf}
 use Rattle.listing.specs.Room.{roomFor}
 use Rattle.listing.proofs.RecordLoop.{record-promised}
 use Rattle.numerals.proofs.Laying.{pair-length}
@@ -36,25 +36,25 @@ entry-length k s =
     let t = s .model .clock in
     omega (arith, length-append (lineOf k (a .number) (a .ticket) (a .start)) (onLines t (a .grants)), line-length k (a .number) (a .ticket) (a .start), ons-length t (a .grants))
 
-lines-length : (k : ℕ) (m : Model) (cs : List Call) (n : ℕ) → length (linesFrom k m cs n) ≤ 47 + 45 * waiting m + 129 * length cs
+lines-length : (alone : Bool) (k : ℕ) (m : Model) (cs : List Call) (n : ℕ) → length (linesFrom alone k m cs n) ≤ 47 + 45 * waiting m + 129 * length cs
 unfolding linesFrom
-lines-length k m [] n = stop-length n k _ [] (omega arith) (omega arith)
-lines-length k m (c ∷ cs) n =
-    let s = stepOf m c in
-    let q = record-promised m c in
-    let rest = linesFrom (k + 1) (s .model) cs n in
+lines-length alone k m [] n = stop-length n k _ [] (omega arith) (omega arith)
+lines-length alone k m (c ∷ cs) n =
+    let s = stepOf alone m c in
+    let q = record-promised alone m c in
+    let rest = linesFrom alone (k + 1) (s .model) cs n in
     let l = length-append (entryOf k s) rest in
     stop-length (ending k (s .answer .number)) k _ (entryOf k s ++ rest)
-    (omega (arith, l, entry-length k s, lines-length (k + 1) (s .model) cs n, granted-once q, issues-few q))
+    (omega (arith, l, entry-length k s, lines-length alone (k + 1) (s .model) cs n, granted-once q, issues-few q))
     (omega arith)
 
 pub listing-bounded : (s : List ℕ) → length (listingOf s) ≤ roomFor (length s)
 unfolding listingOf linesOf roomFor openNumber
 listing-bounded s =
-    let rest = linesFrom 1 (blank 0 0) (walk s 1 .calls) (walk s 1 .stop) in
+    let rest = linesFrom (aloneIn s) 1 unrigged (walk s 1 .calls) (walk s 1 .stop) in
     let c = walk-few s 1 in
-    let l = lines-length 1 (blank 0 0) (walk s 1 .calls) (walk s 1 .stop) in
-    let b : length rest ≤ 47 + 129 * (length s / leastLength) = omega (arith, none-waits 0 0) in
+    let l = lines-length (aloneIn s) 1 unrigged (walk s 1 .calls) (walk s 1 .stop) in
+    let b : length rest ≤ 47 + 129 * (length s / leastLength) = omega (arith, none-waits 0 0 true) in
     either (ltb 65536 (length s))
     (λ e. rw e (omega (arith, stop-length 14 0 47 [] (omega arith) (omega arith))))
     (λ e. rw e (omega (arith, stop-length (cond (eqb (length s) 0) 12 (cond (known (editionOf s)) 0 11)) 0 (47 + 129 * (length s / leastLength)) rest b (omega arith))))

@@ -1,14 +1,15 @@
 -- The table that a load leaves: its records are run as the listing runs them, up to the load's end or to the record that ends the listing.
 use mathlib.Core.Path.{_≡_}
+use mathlib.Core.Bool.{Bool}
 use mathlib.Core.List.{List, [], _∷_, _++_}
 use Prim.Native.Nat.{ℕ, zero, suc, _+_}
-use Rattle.rules.specs.Calls.{Model, Step, blank}
+use Rattle.rules.specs.Calls.{Model, Step}
 use Rattle.rules.specs.Tables.{encode}
 use Rattle.load.specs.declared.Call.{Call}
 use Rattle.load.specs.Reading.{Walk, walk, openNumber}
 use Rattle.listing.specs.declared.Replayed.{Replayed}
 use Rattle.listing.specs.Lines.{header}
-use Rattle.listing.specs.Text.{stepOf, entryOf, ending, stopOr, listingOf}
+use Rattle.listing.specs.Text.{aloneIn, stepOf, entryOf, ending, stopOr, unrigged, listingOf}
 
 -- The table that is left, and the number and the record of the listing's stop: 0 and 0 for a load that is read to its end.
 pub record Replay : Type 0 where
@@ -26,18 +27,18 @@ stoppedOr (suc n) k m r = stoppedAt (suc n) k m
 
 -- From record k on, in table m: the records cs, then the stop by what follows them (0: the load ends there). The record that ends the
 -- listing leaves the table as it was before it.
-unfoldable pub replayFrom : ℕ → Model → List Call → ℕ → Replay
-replayFrom k m [] n = stoppedOr n k m (stoppedAt 0 0 m)
-replayFrom k m (c ∷ cs) n =
-    let s = stepOf m c in
-    stoppedOr (ending k (s .answer .number)) k m (replayFrom (k + 1) (s .model) cs n)
+unfoldable pub replayFrom : Bool → ℕ → Model → List Call → ℕ → Replay
+replayFrom alone k m [] n = stoppedOr n k m (stoppedAt 0 0 m)
+replayFrom alone k m (c ∷ cs) n =
+    let s = stepOf alone m c in
+    stoppedOr (ending k (s .answer .number)) k m (replayFrom alone (k + 1) (s .model) cs n)
 
-unfoldable pub replayIn : ℕ → Model → Walk → Replay
-replayIn k m w = replayFrom k m (w .calls) (w .stop)
+unfoldable pub replayIn : Bool → ℕ → Model → Walk → Replay
+replayIn alone k m w = replayFrom alone k m (w .calls) (w .stop)
 
 -- A load that does not open leaves a table without groups.
 unfoldable pub replayOf : List ℕ → Replay
-replayOf load = stoppedOr (openNumber load) 0 (blank 0 0) (replayIn 1 (blank 0 0) (walk load 1))
+replayOf load = stoppedOr (openNumber load) 0 unrigged (replayIn (aloneIn load) 1 unrigged (walk load 1))
 
 -- As the code's struct.
 abbrev pub replayed : Replay → Replayed
@@ -58,4 +59,4 @@ modelAfter m (s ∷ ss) = modelAfter (s .model) ss
 pub record ListingReplayed (load : List ℕ) : Type 0 where
   pub ran : List Step
   pub lines : listingOf load ≡ header ++ (entriesFrom 1 ran ++ stopOr (replayOf load .stop) (replayOf load .at) [])
-  pub left : replayOf load .left ≡ modelAfter (blank 0 0) ran
+  pub left : replayOf load .left ≡ modelAfter unrigged ran

@@ -1,9 +1,8 @@
--- The listing that document 01 prints, those of case 15 of its "Plots to try" and of a dark rig, and one of edition 2, as one table of loads
--- and texts.
--- proofs/AllSamples has the theorem that covers the table.
+-- The listing that document 01 prints, those of case 15 of its "Plots to try" and of a dark rig, and one each of editions 2 and 3, as one
+-- table of loads and texts. proofs/AllSamples has the theorem that covers the table.
 use mathlib.Core.List.{List, [], _∷_, _++_}
 use Prim.Native.Nat.{ℕ}
-use Rattle.load.specs.Calls.{rig, claim, release, clock, rigWith, claimWith}
+use Rattle.load.specs.Calls.{rig, claim, release, clock, rigWith, claimWith, claimFrom, declaration}
 use Rattle.load.specs.Bytes.{loadBytes}
 use Rattle.listing.specs.Lines.{header}
 use Rattle.listing.specs.Text.{listingOf}
@@ -70,6 +69,24 @@ samples =
     51 ∷ 32 ∷ 49 ∷ 54 ∷ 32 ∷ 48 ∷ 32 ∷ 48 ∷ 10 ∷
     -- 4 0 2 10
     52 ∷ 32 ∷ 48 ∷ 32 ∷ 50 ∷ 32 ∷ 49 ∷ 48 ∷ 10 ∷
+    [])
+    -- edition 3: a declaration, one outside 1 to 8, a claim of the client declared and one of another, and a declaration that comes late
+    ∷ sample (loadBytes 3 (rigWith 0x1 0 ∷ declaration 1 1 2 ∷ declaration 9 0 0 ∷ claimFrom 0 0x1 10 0 1 ∷ claimFrom 0 0x1 10 0 2 ∷ declaration 2 0 0 ∷ clock 5 ∷ []))
+    (
+    -- 1 0 0 0
+    49 ∷ 32 ∷ 48 ∷ 32 ∷ 48 ∷ 32 ∷ 48 ∷ 10 ∷
+    -- 2 0 0 0
+    50 ∷ 32 ∷ 48 ∷ 32 ∷ 48 ∷ 32 ∷ 48 ∷ 10 ∷
+    -- 3 17 0 0
+    51 ∷ 32 ∷ 49 ∷ 55 ∷ 32 ∷ 48 ∷ 32 ∷ 48 ∷ 10 ∷
+    -- 4 0 1 0
+    52 ∷ 32 ∷ 48 ∷ 32 ∷ 49 ∷ 32 ∷ 48 ∷ 10 ∷
+    -- on 1 0
+    111 ∷ 110 ∷ 32 ∷ 49 ∷ 32 ∷ 48 ∷ 10 ∷
+    -- 5 17 0 0
+    53 ∷ 32 ∷ 49 ∷ 55 ∷ 32 ∷ 48 ∷ 32 ∷ 48 ∷ 10 ∷
+    -- stop 13 6
+    115 ∷ 116 ∷ 111 ∷ 112 ∷ 32 ∷ 49 ∷ 51 ∷ 32 ∷ 54 ∷ 10 ∷
     [])
     ∷ []
 

@@ -5,7 +5,6 @@ ghost use Prim.Native.Nat.{_≤_};
 ghost use lib.Dec.{leb};
 ghost use lib.ListN.{length, take};
 ghost use Rattle.numbers.specs.Numbers.{mostBytes};
-ghost use Rattle.rules.specs.Calls.{blank};
 ghost use Rattle.rules.specs.Tables.{model};
 ghost use Rattle.numerals.specs.Laid.{laid, lentOut, Put};
 ghost use Rattle.load.specs.Reading.{walk};
@@ -14,7 +13,7 @@ ghost use Rattle.table.specs.Outcomes.{outcome};
 ghost use Rattle.listing.specs.Lines.{lineOf, onLine, onLines, stopLine};
 ghost use Rattle.listing.specs.Replay.{replayIn, replayOf, replayed};
 ghost use Rattle.listing.specs.Room.{roomFor};
-ghost use Rattle.listing.specs.Text.{stepOf, ending, linesOf, listingOf, answerOf};
+ghost use Rattle.listing.specs.Text.{aloneIn, stepOf, ending, linesOf, unrigged, listingOf, answerOf};
 use load::Call;
 use load::Item;
 use rules::Request;
@@ -88,41 +87,78 @@ fn ending_of(k: u64, number: u8) -> u8
     number
 }
 
-// What a record does to a table, by its kind: the call of the table that it says. Release and withdrawal (3 and 4) are one call site: the
-// compiler then makes no copy of the table for either.
-pub fn act(t: Table, call: Call) -> Outcome
+// What a record does to a table, by its kind: the call of the table that it says. `alone` is for the rig: client 1 alone is declared. Release
+// and withdrawal (3 and 4) are one call site: the compiler then makes no copy of the table for either.
+pub fn act(t: Table, alone: bool, call: Call) -> Outcome
     requires { ⌜ Valid t ⌝ }
-    ensures { λ r. ⌜ (r ≡ outcome (stepOf (model t) call)) × Valid (r .table) ⌝ }
+    ensures { λ r. ⌜ (r ≡ outcome (stepOf alone (model t) call)) × Valid (r .table) ⌝ }
 {
     let kind = call.kind;
     match kind {
-        1 => table::new(call.groups, call.pool),
+        1 => table::new(call.groups, call.pool, alone),
         2 => {
             let ask = Request {
                 groups: call.groups,
                 length: call.length,
                 units: call.units,
+                client: call.client,
             };
             table::claim(t, call.clock, ask)
         }
         3 | 4 => table::leave(t, kind == 3, call.clock, call.ticket),
+        6 => table::declare(t, call.client, call.reserved, call.limit),
         _ => table::clock(t, call.clock),
     }
 }
 
-// The lines of a load's records. What the last call handed back is kept, with its table, so that no table is copied between calls.
+// Whether a load is of an edition without declarations, in which client 1 alone is declared.
+pub fn alone_in(load: &[u8]) -> bool
+    ensures { λ r. ⌜ r ≡ aloneIn (now (load .entry)) ⌝ }
+{
+    if load.len() == 0 {
+        return true;
+    }
+    load[0] < 3
+}
+
+// The lines of a load's records. What the last call handed back is kept, with its table, so that no table is copied between calls. The kinds
+// stand here once more, and not by way of `act`: that would copy the table for each record.
 fn records(load: &[u8], out: &mut [u8], from: usize) -> usize
     requires { ⌜ length (now load) ≤ mostBytes ⌝ }
-    ensures { λ r. ⌜ Put (now (out .entry)) from (linesOf 1 (blank 0 0) (walk (now (load .entry)) 1)) r (now (out .exit)) ⌝ }
+    ensures { λ r. ⌜ Put (now (out .entry)) from (linesOf (aloneIn (now (load .entry))) 1 unrigged (walk (now (load .entry)) 1)) r (now (out .exit)) ⌝ }
 {
-    let mut o = table::new(0, 0);
+    let alone = alone_in(load);
+    let mut o = table::new(0, 0, true);
     let mut at: usize = 1;
     let mut k: u64 = 1;
     let mut n = from;
     loop {
         match load::record_at(load, at) {
             Item::Record(call, next) => {
-                o = act(o.table, call);
+                let kind = call.kind;
+                match kind {
+                    1 => {
+                        o = table::new(call.groups, call.pool, alone);
+                    }
+                    2 => {
+                        let ask = Request {
+                            groups: call.groups,
+                            length: call.length,
+                            units: call.units,
+                            client: call.client,
+                        };
+                        o = table::claim(o.table, call.clock, ask);
+                    }
+                    3 | 4 => {
+                        o = table::leave(o.table, kind == 3, call.clock, call.ticket);
+                    }
+                    6 => {
+                        o = table::declare(o.table, call.client, call.reserved, call.limit);
+                    }
+                    _ => {
+                        o = table::clock(o.table, call.clock);
+                    }
+                }
                 let stop = ending_of(k, o.number);
                 if stop != 0 {
                     return put_stop(out, n, stop, k);
@@ -199,16 +235,17 @@ pub struct Replayed {
 // The records of a load that opens.
 fn replay_records(load: &[u8]) -> Replayed
     requires { ⌜ length (now load) ≤ mostBytes ⌝ }
-    ensures { λ r. ⌜ (r ≡ replayed (replayIn 1 (blank 0 0) (walk (now (load .entry)) 1))) × Valid (r .table) ⌝ }
+    ensures { λ r. ⌜ (r ≡ replayed (replayIn (aloneIn (now (load .entry))) 1 unrigged (walk (now (load .entry)) 1))) × Valid (r .table) ⌝ }
 {
-    let none = table::new(0, 0);
+    let alone = alone_in(load);
+    let none = table::new(0, 0, true);
     let mut t = none.table;
     let mut at: usize = 1;
     let mut nth: u64 = 1;
     loop {
         match load::record_at(load, at) {
             Item::Record(call, next) => {
-                let o = act(t, call);
+                let o = act(t, alone, call);
                 let stop = ending_of(nth, o.number);
                 if stop != 0 {
                     return Replayed {
@@ -245,7 +282,7 @@ pub fn replay(load: &[u8]) -> Replayed
 {
     let number = load::open_number(load);
     if number != 0 {
-        let none = table::new(0, 0);
+        let none = table::new(0, 0, true);
         let t = none.table;
         return Replayed {
             table: t,

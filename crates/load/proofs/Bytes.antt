@@ -4,7 +4,6 @@ use mathlib.Core.Bool.{true}
 use mathlib.Core.List.{List, [], _∷_, _++_, map, append-assoc, append-nil}
 use mathlib.Core.Path.{_≡_, refl, sym, ap, _∙_}
 use native.Mathlib.Omega.{arith}
-use native.Mathlib.Nat.{one-le-pow}
 use lib.Dec.{eqb}
 use borrow.Author.Tests.{eqb-true}
 use lib.ListN.{length, take, drop, getD, length-append, length-drop}
@@ -17,7 +16,7 @@ use Rattle.load.specs.Bytes.{big, fieldBytes, fieldValues, recordBytes, 
 use Rattle.load.specs.Reading.{editionOf}
 use Rattle.load.specs.RoundTrip.{Bytes, Typed}
 use Rattle.load.proofs.Format.{either, has, length-total}
-use Rattle.load.proofs.Calls.{carries-none}
+use Rattle.load.proofs.Calls.{carries-none, default-typed}
 
 -- ── fields ──
 -- Each value goes into its width.
@@ -84,7 +83,7 @@ fits-typed e c k h t zero = k
 fits-typed e c k h t (suc f) =
     either (has (suc f) (fieldsOf e (c .kind)))
     (λ p. fits-at (fieldsOf e (c .kind)) c (suc f) t p)
-    (λ p. rw (carries-none e c f h p) (one-le-pow (fieldWidth (suc f)) 256 (omega arith)))
+    (λ p. rw (carries-none e c f h p) (default-typed (suc f)))
 
 -- ── records ──
 pub record-length : (e : ℕ) (c : Call) → 0 < lengthOf e (c .kind) → length (recordBytes e c) ≡ 2 + lengthOf e (c .kind)

@@ -1,16 +1,16 @@
 -- Calls and their values, there and back: by one induction over the fields of a row, given that they differ (`proper`).
-use Prim.Native.Nat.{ℕ, zero, suc, _-_, _^_, _≤_, _<_}
+use Prim.Native.Nat.{ℕ, zero, suc, _^_, _≤_, _<_}
 use mathlib.Core.Bool.{true, false, _&&_}
 use mathlib.Core.List.{List, [], _∷_}
 use mathlib.Core.Path.{_≡_, refl, sym, ap, subst, _∙_}
 use native.Mathlib.Omega.{arith}
 use native.Mathlib.Nat.{one-le-pow}
 use lib.Dec.{ltb, eqb}
-use borrow.Author.Tests.{ltb-true, ltb-false, lt-ltb, eqb-true, eqb-false, eq-eqb, ne-eqb}
-use lib.ListN.{length, drop, getD, set, length-set, replicate, getD-replicate, List·getD-eq-default}
+use borrow.Author.Tests.{ltb-true, lt-ltb, eqb-true, eqb-false, eq-eqb, ne-eqb}
+use lib.ListN.{length, drop, getD, set, length-set, List·getD-eq-default}
 use lib.Seq.{getD-set-same, getD-set-other, set-out, ext-getD}
 use Rattle.load.specs.declared.Call.{Call}
-use Rattle.load.specs.Format.{fieldWidths, fieldCount, fieldWidth, fieldsOf, lengthOf}
+use Rattle.load.specs.Format.{fieldWidths, fieldCount, fieldWidth, defaults, default, fieldsOf, lengthOf}
 use Rattle.load.specs.Calls.{numbers, made, valueOf, withValue, bare, filled, callOf, valuesIn, valuesOf, sameBelow, same, kept, carries}
 use Rattle.load.specs.RoundTrip.{Typed}
 use Rattle.load.proofs.Format.{both, either, neither, has, proper, proper-parts, fields-proper}
@@ -21,15 +21,21 @@ listed : (ℕ → ℕ) → ℕ → List ℕ
 listed f zero = []
 listed f (suc n) = f 0 ∷ listed (λ i. f (suc i)) n
 
-listed-is : (xs : List ℕ) → listed (λ i. getD xs i 0) (length xs) ≡ xs
+listed-is : (d : ℕ → ℕ) (xs : List ℕ) → listed (λ i. getD xs i (d i)) (length xs) ≡ xs
 unfolding listed
-listed-is [] = refl
-listed-is (x ∷ xs) = ap (λ r. x ∷ r) (listed-is xs)
+listed-is d [] = refl
+listed-is d (x ∷ xs) = ap (λ r. x ∷ r) (listed-is (λ i. d (suc i)) xs)
+
+-- What stands at a place of a list does not depend on what stands for nothing.
+pub given-is : (ns : List ℕ) (f d : ℕ) → f < length ns → getD ns f 0 ≡ getD ns f d
+given-is [] f d h = absurd (omega arith)
+given-is (n ∷ ns) zero d h = refl
+given-is (n ∷ ns) (suc f) d h = given-is ns f d (omega arith)
 
 -- A call made of as many numbers as there are fields has them at their places.
 numbers-made : (ns : List ℕ) → length ns ≡ fieldCount → numbers (made ns) ≡ ns
 unfolding numbers made listed fieldWidths
-numbers-made ns h = subst (λ (n : ℕ). listed (λ i. getD ns i 0) n ≡ ns) h (listed-is ns)
+numbers-made ns h = subst (λ (n : ℕ). listed (λ i. getD ns i (default i)) n ≡ ns) h (listed-is default ns)
 
 with-numbers : (f v : ℕ) (c : Call) → numbers (withValue f v c) ≡ set (numbers c) f v
 unfolding withValue numbers fieldWidths
@@ -133,15 +139,15 @@ pub call-of-values : (e : ℕ) (c : Call) → carries e c ≡ true → callOf e 
 unfolding carries kept
 call-of-values e c h = same-call (kept e c) c (both (ltb 0 (lengthOf e (c .kind))) (same (kept e c) c) h .1)
 
--- The fields that its kind lacks are 0.
-pub carries-none : (e : ℕ) (c : Call) (f : ℕ) → carries e c ≡ true → has (suc f) (fieldsOf e (c .kind)) ≡ false → valueOf (suc f) c ≡ 0
-unfolding callOf valueOf numbers bare made fieldWidths
-carries-none e c f h n =
-    let k = c .kind in
-    ap (valueOf (suc f)) (sym (call-of-values e c h)) ∙ filled-other (fieldsOf e k) (valuesOf e c) (bare k) (suc f) n
-    ∙ either (ltb f (fieldCount - 1))
-    (λ p. getD-replicate (fieldCount - 1) f 0 0 (ltb-true f (fieldCount - 1) p))
-    (λ p. List·getD-eq-default (replicate (fieldCount - 1) 0) 0 (ltb-false f (fieldCount - 1) p))
+-- The fields that a kind lacks have their defaults, in a call of its values ..
+pub lacked : (e k : ℕ) (vs : List ℕ) (f : ℕ) → 0 < f → has f (fieldsOf e k) ≡ false → valueOf f (callOf e k vs) ≡ default f
+unfolding callOf valueOf numbers bare made defaults default
+lacked e k vs zero h n = absurd (omega arith)
+lacked e k vs (suc f) h n = filled-other (fieldsOf e k) vs (bare k) (suc f) n
+
+-- .. and in one that an edition carries.
+pub carries-none : (e : ℕ) (c : Call) (f : ℕ) → carries e c ≡ true → has (suc f) (fieldsOf e (c .kind)) ≡ false → valueOf (suc f) c ≡ default (suc f)
+carries-none e c f h n = ap (valueOf (suc f)) (sym (call-of-values e c h)) ∙ lacked e (c .kind) (valuesOf e c) (suc f) (omega arith) n
 
 -- ── types ──
 pub typed-with : (f v : ℕ) (c : Call) → f < fieldCount → v < 256 ^ fieldWidth f → Typed c → Typed (withValue f v c)
@@ -150,17 +156,25 @@ typed-with f v c l h t g =
 
 -- The numbers of a call in the code go into their widths.
 pub typed-call : (c : Call) → c .kind < 2 ^ 8 → c .clock < 2 ^ 64 → c .groups < 2 ^ 64 → c .length < 2 ^ 32 → c .ticket < 2 ^ 16
-    → c .pool < 2 ^ 16 → c .units < 2 ^ 16 → Typed c
+    → c .pool < 2 ^ 16 → c .units < 2 ^ 16 → c .client < 2 ^ 8 → c .reserved < 2 ^ 8 → c .limit < 2 ^ 8 → Typed c
 unfolding valueOf numbers fieldWidth fieldWidths
-typed-call c k t g l n p u zero = k
-typed-call c k t g l n p u (suc zero) = t
-typed-call c k t g l n p u (suc (suc zero)) = g
-typed-call c k t g l n p u (suc (suc (suc zero))) = l
-typed-call c k t g l n p u (suc (suc (suc (suc zero)))) = n
-typed-call c k t g l n p u (suc (suc (suc (suc (suc zero))))) = p
-typed-call c k t g l n p u (suc (suc (suc (suc (suc (suc zero)))))) = u
-typed-call c k t g l n p u (suc (suc (suc (suc (suc (suc (suc f))))))) = omega arith
+typed-call c k t g l n p u d r m zero = k
+typed-call c k t g l n p u d r m (suc zero) = t
+typed-call c k t g l n p u d r m (suc (suc zero)) = g
+typed-call c k t g l n p u d r m (suc (suc (suc zero))) = l
+typed-call c k t g l n p u d r m (suc (suc (suc (suc zero)))) = n
+typed-call c k t g l n p u d r m (suc (suc (suc (suc (suc zero))))) = p
+typed-call c k t g l n p u d r m (suc (suc (suc (suc (suc (suc zero)))))) = u
+typed-call c k t g l n p u d r m (suc (suc (suc (suc (suc (suc (suc zero))))))) = d
+typed-call c k t g l n p u d r m (suc (suc (suc (suc (suc (suc (suc (suc zero)))))))) = r
+typed-call c k t g l n p u d r m (suc (suc (suc (suc (suc (suc (suc (suc (suc zero))))))))) = m
+typed-call c k t g l n p u d r m (suc (suc (suc (suc (suc (suc (suc (suc (suc (suc f)))))))))) = omega arith
 
 pub typed-bare : (k : ℕ) → k < 2 ^ 8 → Typed (bare k)
-unfolding bare made
-typed-bare k h = typed-call (bare k) h (omega arith) (omega arith) (omega arith) (omega arith) (omega arith) (omega arith)
+unfolding bare made defaults default
+typed-bare k h = typed-call (bare k) h (omega arith) (omega arith) (omega arith) (omega arith) (omega arith) (omega arith) (omega arith) (omega arith) (omega arith)
+
+-- So do the defaults.
+pub default-typed : (f : ℕ) → default f < 256 ^ fieldWidth f
+unfolding valueOf numbers bare made defaults default
+default-typed f = typed-bare 0 (omega arith) f

@@ -183,19 +183,23 @@ pub no-row : (e k : ℕ) → fieldsOf e k ≡ [] → replicate 8 0 ≡ rowOf e k
 unfolding rowOf padded lengthOf lengthIn
 no-row e k n = rw n
 
-pub no-edition : (e k : ℕ) → (0 < e → 2 < e) → fieldsOf e k ≡ []
+pub no-edition : (e k : ℕ) → (0 < e → 3 < e) → fieldsOf e k ≡ []
 unfolding allRows format
 no-edition e k h =
     ⊎-elim (λ n. n)
-    (λ t. let q = both (ltb 0 e) (ltb e 3) t in absurd (omega (arith, h (ltb-true 0 e (q .0)), ltb-true e 3 (q .1))))
-    (tested (λ e k fs. ltb 0 e && ltb e 3) e k refl)
+    (λ t. let q = both (ltb 0 e) (ltb e 4) t in absurd (omega (arith, h (ltb-true 0 e (q .0)), ltb-true e 4 (q .1))))
+    (tested (λ e k fs. ltb 0 e && ltb e 4) e k refl)
 
-pub no-kind : (e k : ℕ) → (0 < k → 5 < k) → fieldsOf e k ≡ []
+-- The last kind of an edition.
+abbrev pub lastKind : ℕ → ℕ
+lastKind e = cond (ltb e 3) 5 6
+
+pub no-kind : (e k : ℕ) → (0 < k → lastKind e < k) → fieldsOf e k ≡ []
 unfolding allRows format
 no-kind e k h =
     ⊎-elim (λ n. n)
-    (λ t. let q = both (ltb 0 k) (ltb k 6) t in absurd (omega (arith, h (ltb-true 0 k (q .0)), ltb-true k 6 (q .1))))
-    (tested (λ e k fs. ltb 0 k && ltb k 6) e k refl)
+    (λ t. let q = both (ltb 0 k) (leb k (lastKind e)) t in absurd (omega (arith, h (ltb-true 0 k (q .0)), leb-true k (lastKind e) (q .1))))
+    (tested (λ e k fs. ltb 0 k && leb k (lastKind e)) e k refl)
 
 -- Edition 2 has the kinds of edition 1 but for rig and claim.
 pub from-edition-1 : (k : ℕ) → (k ≡ 1 → ⊥) → (k ≡ 2 → ⊥) → rowOf 1 k ≡ rowOf 2 k

@@ -6,3 +6,4 @@ pub mod Loads
 pub mod RoundTrip
 pub mod Writing
 pub mod Rows
+pub mod Samples

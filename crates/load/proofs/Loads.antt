@@ -20,7 +20,7 @@ use Rattle.load.specs.RoundTrip.{Bytes, Typed}
 use Rattle.load.proofs.Format.{length-few, length-total}
 use Rattle.load.proofs.Calls.{kind-of-call, values-of-call, call-of-values, call-carried, carries-length}
 use Rattle.load.proofs.Bytes.{Fit, bytes-drop, values-of-bytes, bytes-of-values, values-fit, values-length, typed-fits, fits-typed, record-length}
-use Rattle.load.proofs.Reading.{callIn, read-record, stands, step-next, step-refused, step-end, step-past, misfit-not, misfit-none, by-item, walk-record, walk-end, record-size, open-known}
+use Rattle.load.proofs.Reading.{callIn, read-record, stands, step-next, step-refused, step-end, step-past, misfit-not, misfit-none, by-item, walk-record, walk-end, open-known}
 
 -- A call that may stand first, or after the first.
 pub record Sound (e : ℕ) (first : Bool) (c : Call) : Type 0 where
@@ -146,22 +146,6 @@ walk-loadable (suc k) s at b =
 pub read-loadable : (s : List ℕ) → Bytes s → Loadable (editionOf s) true (walk s 1 .calls)
 unfolding walk
 read-loadable s b = walk-loadable (suc (length s)) s 1 b
-
--- The records of what is read are no longer than the bytes that they were read from.
-walk-held : (k : ℕ) (s : List ℕ) (at : ℕ) → length (recordsBytes (editionOf s) (walkIn k s at .calls)) ≤ length s - at
-unfolding walkIn recordsBytes
-walk-held zero s at = omega arith
-walk-held (suc k) s at =
-    by-item (itemAt s at)
-    (λ c n q. let z = record-size s at c n q in
-    let r = recordBytes (editionOf s) c in
-    rw q (omega (arith, length-append r (recordsBytes (editionOf s) (walkIn k s n .calls)), record-length (editionOf s) c (z .0), z .1, step-next s at c n q .1, walk-held k s n)))
-    (λ q. rw q (omega arith))
-    (λ n q. rw q (omega arith))
-
-pub read-held : (s : List ℕ) (at : ℕ) → length (recordsBytes (editionOf s) (walk s at .calls)) ≤ length s - at
-unfolding walk
-read-held s at = walk-held (suc (length s)) s at
 
 -- ── one call more ──
 abbrev pub none? : List Call → Bool

@@ -13,14 +13,14 @@ use lib.Seq.{getD-drop, drop-drop, take-all}
 use Rattle.load.specs.declared.Call.{Call}
 use Rattle.load.specs.declared.Item.{Item}
 use Rattle.load.specs.declared.Item.the-variants.{Record, End, Refused}
-use Rattle.load.specs.Format.{thePool, theUnits, format, known, fieldsOf, widths, lengthOf, leastLength}
-use Rattle.load.specs.Calls.{numbers, made, valueOf, bare, callOf}
+use Rattle.load.specs.Format.{thePool, theUnits, theClient, format, defaults, default, known, fieldsOf, widths, lengthOf, leastLength}
+use Rattle.load.specs.Calls.{numbers, valueOf, callOf}
 use Rattle.load.specs.Bytes.{fieldValues, loadBytes}
 use Rattle.load.specs.Answers.{itemValues}
-use Rattle.load.specs.Reading.{inPlace, lengthField, kindField, short, misfit, readAt, editionOf, itemAt, recordNumber, ItemNumbered, Edition1Bare}
+use Rattle.load.specs.Reading.{inPlace, lengthField, kindField, short, misfit, readAt, editionOf, itemAt, recordNumber, ItemNumbered, Edition1Bare, OlderClient1}
 use Rattle.load.specs.Reading.{openNumber, Walk, ended, onto, walkIn, walk, orElse, unlessRefused, reading, loadNumber, ReadingTested}
 use Rattle.load.proofs.Format.{neither, passed, either, has, allRows, tested, least-some, length-least}
-use Rattle.load.proofs.Calls.{filled-other, kind-of-call}
+use Rattle.load.proofs.Calls.{kind-of-call, lacked}
 
 -- ── what stands at a position ──
 -- The call that bytes say, where they are a record.
@@ -103,20 +103,25 @@ misfit-none e at k h q =
     let z : eqb (lengthOf e k) 0 ≡ false = ne-eqb (lengthOf e k) 0 (λ e. omega arith) in
     rw (z, eq-eqb (lengthOf e k) (lengthOf e k) refl, q)
 
--- Edition 1 has neither field.
-edition-1-lacks : (k f : ℕ) → allRows (λ e k fs. not (eqb e 1) || not (has f fs)) format ≡ true → has f (fieldsOf 1 k) ≡ false
+-- A field that no edition before `first` has reads as its default there.
+older-reads : (f first : ℕ) → 0 < f → allRows (λ e k fs. not (ltb e first) || not (has f fs)) format ≡ true
+    → (s : List ℕ) (at : ℕ) (c : Call) (next : ℕ) → editionOf s < first → itemAt s at ≡ Record c next → valueOf f c ≡ default f
 unfolding has
-edition-1-lacks k f t = ⊎-elim (λ n. rw n) (λ p. not-true (has f (fieldsOf 1 k)) p) (tested (λ e k fs. not (eqb e 1) || not (has f fs)) 1 k t)
+older-reads f first z t s at c next l h =
+    let e = editionOf s in
+    let k = kindField (drop at s) in
+    let n : has f (fieldsOf e k) ≡ false = ⊎-elim (λ n. rw n) (λ p. not-true (has f (fieldsOf e k)) (rw (lt-ltb e first l) at p))
+    (tested (λ e k fs. not (ltb e first) || not (has f fs)) e k t) in
+    ap (valueOf f) (sym (stands s at c next h .call)) ∙ lacked e k _ f z n
 
 pub edition-1-bare : Edition1Bare
-unfolding allRows format has callOf bare made valueOf numbers
+unfolding allRows format has valueOf numbers defaults default
 edition-1-bare s at c next e h =
-    let r = stands s at c next h in
-    let k = kindField (drop at s) in
-    let q : callIn 1 (drop at s) ≡ c = rw e at (r .call) in (
-      sym (ap (λ (x : Call). x .pool) q) ∙ filled-other (fieldsOf 1 k) _ (bare k) thePool (edition-1-lacks k thePool refl),
-      sym (ap (λ (x : Call). x .units) q) ∙ filled-other (fieldsOf 1 k) _ (bare k) theUnits (edition-1-lacks k theUnits refl),
-    )
+    (older-reads thePool 2 (omega arith) refl s at c next (omega arith) h, older-reads theUnits 2 (omega arith) refl s at c next (omega arith) h)
+
+pub older-client-1 : OlderClient1
+unfolding allRows format has valueOf numbers defaults default
+older-client-1 s at c next e h = older-reads theClient 3 (omega arith) refl s at c next e h
 
 -- The tests as the code makes them at a position.
 module _ (s : List ℕ) (at : ℕ) where

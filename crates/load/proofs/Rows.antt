@@ -1,13 +1,13 @@
 -- Loops over the fields of a row, as the code goes through them: what is left from place i on gives the same as the whole.
-use Prim.Native.Nat.{ℕ, _+_, _-_, _*_, _^_, _≤_, _<_, min}
+use Prim.Native.Nat.{ℕ, _+_, _*_, _^_, _≤_, _<_, min}
 use mathlib.Core.List.{List, [], _∷_, map}
 use mathlib.Core.Path.{_≡_, refl, _∙_}
 use native.Mathlib.Omega.{arith}
-use lib.ListN.{length, take, drop, getD, set, replicate, length-set}
+use lib.ListN.{length, take, drop, getD, set, length-set}
 use lib.Seq.{drop-drop}
 use Rattle.numerals.specs.Digits.{bytesAt}
 use Rattle.load.specs.declared.Call.{Call}
-use Rattle.load.specs.Format.{fieldWidths, fieldCount, fieldWidth, fieldsOf, widths}
+use Rattle.load.specs.Format.{fieldWidths, fieldCount, fieldWidth, defaults, default, fieldsOf, widths}
 use Rattle.load.specs.Calls.{made, bare, filled, callOf, valuesIn}
 use Rattle.load.specs.Bytes.{bigValue, fieldBytes, fieldValues}
 use Rattle.load.specs.RoundTrip.{Typed}
@@ -33,8 +33,8 @@ pub record Reading (e k : ℕ) (bs ns : List ℕ) (at i : ℕ) : Type 0 where
   pub typed : Typed (made ns)
   pub call : readLeft e k i (drop at bs) (made ns) ≡ callOf e k (fieldValues (widths e k) bs)
 
-pub reading-start : (e k : ℕ) (bs : List ℕ) → k < 2 ^ 8 → Reading e k bs (k ∷ replicate (fieldCount - 1) 0) 0 0
-unfolding callOf widths made bare fieldWidths
+pub reading-start : (e k : ℕ) (bs : List ℕ) → k < 2 ^ 8 → Reading e k bs (k ∷ drop 1 defaults) 0 0
+unfolding callOf widths made bare fieldWidths defaults default
 reading-start e k bs h = record { place = omega arith; bytes = omega arith; full = refl; typed = typed-bare k h; call = refl }
 
 pub reading-early : {e k : ℕ} {bs ns : List ℕ} {at i : ℕ} → Reading e k bs ns at i → i < 7

@@ -5,22 +5,29 @@ use mathlib.Core.List.{List, [], _∷_, map}
 use lib.Dec.{ltb, eqb}
 use lib.ListN.{drop, getD, set}
 use Rattle.load.specs.declared.Call.{Call}
-use Rattle.load.specs.Format.{fieldCount, fieldsOf, lengthOf}
+use Rattle.load.specs.Format.{fieldCount, default, fieldsOf, lengthOf}
 
 -- Each number stands at the place that names its field.
 unfoldable pub numbers : Call → List ℕ
-numbers c = c .kind ∷ c .clock ∷ c .groups ∷ c .length ∷ c .ticket ∷ c .pool ∷ c .units ∷ []
+numbers c = c .kind ∷ c .clock ∷ c .groups ∷ c .length ∷ c .ticket ∷ c .pool ∷ c .units ∷ c .client ∷ c .reserved ∷ c .limit ∷ []
 
--- The call of such numbers. One that is not there is 0.
+-- The number of a field; its default where the list ends before.
+abbrev pub given : List ℕ → ℕ → ℕ
+given ns f = getD ns f (default f)
+
+-- The call of such numbers.
 unfoldable pub made : List ℕ → Call
 made ns = record {
-  kind = getD ns 0 0;
-  clock = getD ns 1 0;
-  groups = getD ns 2 0;
-  length = getD ns 3 0;
-  ticket = getD ns 4 0;
-  pool = getD ns 5 0;
-  units = getD ns 6 0;
+  kind = given ns 0;
+  clock = given ns 1;
+  groups = given ns 2;
+  length = given ns 3;
+  ticket = given ns 4;
+  pool = given ns 5;
+  units = given ns 6;
+  client = given ns 7;
+  reserved = given ns 8;
+  limit = given ns 9;
 }
 
 unfoldable pub valueOf : ℕ → Call → ℕ
@@ -29,7 +36,7 @@ valueOf f c = getD (numbers c) f 0
 unfoldable pub withValue : ℕ → ℕ → Call → Call
 withValue f v c = made (set (numbers c) f v)
 
--- A call of a kind with no values.
+-- A call of a kind with no values: every other field has its default.
 unfoldable pub bare : ℕ → Call
 bare k = made (k ∷ [])
 
@@ -38,7 +45,7 @@ unfoldable pub filled : List ℕ → List ℕ → Call → Call
 filled [] vs c = c
 filled (f ∷ fs) vs c = filled fs (drop 1 vs) (withValue f (getD vs 0 0) c)
 
--- The call of a kind with these values in the order of its fields. The fields that the kind lacks are 0.
+-- The call of a kind with these values in the order of its fields. The fields that the kind lacks have their defaults.
 unfoldable pub callOf : ℕ → ℕ → List ℕ → Call
 callOf e k vs = filled (fieldsOf e k) vs (bare k)
 
@@ -57,16 +64,16 @@ sameBelow (suc n) c d = eqb (valueOf n c) (valueOf n d) && sameBelow n c d
 abbrev pub same : Call → Call → Bool
 same c d = sameBelow fieldCount c d
 
--- What an edition keeps of a call: the fields that it lacks become 0.
+-- What an edition keeps of a call: the fields that it lacks get their defaults.
 unfoldable pub kept : ℕ → Call → Call
 kept e c = callOf e (c .kind) (valuesOf e c)
 
--- The edition can carry the call: it has the kind, and every field that it lacks is 0, so that it keeps the whole call.
+-- The edition can carry the call: it has the kind, and every field that it lacks has its default, so that it keeps the whole call.
 unfoldable pub carries : ℕ → Call → Bool
 carries e c = ltb 0 (lengthOf e (c .kind)) && same (kept e c) c
 
 -- ── calls, for examples ──
--- Those of edition 1; a rig and a claim of edition 2 with no pool and no units are the same calls.
+-- Those of edition 1; a rig and a claim of a later edition with no pool, no units and client 1 are the same calls.
 abbrev pub rig : ℕ → Call
 rig groups = callOf 1 1 (groups ∷ [])
 
@@ -88,3 +95,10 @@ rigWith groups pool = callOf 2 1 (groups ∷ pool ∷ [])
 
 abbrev pub claimWith : ℕ → ℕ → ℕ → ℕ → Call
 claimWith clock groups length units = callOf 2 2 (clock ∷ groups ∷ length ∷ units ∷ [])
+
+-- Edition 3's own.
+abbrev pub claimFrom : ℕ → ℕ → ℕ → ℕ → ℕ → Call
+claimFrom clock groups length units client = callOf 3 2 (clock ∷ groups ∷ length ∷ units ∷ client ∷ [])
+
+abbrev pub declaration : ℕ → ℕ → ℕ → Call
+declaration client reserved limit = callOf 3 6 (client ∷ reserved ∷ limit ∷ [])

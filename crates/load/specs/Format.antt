@@ -1,6 +1,6 @@
--- The load format as one table: document 01, "The load", and edition 2 of document 02. Reader, writer and round trip are driven by it. An
--- edition and a kind are rows of `format`; a field is a name and a width here, and a number of a call (specs/Calls). Quotations are from
--- document 01, of edition 2 from document 02.
+-- The load format as one table: document 01, "The load", and editions 2 and 3 of document 02. Reader, writer and round trip are driven by
+-- it. An edition and a kind are rows of `format`; a field is a name and a width here, and a number of a call (specs/Calls). Quotations are
+-- from document 01, of editions 2 and 3 from document 02.
 use Prim.Native.Nat.{ℕ, zero, suc, _+_, min}
 use mathlib.Core.Bool.{Bool, false, _&&_, _||_, cond}
 use mathlib.Core.List.{List, [], _∷_, _++_, map}
@@ -30,15 +30,34 @@ thePool = 5
 abbrev pub theUnits : ℕ
 theUnits = 6
 
--- Their widths in bytes, in that order: kind 1, clock 8, groups 8, length 4, ticket 2, pool 2, units 2.
+-- (document 02: desk)
+abbrev pub theClient : ℕ
+theClient = 7
+
+-- (document 02: guarantee)
+abbrev pub theReserved : ℕ
+theReserved = 8
+
+abbrev pub theLimit : ℕ
+theLimit = 9
+
+-- Their widths in bytes, in that order: kind 1, clock 8, groups 8, length 4, ticket 2, pool 2, units 2, client 1, reserved 1, limit 1.
 unfoldable pub fieldWidths : List ℕ
-fieldWidths = 1 ∷ 8 ∷ 8 ∷ 4 ∷ 2 ∷ 2 ∷ 2 ∷ []
+fieldWidths = 1 ∷ 8 ∷ 8 ∷ 4 ∷ 2 ∷ 2 ∷ 2 ∷ 1 ∷ 1 ∷ 1 ∷ []
 
 abbrev pub fieldCount : ℕ
 fieldCount = length fieldWidths
 
 unfoldable pub fieldWidth : ℕ → ℕ
 fieldWidth f = getD fieldWidths f 0
+
+-- Their values where a record lacks them, in that order: "edition 1 reads as 0 for both" pool and units, and 1 for the client, the only one
+-- of older editions, which "start with desk 1 declared".
+unfoldable pub defaults : List ℕ
+defaults = 0 ∷ 0 ∷ 0 ∷ 0 ∷ 0 ∷ 0 ∷ 0 ∷ 1 ∷ 0 ∷ 0 ∷ []
+
+unfoldable pub default : ℕ → ℕ
+default f = getD defaults f 0
 
 -- ── rows ──
 -- A kind of an edition, and its fields in their order.
@@ -77,8 +96,19 @@ edition2 =
     -- the other kinds are edition 1's
     ∷ inEdition 2 (drop 2 edition1)
 
+abbrev pub edition3 : List Row
+edition3 =
+    -- the rig is edition 2's
+    row 3 1 (theGroups ∷ thePool ∷ [])
+    -- "Edition 3 adds a desk byte at the end of the claim (length 24)"
+    ∷ row 3 2 (theClock ∷ theGroups ∷ theLength ∷ theUnits ∷ theClient ∷ [])
+    -- "and a kind 6 record of desk, guarantee and limit, a byte each (length 4)"
+    ∷ row 3 6 (theClient ∷ theReserved ∷ theLimit ∷ [])
+    -- the other kinds are edition 1's
+    ∷ inEdition 3 (drop 2 edition1)
+
 unfoldable pub format : List Row
-format = edition1 ++ edition2
+format = edition1 ++ edition2 ++ edition3
 
 -- ── from the table ──
 -- The editions that there are.
@@ -126,6 +156,8 @@ names =
     ∷ (119 ∷ 105 ∷ 116 ∷ 104 ∷ 100 ∷ 114 ∷ 97 ∷ 119 ∷ [])
     -- "clock"
     ∷ (99 ∷ 108 ∷ 111 ∷ 99 ∷ 107 ∷ [])
+    -- "desk"
+    ∷ (100 ∷ 101 ∷ 115 ∷ 107 ∷ [])
     ∷ []
 
 -- The name of a kind; none for one that the edition lacks.

@@ -1,6 +1,6 @@
 -- The reader. A position is a count of bytes from the load's start; the first record stands at 1. "A load [is tested in the order] 14, 12,
 -- 11, then each record 12, 13." "Reader and writer pass fields on without judging them; the table judges."
-use Prim.Native.Nat.{ℕ, zero, suc, _+_}
+use Prim.Native.Nat.{ℕ, zero, suc, _+_, _<_}
 use mathlib.Core.Bool.{Bool, true, false, not, _||_, cond}
 use mathlib.Core.List.{List, [], _∷_}
 use mathlib.Core.Path.{_≡_}
@@ -71,6 +71,11 @@ ItemNumbered = (s : List ℕ) (at : ℕ) → itemValues at (itemAt s at) .number
 -- Document 02 of pool and units: "edition 1 reads as 0 for both". (Proved in proofs/Reading: edition-1-bare.)
 abbrev pub Edition1Bare : Type 0
 Edition1Bare = (s : List ℕ) (at : ℕ) (c : Call) (next : ℕ) → editionOf s ≡ 1 → itemAt s at ≡ Record c next → (c .pool ≡ 0) × (c .units ≡ 0)
+
+-- Of the client: "Older editions start with desk 1 declared", and every call of theirs is client 1's. (Proved in proofs/Reading:
+-- older-client-1.)
+abbrev pub OlderClient1 : Type 0
+OlderClient1 = (s : List ℕ) (at : ℕ) (c : Call) (next : ℕ) → editionOf s < 3 → itemAt s at ≡ Record c next → c .client ≡ 1
 
 -- ── a whole load ──
 -- 14 "load over 65,536 bytes", 12 "the load is empty", 11 "first byte of a load names no edition the reader knows"; 0 for none of them.

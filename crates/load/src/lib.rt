@@ -13,7 +13,8 @@ ghost use Rattle.load.specs.RoundTrip.{Typed};
 ghost use Rattle.load.specs.Writing.{growNumber, appendNumber, appendAnswer, appendValues, appendOut};
 ghost use Rattle.load.specs.Writing.{heldNumber, growAnswer, growValues, growOut};
 
-// One record of a load: its kind, and a value for each field that some kind has. A field that its kind lacks is 0.
+// One record of a load: its kind, and a value for each field that some kind has. A field that its kind lacks is 0, but for the client
+// (document 02: desk): a record without one is client 1's. `reserved` is document 02's guarantee.
 pub struct Call {
     pub kind: u8,
     pub clock: u64,
@@ -22,6 +23,9 @@ pub struct Call {
     pub ticket: u16,
     pub pool: u16,
     pub units: u16,
+    pub client: u8,
+    pub reserved: u8,
+    pub limit: u8,
 }
 
 // What stands at a position: a record's call with the position after it, the end, or the number of a refusal.
@@ -38,8 +42,9 @@ pub enum Written {
 }
 
 // ---- the format
-// A field is named by a number: kind 0, clock 1, groups 2, length 3, ticket 4, pool 5, units 6. Their widths in bytes:
-const WIDTHS: [u8; 7] = [1, 8, 8, 4, 2, 2, 2];
+// A field is named by a number: kind 0, clock 1, groups 2, length 3, ticket 4, pool 5, units 6, client 7, reserved 8, limit 9. Their widths in
+// bytes:
+const WIDTHS: [u8; 10] = [1, 8, 8, 4, 2, 2, 2, 1, 1, 1];
 
 // A row of the format: the fields of a kind in their order, 0 after the last; at place 7 the length of a record, its kind byte and its
 // fields. All 0 for a kind that the edition lacks.
@@ -74,12 +79,35 @@ fn edition_2(kind: u8) -> [u8; 8]
     }
 }
 
+// The rig is edition 2's, the claim has its client at the end, and kind 6 declares a client; the other kinds are edition 1's. All are listed,
+// so that a row is one read of a table.
+fn edition_3(kind: u8) -> [u8; 8]
+    ensures { λ r. ⌜ r ≡ rowOf 3 kind ⌝ }
+{
+    match kind {
+        // rig: groups, pool
+        1 => [2, 5, 0, 0, 0, 0, 0, 11],
+        // claim: clock, groups, length, units, client
+        2 => [1, 2, 3, 6, 7, 0, 0, 24],
+        // release: clock, ticket
+        3 => [1, 4, 0, 0, 0, 0, 0, 11],
+        // withdraw: clock, ticket
+        4 => [1, 4, 0, 0, 0, 0, 0, 11],
+        // clock: clock
+        5 => [1, 0, 0, 0, 0, 0, 0, 9],
+        // declaration: client, reserved, limit
+        6 => [7, 8, 9, 0, 0, 0, 0, 4],
+        _ => [0; 8],
+    }
+}
+
 fn row_of(edition: u8, kind: u8) -> [u8; 8]
     ensures { λ r. ⌜ r ≡ rowOf edition kind ⌝ }
 {
     match edition {
         1 => edition_1(kind),
         2 => edition_2(kind),
+        3 => edition_3(kind),
         _ => [0; 8],
     }
 }
@@ -107,7 +135,7 @@ pub fn length_of(edition: u8, kind: u8) -> usize
 pub fn width_of(field: u8) -> usize
     ensures { λ r. ⌜ (r ≡ fieldWidth field) × (r ≤ 8) ⌝ }
 {
-    if field < 7 {
+    if field < 10 {
         return WIDTHS[field as usize] as usize;
     }
     0
@@ -125,8 +153,11 @@ pub fn value_of(call: Call, field: u8) -> u64
         call.ticket as u64,
         call.pool as u64,
         call.units as u64,
+        call.client as u64,
+        call.reserved as u64,
+        call.limit as u64,
     ];
-    if field < 7 {
+    if field < 10 {
         return numbers[field as usize];
     }
     0
@@ -159,12 +190,21 @@ pub fn with_value(call: Call, field: u8, value: u64) -> Call
         6 => {
             c.units = (value % 65536) as u16;
         }
+        7 => {
+            c.client = (value % 256) as u8;
+        }
+        8 => {
+            c.reserved = (value % 256) as u8;
+        }
+        9 => {
+            c.limit = (value % 256) as u8;
+        }
         _ => {}
     }
     c
 }
 
-// A call of a kind with no values.
+// A call of a kind with no values: each field is as where a record lacks it.
 pub fn bare(kind: u8) -> Call
     ensures { λ r. ⌜ r ≡ bare kind ⌝ }
 {
@@ -176,6 +216,9 @@ pub fn bare(kind: u8) -> Call
         ticket: 0,
         pool: 0,
         units: 0,
+        client: 1,
+        reserved: 0,
+        limit: 0,
     }
 }
 
@@ -183,10 +226,10 @@ pub fn bare(kind: u8) -> Call
 pub fn least_length() -> usize
     ensures { λ r. ⌜ (r ≡ leastLength) × (0 < r) ⌝ }
 {
-    11
+    6
 }
 
-// What an edition keeps of a call: the fields that it lacks become 0.
+// What an edition keeps of a call: the fields that it lacks become as in `bare`.
 fn kept(edition: u8, call: Call) -> Call
     ensures { λ r. ⌜ r ≡ kept edition call ⌝ }
 {
@@ -207,7 +250,7 @@ fn kept(edition: u8, call: Call) -> Call
 fn same(a: Call, b: Call) -> bool
     ensures { λ r. ⌜ r ≡ same a b ⌝ }
 {
-    let mut f: u8 = 7;
+    let mut f: u8 = 10;
     while 0 < f {
         f -= 1;
         if value_of(a, f) != value_of(b, f) {
@@ -217,7 +260,7 @@ fn same(a: Call, b: Call) -> bool
     true
 }
 
-// Whether an edition can carry a call: it has the kind, and every field that it lacks is 0.
+// Whether an edition can carry a call: it has the kind, and every field that it lacks is as in `bare`.
 pub fn carries(edition: u8, call: Call) -> bool
     ensures { λ r. ⌜ r ≡ carries edition call ⌝ }
 {
@@ -276,8 +319,8 @@ fn misfits(edition: u8, at: usize, n: usize, kind: u8) -> bool
     !placed(kind, at)
 }
 
-// The call of seven numbers, each of which goes into its field.
-fn made(numbers: [u64; 7]) -> Call
+// The call of ten numbers, each of which goes into its field.
+fn made(numbers: [u64; 10]) -> Call
     requires { ⌜ Typed (made numbers) ⌝ }
     ensures { λ r. ⌜ r ≡ made numbers ⌝ }
 {
@@ -289,6 +332,9 @@ fn made(numbers: [u64; 7]) -> Call
         ticket: numbers[4] as u16,
         pool: numbers[5] as u16,
         units: numbers[6] as u16,
+        client: numbers[7] as u8,
+        reserved: numbers[8] as u8,
+        limit: numbers[9] as u8,
     }
 }
 
@@ -297,7 +343,7 @@ fn call_of(edition: u8, kind: u8, fields: &[u8]) -> Call
     ensures { λ r. ⌜ r ≡ callOf edition kind (fieldValues (widths edition kind) (now (fields .entry))) ⌝ }
 {
     let row = row_of(edition, kind);
-    let mut numbers: [u64; 7] = [kind as u64, 0, 0, 0, 0, 0, 0];
+    let mut numbers: [u64; 10] = [kind as u64, 0, 0, 0, 0, 0, 0, 1, 0, 0];
     let mut at: usize = 0;
     let mut i: usize = 0;
     loop {

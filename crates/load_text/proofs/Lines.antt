@@ -1,27 +1,27 @@
 -- Laws of lines: hex digit by digit, and lengths, none of which is long.
-use Prim.Native.Nat.{ℕ, zero, suc, _+_, _-_, _*_, _/_, _^_, _≤_, _<_}
-use mathlib.Core.Bool.{Bool, true, false, _&&_, _||_, cond, false≢true}
+use Prim.Native.Nat.{ℕ, zero, suc, _+_, _-_, _*_, _/_, _^_, _≤_, _<_, min, max}
+use mathlib.Core.Bool.{Bool, true, false, _&&_, _||_, false≢true}
 use mathlib.Core.List.{List, [], _∷_, _++_, map}
 use mathlib.Core.Logic.{⊎-elim}
 use mathlib.Core.Path.{_≡_, refl, sym, ap}
+use native.Mathlib.Nat.{pow-suc}
 use native.Mathlib.Omega.{arith}
 use lib.Dec.{ltb, leb, eqb}
 use lib.ListN.{length, getD, replicate, length-append, length-replicate}
-use borrow.Author.Tests.{ne-eqb, ltb-true, leb-true}
+use borrow.Author.Tests.{ne-eqb, ltb-true, lt-ltb, leb-true}
 use Rattle.numerals.specs.Digits.{digits, widthUpTo, widthOf, decimalOf, column}
 use Rattle.numerals.specs.Laid.{Put, spaceNumber, lentOut}
 use Rattle.numerals.proofs.Laying.{width-small, decimal-length, pair-length, put-short, lent-all, lent-none, lent-known}
 use Rattle.load.specs.declared.Call.{Call}
-use Rattle.load.specs.Format.{theGroups, fieldWidths, fieldWidth, format, known, fieldsOf, total, lengthIn, lengthOf, names, nameOf}
+use Rattle.load.specs.Format.{theGroups, fieldWidths, fieldCount, fieldWidth, format, known, fieldsOf, total, lengthIn, lengthOf, names, nameOf}
 use Rattle.load.specs.Calls.{valueOf}
-use Rattle.load.specs.Bytes.{recordBytes}
-use Rattle.load.proofs.Format.{both, allBelow, below-passes, allRows, tested, known-tested}
+use Rattle.load.proofs.Format.{both, allBelow, below-passes, allRows, tested, known-tested, no-width}
 use Rattle.load.proofs.Bytes.{record-some, record-length}
 use Rattle.load_text.specs.declared.print.Printed.the-variants.{Length, Refusal}
-use Rattle.load_text.specs.Lines.{glyphOf, hexUpTo, wordOf, fieldsText, lineOf, stopLine, headerOf, reasons, reasonTexts, reasonText, reportOf, reported, printed}
+use Rattle.load_text.specs.Lines.{glyphOf, hexUpTo, wordOf, fieldsText, lineOf, wordMost, fieldsMost, Brief, stopLine, headerOf, reasons, reasonTexts, reasonText, reportOf, reported, printed}
 use Rattle.load_text.specs.Parsing.{placeOf, is}
 use Rattle.load_text.specs.Reasons.{noSpace}
-use Rattle.load_text.proofs.Cases.{either, not-refused}
+use Rattle.load_text.proofs.Cases.{either, below, not-refused}
 use Rattle.load_text.proofs.Parts.{place-high}
 
 -- ── hex ──
@@ -48,57 +48,63 @@ hex-length (suc k) v =
     either (ltb v 16) (λ e. rw e (omega arith)) (λ e. rw e (omega (arith, hex-length k (v / 16))))
 
 -- ── lengths ──
--- A field's word with the space in front of it, and the line feed.
-bound : List ℕ → ℕ
-bound [] = 1
-bound (f ∷ fs) = cond (eqb f theGroups) 17 21 + bound fs
+-- A number below 10 ^ n has at most n digits.
+width-few : (k n v : ℕ) → 0 < n → v < 10 ^ n → widthUpTo k v ≤ n
+unfolding widthUpTo
+width-few zero n v h l = omega arith
+width-few (suc k) zero v h l = absurd (omega arith)
+width-few (suc k) (suc zero) v h l = rw (lt-ltb v 10 (omega arith)) (omega arith)
+width-few (suc k) (suc (suc n)) v h l =
+    either (ltb v 10) (λ e. rw e (omega arith))
+    (λ e. rw e (omega (arith, width-few k (suc n) (v / 10) (omega arith) (omega (arith, pow-suc 10 (suc n))))))
 
-word-length : (f v : ℕ) → suc (length (wordOf f v)) ≤ cond (eqb f theGroups) 17 21
-unfolding wordOf
-word-length f v =
-    either (eqb f theGroups) (λ e. rw e (omega (arith, hex-length 15 v))) (λ e. rw e (omega (arith, decimal-length v, width-small v)))
+-- A value that goes into a field's width.
+value-few : (f : ℕ) → 256 ^ fieldWidth f ≤ 10 ^ max 1 (min 20 (3 * fieldWidth f))
+unfolding allBelow fieldWidth fieldWidths
+value-few f =
+    below f fieldCount
+    (λ h. leb-true _ _ (below-passes fieldCount (λ i. leb (256 ^ fieldWidth i) (10 ^ max 1 (min 20 (3 * fieldWidth i)))) refl f h))
+    (λ h. rw (no-width f h) (omega arith))
 
-fields-length : (fs : List ℕ) (c : Call) → length (fieldsText fs c) ≤ bound fs
-unfolding fieldsText bound
-fields-length [] c = omega arith
-fields-length (f ∷ fs) c = omega (arith, length-append (wordOf f (valueOf f c)) (fieldsText fs c), word-length f (valueOf f c), fields-length fs c)
+word-length : (f v : ℕ) → v < 256 ^ fieldWidth f → length (wordOf f v) ≤ wordMost f
+unfolding wordOf wordMost widthOf
+word-length f v h =
+    let n = max 1 (min 20 (3 * fieldWidth f)) in
+    let w = width-few 19 n v (omega arith) (omega (arith, value-few f)) in
+    either (eqb f theGroups) (λ e. rw e (hex-length 15 v)) (λ e. rw e (omega (arith, decimal-length v, w)))
 
--- A line with these fields has at most 86 bytes, and at most four for each byte of its record.
+-- One field after the other: what is left of the bound.
+pub fields-turn : (a b f : ℕ) (fs : List ℕ) (c : Call) → valueOf f c < 256 ^ fieldWidth f
+    → a + fieldsMost (f ∷ fs) ≤ b + length (fieldsText (f ∷ fs) c) → a + fieldsMost fs ≤ b + length (fieldsText fs c)
+unfolding fieldsText fieldsMost
+fields-turn a b f fs c h l = omega (arith, length-append (wordOf f (valueOf f c)) (fieldsText fs c), word-length f (valueOf f c) h)
+
+-- A line with these fields is brief.
 line-test : ℕ → List ℕ → Bool
 line-test k fs =
-    let n = length (getD names k []) + bound fs in
-    ltb 0 (lengthIn fs) && (leb n 86 && leb n (4 * (2 + lengthIn fs)))
+    let n = length (getD names k []) + fieldsMost fs in
+    ltb 0 (lengthIn fs) && (leb n 68 && leb n (3 * (2 + lengthIn fs)))
 
-module _ (e : ℕ) (c : Call) where
-  line-most : (length (lineOf e c) ≤ 86) × (length (lineOf e c) ≤ 4 * length (recordBytes e c))
-  unfolding lineOf nameOf lengthOf fieldsText line-test bound allRows format lengthIn total fieldWidth fieldWidths names
-  line-most = ⊎-elim none some (tested (λ e k fs. line-test k fs) e k refl)
-    where
-      k : ℕ
-      k = c .kind
+pub line-brief : (e : ℕ) (c : Call) → length (fieldsText (fieldsOf e (c .kind)) c) ≤ fieldsMost (fieldsOf e (c .kind)) → Brief e c
+unfolding lineOf nameOf lengthOf fieldsText line-test fieldsMost wordMost allRows format lengthIn total fieldWidth fieldWidths names
+line-brief e c h = ⊎-elim none some (tested (λ e k fs. line-test k fs) e k refl)
+  where
+    k : ℕ
+    k = c .kind
 
-      none : fieldsOf e k ≡ [] → (length (lineOf e c) ≤ 86) × (length (lineOf e c) ≤ 4 * length (recordBytes e c))
-      none n = rw n (omega arith, omega (arith, record-some e c))
+    none : fieldsOf e k ≡ [] → Brief e c
+    none n = rw n (omega arith, omega (arith, record-some e c))
 
-      some : line-test k (fieldsOf e k) ≡ true → (length (lineOf e c) ≤ 86) × (length (lineOf e c) ≤ 4 * length (recordBytes e c))
-      some t =
-          let fs = fieldsOf e k in
-          let name = getD names k [] in
-          let a = both (ltb 0 (lengthIn fs)) _ t in
-          let n = length name + bound fs in
-          let b = both (leb n 86) (leb n (4 * (2 + lengthIn fs))) (a .1) in
-          let r = record-length e c (ltb-true 0 (lengthIn fs) (a .0)) in
-          let l : length (lineOf e c) ≤ n = rw (a .0) (omega (arith, length-append name (fieldsText fs c), fields-length fs c)) in
-          (omega (arith, l, leb-true n 86 (b .0)), omega (arith, l, leb-true n (4 * (2 + lengthIn fs)) (b .1), r))
-
-  pub line-length : length (lineOf e c) ≤ 86
-  line-length = line-most .0
-
-  pub line-record : length (lineOf e c) ≤ 4 * length (recordBytes e c)
-  line-record = line-most .1
-
-pub line-short : (e : ℕ) (c : Call) → length (lineOf e c) < 2 ^ 64
-line-short e c = omega (arith, line-length e c)
+    some : line-test k (fieldsOf e k) ≡ true → Brief e c
+    some t =
+        let fs = fieldsOf e k in
+        let name = getD names k [] in
+        let a = both (ltb 0 (lengthIn fs)) _ t in
+        let n = length name + fieldsMost fs in
+        let b = both (leb n 68) (leb n (3 * (2 + lengthIn fs))) (a .1) in
+        let r = record-length e c (ltb-true 0 (lengthIn fs) (a .0)) in
+        let l : length (lineOf e c) ≤ n = rw (a .0) (omega (arith, length-append name (fieldsText fs c), h)) in
+        (omega (arith, l, leb-true n 68 (b .0)), omega (arith, l, leb-true n (3 * (2 + lengthIn fs)) (b .1), r))
 
 -- The header of an edition that there is has at most 12.
 pub header-length : (e : ℕ) → known e ≡ true → length (headerOf e) ≤ 12
@@ -115,7 +121,7 @@ unfolding reasonText reasonTexts reasons allBelow
 reason-length n =
     let i = placeOf (is n) (map (λ r. r .number) reasons) 0 in
     let h = place-high (is n) (map (λ r. r .number) reasons) 0 in
-    leb-true (length (getD reasonTexts i [])) 29 (below-passes 16 (λ i. leb (length (getD reasonTexts i [])) 29) refl i (omega arith))
+    leb-true (length (getD reasonTexts i [])) 29 (below-passes 19 (λ i. leb (length (getD reasonTexts i [])) 29) refl i (omega arith))
 
 report-length : (line n : ℕ) → length (reportOf line n) ≤ 56
 unfolding reportOf

@@ -49,7 +49,7 @@ unfolding reasonText
 reason-is n i e = ap (λ (k : ℕ). getD reasonTexts k []) e
 
 -- A kind that there is not has no name.
-pub no-name : (k : ℕ) → (0 < k → 5 < k) → getD names k [] ≡ []
+pub no-name : (k : ℕ) → (0 < k → 6 < k) → getD names k [] ≡ []
 unfolding names
 no-name zero h = refl
 no-name (suc k) h = List·getD-eq-default names [] (h (omega arith))

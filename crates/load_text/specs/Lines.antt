@@ -1,5 +1,5 @@
 -- Calls and loads as text. Bytes are ASCII: 10 is a line feed, 32 a space.
-use Prim.Native.Nat.{ℕ, zero, suc, _+_, _/_, _%_}
+use Prim.Native.Nat.{ℕ, zero, suc, _+_, _*_, _/_, _%_, _≤_, min, max}
 use mathlib.Core.Bool.{cond}
 use mathlib.Core.List.{List, [], _∷_, _++_, map}
 use lib.Dec.{ltb, eqb}
@@ -7,14 +7,15 @@ use lib.ListN.{length, getD, replicate}
 use Rattle.numerals.specs.Digits.{decimalOf, column, pair}
 use Rattle.numerals.specs.Laid.{spaceNumber, lentOut}
 use Rattle.load.specs.declared.Call.{Call}
-use Rattle.load.specs.Format.{theGroups, fieldsOf, nameOf}
+use Rattle.load.specs.Format.{theGroups, fieldWidth, fieldsOf, nameOf}
 use Rattle.load.specs.Calls.{valueOf}
+use Rattle.load.specs.Bytes.{recordBytes}
 use Rattle.load.specs.Reading.{editionOf, Walk, walk, openNumber, unlessRefused}
 use Rattle.load_text.specs.declared.print.Reported.{Reported}
 use Rattle.load_text.specs.declared.print.Printed.{Printed}
 use Rattle.load_text.specs.declared.print.Printed.the-variants.{Length, Refusal}
 use Rattle.load_text.specs.Parsing.{placeOf, is}
-use Rattle.load_text.specs.Reasons.{unknown, missing, tooMany, noClock, noTicket, noLength, noGroups, tooLarge, over63, backward, noPool, noUnits, noEdition, misfit, overlong}
+use Rattle.load_text.specs.Reasons.{unknown, missing, tooMany, noClock, noTicket, noLength, noGroups, tooLarge, over63, backward, noPool, noUnits, noClient, noReserved, noLimit, noEdition, misfit, overlong}
 
 -- the lowest digit of v in base 16: 0 to 9, A to F
 unfoldable pub glyphOf : ℕ → ℕ
@@ -37,6 +38,18 @@ fieldsText (f ∷ fs) c = (32 ∷ []) ++ (wordOf f (valueOf f c) ++ fieldsText f
 -- the kind's name and the fields that it has in edition e
 unfoldable pub lineOf : ℕ → Call → List ℕ
 lineOf e c = nameOf e (c .kind) ++ fieldsText (fieldsOf e (c .kind)) c
+
+-- The bytes that a word has at most: 16 in hex; in decimal 20, or three for each byte of the field's width where these are fewer.
+unfoldable pub wordMost : ℕ → ℕ
+wordMost f = cond (eqb f theGroups) 16 (max 1 (min 20 (3 * fieldWidth f)))
+
+unfoldable pub fieldsMost : List ℕ → ℕ
+fieldsMost [] = 1
+fieldsMost (f ∷ fs) = suc (wordMost f) + fieldsMost fs
+
+-- The line has at most 68 bytes, and three for each byte of the call's record. Every call has one, if its values go into their fields' widths.
+abbrev pub Brief : ℕ → Call → Type 0
+Brief e c = (length (lineOf e c) ≤ 68) × (length (lineOf e c) ≤ 3 * length (recordBytes e c))
 
 -- "# stop "
 unfoldable pub stopLine : ℕ → ℕ → List ℕ
@@ -95,6 +108,12 @@ reasons =
     ∷ reason noPool (112 ∷ 111 ∷ 111 ∷ 108 ∷ 32 ∷ 105 ∷ 115 ∷ 32 ∷ 110 ∷ 111 ∷ 116 ∷ 32 ∷ 97 ∷ 32 ∷ 110 ∷ 117 ∷ 109 ∷ 98 ∷ 101 ∷ 114 ∷ 10 ∷ [])
     -- "units are not a number"
     ∷ reason noUnits (117 ∷ 110 ∷ 105 ∷ 116 ∷ 115 ∷ 32 ∷ 97 ∷ 114 ∷ 101 ∷ 32 ∷ 110 ∷ 111 ∷ 116 ∷ 32 ∷ 97 ∷ 32 ∷ 110 ∷ 117 ∷ 109 ∷ 98 ∷ 101 ∷ 114 ∷ 10 ∷ [])
+    -- "desk is not a number"
+    ∷ reason noClient (100 ∷ 101 ∷ 115 ∷ 107 ∷ 32 ∷ 105 ∷ 115 ∷ 32 ∷ 110 ∷ 111 ∷ 116 ∷ 32 ∷ 97 ∷ 32 ∷ 110 ∷ 117 ∷ 109 ∷ 98 ∷ 101 ∷ 114 ∷ 10 ∷ [])
+    -- "guarantee is not a number"
+    ∷ reason noReserved (103 ∷ 117 ∷ 97 ∷ 114 ∷ 97 ∷ 110 ∷ 116 ∷ 101 ∷ 101 ∷ 32 ∷ 105 ∷ 115 ∷ 32 ∷ 110 ∷ 111 ∷ 116 ∷ 32 ∷ 97 ∷ 32 ∷ 110 ∷ 117 ∷ 109 ∷ 98 ∷ 101 ∷ 114 ∷ 10 ∷ [])
+    -- "limit is not a number"
+    ∷ reason noLimit (108 ∷ 105 ∷ 109 ∷ 105 ∷ 116 ∷ 32 ∷ 105 ∷ 115 ∷ 32 ∷ 110 ∷ 111 ∷ 116 ∷ 32 ∷ 97 ∷ 32 ∷ 110 ∷ 117 ∷ 109 ∷ 98 ∷ 101 ∷ 114 ∷ 10 ∷ [])
     -- "unknown edition"
     ∷ reason noEdition (117 ∷ 110 ∷ 107 ∷ 110 ∷ 111 ∷ 119 ∷ 110 ∷ 32 ∷ 101 ∷ 100 ∷ 105 ∷ 116 ∷ 105 ∷ 111 ∷ 110 ∷ 10 ∷ [])
     -- "rig must be first"

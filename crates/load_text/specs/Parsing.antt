@@ -17,7 +17,7 @@ use Rattle.load_text.specs.declared.words.Field.{Field}
 use Rattle.load_text.specs.declared.words.Field.the-variants.{Value, Wrong}
 use Rattle.load_text.specs.declared.words.Mark.{Mark}
 use Rattle.load_text.specs.declared.words.Mark.the-variants.{Joint, NoDigit}
-use Rattle.load_text.specs.Reasons.{noEdition, unknown, missing, tooMany, noClock, noTicket, noLength, noGroups, tooLarge, over63, backward, noPool, noUnits}
+use Rattle.load_text.specs.Reasons.{noEdition, unknown, missing, tooMany, noClock, noTicket, noLength, noGroups, tooLarge, over63, backward, noPool, noUnits, noClient, noReserved, noLimit}
 
 -- ── parts of a text ──
 -- How many bytes stand before the first that passes p; these bytes, and those from it on.
@@ -186,9 +186,9 @@ groupsIn w = cond (isList w) (withItems 0 (itemsIn w)) (numberIn 16 184467440737
 
 -- ── calls ──
 -- The reasons of words that say nothing as a field, in the order of the fields: the kind has no word, then clock, groups, length, ticket,
--- pool, units.
+-- pool, units, client, reserved, limit.
 unfoldable pub noNumbers : List ℕ
-noNumbers = unknown ∷ noClock ∷ noGroups ∷ noLength ∷ noTicket ∷ noPool ∷ noUnits ∷ []
+noNumbers = unknown ∷ noClock ∷ noGroups ∷ noLength ∷ noTicket ∷ noPool ∷ noUnits ∷ noClient ∷ noReserved ∷ noLimit ∷ []
 
 unfoldable pub noNumber : ℕ → ℕ
 noNumber f = getD noNumbers f unknown

@@ -38,6 +38,15 @@ noPool = 111
 abbrev pub noUnits : ℕ
 noUnits = 112
 
+abbrev pub noClient : ℕ
+noClient = 113
+
+abbrev pub noReserved : ℕ
+noReserved = 114
+
+abbrev pub noLimit : ℕ
+noLimit = 115
+
 abbrev pub noEdition : ℕ
 noEdition = 11
 

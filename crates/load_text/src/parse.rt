@@ -34,9 +34,20 @@ pub enum Head {
 // The groups among the fields, and for each field from 0 on the greatest number and the reason of a word that is none.
 pub(crate) const GROUPS: u8 = 2;
 
-const MOST: [u64; 7] = [255, u64::MAX, u64::MAX, 4294967295, 65535, 65535, 65535];
+const MOST: [u64; 10] = [
+    255,
+    u64::MAX,
+    u64::MAX,
+    4294967295,
+    65535,
+    65535,
+    65535,
+    255,
+    255,
+    255,
+];
 
-const NONE: [u8; 7] = [
+const NONE: [u8; 10] = [
     reasons::UNKNOWN,
     reasons::NO_CLOCK,
     reasons::NO_GROUPS,
@@ -44,6 +55,9 @@ const NONE: [u8; 7] = [
     reasons::NO_TICKET,
     reasons::NO_POOL,
     reasons::NO_UNITS,
+    reasons::NO_CLIENT,
+    reasons::NO_RESERVED,
+    reasons::NO_LIMIT,
 ];
 
 // What a word says as a field.
@@ -53,7 +67,7 @@ fn field_of(field: u8, word: &[u8]) -> Field
     if field == GROUPS {
         return groups_of(word);
     }
-    if 6 < field {
+    if 9 < field {
         return number(word, 10, 0, reasons::UNKNOWN, reasons::TOO_LARGE);
     }
     let most = MOST[field as usize];

@@ -1,6 +1,7 @@
 // Calls, refusals and reports as lines. The private functions lay them over a buffer as far as that goes, and so count them on one byte;
 // those for a lent buffer answer 15 and leave it as it is where the whole does not go in.
 ghost use mathlib.Core.Path.{_≡_};
+ghost use mathlib.Core.Bool.{_||_};
 ghost use mathlib.Core.List.{[], _∷_, _++_};
 ghost use Prim.Native.Nat.{_≤_};
 ghost use lib.Dec.{leb};
@@ -8,7 +9,7 @@ ghost use lib.ListN.{length};
 ghost use Rattle.numerals.specs.Laid.{lentOut, Put};
 ghost use Rattle.load.specs.Format.{fieldsOf};
 ghost use Rattle.load.specs.Reading.{editionOf, walk, openNumber};
-ghost use Rattle.load_text.specs.Lines.{glyphOf, hexUpTo, wordOf, fieldsText, lineOf, stopLine, restOf, headerOf, textOf, reportOf, reported, printed};
+ghost use Rattle.load_text.specs.Lines.{glyphOf, hexUpTo, wordOf, fieldsText, fieldsMost, lineOf, Brief, stopLine, restOf, headerOf, textOf, reportOf, reported, printed};
 use crate::parse;
 use crate::reasons;
 use crate::texts::put_name;
@@ -57,7 +58,8 @@ fn put_word(out: &mut [u8], at: usize, field: u8, value: u64) -> usize
 
 // The fields that a call has in an edition, and a line feed.
 fn put_fields(out: &mut [u8], at: usize, edition: u8, call: Call) -> usize
-    ensures { λ r. ⌜ Put (now (out .entry)) at (fieldsText (fieldsOf edition (call .kind)) call) r (now (out .exit)) ⌝ }
+    ensures laid { λ r. ⌜ Put (now (out .entry)) at (fieldsText (fieldsOf edition (call .kind)) call) r (now (out .exit)) ⌝ }
+    ensures brief { λ _. ⌜ length (fieldsText (fieldsOf edition (call .kind)) call) ≤ fieldsMost (fieldsOf edition (call .kind)) ⌝ }
 {
     let kind = call.kind;
     let mut n = at;
@@ -75,7 +77,8 @@ fn put_fields(out: &mut [u8], at: usize, edition: u8, call: Call) -> usize
 
 // A call as a line of a show of an edition.
 fn put_call(out: &mut [u8], at: usize, edition: u8, call: Call) -> usize
-    ensures { λ r. ⌜ Put (now (out .entry)) at (lineOf edition call) r (now (out .exit)) ⌝ }
+    ensures laid { λ r. ⌜ Put (now (out .entry)) at (lineOf edition call) r (now (out .exit)) ⌝ }
+    ensures brief { λ _. ⌜ Brief edition call ⌝ }
 {
     let m = put_name(out, at, edition, call.kind);
     put_fields(out, m, edition, call)
@@ -104,7 +107,8 @@ fn put_stop(out: &mut [u8], at: usize, number: u8, k: u64) -> usize
 // The records that a reader gives of a load that opens, to its end or to the first that is refused.
 fn put_records(out: &mut [u8], from: usize, load: &[u8]) -> usize
     requires { ⌜ openNumber (now load) ≡ 0 ⌝ }
-    ensures { λ r. ⌜ Put (now (out .entry)) from (restOf (editionOf (now (load .entry))) 1 (walk (now (load .entry)) 1)) r (now (out .exit)) ⌝ }
+    ensures laid { λ r. ⌜ Put (now (out .entry)) from (restOf (editionOf (now (load .entry))) 1 (walk (now (load .entry)) 1)) r (now (out .exit)) ⌝ }
+    ensures brief { λ _. ⌜ length (restOf (editionOf (now (load .entry))) 1 (walk (now (load .entry)) 1)) ≤ 196654 ⌝ }
 {
     let edition = load[0];
     let mut at: usize = 1;
@@ -138,9 +142,10 @@ fn put_header(out: &mut [u8], edition: u8) -> usize
     numerals::put_column(out, m, edition as u64, 10)
 }
 
-// A load as text.
+// A load as text. No text has more than 196,666 bytes: a line has at most three for each byte of its record.
 fn put_text(out: &mut [u8], load: &[u8]) -> usize
-    ensures { λ r. ⌜ Put (now (out .entry)) 0 (textOf (now (load .entry))) r (now (out .exit)) ⌝ }
+    ensures laid { λ r. ⌜ Put (now (out .entry)) 0 (textOf (now (load .entry))) r (now (out .exit)) ⌝ }
+    ensures brief { λ _. ⌜ length (textOf (now (load .entry))) ≤ 196666 ⌝ }
 {
     let number = load::open_number(load);
     if number != 0 {
@@ -150,18 +155,18 @@ fn put_text(out: &mut [u8], load: &[u8]) -> usize
     put_records(out, n, load)
 }
 
-// Whether a load's text goes into so much room. 262,201 bytes are room for any: a line has at most four for each byte of its record.
+// Whether so much room is room for any text, or for that of a load.
 fn goes_into(load: &[u8], room: usize) -> bool
-    ensures { λ r. ⌜ r ≡ leb (length (textOf (now (load .entry)))) room ⌝ }
+    ensures { λ r. ⌜ r ≡ (leb 196666 room || leb (length (textOf (now (load .entry)))) room) ⌝ }
 {
-    if 262201 <= room {
+    if 196666 <= room {
         return true;
     }
     let mut scrap = [0u8; 1];
     put_text(&mut scrap, load) <= room
 }
 
-// A load as text at the start of a lent buffer. Cost: one pass over the load; two where the buffer has under 262,201 bytes.
+// A load as text at the start of a lent buffer. Cost: one pass over the load; two where the buffer has under 196,666 bytes.
 pub fn show(load: &[u8], out: &mut [u8]) -> Printed
     ensures answer { λ r. ⌜ r ≡ printed (textOf (now (load .entry))) (now (out .entry)) ⌝ }
     ensures buffer { λ _. ⌜ now (out .exit) ≡ lentOut (textOf (now (load .entry))) (now (out .entry)) ⌝ }

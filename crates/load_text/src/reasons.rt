@@ -24,6 +24,12 @@ pub const NO_POOL: u8 = 111;
 
 pub const NO_UNITS: u8 = 112;
 
+pub const NO_CLIENT: u8 = 113;
+
+pub const NO_RESERVED: u8 = 114;
+
+pub const NO_LIMIT: u8 = 115;
+
 pub const NO_EDITION: u8 = 11;
 
 pub const MISFIT: u8 = 13;

@@ -21,6 +21,7 @@ fn name(kind: u8) -> [u8; 8]
         3 => *b"release ",
         4 => *b"withdraw",
         5 => *b"clock   ",
+        6 => *b"desk    ",
         _ => *b"        ",
     }
 }
@@ -34,6 +35,7 @@ fn name_length(kind: u8) -> usize
         3 => 7,
         4 => 8,
         5 => 5,
+        6 => 4,
         _ => 0,
     }
 }
@@ -51,7 +53,7 @@ fn kind_of(word: &[u8]) -> u8
     ensures { λ r. ⌜ r ≡ kindOf (now (word .entry)) ⌝ }
 {
     let mut kind: u8 = 0;
-    while kind < 6 {
+    while kind < 7 {
         if is_name(kind, word) {
             return kind;
         }
@@ -85,7 +87,7 @@ pub(crate) fn put_name(out: &mut [u8], at: usize, edition: u8, kind: u8) -> usiz
 
 // ---- reasons
 // The number of each text but the last.
-const REASONS: [u8; 15] = [
+const REASONS: [u8; 18] = [
     101,
     102,
     103,
@@ -98,12 +100,15 @@ const REASONS: [u8; 15] = [
     110,
     111,
     112,
+    113,
+    114,
+    115,
     11,
     13,
     14,
 ];
 
-const TEXTS: [[u8; 32]; 16] = [
+const TEXTS: [[u8; 32]; 19] = [
     *b"unknown call\n                   ",
     *b"a number is missing\n            ",
     *b"too many words\n                 ",
@@ -116,13 +121,16 @@ const TEXTS: [[u8; 32]; 16] = [
     *b"range runs backward\n            ",
     *b"pool is not a number\n           ",
     *b"units are not a number\n         ",
+    *b"desk is not a number\n           ",
+    *b"guarantee is not a number\n      ",
+    *b"limit is not a number\n          ",
     *b"unknown edition\n                ",
     *b"rig must be first\n              ",
     *b"load over 65,536 bytes\n         ",
     *b"not written\n                    ",
 ];
 
-const LENGTHS: [usize; 16] = [
+const LENGTHS: [usize; 19] = [
     13,
     20,
     15,
@@ -135,6 +143,9 @@ const LENGTHS: [usize; 16] = [
     20,
     21,
     23,
+    21,
+    26,
+    22,
     16,
     18,
     23,
@@ -142,7 +153,7 @@ const LENGTHS: [usize; 16] = [
 ];
 
 fn put_row(out: &mut [u8], at: usize, i: usize) -> usize
-    requires { ⌜ i < 16 ⌝ }
+    requires { ⌜ i < 19 ⌝ }
     ensures { λ r. ⌜ Put (now (out .entry)) at (getD reasonTexts i []) r (now (out .exit)) ⌝ }
 {
     let row = TEXTS[i];

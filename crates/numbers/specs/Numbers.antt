@@ -66,6 +66,18 @@ noSpaceNumber = 15
 abbrev pub spotsNumber : ℕ
 spotsNumber = 16
 
+-- "stranger: a claim from an undeclared desk or a declaration outside 1 to 8" (document 02, P4)
+abbrev pub strangerNumber : ℕ
+strangerNumber = 17
+
+-- "over: desk at its limit" (document 02, P4)
+abbrev pub overNumber : ℕ
+overNumber = 18
+
+-- "overbooked, on a declaration only" (document 02, P4)
+abbrev pub overbookedNumber : ℕ
+overbookedNumber = 19
+
 -- "Clocks run from 0 to 1,000,000,000,000."
 abbrev pub mostClock : ℕ
 mostClock = 1000000000000
@@ -85,6 +97,10 @@ mostUnits = 65535
 -- "At most 64 claims are pending"
 abbrev pub mostPending : ℕ
 mostPending = 64
+
+-- "Desks 1 to 8" (document 02, P4)
+abbrev pub mostClients : ℕ
+mostClients = 8
 
 -- "load over 65,536 bytes"
 abbrev pub mostBytes : ℕ

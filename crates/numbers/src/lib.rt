@@ -31,7 +31,14 @@ pub const NO_SPACE: u8 = 15;
 
 pub const SPOTS: u8 = 16;
 
-// The last clock, the longest length in ticks, how many tickets a table issues, how many claims are pending, the bytes of a load.
+pub const STRANGER: u8 = 17;
+
+pub const OVER: u8 = 18;
+
+pub const OVERBOOKED: u8 = 19;
+
+// The last clock, the longest length in ticks, how many tickets a table issues, how many claims are pending, how many
+// clients there are, the bytes of a load.
 pub const MOST_CLOCK: u64 = 1_000_000_000_000;
 
 pub const MOST_LENGTH: u32 = 3_600_000;
@@ -39,5 +46,7 @@ pub const MOST_LENGTH: u32 = 3_600_000;
 pub const MOST_TICKETS: u16 = 65_535;
 
 pub const MOST_PENDING: usize = 64;
+
+pub const MOST_CLIENTS: u8 = 8;
 
 pub const MOST_BYTES: usize = 65_536;

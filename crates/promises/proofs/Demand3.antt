@@ -1,4 +1,5 @@
--- Demand 3 holds of every rig, every pool and every list of calls. The pending claims and the ledger are kept side by side, call by call.
+-- Demand 3 holds of every rig, every pool and every list of calls, whoever is declared. The pending claims and the ledger are kept side by
+-- side, call by call.
 use mathlib.Core.Path.{_≡_, refl, sym, _∙_, ap, subst}
 use mathlib.Core.Logic.{_⊎_, inl, inr, _≢_}
 use mathlib.Core.Bool.{Bool, true, false, not, _&&_, cond}
@@ -14,6 +15,8 @@ use Rattle.rules.specs.declared.Request.{Request}
 use Rattle.rules.specs.declared.Phase.the-variants.{On}
 use Rattle.rules.specs.Lists.{_∈_, any, keep}
 use Rattle.rules.specs.declared.Setting.{Setting}
+use Rattle.rules.specs.declared.Share.{Share}
+use Rattle.rules.specs.Shares.{share, withShare}
 use Rattle.rules.specs.Claims.{on, at, withPhase, rival, heldUntil, endOf, remaining}
 use Rattle.rules.specs.Order.{rivals}
 use Rattle.rules.specs.Packing.{packedStart, moved, pack}
@@ -23,10 +26,10 @@ use Rattle.rules.specs.declared.Common.the-variants.{Unknown}
 use Rattle.rules.specs.declared.Standing.the-variants.{Waits, Holds}
 use Rattle.rules.specs.Tests.{named}
 use Rattle.rules.specs.declared.Reply.{Reply}
-use Rattle.rules.specs.Calls.{Model, settingOf, plain, placing, ruled, Call, claim, release, withdraw, clock, timed, Answer, Step, unchanged, advance, finish, join, remove, fresh, admit, step, standing, standingOf, between, commonOf, blank, new, after}
+use Rattle.rules.specs.Calls.{Model, settingOf, plain, placing, ruled, Call, claim, release, withdraw, clock, lookup, common, free, declare, timed, looks, declared, Answer, Step, unchanged, advance, finish, join, remove, fresh, admit, step, standing, standingOf, between, commonOf, blank, new, after}
 use Rattle.rules.specs.Plans.{Ascending}
-use Rattle.rules.specs.Invariants.{IsSpaced, Invariant}
-use Rattle.rules.proofs.Bools.{split, clash, and-i}
+use Rattle.rules.specs.Invariants.{IsSpaced, Invariant, IsBooked}
+use Rattle.rules.proofs.Bools.{split, by-test, clash, and-i}
 use Rattle.rules.proofs.Lists.{named-keep}
 use Rattle.rules.proofs.Claims.{end-on}
 use Rattle.rules.proofs.Order.{ascending-same}
@@ -34,10 +37,12 @@ use Rattle.rules.proofs.Packing.{moved-cases, moved-at, moved-phase, pack-no-la
 use Rattle.rules.proofs.StartBound.{place-bound}
 use Rattle.rules.proofs.Granting.{granted-cases, granted-at}
 use Rattle.rules.proofs.Invariants.{spaced-packs}
-use Rattle.rules.proofs.Calls.{Clocked, Admissible, advance-packed, advance-drawn, advance-spare, finish-invariant, advance-same, finish-e, finish-clock, placed, fresh-sane, join-spaced, Leaves, by-release, by-withdraw, by-clock, leaves-spaced, leaves-old, leaves-clock, join-old, Idle, step-cases, blank-invariant, new-cases}
+use Rattle.rules.proofs.Calls.{Clocked, Admissible, advance-packed, advance-drawn, advance-spare, finish-invariant, advance-same, finish-e, finish-clock, placed, fresh-sane, join-spaced, Leaves, by-release, by-withdraw, by-clock, leaves-spaced, leaves-old, leaves-clock, join-old, Idle, looks-untimed, Declarable, step-cases, blank-invariant, new-cases}
+use Rattle.rules.proofs.Shares.{first-booked}
+use Rattle.rules.proofs.Booking.{advance-booked, finish-booked, finish-shares, join-booked, leaves-booked, leaves-shares, declare-booked}
 use Rattle.rules.proofs.NoOverrun.{NoOverrunAt, no-overrun-no-later}
 use Rattle.rules.proofs.Lookup.{lookup-absent, none-named, lookup-found, one-named, lookup-waits}
-use Rattle.promises.specs.Ledger.{Turn, turns, tableAfter, Entry, promised, Ledger, opening, issues, without, stay, hold, marked, noted, notedAll, NoOverrun, NoOverruns, ruledBy, remainingOf, rivalsOf, boundOn}
+use Rattle.promises.specs.Ledger.{Turn, turns, tableAfter, Entry, promised, Ledger, opening, issues, without, stay, sharesBy, hold, marked, noted, notedAll, NoOverrun, NoOverruns, ruledBy, remainingOf, rivalsOf, boundOn}
 use Rattle.promises.specs.Demand3.{TicketsAscend, Now, Next, tells, Demand3}
 use Rattle.promises.proofs.Matching.{Match, m-nil, m-cons, match-map, match-left, match-weaken, match-snoc, match-none, match-keep, match-length, match-sum, partner, partner-of}
 
@@ -47,20 +52,23 @@ pub record Tracks (P : Type 0) (c : Claim) (e : Entry) : Type 0 where
   pub groups : c .groups ≡ e .asked .groups
   pub length : c .length ≡ e .asked .length
   pub units : c .units ≡ e .asked .units
+  pub client : c .client ≡ e .asked .client
   pub held : on c ≡ e .held
   pub grant : on c ≡ true → at c ≡ e .grant
   pub early : P → on c ≡ false → at c ≤ e .first
 
 pub record Story (P : Type 0) (l : Ledger) (m : Model) : Type 0 where
   pub inv : Invariant m
+  pub booked : IsBooked m
   pub clock : m .clock ≡ l .clock
   pub pool : m .pool ≡ l .pool
   pub issued : m .issued ≡ l .issued
+  pub shares : m .shares ≡ l .shares
   pub match : Match (Tracks P) (m .pending) (l .claims)
 
 tracks-weaken : (P Q : Type 0) → (Q → P) → (c : Claim) (e : Entry) → Tracks P c e → Tracks Q c e
 tracks-weaken P Q f c e r =
-    record { ticket = r .ticket; groups = r .groups; length = r .length; units = r .units; held = r .held; grant = r .grant; early = λ q. r .early (f q) }
+    record { ticket = r .ticket; groups = r .groups; length = r .length; units = r .units; client = r .client; held = r .held; grant = r .grant; early = λ q. r .early (f q) }
 
 -- ── after any number of calls ──
 entries-ascend : (P : Type 0) {ps : List Claim} {l : List Entry} → Match (Tracks P) ps l → Ascending ps → TicketsAscend l
@@ -135,6 +143,7 @@ pack-tracks P v ps c e r h =
       groups = r .groups;
       length = r .length;
       units = r .units;
+      client = r .client;
       held = sym o ∙ r .held;
       grant = λ q. clash q refl;
       early = λ p q. omega (arith, h p o, r .early p o);
@@ -154,6 +163,7 @@ grant-tracks P v ps ks c e r h =
       groups = r .groups;
       length = r .length;
       units = r .units;
+      client = r .client;
       held = refl;
       grant = λ q. refl;
       early = λ p q. clash refl q;
@@ -313,12 +323,31 @@ Told P l m c s =
 
 module _ (P : Type 0) (l : Ledger) (m : Model) (s : Story P l m) where
   idle-refused : (c : Call) (n : ℕ) → Idle c n → timed c && eqb n 0 ≡ false
-  idle-refused c n (inl e) = rw e
+  idle-refused c n (inl e) = rw (looks-untimed c e)
   idle-refused c n (inr e) = rw (ne-eqb n 0 e) (go (timed c))
     where
       go : (b : Bool) → b && false ≡ false
       go true = refl
       go false = refl
+
+  still : NotRaised (m .pending) (m .pending)
+  still c d ci di e o = omega (arith, ap at (ascending-same (m .pending) (s .inv .spaced .ascending) d c di ci e))
+
+  -- Nobody is declared by it.
+  looks-shares : (c : Call) → looks c ≡ true → sharesBy c (l .shares) ≡ l .shares
+  unfolding sharesBy
+  looks-shares (claim t ask) e = refl
+  looks-shares (release t k) e = refl
+  looks-shares (withdraw t k) e = refl
+  looks-shares (clock t) e = refl
+  looks-shares (lookup k) e = refl
+  looks-shares (common j k) e = refl
+  looks-shares free e = refl
+  looks-shares (declare c r k) e = clash e refl
+
+  idle-shares : (c : Call) (n : ℕ) → Idle c n → cond (eqb n 0) (sharesBy c (l .shares)) (l .shares) ≡ l .shares
+  idle-shares c n (inl e) = by-test (eqb n 0) (λ q. rw q (looks-shares c e)) (λ q. rw q)
+  idle-shares c n (inr e) = rw (ne-eqb n 0 e)
 
   told-idle : (c : Call) (n : ℕ) → Idle c n → Told P l m c (unchanged m n)
   told-idle c n i =
@@ -326,45 +355,44 @@ module _ (P : Type 0) (l : Ledger) (m : Model) (s : Story P l m) where
         record {
           ticket-next = λ t ask q e. clash (and-i (timed c) (eqb n 0) (ap timed q) (eq-eqb n 0 e)) z;
           start-bounded = λ t ask q e _. clash (and-i (timed c) (eqb n 0) (ap timed q) (eq-eqb n 0 e)) z;
-          never-raised = λ p h k x w. rw z (unraised P (m .pending) (m .pending) (l .claims) (s .match) same k x w);
+          never-raised = λ p h k x w. rw z (unraised P (m .pending) (m .pending) (l .claims) (s .match) still k x w);
         },
         record {
           inv = s .inv;
+          booked = s .booked;
           clock = rw z (s .clock);
           pool = rw z (s .pool);
           issued = rw z (s .issued);
+          shares = rw z (s .shares ∙ sym (idle-shares c n i));
           match = rw z (match-weaken (λ d e r. tracks-weaken P _ (λ q. q .0) d e r) (s .match));
         },
       )
-    where
-      same : NotRaised (m .pending) (m .pending)
-      same c d ci di e o = omega (arith, ap at (ascending-same (m .pending) (s .inv .spaced .ascending) d c di ci e))
 
   prompt : (t : ℕ) → ((e : Entry) → e ∈ l .claims → e .held ≡ true → t ≤ promised e) → NoOverrunAt t (m .pending)
   prompt t h = no-overrun-of P t (m .pending) (l .claims) (s .match) h
 
   -- What the accepted timed calls have in common: q is what they leave before they pack again and grant, es the same of the ledger.
   told-finish : (t j : ℕ) (rep : Reply) (q : Model) (es : List Entry) (T : Type 0) → m .clock ≤ t → (T → (e : Entry) → e ∈ l .claims → e .held ≡ true → t ≤ promised e)
-      → IsSpaced q → q .clock ≡ t → q .pool ≡ l .pool → q .issued ≡ j
+      → IsSpaced q → IsBooked q → q .clock ≡ t → q .pool ≡ l .pool → q .issued ≡ j → q .shares ≡ l .shares
       → ((y : Claim) → y ∈ q .pending → (y ∈ advance m t .pending) ⊎ (m .issued < y .ticket)) → Match (Tracks (P × T)) (q .pending) es
       → (T → Unraised (m .pending) (finish q rep .model .pending) (map (marked t (finish q rep .answer .grants)) es))
-      × Story (P × T) (record { clock = t; pool = l .pool; issued = j; claims = map (marked t (finish q rep .answer .grants)) es }) (finish q rep .model)
-  told-finish t j rep q es T h tm sp cl po is old ma = (
+      × Story (P × T) (record { clock = t; pool = l .pool; issued = j; shares = l .shares; claims = map (marked t (finish q rep .answer .grants)) es }) (finish q rep .model)
+  told-finish t j rep q es T h tm sp bk cl po is sh old ma = (
     λ z. unraised (P × T) (m .pending) (finish q rep .model .pending) (map (marked t (finish q rep .answer .grants)) es) done (finish-not-raised m q t rep (s .inv) h (prompt t (tm z)) sp old),
-    record { inv = finish-invariant q rep sp; clock = finish-clock q rep ∙ cl; pool = finish-pool q rep ∙ po; issued = finish-issued q rep ∙ is; match = done },
+    record { inv = finish-invariant q rep sp; booked = finish-booked q rep bk; clock = finish-clock q rep ∙ cl; pool = finish-pool q rep ∙ po; issued = finish-issued q rep ∙ is; shares = finish-shares q rep ∙ sh; match = done },
   )
     where
       done : Match (Tracks (P × T)) (finish q rep .model .pending) (map (marked t (finish q rep .answer .grants)) es)
       done = subst (λ (u : ℕ). Match (Tracks (P × T)) (finish q rep .model .pending) (map (marked u (finish q rep .answer .grants)) es)) cl (finish-match (P × T) es q rep sp ma)
 
   told-claim : (t : ℕ) (ask : Request) → Admissible m t ask → Told P l m (claim t ask) (admit (advance m t) ask)
-  unfolding admit finish join advance stay issues
+  unfolding admit finish join advance stay issues sharesBy
   told-claim t ask a =
       let old = join-old (advance m t) (placed (advance m t) ask) refl in
       let next : suc (m .issued) ≡ l .issued + 1 = omega (arith, s .issued) in
       let r =
       told-finish t (l .issued + 1) (placing (advance m t) w) q _ T
-      (a .clocked .later) (λ z. z refl) spaced refl (s .pool) next old (match-snoc _ _ first new) in (
+      (a .clocked .later) (λ z. z refl) spaced (join-booked m t ask a (s .booked)) refl (s .pool) next (s .shares) old (match-snoc _ _ first new) in (
         record {
           ticket-next = λ t′ ask′ e _. omega (arith, s .issued);
           start-bounded = λ t′ ask′ e _ z′.
@@ -401,16 +429,17 @@ module _ (P : Type 0) (l : Ledger) (m : Model) (s : Story P l m) where
       spaced = join-spaced (advance m t) ask (a .long) (a .drawn) (a .spare) (advance-packed m t (s .inv) (a .clocked .later) .spaced)
 
       new : Tracks (P × T) (placed (advance m t) ask) (record { ticket = suc (m .issued); asked = ask; first = place (ruled m t) (advance m t .pending) (fresh (advance m t) ask); held = false; grant = 0 })
-      new = record { ticket = refl; groups = refl; length = refl; units = refl; held = refl; grant = λ e. clash e refl; early = λ p o. omega arith }
+      new = record { ticket = refl; groups = refl; length = refl; units = refl; client = refl; held = refl; grant = λ e. clash e refl; early = λ p o. omega arith }
 
   -- Release, withdraw and clock.
   left : {c : Call} {t k : ℕ} {q : Model} (a : Answer) (T : Type 0) → Leaves m c t k q → Clocked m t → (T → (e : Entry) → e ∈ l .claims → e .held ≡ true → t ≤ promised e)
       → (let es = map (marked t (finish q (plain k t) .answer .grants)) (stay c (l .claims) ++ issues c a) in
       (T → Unraised (m .pending) (finish q (plain k t) .model .pending) es)
-      × Story (P × T) (record { clock = t; pool = l .pool; issued = l .issued + length (issues c a); claims = es }) (finish q (plain k t) .model))
+      × Story (P × T) (record { clock = t; pool = l .pool; issued = l .issued + length (issues c a); shares = l .shares; claims = es }) (finish q (plain k t) .model))
   left {c} {t} {k} {q} a T v o tm =
       told-finish t (l .issued + length (issues c a)) (plain k t) q (stay c (l .claims) ++ issues c a) T (o .later) tm
-      (leaves-spaced v (advance-packed m t (s .inv) (o .later))) (leaves-clock v .0) (leaves-pool v ∙ s .pool) (omega (arith, leaves-issued a v, s .issued)) (λ y i. inl (leaves-old v y i))
+      (leaves-spaced v (advance-packed m t (s .inv) (o .later))) (leaves-booked v (advance-booked m t (s .booked))) (leaves-clock v .0) (leaves-pool v ∙ s .pool) (omega (arith, leaves-issued a v, s .issued))
+      (leaves-shares v ∙ s .shares) (λ y i. inl (leaves-old v y i))
       (leaves-match (P × T) (l .claims) a v (advance-match P T (l .claims) m t (s .inv) (o .later) (λ z. prompt t (tm z)) (s .match)))
 
   no-claim : {A : Type 0} {c : Call} {t k : ℕ} {q : Model} {u : ℕ} {ask : Request} → Leaves m c t k q → c ≡ claim u ask → A
@@ -425,7 +454,7 @@ module _ (P : Type 0) (l : Ledger) (m : Model) (s : Story P l m) where
   next a v h = record { ticket-next = λ u ask e _. no-claim v e; start-bounded = λ u ask e _ _. no-claim v e; never-raised = λ _. h }
 
   told-left : (c : Call) (t k : ℕ) (q : Model) → Clocked m t → Leaves m c t k q → Told P l m c (finish q (plain k t))
-  unfolding finish
+  unfolding finish sharesBy
   told-left c₀ t₀ k₀ q₀ o (by-release t k) =
       let a : Answer = finish (remove (advance m t) k) (plain k t) .answer in
       let r = left a (NoOverrun l (record { call = release t k; answer = a })) (by-release t k) o (λ z. z refl) in
@@ -439,13 +468,33 @@ module _ (P : Type 0) (l : Ledger) (m : Model) (s : Story P l m) where
       let r = left a (NoOverrun l (record { call = clock t; answer = a })) (by-clock t) o (λ z. z refl) in
       (next a (by-clock t) (r .0), r .1)
 
+  -- A declaration changes no claim.
+  told-declare : (c r k : ℕ) → Declarable m c r k → Told P l m (declare c r k) (unchanged (declared m c r k) 0)
+  unfolding sharesBy
+  told-declare c r k d = (
+    record {
+      ticket-next = λ u ask e _. (let z : _≡_ {A = ℕ} 0 1 = cc in absurd (omega arith));
+      start-bounded = λ u ask e _ _. (let z : _≡_ {A = ℕ} 0 1 = cc in absurd (omega arith));
+      never-raised = λ p h. unraised P (m .pending) (m .pending) (l .claims) (s .match) still;
+    },
+    record {
+      inv = s .inv;
+      booked = declare-booked m (s .inv) c r k d (s .booked);
+      clock = s .clock;
+      pool = s .pool;
+      issued = s .issued;
+      shares = ap (λ (ss : List Share). withShare ss c (share r k)) (s .shares);
+      match = match-weaken (λ d e r. tracks-weaken P _ (λ q. q .0) d e r) (s .match);
+    },
+  )
+
   told : (c : Call) → Told P l m c (step m c)
-  told = step-cases (Told P l m) m told-idle told-claim told-left
+  told = step-cases (Told P l m) m told-idle told-claim told-left told-declare
 
 -- ── the run ──
 story-weaken : (P Q : Type 0) (l : Ledger) (m : Model) → (Q → P) → Story P l m → Story Q l m
 story-weaken P Q l m f s =
-    record { inv = s .inv; clock = s .clock; pool = s .pool; issued = s .issued; match = match-weaken (λ c e r. tracks-weaken P Q f c e r) (s .match) }
+    record { inv = s .inv; booked = s .booked; clock = s .clock; pool = s .pool; issued = s .issued; shares = s .shares; match = match-weaken (λ c e r. tracks-weaken P Q f c e r) (s .match) }
 
 story-after : (cs : List Call) (P : Type 0) (l : Ledger) (m : Model) → Story P l m
     → Story (P × NoOverruns l (turns step m cs)) (notedAll l (turns step m cs)) (tableAfter step m cs)
@@ -457,20 +506,22 @@ story-after (c ∷ cs) P l m s =
     story-weaken _ (P × (NoOverrun l t × NoOverruns (noted l t) (turns step (step m c .model) cs))) _ _ (λ q. ((q .0, q .1 .0), q .1 .1)) r
 
 -- The ledger before any call, by the call that made the table.
-abbrev pub opened : ℕ → ℕ → Ledger
-opened g k = opening k (new g k .answer)
+abbrev pub opened : ℕ → ℕ → Bool → Ledger
+opened g k alone = opening k alone (new g k alone .answer)
 
-start : (g k : ℕ) → Story (Unit {0}) (opened g k) (new g k .model)
-start g k = new-cases (λ (s : Step). Story (Unit {0}) (opening k (s .answer)) (s .model)) g k (λ e. blank-story 0 0 1 refl) (λ e. blank-story g k 0 refl)
+start : (g k : ℕ) (alone : Bool) → Story (Unit {0}) (opened g k alone) (new g k alone .model)
+start g k alone =
+    new-cases (λ (s : Step). Story (Unit {0}) (opening k alone (s .answer)) (s .model)) g k alone (λ e. blank-story 0 0 1 refl) (λ e. blank-story g k 0 refl)
   where
-    blank-story : (r n j : ℕ) → n ≡ cond (eqb j 0) k 0 → Story (Unit {0}) (opening k (unchanged (blank r n) j .answer)) (blank r n)
-    blank-story r n j e = record { inv = blank-invariant r n; clock = refl; pool = e; issued = refl; match = m-nil }
+    blank-story : (r n j : ℕ) → n ≡ cond (eqb j 0) k 0 → Story (Unit {0}) (opening k alone (unchanged (blank r n alone) j .answer)) (blank r n alone)
+    blank-story r n j e =
+        record { inv = blank-invariant r n alone; booked = first-booked alone; clock = refl; pool = e; issued = refl; shares = refl; match = m-nil }
 
-pub after-calls : (g k : ℕ) (cs : List Call)
-    → (let l = opened g k in
-    let ts = turns step (new g k .model) cs in
-    Story (NoOverruns l ts) (notedAll l ts) (tableAfter step (new g k .model) cs))
-after-calls g k cs = story-weaken _ _ _ _ (λ q. (tt, q)) (story-after cs (Unit {0}) (opened g k) (new g k .model) (start g k))
+pub after-calls : (g k : ℕ) (alone : Bool) (cs : List Call)
+    → (let l = opened g k alone in
+    let ts = turns step (new g k alone .model) cs in
+    Story (NoOverruns l ts) (notedAll l ts) (tableAfter step (new g k alone .model) cs))
+after-calls g k alone cs = story-weaken _ _ _ _ (λ q. (tt, q)) (story-after cs (Unit {0}) (opened g k alone) (new g k alone .model) (start g k alone))
 
 -- The rules' own name for the table after a list of calls.
 pub table-after : (m : Model) (cs : List Call) → tableAfter step m cs ≡ after m cs
@@ -479,8 +530,8 @@ table-after m [] = refl
 table-after m (c ∷ cs) = table-after (step m c .model) cs
 
 -- Demand 3, whole.
-pub demand-3 : (rig pool : ℕ) (calls : List Call) → Demand3 rig pool calls
-demand-3 rig pool calls = record {
-  at-any-time = λ before rest e. now-of _ _ _ (after-calls rig pool before);
-  at-any-call = λ before c rest e. told _ _ _ (after-calls rig pool before) c .0;
+pub demand-3 : (rig pool : ℕ) (alone : Bool) (calls : List Call) → Demand3 rig pool alone calls
+demand-3 rig pool alone calls = record {
+  at-any-time = λ before rest e. now-of _ _ _ (after-calls rig pool alone before);
+  at-any-call = λ before c rest e. told _ _ _ (after-calls rig pool alone before) c .0;
 }

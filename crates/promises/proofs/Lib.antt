@@ -1,5 +1,6 @@
 pub mod Matching
 pub mod Demand3
 pub mod PoolKept
+pub mod SharesKept
 pub mod WholeCalls
 pub mod Worthless

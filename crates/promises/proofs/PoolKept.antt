@@ -23,5 +23,5 @@ kept-of P l m s =
     let i = s .inv .spaced .holders .stock in
     record { never-more = omega (arith, s .pool); free-and-held = omega (arith, s .pool) }
 
-pub pool-kept : (rig pool : ℕ) (calls : List Call) → PoolKept rig pool calls
-pool-kept rig pool calls before rest e = kept-of _ _ _ (after-calls rig pool before)
+pub pool-kept : (rig pool : ℕ) (alone : Bool) (calls : List Call) → PoolKept rig pool alone calls
+pool-kept rig pool alone calls before rest e = kept-of _ _ _ (after-calls rig pool alone before)

@@ -1,7 +1,7 @@
 -- Whole calls are as document 01 says, in every table that calls can make.
 use mathlib.Core.Path.{_≡_, refl, sym, _∙_, ap, subst}
 use mathlib.Core.Logic.{_⊎_, inl, inr, _≢_}
-use mathlib.Core.Bool.{true, false}
+use mathlib.Core.Bool.{Bool, true, false}
 use mathlib.Core.List.{List, [], _∷_, _++_, List·Memᴰ·append-cases, List·Memᴰ·eq-of-singleton, Memᴰ·append-right}
 use Prim.Native.Nat.{ℕ, suc, _≤_, _<_}
 use native.Mathlib.Omega.{arith}
@@ -18,7 +18,7 @@ use Rattle.rules.specs.Placing.{place}
 use Rattle.rules.specs.Plans.{Sane, Spare}
 use Rattle.rules.specs.Granting.{goes, granted, grant}
 use Rattle.rules.specs.declared.Reply.{Reply}
-use Rattle.rules.specs.Calls.{Model, settingOf, plain, ruled, Call, claim, release, withdraw, clock, lookup, common, free, timed, clockOf, Step, advance, finish, join, fresh, admit, step, new, after}
+use Rattle.rules.specs.Calls.{Model, settingOf, plain, ruled, Call, claim, release, withdraw, clock, lookup, common, free, declare, timed, clockOf, Step, advance, finish, join, fresh, admit, step, new, after}
 use Rattle.rules.specs.Invariants.{IsSpaced, IsPacked, Still, Invariant}
 use Rattle.rules.proofs.Bools.{clash}
 use Rattle.rules.proofs.Lists.{here, map-e}
@@ -26,7 +26,7 @@ use Rattle.rules.proofs.Order.{precedes-e, precedes-lt}
 use Rattle.rules.proofs.Packing.{moved-phase, pack-precedes}
 use Rattle.rules.proofs.Granting.{goes-wait, goes-at, granted-cases, grant-precedes}
 use Rattle.rules.proofs.Invariants.{spaced-clear, settled-packs}
-use Rattle.rules.proofs.Calls.{Admissible, advance-drawn, placed-fits, advance-packed, finish-invariant, placed, join-spaced, Leaves, by-release, by-withdraw, by-clock, leaves-spaced, Idle, step-cases, clock-accepted, new-invariant, after-invariant, advance-same, finish-e, finish-clock, leaves-old, leaves-clock, join-old, advance-spare, admit-invariant}
+use Rattle.rules.proofs.Calls.{Admissible, advance-drawn, placed-fits, advance-packed, finish-invariant, placed, join-spaced, Leaves, by-release, by-withdraw, by-clock, leaves-spaced, Idle, looks-untimed, step-cases, clock-accepted, new-invariant, after-invariant, advance-same, finish-e, finish-clock, leaves-old, leaves-clock, join-old, advance-spare, admit-invariant}
 use Rattle.rules.proofs.OnePacking.{advance-still, finish-still, joined, joined-cases, claim-pending, joined-at}
 use Rattle.promises.specs.WholeCalls.{Becomes, TimedCall, Stays, ClaimCall, WholeCalls}
 
@@ -186,6 +186,7 @@ module _ (m : Model) (i : Invariant m) (t : ℕ) (ask : Request) (a : Admissible
     groups = joined-cases first ask (λ (x : Claim). x .groups ≡ ask .groups) refl refl;
     length = joined-cases first ask (λ (x : Claim). x .length ≡ ask .length) refl refl;
     units = joined-cases first ask (λ (x : Claim). x .units ≡ ask .units) refl refl;
+    client = joined-cases first ask (λ (x : Claim). x .client ≡ ask .client) refl refl;
     ticket = joined-cases first ask (λ (x : Claim). x .ticket ≡ suc (first .issued)) refl refl;
     start = joined-at first packed still ask (a .long) drawn spare;
     overlaps-none = clear-of;
@@ -195,7 +196,7 @@ module _ (m : Model) (i : Invariant m) (t : ℕ) (ask : Request) (a : Admissible
   }
 
 refused : {A : Type 0} (c : Call) (n : ℕ) → Idle c n → timed c ≡ true → n ≡ 0 → A
-refused c n (inl e) p q = clash p e
+refused c n (inl e) p q = clash p (looks-untimed c e)
 refused c n (inr e) p q = absurd (e q)
 
 pub of-timed : (m : Model) → Invariant m → (c : Call) → timed c ≡ true → step m c .answer .number ≡ 0 → TimedCall m c (step m c)
@@ -204,6 +205,7 @@ of-timed m i =
     (λ t ask a p q. claim-timed m i t ask a)
     (λ c t k q o v p e. timed-finish m q c t (plain k t) i (leaves-spaced v (advance-packed m t i (o .later))) (leaves-clock v .0) (leaves-clock v .1)
     (λ x j. inl (leaves-old v x j)))
+    (λ c r l d p e. clash p refl)
 
 -- Of a claim; nothing of the other calls.
 OfClaim : Model → Call → Step → Type 0
@@ -214,12 +216,13 @@ OfClaim m (clock t) s = Unit {0}
 OfClaim m (lookup k) s = Unit {0}
 OfClaim m (common j k) s = Unit {0}
 OfClaim m free s = Unit {0}
+OfClaim m (declare c r l) s = Unit {0}
 
 pub of-claim : (m : Model) → Invariant m → (t : ℕ) (ask : Request) → step m (claim t ask) .answer .number ≡ 0 → ClaimCall m t ask (step m (claim t ask))
 unfolding OfClaim
 of-claim m i t ask =
     step-cases (λ c s. timed c ≡ true → s .answer .number ≡ 0 → OfClaim m c s) m (λ c k z p q. refused c k z p q)
-    (λ t ask a p q. claim-whole m i t ask a) (λ c t k q o v p e. none v) (claim t ask) refl
+    (λ t ask a p q. claim-whole m i t ask a) (λ c t k q o v p e. none v) (λ c r l d p e. tt) (claim t ask) refl
   where
     none : {c : Call} {t k : ℕ} {q : Model} → Leaves m c t k q → OfClaim m c (finish q (plain k t))
     none (by-release t k) = tt
@@ -230,5 +233,6 @@ of-claim m i t ask =
 pub whole-calls : (m : Model) → Invariant m → WholeCalls m
 whole-calls m i = record { of-timed = of-timed m i; of-claim = of-claim m i }
 
-pub whole-calls-after : (rig pool : ℕ) (calls : List Call) → WholeCalls (after (new rig pool .model) calls)
-whole-calls-after rig pool calls = whole-calls (after (new rig pool .model) calls) (after-invariant (new rig pool .model) calls (new-invariant rig pool))
+pub whole-calls-after : (rig pool : ℕ) (alone : Bool) (calls : List Call) → WholeCalls (after (new rig pool alone .model) calls)
+whole-calls-after rig pool alone calls =
+    whole-calls (after (new rig pool alone .model) calls) (after-invariant (new rig pool alone .model) calls (new-invariant rig pool alone))

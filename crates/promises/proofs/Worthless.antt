@@ -6,6 +6,7 @@ use Prim.Native.Nat.{ℕ, _≤_}
 use native.Mathlib.Omega.{arith}
 use Rattle.groups.specs.Groups.{someFrom, lowestFrom, common, shares, empty, within}
 use Rattle.rules.specs.Lists.{_∈_, greatest, least, sum, all, any, keep}
+use Rattle.rules.specs.Shares.{shareOf, pendingOf, unfilled, unfilledByOthers}
 use Rattle.rules.specs.Claims.{heldUntil, endOf, remaining}
 use Rattle.rules.specs.Order.{precedes, before}
 use Rattle.rules.specs.Pool.{covers, unitsAt, used, enough, spare, heldUnits}
@@ -18,11 +19,11 @@ use Rattle.rules.specs.Tests.{firstOf}
 use Rattle.rules.specs.Calls.{Call, clock, tests, advance, finish, join, remove, admit, act, step, new, standingOf}
 use Rattle.rules.proofs.Bools.{clash}
 use Rattle.rules.proofs.Lists.{here, none}
-use Rattle.promises.specs.Ledger.{Entry, turns, tableAfter, issues, stay, marked, notedAll}
+use Rattle.promises.specs.Ledger.{Entry, turns, tableAfter, issues, stay, sharesBy, marked, notedAll}
 use Rattle.promises.specs.Worthless.{claim, neverGrants, untouched, echoes, AllRefused}
 
 pub all-refused : AllRefused
-unfolding someFrom lowestFrom common shares empty within greatest least sum all any keep heldUntil endOf remaining precedes before covers unitsAt used enough spare heldUnits ready startFor moved ahead startWithin packedStart pack clear fits seek place contention startBound takenBefore trulyFree goesWithin goes granted grant grants firstOf tests advance finish join remove admit act step new standingOf turns tableAfter issues stay marked notedAll neverGrants untouched echoes
+unfolding someFrom lowestFrom common shares empty within greatest least sum all any keep heldUntil endOf remaining precedes before covers unitsAt used enough spare heldUnits ready startFor moved ahead startWithin packedStart pack clear fits seek place contention startBound takenBefore trulyFree goesWithin goes granted grant grants shareOf pendingOf unfilled unfilledByOthers firstOf tests advance finish join remove admit act step new standingOf turns tableAfter issues stay sharesBy marked notedAll neverGrants untouched echoes
 all-refused = (
   λ d.
       let calls : List Call = claim 0 0x1 10 ∷ clock 1 ∷ [] in

@@ -1,8 +1,9 @@
 -- Demand 3: one statement about a list of calls, "any number, even zero, in any order, with any values, those turned down too". Its words
--- go by the calls, their answers and lookup. proofs/Demand3 has the theorem: it holds for every rig, every pool and every list.
+-- go by the calls, their answers and lookup. proofs/Demand3 has the theorem: it holds for every rig, every pool and every list,
+-- whoever is declared.
 use mathlib.Core.Path.{_≡_}
 use mathlib.Core.Logic.{_⊎_, _≢_}
-use mathlib.Core.Bool.{true, false}
+use mathlib.Core.Bool.{Bool, true, false}
 use mathlib.Core.List.{List, _∷_, _++_}
 use Prim.Native.Nat.{ℕ, _+_, _≤_}
 use Rattle.groups.specs.Groups.{common, shares}
@@ -64,21 +65,22 @@ pub record Next (P : Type 0) (l : Ledger) (t : Turn) (before after : Told) : Typ
 abbrev pub tells : Model → Told
 tells m = record { one = λ k. standingOf k (m .pending); two = λ j k. commonOf j k (m .pending); free = freeOf m }
 
--- "The list begins with the table that the call for a new one gave, whatever the rig", and whatever the pool. The calls are run by `step`.
-pub record Demand3Of (step : Steps) (rig pool : ℕ) (calls : List Call) : Type 0 where
+-- "The list begins with the table that the call for a new one gave, whatever the rig", and whatever the pool; client 1 alone is declared at
+-- first, or nobody. The calls are run by `step`.
+pub record Demand3Of (step : Steps) (rig pool : ℕ) (alone : Bool) (calls : List Call) : Type 0 where
   pub at-any-time : (before rest : List Call) → before ++ rest ≡ calls
-      → (let m = new rig pool .model in
-      let l = opening pool (new rig pool .answer) in
+      → (let m = new rig pool alone .model in
+      let l = opening pool alone (new rig pool alone .answer) in
       let ts = turns step m before in
       Now (NoOverruns l ts) (notedAll l ts) (tells (tableAfter step m before)))
   pub at-any-call : (before : List Call) (c : Call) (rest : List Call) → before ++ (c ∷ rest) ≡ calls
-      → (let m = new rig pool .model in
-      let l = opening pool (new rig pool .answer) in
+      → (let m = new rig pool alone .model in
+      let l = opening pool alone (new rig pool alone .answer) in
       let ts = turns step m before in
       let n = tableAfter step m before in
       let s = step n c in
       Next (NoOverruns l ts) (notedAll l ts) (record { call = c; answer = s .answer }) (tells n) (tells (s .model)))
 
 -- Demand 3 of the rules.
-abbrev pub Demand3 : ℕ → ℕ → List Call → Type 0
-Demand3 rig pool calls = Demand3Of step rig pool calls
+abbrev pub Demand3 : ℕ → ℕ → Bool → List Call → Type 0
+Demand3 rig pool alone calls = Demand3Of step rig pool alone calls

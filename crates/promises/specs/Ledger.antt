@@ -10,8 +10,10 @@ use Rattle.groups.specs.Groups.{shares}
 use Rattle.rules.specs.declared.Request.{Request}
 use Rattle.rules.specs.Lists.{_∈_, sum, any, keep}
 use Rattle.rules.specs.declared.Setting.{Setting}
+use Rattle.rules.specs.declared.Share.{Share}
+use Rattle.rules.specs.Shares.{share, firstShares, withShare}
 use Rattle.rules.specs.Claims.{heldUntil}
-use Rattle.rules.specs.Calls.{Model, Call, claim, release, withdraw, clock, lookup, common, free, timed, clockOf, Answer, Step}
+use Rattle.rules.specs.Calls.{Model, Call, claim, release, withdraw, clock, lookup, common, free, declare, timed, clockOf, Answer, Step}
 
 -- A call with its answer.
 pub record Turn : Type 0 where
@@ -48,17 +50,18 @@ pub record Entry : Type 0 where
 abbrev pub promised : Entry → ℕ
 promised e = e .grant + e .asked .length
 
--- The table's clock, the units in its pool, the count of claims accepted so far, and the pending claims.
+-- The table's clock, the units in its pool, the count of claims accepted so far, the shares of clients 1 to 8, and the pending claims.
 pub record Ledger : Type 0 where
   pub clock : ℕ
   pub pool : ℕ
   pub issued : ℕ
+  pub shares : List Share
   pub claims : List Entry
 
--- Before any call, by the call that made the table: the units that it named, and its answer. The clock is "0 before any"; a table that was
--- refused has no units.
-abbrev pub opening : ℕ → Answer → Ledger
-opening k a = record { clock = 0; pool = cond (eqb (a .number) 0) k 0; issued = 0; claims = [] }
+-- Before any call, by the call that made the table: the units that it named, whether client 1 alone is declared, and its answer. The clock is
+-- "0 before any"; a table that was refused has no units.
+abbrev pub opening : ℕ → Bool → Answer → Ledger
+opening k alone a = record { clock = 0; pool = cond (eqb (a .number) 0) k 0; issued = 0; shares = firstShares alone; claims = [] }
 
 -- "A claim is pending from the accepted call that issued its ticket": what an accepted call issued.
 unfoldable pub issues : Call → Answer → List Entry
@@ -69,6 +72,7 @@ issues (clock t) a = []
 issues (lookup k) a = []
 issues (common j k) a = []
 issues free a = []
+issues (declare c r l) a = []
 
 -- "until an accepted release or withdrawal takes it away": what an accepted call leaves of the pending claims.
 abbrev pub without : ℕ → List Entry → List Entry
@@ -82,6 +86,18 @@ stay (clock t) l = l
 stay (lookup k) l = l
 stay (common j k) l = l
 stay free l = l
+stay (declare c r l) l′ = l′
+
+-- "A desk has a guarantee and a limit, declared before the first claim": the shares after an accepted call (document 02, P4).
+unfoldable pub sharesBy : Call → List Share → List Share
+sharesBy (claim t ask) ss = ss
+sharesBy (release t k) ss = ss
+sharesBy (withdraw t k) ss = ss
+sharesBy (clock t) ss = ss
+sharesBy (lookup k) ss = ss
+sharesBy (common j k) ss = ss
+sharesBy free ss = ss
+sharesBy (declare c r l) ss = withShare ss c (share r l)
 
 -- "from the call whose answer names its ticket as granted, that call included .. Its grant is that call's clock"
 abbrev pub hold : Entry → ℕ → Entry
@@ -95,9 +111,10 @@ abbrev pub noted : Ledger → Turn → Ledger
 noted l t =
     let now = clockOf (t .call) in
     let new = issues (t .call) (t .answer) in
+    let shares = cond (eqb (t .answer .number) 0) (sharesBy (t .call) (l .shares)) (l .shares) in
     cond (accepted t)
-    (record { clock = now; pool = l .pool; issued = l .issued + length new; claims = map (marked now (t .answer .grants)) (stay (t .call) (l .claims) ++ new) })
-    l
+    (record { clock = now; pool = l .pool; issued = l .issued + length new; shares = shares; claims = map (marked now (t .answer .grants)) (stay (t .call) (l .claims) ++ new) })
+    (record { clock = l .clock; pool = l .pool; issued = l .issued; shares = shares; claims = l .claims })
 
 -- The ledger after these calls.
 unfoldable pub notedAll : Ledger → List Turn → Ledger

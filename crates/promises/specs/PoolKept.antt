@@ -2,7 +2,7 @@
 -- make k after any calls" (document 02, P3). Beside demand 3, of the same lists of calls, and by the same ledger. proofs/PoolKept has the
 -- theorem.
 use mathlib.Core.Path.{_≡_}
-use mathlib.Core.Bool.{cond}
+use mathlib.Core.Bool.{Bool, cond}
 use mathlib.Core.List.{List, _++_}
 use Prim.Native.Nat.{ℕ, _+_, _≤_}
 use Rattle.rules.specs.Lists.{sum}
@@ -19,11 +19,11 @@ pub record Kept (l : Ledger) (told : Told) : Type 0 where
   pub free-and-held : told .free + unitsHeld (l .claims) ≡ l .pool
 
 -- After any number of the calls.
-abbrev pub PoolKeptOf : Steps → ℕ → ℕ → List Call → Type 0
-PoolKeptOf step rig pool calls =
+abbrev pub PoolKeptOf : Steps → ℕ → ℕ → Bool → List Call → Type 0
+PoolKeptOf step rig pool alone calls =
     (before rest : List Call) → before ++ rest ≡ calls
-    → (let m = new rig pool .model in
-    Kept (notedAll (opening pool (new rig pool .answer)) (turns step m before)) (tells (tableAfter step m before)))
+    → (let m = new rig pool alone .model in
+    Kept (notedAll (opening pool alone (new rig pool alone .answer)) (turns step m before)) (tells (tableAfter step m before)))
 
-abbrev pub PoolKept : ℕ → ℕ → List Call → Type 0
-PoolKept rig pool calls = PoolKeptOf step rig pool calls
+abbrev pub PoolKept : ℕ → ℕ → Bool → List Call → Type 0
+PoolKept rig pool alone calls = PoolKeptOf step rig pool alone calls

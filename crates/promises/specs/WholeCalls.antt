@@ -1,5 +1,5 @@
--- The sentences of document 01, "What each call does", and of document 02, P3, of whole calls: of the table m before a call that is accepted and the table after it.
--- proofs/WholeCalls has them for every table that calls can make.
+-- The sentences of document 01, "What each call does", and of document 02, P3, of whole calls: of the table m before a call that is accepted
+-- and the table after it. proofs/WholeCalls has them for every table that calls can make.
 use mathlib.Core.Path.{_≡_}
 use mathlib.Core.Logic.{_⊎_, _≢_}
 use mathlib.Core.Bool.{true, false}
@@ -47,6 +47,7 @@ pub record ClaimCall (m : Model) (t : ℕ) (ask : Request) (s : Step) : Type 0 w
   pub groups : new .groups ≡ ask .groups
   pub length : new .length ≡ ask .length
   pub units : new .units ≡ ask .units
+  pub client : new .client ≡ ask .client
   -- "The answer is ticket, start, ..": it waits at that start, or was granted at it.
   pub ticket : new .ticket ≡ s .answer .ticket
   pub start : at new ≡ s .answer .start

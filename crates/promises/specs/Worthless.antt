@@ -1,6 +1,6 @@
 -- Three of document 01's "Worthless versions", as steps run in place of the rules', each with a short list of calls at which demand 3 is
 -- false of it. proofs/Worthless has the proofs; each goes by the clause that is named here.
-use mathlib.Core.Bool.{cond}
+use mathlib.Core.Bool.{true, cond}
 use mathlib.Core.List.{List, [], _∷_, map}
 use Prim.Native.Nat.{ℕ}
 use lib.Dec.{eqb}
@@ -14,9 +14,9 @@ use Rattle.promises.specs.Demand3.{Demand3Of}
 abbrev pub claim : ℕ → ℕ → ℕ → Call
 claim t g n = Call.claim t (asking g n)
 
--- Demand 3 does not hold of these steps, this rig without a pool, and these calls.
+-- Demand 3 does not hold of these steps, this rig without a pool, client 1 alone, and these calls.
 abbrev pub Refused : Steps → ℕ → List Call → Type 0
-Refused step rig calls = Demand3Of step rig 0 calls → ⊥
+Refused step rig calls = Demand3Of step rig 0 true calls → ⊥
 
 -- "never grants": as the rules, but whoever would go on waits on, and nobody is named.
 unfoldable pub neverGrants : Steps

@@ -1,5 +1,5 @@
--- The loads of case 15 of document 01's "Plots to try", those of document 02's edition 2 and some more, as one table of what a reader opened
--- on each gives. proofs/AllSamples has the theorem that covers the table, and the law of a load that is too long to be written out.
+-- The loads of case 15 of document 01's "Plots to try", those of document 02's editions 2 and 3 and some more, as one table of what a reader
+-- opened on each gives. proofs/AllSamples has the theorem that covers the table, and the law of a load that is too long to be written out.
 use Prim.Native.Nat.{ℕ, _<_}
 use mathlib.Core.List.{List, [], _∷_, _++_}
 use mathlib.Core.Path.{_≡_}
@@ -7,7 +7,7 @@ use lib.ListN.{length}
 use Rattle.load.specs.declared.Call.{Call}
 use Rattle.load.specs.declared.Item.{Item}
 use Rattle.load.specs.declared.Item.the-variants.{Record, End, Refused}
-use Rattle.load.specs.Calls.{rig, claim, release, clock, rigWith, claimWith}
+use Rattle.load.specs.Calls.{rig, claim, release, clock, rigWith, claimWith, claimFrom, declaration}
 use Rattle.load.specs.Bytes.{recordBytes, loadBytes}
 use Rattle.load.specs.Reading.{Walk, reading}
 use Rattle.reader.specs.Items.{itemOf}
@@ -48,9 +48,10 @@ samples =
     -- the load whose listing the paper prints
     ∷ sample (loadBytes 1 (rig 0xF ∷ claim 0 0x8 10 ∷ claim 0 0xC 10 ∷ claim 0 0x6 11 ∷ claim 0 0x3 20 ∷ release 4 1 ∷ [])) (Record (rig 0xF) 12)
     (rig 0xF ∷ claim 0 0x8 10 ∷ claim 0 0xC 10 ∷ claim 0 0x6 11 ∷ claim 0 0x3 20 ∷ release 4 1 ∷ []) 0
-    -- edition 2 alone, and no edition after it
+    -- editions 2 and 3 alone, and no edition after them
     ∷ sample (0x02 ∷ []) End [] 0
-    ∷ sample (0x03 ∷ []) (Refused 11) [] 11
+    ∷ sample (0x03 ∷ []) End [] 0
+    ∷ sample (0x04 ∷ []) (Refused 11) [] 11
     -- "two bytes of k at the end of the rig (length 11)": each edition has its own length alone
     ∷ sample (0x02 ∷ 0x00 ∷ 0x0B ∷ 0x01 ∷ 0x00 ∷ 0x00 ∷ 0x00 ∷ 0x00 ∷ 0x00 ∷ 0x00 ∷ 0x00 ∷ 0x0F ∷ 0x01 ∷ 0x02 ∷ []) (Record (rigWith 0xF 258) 14) (rigWith 0xF 258 ∷ []) 0
     ∷ sample (0x02 ∷ recordBytes 1 (rig 0xF)) (Refused 13) [] 13
@@ -62,6 +63,22 @@ samples =
     ∷ sample (loadBytes 1 (rig 0xF ∷ []) ++ recordBytes 2 (claimWith 0 0x8 10 2)) (Record (rig 0xF) 12) (rig 0xF ∷ []) 13
     -- "edition 1 reads as 0 for both"
     ∷ sample (loadBytes 1 (rigWith 0xF 0 ∷ claimWith 0 0x8 10 0 ∷ [])) (Record (rig 0xF) 12) (rig 0xF ∷ claim 0 0x8 10 ∷ []) 0
+    -- "a kind 6 record of desk, guarantee and limit, a byte each (length 4)"; the table judges them
+    ∷ sample (loadBytes 3 (rigWith 0xF 3 ∷ []) ++ (0x00 ∷ 0x04 ∷ 0x06 ∷ 0x02 ∷ 0x0A ∷ 0x40 ∷ [])) (Record (rigWith 0xF 3) 14) (rigWith 0xF 3 ∷ declaration 2 10 64 ∷ []) 0
+    ∷ sample (loadBytes 3 (rigWith 0xF 3 ∷ declaration 0 255 255 ∷ [])) (Record (rigWith 0xF 3) 14) (rigWith 0xF 3 ∷ declaration 0 255 255 ∷ []) 0
+    ∷ sample (loadBytes 3 (rigWith 0xF 3 ∷ []) ++ (0x00 ∷ 0x03 ∷ 0x06 ∷ 0x02 ∷ 0x0A ∷ [])) (Record (rigWith 0xF 3) 14) (rigWith 0xF 3 ∷ []) 13
+    -- "a desk byte at the end of the claim (length 24)"
+    ∷ sample (loadBytes 3 (rigWith 0xF 3 ∷ declaration 2 10 64 ∷ claimFrom 0 0x8 10 2 2 ∷ release 4 1 ∷ clock 5 ∷ [])) (Record (rigWith 0xF 3) 14)
+    (rigWith 0xF 3 ∷ declaration 2 10 64 ∷ claimFrom 0 0x8 10 2 2 ∷ release 4 1 ∷ clock 5 ∷ []) 0
+    ∷ sample (loadBytes 3 (rigWith 0xF 3 ∷ []) ++ recordBytes 2 (claimWith 0 0x8 10 2)) (Record (rigWith 0xF 3) 14) (rigWith 0xF 3 ∷ []) 13
+    ∷ sample (loadBytes 2 (rigWith 0xF 3 ∷ []) ++ recordBytes 3 (claimFrom 0 0x8 10 2 2)) (Record (rigWith 0xF 3) 14) (rigWith 0xF 3 ∷ []) 13
+    -- older editions have no kind 6, and edition 3 no kind after it
+    ∷ sample (loadBytes 1 (rig 0xF ∷ []) ++ recordBytes 3 (declaration 1 64 64)) (Record (rig 0xF) 12) (rig 0xF ∷ []) 13
+    ∷ sample (loadBytes 2 (rigWith 0xF 3 ∷ []) ++ recordBytes 3 (declaration 1 64 64)) (Record (rigWith 0xF 3) 14) (rigWith 0xF 3 ∷ []) 13
+    ∷ sample (loadBytes 3 (rigWith 0xF 3 ∷ []) ++ (0x00 ∷ 0x01 ∷ 0x07 ∷ [])) (Record (rigWith 0xF 3) 14) (rigWith 0xF 3 ∷ []) 13
+    -- a claim of older editions is desk 1's
+    ∷ sample (loadBytes 1 (rig 0xF ∷ claim 0 0x8 10 ∷ [])) (Record (rig 0xF) 12) (rig 0xF ∷ claimFrom 0 0x8 10 0 1 ∷ []) 0
+    ∷ sample (loadBytes 2 (rig 0xF ∷ claimWith 0 0x8 10 2 ∷ [])) (Record (rig 0xF) 14) (rig 0xF ∷ claimFrom 0 0x8 10 2 1 ∷ []) 0
     ∷ []
 
 -- What the reader gives, and what the table says.

@@ -3,6 +3,7 @@ use mathlib.Core.Path.{_≡_, refl}
 use mathlib.Core.List.{map}
 use Rattle.groups.specs.Groups.{someFrom, lowestFrom, common, shares, empty, within}
 use Rattle.rules.specs.Lists.{greatest, least, sum, all, any, keep}
+use Rattle.rules.specs.Shares.{shareOf, withShare, pendingOf, unfilled, unfilledByOthers, reservedInAll}
 use Rattle.rules.specs.Claims.{heldUntil, endOf, remaining}
 use Rattle.rules.specs.Order.{precedes, before}
 use Rattle.rules.specs.Pool.{covers, unitsAt, used, enough, spare, heldUnits, freeUnits}
@@ -12,16 +13,20 @@ use Rattle.rules.specs.Placing.{clear, fits, place, contention, startBou
 use Rattle.rules.specs.Granting.{takenBefore, trulyFree, goesWithin, goes, granted, grant, grants}
 use Rattle.rules.specs.Tests.{firstOf}
 use Rattle.rules.specs.Calls.{tests, advance, finish, join, remove, admit, act, step, new, standingOf, commonOf, after, answers}
-use Rattle.rules.specs.Scenarios.{scenarios, expected, outcome, draws, drawn, expectedOf, pairs, toldOf}
+use Rattle.rules.specs.Scenarios.{scenarios, expected, outcome, draws, drawn, expectedOf, pairs, toldOf, sharings, numberOf}
 
 pub all-scenarios : map outcome scenarios ≡ map expected scenarios
-unfolding someFrom lowestFrom common shares empty within greatest least sum all any keep heldUntil endOf remaining precedes before covers unitsAt used enough spare heldUnits ready startFor moved ahead startWithin packedStart pack clear fits seek place contention startBound takenBefore trulyFree goesWithin goes granted grant grants firstOf tests advance finish join remove admit act step new standingOf after answers scenarios outcome
+unfolding someFrom lowestFrom common shares empty within greatest least sum all any keep heldUntil endOf remaining precedes before covers unitsAt used enough spare heldUnits ready startFor moved ahead startWithin packedStart pack clear fits seek place contention startBound takenBefore trulyFree goesWithin goes granted grant grants shareOf pendingOf unfilled unfilledByOthers firstOf tests advance finish join remove admit act step new standingOf after answers scenarios outcome
 all-scenarios = refl
 
 pub all-draws : map drawn draws ≡ map expectedOf draws
-unfolding someFrom lowestFrom common shares empty within greatest least sum all any keep heldUntil endOf remaining precedes before covers unitsAt used enough spare heldUnits freeUnits ready startFor moved ahead startWithin packedStart pack clear fits seek place contention startBound takenBefore trulyFree goesWithin goes granted grant grants firstOf tests advance finish join remove admit act step new standingOf after answers draws drawn
+unfolding someFrom lowestFrom common shares empty within greatest least sum all any keep heldUntil endOf remaining precedes before covers unitsAt used enough spare heldUnits freeUnits ready startFor moved ahead startWithin packedStart pack clear fits seek place contention startBound takenBefore trulyFree goesWithin goes granted grant grants shareOf pendingOf unfilled unfilledByOthers firstOf tests advance finish join remove admit act step new standingOf after answers draws drawn
 all-draws = refl
 
 pub all-pairs : map toldOf pairs ≡ map (λ p. p .told) pairs
-unfolding someFrom lowestFrom common shares empty within greatest least sum all any keep heldUntil endOf remaining precedes before covers unitsAt used enough spare heldUnits ready startFor moved ahead startWithin packedStart pack clear fits seek place contention startBound takenBefore trulyFree goesWithin goes granted grant grants firstOf tests advance finish join remove admit act step new commonOf after answers pairs toldOf
+unfolding someFrom lowestFrom common shares empty within greatest least sum all any keep heldUntil endOf remaining precedes before covers unitsAt used enough spare heldUnits ready startFor moved ahead startWithin packedStart pack clear fits seek place contention startBound takenBefore trulyFree goesWithin goes granted grant grants shareOf pendingOf unfilled unfilledByOthers firstOf tests advance finish join remove admit act step new commonOf after answers pairs toldOf
 all-pairs = refl
+
+pub all-sharings : map numberOf sharings ≡ map (λ x. x .number) sharings
+unfolding someFrom empty within sum keep shareOf withShare pendingOf unfilled unfilledByOthers reservedInAll firstOf tests act step new after sharings numberOf
+all-sharings = refl

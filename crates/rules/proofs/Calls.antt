@@ -1,28 +1,29 @@
 -- The calls: what accepting one means, its cases, and that every call keeps the invariant.
 use mathlib.Core.Path.{_≡_, refl, sym, _∙_, ap}
 use mathlib.Core.Logic.{_⊎_, inl, inr, ⊎-elim, _≢_}
-use mathlib.Core.Bool.{true, false, not, _&&_}
+use mathlib.Core.Bool.{Bool, true, false, not, _&&_}
 use mathlib.Core.List.{List, [], _∷_, List·Memᴰ·append-cases, List·Memᴰ·eq-of-singleton}
 use Prim.Native.Nat.{ℕ, zero, suc, _≤_, _<_}
 use native.Mathlib.Omega.{arith}
 use lib.Dec.{eqb}
 use lib.ListN.{length}
 use borrow.Author.Tests.{ltb-false, le-ltb, leb-false, eqb-false, not-false}
-use Rattle.numbers.specs.Numbers.{mostClock, mostLength, mostPending, mostTickets}
+use Rattle.numbers.specs.Numbers.{mostClock, mostLength, mostTickets}
 use Rattle.groups.specs.Groups.{empty, within}
 use Rattle.rules.specs.declared.Claim.{Claim}
 use Rattle.rules.specs.declared.Request.{Request}
 use Rattle.rules.specs.declared.Phase.the-variants.{Waiting}
 use Rattle.rules.specs.Lists.{_∈_, sum}
+use Rattle.rules.specs.Shares.{shareOf, pendingOf, unfilledByOthers, reservedInAll}
 use Rattle.rules.specs.Pool.{used, heldUnits}
 use Rattle.rules.specs.declared.Setting.{Setting}
 use Rattle.rules.specs.Claims.{on, at, withPhase}
 use Rattle.rules.specs.Packing.{packedStart, moved, pack, Packs}
 use Rattle.rules.specs.Placing.{place}
 use Rattle.rules.specs.Granting.{granted, grant}
-use Rattle.rules.specs.Tests.{Test, firstOf, late, backward, nothingAsked, offRig, spots, badLength, full, ticketless, named}
+use Rattle.rules.specs.Tests.{Test, firstOf, late, backward, stranger, noClient, nothingAsked, offRig, spots, badLength, fullFor, over, begun, overbooked, ticketless, named}
 use Rattle.rules.specs.declared.Reply.{Reply}
-use Rattle.rules.specs.Calls.{Model, settingOf, ruled, Call, claim, release, withdraw, clock, lookup, common, free, timed, clockOf, Step, tests, unchanged, advance, plain, finish, join, remove, fresh, admit, act, unless, step, blank, new, after}
+use Rattle.rules.specs.Calls.{Model, settingOf, clientsOf, ruled, Call, claim, release, withdraw, clock, lookup, common, free, declare, timed, clockOf, looks, declared, Step, tests, unchanged, advance, plain, finish, join, remove, fresh, admit, act, unless, step, blank, new, after}
 use Rattle.rules.specs.Plans.{Fits, Sane}
 use Rattle.rules.specs.Invariants.{IsSpaced, IsPacked, Invariant}
 use Rattle.rules.proofs.Bools.{by-test, or-fl, or-fr}
@@ -49,38 +50,71 @@ clock-passes m t ts e =
 -- What the tests of an accepted claim say.
 pub record Admissible (m : Model) (t : ℕ) (ask : Request) : Type 0 where
   pub clocked : Clocked m t
+  pub known : shareOf (m .shares) (ask .client) .declared ≡ true
   pub asks : (empty (ask .groups) && eqb (ask .units) 0) ≡ false
   pub inside : within (ask .groups) (m .rig) ≡ true
   pub drawn : ask .units ≤ m .pool
   pub long : 1 ≤ ask .length
   pub short : ask .length ≤ mostLength
-  pub room : length (m .pending) < mostPending
+  pub room : (let ks = clientsOf (m .pending) in
+      fullFor (shareOf (m .shares) (ask .client)) (pendingOf ks (ask .client)) (length (m .pending)) (unfilledByOthers (m .shares) ks (ask .client)) .fails ≡ false)
+  pub limited : over (shareOf (m .shares) (ask .client)) (pendingOf (clientsOf (m .pending)) (ask .client)) .fails ≡ false
   pub spare : m .issued < mostTickets
 
 pub admissible : (m : Model) (t : ℕ) (ask : Request) → firstOf (tests m (claim t ask)) ≡ 0 → Admissible m t ask
 unfolding tests
 admissible m t ask e =
+    let s = shareOf (m .shares) (ask .client) in
+    let ks = clientsOf (m .pending) in
+    let own = pendingOf ks (ask .client) in
     let a = clock-passes m t _ e in
-    let b = passes (nothingAsked (ask .groups) (ask .units)) _ (omega arith) (a .1) in
+    let k = passes (stranger s) _ (omega arith) (a .1) in
+    let b = passes (nothingAsked (ask .groups) (ask .units)) _ (omega arith) (k .1) in
     let c = passes (offRig (m .rig) (ask .groups)) _ (omega arith) (b .1) in
     let g = passes (spots (m .pool) (ask .units)) _ (omega arith) (c .1) in
     let d = passes (badLength (ask .length)) _ (omega arith) (g .1) in
-    let f = passes (full (length (m .pending))) _ (omega arith) (d .1) in
-    let h = passes (ticketless (m .issued)) [] (omega arith) (f .1) in
+    let f = passes (fullFor s own (length (m .pending)) (unfilledByOthers (m .shares) ks (ask .client))) _ (omega arith) (d .1) in
+    let o = passes (over s own) _ (omega arith) (f .1) in
+    let h = passes (ticketless (m .issued)) [] (omega arith) (o .1) in
     record {
       clocked = a .0;
+      known = not-false (s .declared) (k .0);
       asks = b .0;
       inside = not-false (within (ask .groups) (m .rig)) (c .0);
       drawn = ltb-false (m .pool) (ask .units) (g .0);
       long = positive (ask .length) (or-fl (eqb (ask .length) 0) _ (d .0));
       short = ltb-false mostLength (ask .length) (or-fr (eqb (ask .length) 0) _ (d .0));
-      room = leb-false mostPending _ (f .0);
+      room = f .0;
+      limited = o .0;
       spare = leb-false mostTickets _ (h .0);
     }
   where
     positive : (n : ℕ) → eqb n 0 ≡ false → 1 ≤ n
     positive zero z = absurd (eqb-false 0 0 z refl)
     positive (suc n) z = omega arith
+
+-- What those of an accepted declaration say.
+pub record Declarable (m : Model) (c r l : ℕ) : Type 0 where
+  pub unissued : m .issued ≡ 0
+  pub client : noClient c .fails ≡ false
+  pub books : overbooked (shareOf (m .shares) c) (reservedInAll (m .shares)) r l .fails ≡ false
+
+pub declarable : (m : Model) (c r l : ℕ) → firstOf (tests m (declare c r l)) ≡ 0 → Declarable m c r l
+unfolding tests
+declarable m c r l e =
+    let a = passes (begun (m .issued)) _ (omega arith) e in
+    let b = passes (noClient c) _ (omega arith) (a .1) in
+    let d = passes (overbooked (shareOf (m .shares) c) (reservedInAll (m .shares)) r l) [] (omega arith) (b .1) in
+    record { unissued = (let z = ltb-false 0 (m .issued) (a .0) in omega arith); client = b .0; books = d .0 }
+
+-- ── the number of a claim's answer is that of its first test that fails ──
+pub claim-number : (m : Model) (t : ℕ) (ask : Request) → step m (claim t ask) .answer .number ≡ firstOf (tests m (claim t ask))
+unfolding step act admit finish
+claim-number m t ask = go (firstOf (tests m (claim t ask)))
+  where
+    go : (n : ℕ) → unless m n (act m (claim t ask)) .answer .number ≡ n
+    go zero = refl
+    go (suc n) = refl
 
 -- ── what the acts keep ──
 pub advance-packed : (m : Model) (t : ℕ) → Invariant m → m .clock ≤ t → IsPacked (advance m t)
@@ -185,22 +219,34 @@ unfolding finish
 finish-clock m r = refl
 
 -- ── the cases of a call ──
--- A call that changes nothing: refused, or a lookup.
+-- A call that changes nothing: a lookup, or refused.
 abbrev pub Idle : Call → ℕ → Type 0
-Idle c n = (timed c ≡ false) ⊎ (n ≢ 0)
+Idle c n = (looks c ≡ true) ⊎ (n ≢ 0)
+
+-- A lookup is no timed call.
+pub looks-untimed : (c : Call) → looks c ≡ true → timed c ≡ false
+looks-untimed (claim t ask) e = sym e
+looks-untimed (release t k) e = sym e
+looks-untimed (withdraw t k) e = sym e
+looks-untimed (clock t) e = sym e
+looks-untimed (lookup k) e = refl
+looks-untimed (common j k) e = refl
+looks-untimed free e = refl
+looks-untimed (declare c r l) e = refl
 
 by-tests : (P : Step → Type 0) (m : Model) (n : ℕ) (s : Step) → ((j : ℕ) → P (unchanged m (suc j))) → (n ≡ 0 → P s) → P (unless m n s)
 by-tests P m zero s h k = k refl
 by-tests P m (suc n) s h k = h n
 
--- To show something of a call's step, show it of these three.
+-- To show something of a call's step, show it of these four.
 pub step-cases : (P : Call → Step → Type 0) (m : Model)
     → ((c : Call) (n : ℕ) → Idle c n → P c (unchanged m n))
     → ((t : ℕ) (ask : Request) → Admissible m t ask → P (claim t ask) (admit (advance m t) ask))
     → ((c : Call) (t k : ℕ) (q : Model) → Clocked m t → Leaves m c t k q → P c (finish q (plain k t)))
+    → ((c r l : ℕ) → Declarable m c r l → P (declare c r l) (unchanged (declared m c r l) 0))
     → (c : Call) → P c (step m c)
 unfolding step act tests
-step-cases P m no! yes-claim yes-left c = by-tests (P c) m (firstOf (tests m c)) (act m c) (λ j. no! c (suc j) (inr (λ e. omega arith))) (accepted c)
+step-cases P m no! yes-claim yes-left yes-declare c = by-tests (P c) m (firstOf (tests m c)) (act m c) (λ j. no! c (suc j) (inr (λ e. omega arith))) (accepted c)
   where
     accepted : (c : Call) → firstOf (tests m c) ≡ 0 → P c (act m c)
     accepted (claim t ask) e = yes-claim t ask (admissible m t ask e)
@@ -210,6 +256,7 @@ step-cases P m no! yes-claim yes-left c = by-tests (P c) m (firstOf (tests m c))
     accepted (lookup k) e = no! (lookup k) 0 (inl refl)
     accepted (common j k) e = no! (common j k) 0 (inl refl)
     accepted free e = no! free 0 (inl refl)
+    accepted (declare c r l) e = yes-declare c r l (declarable m c r l e)
 
 -- A clock call whose clock is neither late nor backward is accepted.
 pub clock-accepted : (m : Model) (t : ℕ) → Clocked m t → step m (clock t) ≡ finish (advance m t) (plain 0 t)
@@ -233,11 +280,12 @@ pub step-invariant : (m : Model) (c : Call) → Invariant m → Invariant (step 
 step-invariant m c i =
     step-cases (λ d s. Invariant (s .model)) m (λ d n z. i)
     (λ t ask a. admit-invariant (advance m t) ask (a .long) (advance-drawn m t ask a) (advance-spare m t ask a) (advance-packed m t i (a .clocked .later)))
-    (λ d t k q o v. finish-invariant q (plain k t) (leaves-spaced v (advance-packed m t i (o .later)))) c
+    (λ d t k q o v. finish-invariant q (plain k t) (leaves-spaced v (advance-packed m t i (o .later))))
+    (λ c r l d. i) c
 
-pub blank-invariant : (g k : ℕ) → Invariant (blank g k)
+pub blank-invariant : (g k : ℕ) (alone : Bool) → Invariant (blank g k alone)
 unfolding heldUnits used sum
-blank-invariant g k = record {
+blank-invariant g k alone = record {
   spaced =
       record {
         proper = λ c m. none m;
@@ -251,12 +299,13 @@ blank-invariant g k = record {
 }
 
 -- To show something of a new table, show it of a refused one and of the others.
-pub new-cases : (P : Step → Type 0) (g k : ℕ) → (empty g ≡ true → P (unchanged (blank 0 0) 1)) → (empty g ≡ false → P (unchanged (blank g k) 0)) → P (new g k)
+pub new-cases : (P : Step → Type 0) (g k : ℕ) (alone : Bool)
+    → (empty g ≡ true → P (unchanged (blank 0 0 alone) 1)) → (empty g ≡ false → P (unchanged (blank g k alone) 0)) → P (new g k alone)
 unfolding new
-new-cases P g n h k = by-test (empty g) (λ e. rw e (h e)) (λ e. rw e (k e))
+new-cases P g n alone h k = by-test (empty g) (λ e. rw e (h e)) (λ e. rw e (k e))
 
-pub new-invariant : (g k : ℕ) → Invariant (new g k .model)
-new-invariant g k = new-cases (λ (s : Step). Invariant (s .model)) g k (λ e. blank-invariant 0 0) (λ e. blank-invariant g k)
+pub new-invariant : (g k : ℕ) (alone : Bool) → Invariant (new g k alone .model)
+new-invariant g k alone = new-cases (λ (s : Step). Invariant (s .model)) g k alone (λ e. blank-invariant 0 0 alone) (λ e. blank-invariant g k alone)
 
 pub after-invariant : (m : Model) (cs : List Call) → Invariant m → Invariant (after m cs)
 unfolding after

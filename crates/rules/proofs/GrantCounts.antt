@@ -15,7 +15,7 @@ use Rattle.rules.specs.Packing.{packedStart, moved, pack}
 use Rattle.rules.specs.Granting.{goes, granted, grant, grants}
 use Rattle.rules.specs.Tests.{named}
 use Rattle.rules.specs.declared.Reply.{Reply}
-use Rattle.rules.specs.Calls.{Model, settingOf, ruled, Call, Step, unchanged, advance, plain, finish, join, remove, admit, step, blank, new}
+use Rattle.rules.specs.Calls.{Model, settingOf, ruled, Call, Step, unchanged, advance, declared, plain, finish, join, remove, admit, step, blank, new}
 use Rattle.rules.proofs.Bools.{by-test}
 use Rattle.rules.proofs.Lists.{keep-length}
 use Rattle.rules.proofs.Packing.{moved-phase}
@@ -33,9 +33,9 @@ waitingIn ps = sum waits ps
 unfoldable pub waiting : Model → ℕ
 waiting m = waitingIn (m .pending)
 
-pub waiting-none : (g k : ℕ) → waiting (blank g k) ≡ 0
+pub waiting-none : (g k : ℕ) (alone : Bool) → waiting (blank g k alone) ≡ 0
 unfolding waiting waitingIn sum
-waiting-none g k = refl
+waiting-none g k alone = refl
 
 waiting-map : (f : Claim → Claim) → ((c : Claim) → on (f c) ≡ on c) → (ps : List Claim) → waitingIn (map f ps) ≡ waitingIn ps
 unfolding waitingIn sum
@@ -103,17 +103,22 @@ module _ (m : Model) where
       let q = advance m t in
       finish-counted (join q (placed q ask)) _ (omega (arith, waiting-snoc (q .pending) (placed q ask), waiting-advance t)) (omega arith)
 
+  declare-counted : (c r l : ℕ) → Counted m (unchanged (declared m c r l) 0)
+  unfolding waiting
+  declare-counted c r l = record { few = omega arith; once = omega arith; issues-few = omega arith }
+
   pub step-counted : (c : Call) → Counted m (step m c)
   step-counted c =
       step-cases (λ d s. Counted m s) m
       (λ d n z. record { few = omega arith; once = omega arith; issues-few = omega arith })
       (λ t ask a. admit-counted t ask)
-      (λ d t k q o v. let l = waiting-left v in finish-counted q (plain k t) (omega (arith, l .0)) (omega (arith, l .1))) c
+      (λ d t k q o v. let l = waiting-left v in finish-counted q (plain k t) (omega (arith, l .0)) (omega (arith, l .1)))
+      (λ c r l d. declare-counted c r l) c
 
   -- A new table has nothing pending.
-  pub new-counted : (g k : ℕ) → Counted m (new g k)
+  pub new-counted : (g k : ℕ) (alone : Bool) → Counted m (new g k alone)
   unfolding waiting waitingIn sum
-  new-counted g k = new-cases (Counted m) g k (λ e. none) (λ e. none)
+  new-counted g k alone = new-cases (Counted m) g k alone (λ e. none) (λ e. none)
     where
-      none : {x k n : ℕ} → Counted m (unchanged (blank x k) n)
+      none : {x k n : ℕ} → Counted m (unchanged (blank x k alone) n)
       none = record { few = omega arith; once = omega arith; issues-few = omega arith }

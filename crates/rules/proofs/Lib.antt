@@ -15,9 +15,12 @@ pub mod StartBound
 pub mod Granting
 pub mod Repacking
 pub mod Invariants
+pub mod Shares
 pub mod Calls
+pub mod Booking
 pub mod GrantCounts
 pub mod OnePacking
 pub mod NoOverrun
 pub mod Lookup
 pub mod NoUnits
+pub mod OneClient

@@ -1,12 +1,12 @@
 -- Claims that draw no units fare as in document 01, whatever the pool and whatever others draw: `start-documented` of packing,
--- `fits-documented` of placing, `tests-documented` of the tests, and of granting `goes-documented` (proofs/Granting). Where no call of a
--- run draws any, the pool changes nothing: `pool-indifferent` of the answers, `pool-alone` of the tables.
+-- `fits-documented` of placing, of the tests `tests-undrawn` and `tests-documented` (proofs/OneClient), of granting `goes-documented`
+-- (proofs/Granting). Where no call of a run draws any, the pool changes nothing: `pool-indifferent` of the answers, `pool-alone` of the
+-- tables.
 use mathlib.Core.Path.{_≡_, refl, sym, _∙_, ap}
-use mathlib.Core.Bool.{Bool, false, _&&_}
+use mathlib.Core.Bool.{Bool, false}
 use mathlib.Core.List.{List, [], _∷_, map}
 use Prim.Native.Nat.{ℕ, zero, suc}
 use native.Mathlib.Omega.{arith}
-use lib.Dec.{eqb}
 use borrow.Author.Tests.{le-ltb, eq-eqb}
 use Rattle.groups.specs.Groups.{empty}
 use Rattle.rules.specs.declared.Claim.{Claim}
@@ -20,17 +20,23 @@ use Rattle.rules.specs.Seeking.{candidates, seek}
 use Rattle.rules.specs.Packing.{ready, startFor, moved, ahead, startWithin, packedStart, pack, Packs}
 use Rattle.rules.specs.Placing.{clear, fits, place, startBound}
 use Rattle.rules.specs.Granting.{trulyFree, goesWithin, goes, granted, grant, grants}
-use Rattle.rules.specs.Tests.{firstOf}
-use Rattle.rules.specs.Calls.{Model, Call, claim, release, withdraw, clock, lookup, common, free, Answer, Step, withClock, withPending, ruled, settingOf, tests, advance, plain, granting, finish, join, remove, fresh, admit, act, unless, step, blank, after, answers}
-use Rattle.rules.specs.NoUnits.{documentedStart, documentedFits, documentedTests, drawsNone, DrawsNone, withPool}
+use Rattle.rules.specs.Shares.{shareOf}
+use Rattle.rules.specs.Tests.{firstOf, late, backward, stranger, dark, nothingAsked, offRig, spots}
+use Rattle.rules.specs.Calls.{Model, Call, claim, release, withdraw, clock, lookup, common, free, declare, Answer, Step, withClock, withPending, ruled, settingOf, tests, advance, plain, granting, finish, join, remove, fresh, admit, act, unless, step, blank, after, answers}
+use Rattle.rules.specs.NoUnits.{documentedStart, documentedFits, undrawnTests, drawsNone, DrawsNone, withPool}
 use Rattle.rules.proofs.Bools.{and-l, and-i, both-ways}
 use Rattle.rules.proofs.Lists.{Each, none, greatest-base, greatest-ge, greatest-le, keep-e, keep-i, keep-cong, map-each, map-cong, snoc-each}
+use Rattle.rules.proofs.Tests.{front, skipped, swapped}
 use Rattle.rules.proofs.Pool.{spare-none}
 use Rattle.rules.proofs.Packing.{moved-cong, moved-units}
 use Rattle.rules.proofs.Granting.{granted-cases}
 use Rattle.rules.proofs.Calls.{placed, leaves-old, step-cases}
 
 -- ── a claim that draws none ──
+-- It asks for nothing where it asks for no group.
+pub undrawn-dark : (ask : Request) → ask .units ≡ 0 → nothingAsked (ask .groups) (ask .units) .fails ≡ dark (ask .groups) .fails
+undrawn-dark ask z = both-ways _ _ (and-l (empty (ask .groups)) _) (λ e. and-i (empty (ask .groups)) _ e (eq-eqb (ask .units) 0 z))
+
 module _ (v : Setting) (ps : List Claim) (w : Claim) (undrawn : w .units ≡ 0) where
   -- It is packed at the greatest of the clock and the ends of the claims that precede it.
   pub start-documented : (f : Claim → ℕ) → Packs v ps f → w ∈ ps → on w ≡ false → f w ≡ documentedStart v ps f w
@@ -53,12 +59,12 @@ module _ (v : Setting) (ps : List Claim) (w : Claim) (undrawn : w .units ≡ 0) 
   fits-documented s = both-ways _ _ (and-l (all (clear v w s) ps) _) (λ e. and-i (all (clear v w s) ps) _ e (spare-none v ps w undrawn s))
 
 -- The call is tested as if there were no pool.
-pub tests-documented : (m : Model) (t : ℕ) (ask : Request) → ask .units ≡ 0 → firstOf (tests m (claim t ask)) ≡ firstOf (documentedTests m t ask)
-unfolding tests firstOf
-tests-documented m t ask z = rw (dark-is, le-ltb (m .pool) (ask .units) (omega arith))
-  where
-    dark-is : (empty (ask .groups) && eqb (ask .units) 0) ≡ empty (ask .groups)
-    dark-is = both-ways _ _ (and-l (empty (ask .groups)) _) (λ e. and-i (empty (ask .groups)) _ e (eq-eqb (ask .units) 0 z))
+pub tests-undrawn : (m : Model) (t : ℕ) (ask : Request) → ask .units ≡ 0 → firstOf (tests m (claim t ask)) ≡ firstOf (undrawnTests m t ask)
+unfolding tests
+tests-undrawn m t ask z =
+    front (late t) _ _ (front (backward (m .clock) t) _ _ (front (stranger (shareOf (m .shares) (ask .client))) _ _
+    (swapped (nothingAsked (ask .groups) (ask .units)) (dark (ask .groups)) _ (undrawn-dark ask z) refl
+    ∙ front (dark (ask .groups)) _ _ (front (offRig (m .rig) (ask .groups)) _ _ (skipped (spots (m .pool) (ask .units)) _ (le-ltb (m .pool) (ask .units) (omega arith)))))))
 
 -- ── seeking by tests that agree ──
 least-cong : (p q : ℕ → Bool) → ((n : ℕ) → p n ≡ q n) → (d : ℕ) (l : List ℕ) → least p d l ≡ least q d l
@@ -169,7 +175,8 @@ step-undrawn : (m : Model) (c : Call) → drawsNone c → IsUndrawn m → IsUndr
 step-undrawn m c d u =
     step-cases (λ c s. drawsNone c → IsUndrawn (s .model)) m (λ c n i d. u)
     (λ t ask a d. admit-undrawn (advance m t) ask d (advance-undrawn m t u))
-    (λ c t k q o l d. finish-undrawn q (plain k t) (λ y i. advance-undrawn m t u y (leaves-old l y i))) c d
+    (λ c t k q o l d. finish-undrawn q (plain k t) (λ y i. advance-undrawn m t u y (leaves-old l y i)))
+    (λ c r l d e. u) c d
 
 -- ── the calls at two pools ──
 -- The same step with a pool of k.
@@ -215,16 +222,18 @@ module _ (k : ℕ) where
   act-pool m (lookup i) d u = refl
   act-pool m (common i j) d u = refl
   act-pool m free d u = refl
+  act-pool m (declare c r l) d u = refl
 
   tests-pool : (m : Model) (c : Call) → drawsNone c → firstOf (tests (withPool k m) c) ≡ firstOf (tests m c)
-  unfolding tests
-  tests-pool m (claim t ask) d = tests-documented (withPool k m) t ask d ∙ sym (tests-documented m t ask d)
+  unfolding tests firstOf
+  tests-pool m (claim t ask) d = rw (le-ltb k (ask .units) (omega arith), le-ltb (m .pool) (ask .units) (omega arith))
   tests-pool m (release t i) d = refl
   tests-pool m (withdraw t i) d = refl
   tests-pool m (clock t) d = refl
   tests-pool m (lookup i) d = refl
   tests-pool m (common i j) d = refl
   tests-pool m free d = refl
+  tests-pool m (declare c r l) d = refl
 
   unless-pool : (m : Model) (n : ℕ) (s : Step) → unless (withPool k m) n (repooled k s) ≡ repooled k (unless m n s)
   unless-pool m zero s = refl
@@ -249,9 +258,9 @@ module _ (k : ℕ) where
 
 -- ── a run that draws none ──
 -- The pool changes no answer.
-pub pool-indifferent : (g j k : ℕ) (cs : List Call) → DrawsNone cs → answers (blank g j) cs ≡ answers (blank g k) cs
-pool-indifferent g j k cs d = sym (answers-pool k (blank g j) cs d (λ c m. none m))
+pub pool-indifferent : (g j k : ℕ) (alone : Bool) (cs : List Call) → DrawsNone cs → answers (blank g j alone) cs ≡ answers (blank g k alone) cs
+pool-indifferent g j k alone cs d = sym (answers-pool k (blank g j alone) cs d (λ c m. none m))
 
 -- The tables differ in the pool alone.
-pub pool-alone : (g j k : ℕ) (cs : List Call) → DrawsNone cs → after (blank g k) cs ≡ withPool k (after (blank g j) cs)
-pool-alone g j k cs d = after-pool k (blank g j) cs d (λ c m. none m)
+pub pool-alone : (g j k : ℕ) (alone : Bool) (cs : List Call) → DrawsNone cs → after (blank g k alone) cs ≡ withPool k (after (blank g j alone) cs)
+pool-alone g j k alone cs d = after-pool k (blank g j alone) cs d (λ c m. none m)

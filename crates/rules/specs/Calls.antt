@@ -1,6 +1,6 @@
 -- The calls: in which order each is tested, and what it does. Everything here computes on numerals.
 use mathlib.Core.Bool.{Bool, true, false, not, cond}
-use mathlib.Core.List.{List, [], _∷_, _++_}
+use mathlib.Core.List.{List, [], _∷_, _++_, map}
 use Prim.Native.Nat.{ℕ, zero, suc, _+_}
 use lib.ListN.{length}
 use Rattle.numbers.specs.Numbers.{darkNumber, unknownNumber}
@@ -11,18 +11,20 @@ use Rattle.rules.specs.declared.Claim.{Claim}
 use Rattle.rules.specs.declared.Request.{Request}
 use Rattle.rules.specs.declared.Reply.{Reply}
 use Rattle.rules.specs.declared.Setting.{Setting}
+use Rattle.rules.specs.declared.Share.{Share}
 use Rattle.rules.specs.declared.Phase.the-variants.{Waiting}
 use Rattle.rules.specs.declared.Common.{Common}
 use Rattle.rules.specs.declared.Common.the-variants.{Unknown, Shared, Apart}
 use Rattle.rules.specs.declared.Standing.{Standing}
 use Rattle.rules.specs.declared.Standing.the-variants.{NotPending, Waits, Holds}
 use Rattle.rules.specs.Lists.{keep}
+use Rattle.rules.specs.Shares.{share, firstShares, shareOf, withShare, pendingOf, unfilledByOthers, reservedInAll}
 use Rattle.rules.specs.Claims.{on, at, withPhase, conflicts}
 use Rattle.rules.specs.Packing.{pack}
 use Rattle.rules.specs.Placing.{place, contention, startBound}
 use Rattle.rules.specs.Granting.{grant, grants}
 use Rattle.rules.specs.Pool.{freeUnits}
-use Rattle.rules.specs.Tests.{Test, firstOf, late, backward, nothingAsked, offRig, spots, badLength, full, ticketless, named, unknown, notYetOn, alreadyOn}
+use Rattle.rules.specs.Tests.{Test, firstOf, late, backward, stranger, noClient, nothingAsked, offRig, spots, badLength, fullFor, over, begun, overbooked, ticketless, named, unknown, notYetOn, alreadyOn}
 
 -- What a table means. The pending claims stand in ascending order of ticket.
 pub record Model : Type 0 where
@@ -30,16 +32,24 @@ pub record Model : Type 0 where
   pub clock : ℕ
   pub pool : ℕ
   pub issued : ℕ
+  pub shares : List Share
   pub pending : List Claim
 
 abbrev pub withClock : Model → ℕ → Model
-withClock m t = record { rig = m .rig; clock = t; pool = m .pool; issued = m .issued; pending = m .pending }
+withClock m t = record { rig = m .rig; clock = t; pool = m .pool; issued = m .issued; shares = m .shares; pending = m .pending }
 
 abbrev pub withIssued : Model → ℕ → Model
-withIssued m n = record { rig = m .rig; clock = m .clock; pool = m .pool; issued = n; pending = m .pending }
+withIssued m n = record { rig = m .rig; clock = m .clock; pool = m .pool; issued = n; shares = m .shares; pending = m .pending }
 
 abbrev pub withPending : Model → List Claim → Model
-withPending m ps = record { rig = m .rig; clock = m .clock; pool = m .pool; issued = m .issued; pending = ps }
+withPending m ps = record { rig = m .rig; clock = m .clock; pool = m .pool; issued = m .issued; shares = m .shares; pending = ps }
+
+abbrev pub withShares : Model → List Share → Model
+withShares m ss = record { rig = m .rig; clock = m .clock; pool = m .pool; issued = m .issued; shares = ss; pending = m .pending }
+
+-- The clients of claims.
+abbrev pub clientsOf : List Claim → List ℕ
+clientsOf ps = map (λ c. c .client) ps
 
 -- The rules at clock t in this table; and at its own.
 abbrev pub ruled : Model → ℕ → Setting
@@ -48,11 +58,12 @@ ruled m t = record { clock = t; pool = m .pool }
 abbrev pub settingOf : Model → Setting
 settingOf m = ruled m (m .clock)
 
--- A request of groups for a length of time, and nothing else.
+-- A request of client 1 for groups for a length of time, and nothing else.
 abbrev pub asking : ℕ → ℕ → Request
-asking g n = record { groups = g; length = n; units = 0 }
+asking g n = record { groups = g; length = n; units = 0; client = 1 }
 
--- The calls of a run: clock and what is asked for, clock and ticket, clock, ticket, two tickets, nothing. (Document 01: look is our lookup.)
+-- The calls of a run: clock and what is asked for, clock and ticket, clock, ticket, two tickets, nothing; a client with its guarantee and its
+-- limit. (Document 01: look is our lookup.)
 pub data Call : Type 0 where
   claim : ℕ → Request → Call
   release : ℕ → ℕ → Call
@@ -61,6 +72,7 @@ pub data Call : Type 0 where
   lookup : ℕ → Call
   common : ℕ → ℕ → Call
   free : Call
+  declare : ℕ → ℕ → ℕ → Call
 
 -- "Every accepted timed call (claim, release, withdraw, clock)"
 abbrev pub timed : Call → Bool
@@ -71,6 +83,7 @@ timed (clock t) = true
 timed (lookup k) = false
 timed (common j k) = false
 timed free = false
+timed (declare c r l) = false
 
 -- The clock that a timed call bears.
 abbrev pub clockOf : Call → ℕ
@@ -81,6 +94,18 @@ clockOf (clock t) = t
 clockOf (lookup k) = 0
 clockOf (common j k) = 0
 clockOf free = 0
+clockOf (declare c r l) = 0
+
+-- The calls that only tell: they change nothing.
+abbrev pub looks : Call → Bool
+looks (claim t ask) = false
+looks (release t k) = false
+looks (withdraw t k) = false
+looks (clock t) = false
+looks (lookup k) = true
+looks (common j k) = true
+looks free = true
+looks (declare c r l) = false
 
 -- What a call answers: 0 or the refusal's number; ticket; start; contention and start bound; "the answer names those tickets".
 pub record Answer : Type 0 where
@@ -97,18 +122,23 @@ pub record Step : Type 0 where
   pub answer : Answer
 
 -- ── tests ──
--- "A claim is tested in the order 5, 4, 1, 2, 3, 6, 7; a release 5, 4, 8, 9; a withdrawal 5, 4, 8, 10; a clock call 5, 4"; and of a
--- claim "16 .. after 2"
+-- "A claim is tested in the order 5, 4, 1, 2, 3, 6, 7; a release 5, 4, 8, 9; a withdrawal 5, 4, 8, 10; a clock call 5, 4"; of a claim
+-- "16 .. after 2", "17 .. before 1", "18 .. after 6"; a declaration is answered 13 "before 17", and 19 "after 17".
 unfoldable pub tests : Model → Call → List Test
 tests m (claim t ask) =
-    late t ∷ backward (m .clock) t ∷ nothingAsked (ask .groups) (ask .units) ∷ offRig (m .rig) (ask .groups) ∷ spots (m .pool) (ask .units)
-    ∷ badLength (ask .length) ∷ full (length (m .pending)) ∷ ticketless (m .issued) ∷ []
+    let s = shareOf (m .shares) (ask .client) in
+    let ks = clientsOf (m .pending) in
+    let own = pendingOf ks (ask .client) in
+    late t ∷ backward (m .clock) t ∷ stranger s ∷ nothingAsked (ask .groups) (ask .units) ∷ offRig (m .rig) (ask .groups)
+    ∷ spots (m .pool) (ask .units) ∷ badLength (ask .length) ∷ fullFor s own (length (m .pending)) (unfilledByOthers (m .shares) ks (ask .client))
+    ∷ over s own ∷ ticketless (m .issued) ∷ []
 tests m (release t k) = late t ∷ backward (m .clock) t ∷ unknown (named k) (m .pending) ∷ notYetOn (named k) on (m .pending) ∷ []
 tests m (withdraw t k) = late t ∷ backward (m .clock) t ∷ unknown (named k) (m .pending) ∷ alreadyOn (named k) on (m .pending) ∷ []
 tests m (clock t) = late t ∷ backward (m .clock) t ∷ []
 tests m (lookup k) = unknown (named k) (m .pending) ∷ []
 tests m (common j k) = unknown (named j) (m .pending) ∷ unknown (named k) (m .pending) ∷ []
 tests m free = []
+tests m (declare c r l) = begun (m .issued) ∷ noClient c ∷ overbooked (shareOf (m .shares) c) (reservedInAll (m .shares)) r l ∷ []
 
 -- "A call turned down answers its number, with ticket, start, crowd and ceiling 0 and no grants; the table is the one handed in"
 abbrev pub unchanged : Model → ℕ → Step
@@ -144,7 +174,7 @@ remove m k = withPending m (keep (λ c. not (named k c)) (m .pending))
 
 -- A new claim, before it has its place: waiting from the clock on.
 abbrev pub fresh : Model → Request → Claim
-fresh m ask = record { groups = ask .groups; phase = Waiting (m .clock); length = ask .length; ticket = suc (m .issued); units = ask .units }
+fresh m ask = record { groups = ask .groups; phase = Waiting (m .clock); length = ask .length; ticket = suc (m .issued); units = ask .units; client = ask .client }
 
 -- "Claim": placed among the pending claims; "the answer is ticket, start, crowd and ceiling".
 abbrev pub placing : Model → Claim → Reply
@@ -158,6 +188,10 @@ admit m ask =
     let r : Reply = placing m w in
     finish (join m (withPhase w (Waiting (r .start)))) r
 
+-- A declaration gives its client a share. All that it answers is 0.
+abbrev pub declared : Model → ℕ → ℕ → ℕ → Model
+declared m c r l = withShares m (withShare (m .shares) c (share r l))
+
 -- "Release takes away an on claim; withdraw takes away a waiting one. Clock only moves the clock." Look "changes nothing".
 unfoldable pub act : Model → Call → Step
 act m (claim t ask) = admit (advance m t) ask
@@ -167,6 +201,7 @@ act m (clock t) = finish (advance m t) (plain 0 t)
 act m (lookup k) = unchanged m 0
 act m (common j k) = unchanged m 0
 act m free = unchanged m 0
+act m (declare c r l) = unchanged (declared m c r l) 0
 
 -- The call's own step, or the refusal.
 abbrev pub unless : Model → ℕ → Step → Step
@@ -177,13 +212,14 @@ unfoldable pub step : Model → Call → Step
 step m c = unless m (firstOf (tests m c)) (act m c)
 
 -- ── a new table, lookup, and lists of calls ──
-abbrev pub blank : ℕ → ℕ → Model
-blank g k = record { rig = g; clock = 0; pool = k; issued = 0; pending = [] }
+abbrev pub blank : ℕ → ℕ → Bool → Model
+blank g k alone = record { rig = g; clock = 0; pool = k; issued = 0; shares = firstShares alone; pending = [] }
 
--- "A new table has clock 0." "A call that would make a table gives, when turned down, one without groups, claims or issued tickets, at clock 0."
--- A pool without groups is dark too, and leaves no units.
-unfoldable pub new : ℕ → ℕ → Step
-new g k = cond (empty g) (unchanged (blank 0 0) darkNumber) (unchanged (blank g k) 0)
+-- "A new table has clock 0." "A call that would make a table gives, when turned down, one without groups, claims or issued tickets, at
+-- clock 0." A pool without groups is dark too, and leaves no units. Client 1 alone is declared, as for loads of editions 1 and 2, or nobody;
+-- so it is in a table that was turned down.
+unfoldable pub new : ℕ → ℕ → Bool → Step
+new g k alone = cond (empty g) (unchanged (blank 0 0 alone) darkNumber) (unchanged (blank g k alone) 0)
 
 -- "Look gives, for a ticket, waiting with start or on with promised end .. A ticket that isn't pending gives 8."
 -- In numbers: the refusal's, 0 for none; the start of a waiting claim; the promised end of one that is on.

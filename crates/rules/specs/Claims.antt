@@ -25,7 +25,7 @@ abbrev pub at : Claim → ℕ
 at c = mark (c .phase)
 
 abbrev pub withPhase : Claim → Phase → Claim
-withPhase c p = record { groups = c .groups; phase = p; length = c .length; ticket = c .ticket; units = c .units }
+withPhase c p = record { groups = c .groups; phase = p; length = c .length; ticket = c .ticket; units = c .units; client = c .client }
 
 -- "The test of two claims for a common group .. answers the lowest common group number, or none".
 abbrev pub conflicts : Claim → Claim → MaybeGroup

@@ -2,13 +2,17 @@
 use mathlib.Core.Path.{_≡_}
 use mathlib.Core.Bool.{true}
 use mathlib.Core.List.{List}
-use Prim.Native.Nat.{ℕ, _≤_}
+use Prim.Native.Nat.{ℕ, _+_, _≤_}
+use lib.ListN.{length}
+use Rattle.numbers.specs.Numbers.{mostPending}
 use Rattle.rules.specs.declared.Claim.{Claim}
 use Rattle.rules.specs.Lists.{_∈_}
 use Rattle.rules.specs.declared.Setting.{Setting}
+use Rattle.rules.specs.declared.Share.{Share}
+use Rattle.rules.specs.Shares.{shareOf, pendingOf, unfilledInAll}
 use Rattle.rules.specs.Claims.{on, at}
 use Rattle.rules.specs.Packing.{pack}
-use Rattle.rules.specs.Calls.{Model, settingOf}
+use Rattle.rules.specs.Calls.{Model, settingOf, clientsOf}
 use Rattle.rules.specs.Plans.{Ascending, Sane, Apart, Separated, StartsFrom, Tight, Blocked, Earliest}
 
 -- A claim as it may stand in a table.
@@ -44,7 +48,18 @@ pub record Settled (k : ℕ) (v : Setting) (ps : List Claim) : Type 0 where
   pub blocked : Blocked v ps
   pub earliest : Earliest v ps
 
--- The same of a model. `Invariant` holds of a new table and after every call.
+-- What holds of the shares and of the clients of the pending claims before and after every call.
+pub record Booked (ss : List Share) (ks : List ℕ) : Type 0 where
+  pub eight : length ss ≡ 8
+  pub modest : (c : ℕ) → shareOf ss c .limit ≤ mostPending
+  pub ordered : (c : ℕ) → shareOf ss c .reserved ≤ shareOf ss c .limit
+  pub known : (k : ℕ) → k ∈ ks → shareOf ss k .declared ≡ true
+  -- "desk at its limit": nobody has more pending.
+  pub within : (c : ℕ) → pendingOf ks c ≤ shareOf ss c .limit
+  -- A place is left for each claim that fills a guarantee.
+  pub room : length ks + unfilledInAll ss ks ≤ mostPending
+
+-- The same of a model. `Invariant` and `IsBooked` hold of a new table and after every call.
 abbrev pub IsSpaced : Model → Type 0
 IsSpaced m = Spaced (m .issued) (settingOf m) (m .pending)
 
@@ -57,3 +72,6 @@ Still m = pack (settingOf m) (m .pending) ≡ m .pending
 
 abbrev pub Invariant : Model → Type 0
 Invariant m = Settled (m .issued) (settingOf m) (m .pending)
+
+abbrev pub IsBooked : Model → Type 0
+IsBooked m = Booked (m .shares) (clientsOf (m .pending))

@@ -1,4 +1,5 @@
 pub mod Lists
+pub mod Shares
 pub mod Claims
 pub mod Order
 pub mod Pool
@@ -11,5 +12,6 @@ pub mod Tests
 pub mod Calls
 pub mod Invariants
 pub mod NoUnits
+pub mod OneClient
 pub mod Tables
 pub mod Scenarios

@@ -13,8 +13,9 @@ use Rattle.rules.specs.Claims.{endOf}
 use Rattle.rules.specs.Order.{precedes}
 use Rattle.rules.specs.Packing.{moved}
 use Rattle.rules.specs.Placing.{clear}
-use Rattle.rules.specs.Tests.{Test, late, backward, dark, offRig, badLength, full, ticketless}
-use Rattle.rules.specs.Calls.{Model, Call, claim, release, withdraw, clock, lookup, common, free}
+use Rattle.rules.specs.Shares.{shareOf, pendingOf, unfilledByOthers}
+use Rattle.rules.specs.Tests.{Test, late, backward, stranger, dark, offRig, badLength, fullFor, over, ticketless}
+use Rattle.rules.specs.Calls.{Model, clientsOf, Call, claim, release, withdraw, clock, lookup, common, free, declare}
 
 -- ── a claim ──
 -- "Each waiting claim's planned start becomes the greatest of the clock and the ends of the claims that precede it": of the starts f.
@@ -25,11 +26,14 @@ documentedStart v ps f w = greatest (λ c. endOf v (moved f c)) (v .clock) (keep
 abbrev pub documentedFits : Setting → List Claim → Claim → ℕ → Bool
 documentedFits v ps w s = all (clear v w s) ps
 
--- "A claim is tested in the order 5, 4, 1, 2, 3, 6, 7"
-abbrev pub documentedTests : Model → ℕ → Request → List Test
-documentedTests m t ask =
-    late t ∷ backward (m .clock) t ∷ dark (ask .groups) ∷ offRig (m .rig) (ask .groups) ∷ badLength (ask .length)
-    ∷ full (length (m .pending)) ∷ ticketless (m .issued) ∷ []
+-- Its tests without "1 is now for a claim with neither group nor unit" and without 16.
+abbrev pub undrawnTests : Model → ℕ → Request → List Test
+undrawnTests m t ask =
+    let s = shareOf (m .shares) (ask .client) in
+    let ks = clientsOf (m .pending) in
+    let own = pendingOf ks (ask .client) in
+    late t ∷ backward (m .clock) t ∷ stranger s ∷ dark (ask .groups) ∷ offRig (m .rig) (ask .groups) ∷ badLength (ask .length)
+    ∷ fullFor s own (length (m .pending)) (unfilledByOthers (m .shares) ks (ask .client)) ∷ over s own ∷ ticketless (m .issued) ∷ []
 
 -- ── a run ──
 -- The call draws no units.
@@ -41,6 +45,7 @@ drawsNone (clock t) = Unit {0}
 drawsNone (lookup k) = Unit {0}
 drawsNone (common j k) = Unit {0}
 drawsNone free = Unit {0}
+drawsNone (declare c r l) = Unit {0}
 
 -- No call of the list does.
 abbrev pub DrawsNone : List Call → Type 0
@@ -49,4 +54,4 @@ DrawsNone (c ∷ cs) = drawsNone c × DrawsNone cs
 
 -- The same table with a pool of k.
 abbrev pub withPool : ℕ → Model → Model
-withPool k m = record { rig = m .rig; clock = m .clock; pool = k; issued = m .issued; pending = m .pending }
+withPool k m = record { rig = m .rig; clock = m .clock; pool = k; issued = m .issued; shares = m .shares; pending = m .pending }

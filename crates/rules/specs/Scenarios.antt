@@ -1,13 +1,18 @@
 -- The starred plots of document 01 ("Plots to try") as one table, and two cases more: what the first packing of a call is for, and the
--- order of grants; then plots of claims that draw on a pool, with the units free. Last what lookup tells of two tickets.
+-- order of grants; then plots of claims that draw on a pool, with the units free; what lookup tells of two tickets; and clients with shares.
 -- proofs/AllScenarios has the theorem that covers the table.
-use mathlib.Core.List.{List, [], _∷_, map}
-use Prim.Native.Nat.{ℕ}
+use mathlib.Core.Bool.{Bool, true, false}
+use mathlib.Core.List.{List, [], _∷_, _++_, map}
+use Prim.Native.Nat.{ℕ, _+_}
+use lib.ListN.{replicate}
+use Rattle.rules.specs.declared.Claim.{Claim}
 use Rattle.rules.specs.declared.Common.{Common}
 use Rattle.rules.specs.declared.Common.the-variants.{Unknown, Shared, Apart}
+use Rattle.rules.specs.declared.Phase.the-variants.{On}
 use Rattle.rules.specs.declared.Standing.{Standing}
 use Rattle.rules.specs.declared.Standing.the-variants.{NotPending, Waits, Holds}
-use Rattle.rules.specs.Calls.{asking, Call, release, withdraw, clock, Answer, Model, standingOf, freeOf, commonOf, new, after, answers}
+use Rattle.rules.specs.Tests.{firstOf}
+use Rattle.rules.specs.Calls.{asking, Call, release, withdraw, clock, declare, Answer, Model, withIssued, withPending, tests, standingOf, freeOf, commonOf, new, after, answers}
 
 -- Calls made before, calls made now, their answers, and what lookup then tells of tickets 1 to 4.
 pub record Scenario : Type 0 where
@@ -36,7 +41,7 @@ S = claim 0 0x8 10 ∷ claim 0 0xC 10 ∷ claim 0 0x6 11 ∷ []
 
 -- "Rig F hex, clock 0."
 abbrev pub rigF : Model
-rigF = new 0xF 0 .model
+rigF = new 0xF 0 true .model
 
 unfoldable pub scenarios : List Scenario
 scenarios =
@@ -112,7 +117,7 @@ draw k c a s f = record { pool = k; calls = c; answers = a; standings = s; free 
 
 -- A claim at a clock, of groups (hex), a length and units.
 abbrev pub drawing : ℕ → ℕ → ℕ → ℕ → Call
-drawing t g n u = Call.claim t (record { groups = g; length = n; units = u })
+drawing t g n u = Call.claim t (record { groups = g; length = n; units = u; client = 1 })
 
 unfoldable pub draws : List Draw
 draws =
@@ -154,7 +159,7 @@ pub record Drawn : Type 0 where
 
 unfoldable pub drawn : Draw → Drawn
 drawn x =
-    let m : Model = new 0xF (x .pool) .model in
+    let m : Model = new 0xF (x .pool) true .model in
     let n : Model = after m (x .calls) in
     record {
       answers = answers m (x .calls);
@@ -196,3 +201,82 @@ pairs =
 
 unfoldable pub toldOf : Pair → Common
 toldOf p = commonOf (p .first) (p .second) (after rigF (p .calls) .pending)
+
+-- Declarations on a new table of groups F hex, then so many claims of clients 1 and 2 pending, a call, and its number: 0 where it is accepted.
+pub record Sharing : Type 0 where
+  pub alone : Bool
+  pub declarations : List Call
+  pub ofOne : ℕ
+  pub ofTwo : ℕ
+  pub call : Call
+  pub number : ℕ
+
+-- Nobody is declared at first, or client 1 alone.
+abbrev pub sharing : List Call → ℕ → ℕ → Call → ℕ → Sharing
+sharing d i j c n = record { alone = false; declarations = d; ofOne = i; ofTwo = j; call = c; number = n }
+
+abbrev pub alone : List Call → ℕ → ℕ → Call → ℕ → Sharing
+alone d i j c n = record { alone = true; declarations = d; ofOne = i; ofTwo = j; call = c; number = n }
+
+-- A claim of a client, good in all else; and one for nothing.
+abbrev pub claimBy : ℕ → Call
+claimBy c = Call.claim 0 (record { groups = 0x1; length = 10; units = 0; client = c })
+
+abbrev pub darkBy : ℕ → Call
+darkBy c = Call.claim 0 (record { groups = 0x0; length = 10; units = 0; client = c })
+
+unfoldable pub sharings : List Sharing
+sharings =
+    -- two clients with 32 reserved each: one asks for 33
+    sharing (declare 1 32 64 ∷ declare 2 32 64 ∷ []) 31 0 (claimBy 1) 0
+    ∷ sharing (declare 1 32 64 ∷ declare 2 32 64 ∷ []) 32 0 (claimBy 1) 6
+    ∷ sharing (declare 1 32 64 ∷ declare 2 32 64 ∷ []) 32 31 (claimBy 2) 0
+    -- the places that nobody reserves are anybody's; those reserved for the client that asks are not held against it
+    ∷ sharing (declare 1 8 64 ∷ declare 2 32 64 ∷ []) 31 0 (claimBy 1) 0
+    ∷ sharing (declare 1 8 64 ∷ declare 2 32 64 ∷ []) 32 0 (claimBy 1) 6
+    -- below its guarantee a client is accepted at 63 pending, where another is not
+    ∷ sharing (declare 1 0 64 ∷ declare 2 1 64 ∷ []) 63 0 (claimBy 2) 0
+    ∷ sharing (declare 1 0 64 ∷ declare 2 1 64 ∷ []) 63 0 (claimBy 1) 6
+    ∷ sharing (declare 1 0 64 ∷ declare 2 1 64 ∷ []) 63 1 (claimBy 2) 6
+    -- a limit that is reached gives 18, a limit of 0 at once; 6 comes before it
+    ∷ sharing (declare 1 2 3 ∷ []) 2 0 (claimBy 1) 0
+    ∷ sharing (declare 1 2 3 ∷ []) 3 0 (claimBy 1) 18
+    ∷ sharing (declare 1 0 0 ∷ []) 0 0 (claimBy 1) 18
+    ∷ sharing (declare 1 3 3 ∷ declare 2 61 61 ∷ []) 3 0 (claimBy 1) 6
+    -- 17 before 1, and after 5
+    ∷ sharing [] 0 0 (claimBy 1) 17
+    ∷ sharing (declare 1 0 64 ∷ []) 0 0 (darkBy 2) 17
+    ∷ sharing (declare 1 0 64 ∷ []) 0 0 (darkBy 1) 1
+    ∷ sharing (declare 1 0 64 ∷ []) 0 0 (claimBy 0) 17
+    ∷ sharing (declare 1 0 64 ∷ []) 0 0 (claimBy 9) 17
+    ∷ sharing [] 0 0 (Call.claim 1000000000001 (asking 0x1 10)) 5
+    -- 19: guarantees of 65 in all, though not of 64; above the limit; a limit over 64; declared twice
+    ∷ sharing (declare 1 32 64 ∷ []) 0 0 (declare 2 33 64) 19
+    ∷ sharing (declare 1 32 64 ∷ []) 0 0 (declare 2 32 64) 0
+    ∷ sharing [] 0 0 (declare 1 3 2) 19
+    ∷ sharing [] 0 0 (declare 1 0 65) 19
+    ∷ sharing (declare 1 0 0 ∷ []) 0 0 (declare 1 0 0) 19
+    -- a guarantee and a limit of 0 are good; 17 before 19
+    ∷ sharing [] 0 0 (declare 8 0 0) 0
+    ∷ sharing [] 0 0 (declare 0 0 0) 17
+    ∷ sharing [] 0 0 (declare 9 65 64) 17
+    -- after a claim 13, with a bad client too
+    ∷ sharing (declare 1 0 64 ∷ []) 1 0 (declare 2 0 0) 13
+    ∷ sharing (declare 1 0 64 ∷ []) 1 0 (declare 9 0 0) 13
+    -- client 1 alone: 6 as ever, nobody else is known; another may be declared, but no place is left to reserve
+    ∷ alone [] 63 0 (claimBy 1) 0
+    ∷ alone [] 64 0 (claimBy 1) 6
+    ∷ alone [] 0 0 (claimBy 2) 17
+    ∷ alone [] 0 0 (declare 2 0 5) 0
+    ∷ alone [] 0 0 (declare 2 1 5) 19
+    ∷ alone [] 0 0 (declare 1 64 64) 19
+    ∷ []
+
+-- A pending claim of a client.
+abbrev pub heldBy : ℕ → Claim
+heldBy c = record { groups = 0x1; phase = On 0; length = 10; ticket = 1; units = 0; client = c }
+
+unfoldable pub numberOf : Sharing → ℕ
+numberOf x =
+    let m : Model = after (new 0xF 0 (x .alone) .model) (x .declarations) in
+    firstOf (tests (withPending (withIssued m (x .ofOne + x .ofTwo)) (replicate (x .ofOne) (heldBy 1) ++ replicate (x .ofTwo) (heldBy 2))) (x .call))

@@ -1,11 +1,12 @@
 -- What calls are tested for. A test takes what it looks at, so that another kind of table can use it. Quotations are from document 01.
 use mathlib.Core.Bool.{Bool, not, _&&_, _||_, cond}
 use mathlib.Core.List.{List, [], _∷_}
-use Prim.Native.Nat.{ℕ}
+use Prim.Native.Nat.{ℕ, _+_}
 use lib.Dec.{ltb, leb, eqb}
-use Rattle.numbers.specs.Numbers.{darkNumber, offRigNumber, lengthNumber, backwardNumber, lateNumber, fullNumber, ticketlessNumber, unknownNumber, notYetOnNumber, alreadyOnNumber, spotsNumber, mostClock, mostLength, mostTickets, mostPending}
+use Rattle.numbers.specs.Numbers.{darkNumber, offRigNumber, lengthNumber, backwardNumber, lateNumber, fullNumber, ticketlessNumber, unknownNumber, notYetOnNumber, alreadyOnNumber, misfitNumber, spotsNumber, strangerNumber, overNumber, overbookedNumber, mostClock, mostLength, mostTickets, mostPending, mostClients}
 use Rattle.groups.specs.Groups.{empty, within}
 use Rattle.rules.specs.declared.Claim.{Claim}
+use Rattle.rules.specs.declared.Share.{Share}
 use Rattle.rules.specs.Lists.{any}
 
 -- A test, with the number that is given when it is true.
@@ -39,6 +40,13 @@ nothingAsked g u = test (empty g && eqb u 0) darkNumber
 abbrev pub spots : ℕ → ℕ → Test
 spots pool u = test (ltb pool u) spotsNumber
 
+-- "stranger, a claim from an undeclared desk or a declaration outside 1 to 8" (document 02, P4)
+abbrev pub stranger : Share → Test
+stranger s = test (not (s .declared)) strangerNumber
+
+abbrev pub noClient : ℕ → Test
+noClient c = test (eqb c 0 || ltb mostClients c) strangerNumber
+
 abbrev pub offRig : ℕ → ℕ → Test
 offRig rig g = test (not (within g rig)) offRigNumber
 
@@ -49,6 +57,23 @@ badLength n = test (eqb n 0 || ltb mostLength n) lengthNumber
 -- "full: 64 claims are pending", "ticketless: 65,535 tickets issued"
 abbrev pub full : ℕ → Test
 full pending = test (leb mostPending pending) fullNumber
+
+-- "A desk below its guarantee never meets 6. Otherwise a claim is accepted only if pending claims plus the unfilled guarantees of the other
+-- desks are below 64; else it gets 6." "over, desk at its limit": of a share and its client's own pending claims.
+abbrev pub fullFor : Share → ℕ → ℕ → ℕ → Test
+fullFor s own pending unfilled = test (leb (s .reserved) own && leb mostPending (pending + unfilled)) fullNumber
+
+abbrev pub over : Share → ℕ → Test
+over s own = test (leb (s .limit) own) overNumber
+
+-- A declaration: "after an accepted claim the table answers it 13"; "overbooked .. for guarantees adding up to over 64, a guarantee above its
+-- limit, a limit over 64, or a desk declared twice". s is the share that the client has, and so many places are reserved in all.
+abbrev pub begun : ℕ → Test
+begun issued = test (ltb 0 issued) misfitNumber
+
+abbrev pub overbooked : Share → ℕ → ℕ → ℕ → Test
+overbooked s all reserved limit =
+    test (ltb mostPending (all + reserved) || (ltb limit reserved || (ltb mostPending limit || s .declared))) overbookedNumber
 
 abbrev pub ticketless : ℕ → Test
 ticketless issued = test (leb mostTickets issued) ticketlessNumber

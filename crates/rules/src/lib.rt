@@ -8,21 +8,23 @@ pub enum Phase {
     On(u64),
 }
 
-// A claim: its set of groups (2^g for group g), its phase, its declared length in ticks, its ticket, the units that it draws from the pool.
-// Fields in this order make it 32 bytes.
+// A claim: its set of groups (2^g for group g), its phase, its declared length in ticks, its ticket, the units that it draws from the pool,
+// its client (document 02: desk). Fields in this order make it 40 bytes.
 pub struct Claim {
     pub groups: u64,
     pub phase: Phase,
     pub length: u32,
     pub ticket: u16,
     pub units: u16,
+    pub client: u8,
 }
 
-// What a claim asks for: a set of groups, a length in ticks, and units of the pool.
+// What a claim asks for: a set of groups, a length in ticks, and units of the pool; and which client asks.
 pub struct Request {
     pub groups: u64,
     pub length: u32,
     pub units: u16,
+    pub client: u8,
 }
 
 // What an accepted call answers, beside its grants. `contention` and `bound` are document 01's crowd and ceiling.
@@ -39,12 +41,21 @@ pub struct Setting {
     pub pool: u16,
 }
 
-// The table. The first `count` places hold the pending claims in ascending order of ticket; the others are vacant.
+// A client's share of the table: whether it is declared, the places reserved for it (document 02: its guarantee), and its limit.
+pub struct Share {
+    pub declared: bool,
+    pub reserved: u8,
+    pub limit: u8,
+}
+
+// The table. The shares are those of clients 1 to 8. The first `count` places hold the pending claims in ascending order of ticket; the
+// others are vacant.
 pub struct Table {
     pub rig: u64,
     pub clock: u64,
     pub pool: u16,
     pub issued: u16,
+    pub shares: [Share; 8],
     pub count: usize,
     pub claims: [Claim; 64],
 }
@@ -63,7 +74,7 @@ pub enum Common {
     Apart,
 }
 
-// A request of groups for a length of time, and nothing else.
+// A request of client 1 for groups for a length of time, and nothing else.
 pub fn asking(groups: u64, length: u32) -> Request
     ensures { λ r. ⌜ r ≡ asking groups length ⌝ }
 {
@@ -71,5 +82,6 @@ pub fn asking(groups: u64, length: u32) -> Request
         groups: groups,
         length: length,
         units: 0,
+        client: 1,
     }
 }

@@ -10,9 +10,11 @@ pub mod PackingOrder
 pub mod PlacingLoop
 pub mod PackingLoop
 pub mod GrantingLoop
+pub mod Counting
 pub mod Tests
 pub mod Finding
 pub mod RemovalLoop
 pub mod Steps
+pub mod Sharing
 pub mod Promised
 pub mod Runs

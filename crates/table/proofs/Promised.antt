@@ -1,6 +1,7 @@
 -- What follows from the promises of the table's calls: the one file of proofs here that crates above cite. It is stated over what a call
 -- hands back, an `Outcome`, and over the step of the rules that its promise names.
 use mathlib.Core.Path.{_≡_, refl, ap, _∙_}
+use mathlib.Core.Bool.{Bool}
 use Prim.Native.Nat.{ℕ, _+_, _-_, _≤_}
 use native.Mathlib.Omega.{arith}
 use lib.ListN.{length, take}
@@ -29,11 +30,11 @@ module _ (o : Outcome) (s : Step) (p : o ≡ outcome s) where
 -- A step that a call promises: of the table m, or a new table.
 pub data Promised (m : Model) : Step → Type 0 where
   by-call : (c : Call) → Promised m (step m c)
-  by-new : (g k : ℕ) → Promised m (new g k)
+  by-new : (g k : ℕ) (alone : Bool) → Promised m (new g k alone)
 
 counted : {m : Model} {s : Step} → Promised m s → Counted m s
 counted {m} (by-call c) = step-counted m c
-counted {m} (by-new g k) = new-counted m g k
+counted {m} (by-new g k alone) = new-counted m g k alone
 
 module _ {m : Model} {s : Step} (q : Promised m s) where
   -- Those named as granted, and those that still wait, waited before or were issued by the call, which issues one ticket at most.
@@ -51,8 +52,8 @@ module _ {m : Model} {s : Step} (q : Promised m s) where
       omega (arith, counted q .few, formed-few (o .table) (v .formed))
 
 -- Nobody waits in a table without claims, and `new` refuses a rig without groups with such a table.
-pub none-waits : (g k : ℕ) → waiting (blank g k) ≡ 0
-none-waits g k = waiting-none g k
+pub none-waits : (g k : ℕ) (alone : Bool) → waiting (blank g k alone) ≡ 0
+none-waits g k alone = waiting-none g k alone
 
-pub new-none : new 0 0 .model ≡ blank 0 0
-new-none = new-cases (λ (x : Step). x .model ≡ blank 0 0) 0 0 (λ z. refl) (λ z. refl)
+pub new-none : (alone : Bool) → new 0 0 alone .model ≡ blank 0 0 alone
+new-none alone = new-cases (λ (x : Step). x .model ≡ blank 0 0 alone) 0 0 alone (λ z. refl) (λ z. refl)

@@ -94,7 +94,7 @@ module _ (v : Setting) (l : List Claim) (n : ℕ) (w : Claim) (r : Row v l n) wh
 
 -- ── tables and models ──
 pub model-encode : (m : Model) → model (encode m) ≡ m
-model-encode m = ap (λ (l : List Claim). record { rig = m .rig; clock = m .clock; pool = m .pool; issued = m .issued; pending = l }) (pad-take vacant (m .pending))
+model-encode m = ap (λ (l : List Claim). record { rig = m .rig; clock = m .clock; pool = m .pool; issued = m .issued; shares = m .shares; pending = l }) (pad-take vacant (m .pending))
 
 -- What a table that encodes a model means.
 pub model-is : (t : Table) (m : Model) → t ≡ encode m → model t ≡ m
@@ -135,9 +135,9 @@ pub formed-now : (t : Table) → Formed t → Row (ruledIn t (t .clock)) (t .cla
 formed-now t v = formed-row t (t .clock) v (omega arith) (v .ranged .timely)
 
 -- ── new ──
-pub blank-ranged : (g k : ℕ) → k ≤ mostUnits → Ranged (blank g k)
+pub blank-ranged : (g k : ℕ) (alone : Bool) → k ≤ mostUnits → Ranged (blank g k alone)
 unfolding heldUnits sum
-blank-ranged g k h = record { pooled = h; few = omega arith; timely = omega arith; numbered = omega arith; ascending = tt; sized = λ c m. none m; issued = λ c m. none m; stock = omega arith }
+blank-ranged g k alone h = record { pooled = h; few = omega arith; timely = omega arith; numbered = omega arith; ascending = tt; sized = λ c m. none m; issued = λ c m. none m; stock = omega arith }
 
 -- ── claims that change one by one, and keep their tickets ──
 map-ranged : (m : Model) (t : ℕ) (f : Claim → Claim) → Ranged m → t ≤ mostClock → ((c : Claim) → f c .ticket ≡ c .ticket) → Each (λ c. Sized (ruled m t) (f c)) (m .pending) → heldUnits (map f (m .pending)) ≤ m .pool

@@ -1,19 +1,21 @@
 -- Demand 3 holds of the code: a run's answers and tables are those of the rules.
 use mathlib.Core.Path.{_≡_, refl, sym, _∙_, ap, subst}
+use mathlib.Core.Bool.{Bool}
 use mathlib.Core.List.{List, _∷_}
 use Prim.Native.Nat.{ℕ}
 use Rattle.rules.specs.declared.Table.{Table}
-use Rattle.rules.specs.Calls.{Model, Call, lookup, common, free, Answer, Step, step, standingOf, commonOf, freeOf, new}
+use Rattle.rules.specs.Calls.{Model, Call, lookup, common, free, declare, Answer, Step, step, standingOf, commonOf, freeOf, new}
 use Rattle.rules.specs.Tables.{model}
 use Rattle.promises.specs.Ledger.{Turn, opening, turns, tableAfter}
 use Rattle.promises.specs.Demand3.{Told, tells}
 use Rattle.promises.proofs.Demand3.{table-after, demand-3}
 use Rattle.promises.proofs.PoolKept.{pool-kept}
+use Rattle.promises.proofs.SharesKept.{shares-kept}
 use Rattle.promises.specs.WholeCalls.{WholeCalls}
 use Rattle.promises.proofs.WholeCalls.{whole-calls-after}
 use Rattle.table.specs.declared.Outcome.{Outcome}
 use Rattle.table.specs.Outcomes.{outcome}
-use Rattle.table.specs.Runs.{answered, looked, Made, by-timed, by-lookup, by-common, by-free, Run, done, then, Looks, opened, CodeDemand3, CodePoolKept, CodeWholeCalls}
+use Rattle.table.specs.Runs.{answered, looked, Made, by-timed, by-declare, by-lookup, by-common, by-free, Run, done, then, Looks, opened, CodeDemand3, CodePoolKept, CodeSharesKept, CodeWholeCalls}
 use Rattle.table.proofs.Promised.{outcome-model, outcome-grants}
 use Rattle.table.proofs.Tests.{Looking, of-one, of-two, of-pool, look-answer, look-idle, lookup-told, common-told, free-told}
 
@@ -31,6 +33,7 @@ looked-is m c h n e = ap looked e ∙ look-answer m c h
 -- ── a run is the rules' run ──
 made-is : {t u : Table} {c : Call} {a : Answer} → Made t c a u → (a ≡ step (model t) c .answer) × (model u ≡ step (model t) c .model)
 made-is {t} (by-timed c h r e) = (answer-of r (step (model t) c) e, outcome-model r (step (model t) c) e)
+made-is {t} (by-declare c n l r e) = (answer-of r (step (model t) (declare c n l)) e, outcome-model r (step (model t) (declare c n l)) e)
 made-is {t} (by-lookup k s e) = (looked-is (model t) (lookup k) (of-one k) _ (lookup-told (model t) k s e .1), sym (look-idle (model t) (lookup k) (of-one k)))
 made-is {t} (by-common j k s e) = (looked-is (model t) (common j k) (of-two j k) _ (common-told (model t) j k s e .1), sym (look-idle (model t) (common j k) (of-two j k)))
 made-is {t} (by-free n e) = (looked-is (model t) free of-pool 0 (free-told (model t)), sym (look-idle (model t) free of-pool))
@@ -60,35 +63,44 @@ shows-is t m shows e h = λ i. record { one = λ k. one k i; two = λ j k. two j
     spare = h .2 ∙ ap freeOf e
 
 -- The ledger, the turns and the table of a run from a new table.
-module _ (rig pool : ℕ) (before : List Call) (first : Outcome) (q : first ≡ outcome (new rig pool)) (ts : List Turn) (t : Table) (p : Run (first .table) before ts t) where
-  opened-is : opened pool first ≡ opening pool (new rig pool .answer)
-  opened-is = ap (opening pool) (answer-of first (new rig pool) q)
+module _ (rig pool : ℕ) (alone : Bool) (before : List Call) (first : Outcome) (q : first ≡ outcome (new rig pool alone)) (ts : List Turn) (t : Table) (p : Run (first .table) before ts t) where
+  opened-is : opened pool alone first ≡ opening pool alone (new rig pool alone .answer)
+  opened-is = ap (opening pool alone) (answer-of first (new rig pool alone) q)
 
-  turns-are : ts ≡ turns step (new rig pool .model) before
-  turns-are = run-is p .0 ∙ ap (λ (x : Model). turns step x before) (outcome-model first (new rig pool) q)
+  turns-are : ts ≡ turns step (new rig pool alone .model) before
+  turns-are = run-is p .0 ∙ ap (λ (x : Model). turns step x before) (outcome-model first (new rig pool alone) q)
 
-  table-is : model t ≡ tableAfter step (new rig pool .model) before
-  table-is = run-is p .1 ∙ ap (λ (x : Model). tableAfter step x before) (outcome-model first (new rig pool) q)
+  table-is : model t ≡ tableAfter step (new rig pool alone .model) before
+  table-is = run-is p .1 ∙ ap (λ (x : Model). tableAfter step x before) (outcome-model first (new rig pool alone) q)
 
-pub code-demand-3 : (rig pool : ℕ) (calls : List Call) → CodeDemand3 rig pool calls
-code-demand-3 rig pool calls = record {
+pub code-demand-3 : (rig pool : ℕ) (alone : Bool) (calls : List Call) → CodeDemand3 rig pool alone calls
+code-demand-3 rig pool alone calls = record {
   at-any-time = λ before rest e first q ts t p shows h.
-      rw (opened-is rig pool before first q ts t p, turns-are rig pool before first q ts t p, shows-is t _ shows (table-is rig pool before first q ts t p) h)
-      (demand-3 rig pool calls .at-any-time before rest e);
+      rw (opened-is rig pool alone before first q ts t p, turns-are rig pool alone before first q ts t p, shows-is t _ shows (table-is rig pool alone before first q ts t p) h)
+      (demand-3 rig pool alone calls .at-any-time before rest e);
   at-any-call = λ before c rest e first q ts t p a u one old new h k.
-      let m = table-is rig pool before first q ts t p in
+      let m = table-is rig pool alone before first q ts t p in
       let r = made-is one in
       let answer = r .0 ∙ ap (λ (x : Model). step x c .answer) m in
       let shown = shows-is u _ new (r .1 ∙ ap (λ (x : Model). step x c .model) m) k in
-      rw (opened-is rig pool before first q ts t p, turns-are rig pool before first q ts t p, answer, shows-is t _ old m h, shown)
-      (demand-3 rig pool calls .at-any-call before c rest e);
+      rw (opened-is rig pool alone before first q ts t p, turns-are rig pool alone before first q ts t p, answer, shows-is t _ old m h, shown)
+      (demand-3 rig pool alone calls .at-any-call before c rest e);
 }
 
-pub code-pool-kept : (rig pool : ℕ) (calls : List Call) → CodePoolKept rig pool calls
-code-pool-kept rig pool calls before rest e first q ts t p shows h =
-    rw (opened-is rig pool before first q ts t p, turns-are rig pool before first q ts t p, shows-is t _ shows (table-is rig pool before first q ts t p) h)
-    (pool-kept rig pool calls before rest e)
+pub code-pool-kept : (rig pool : ℕ) (alone : Bool) (calls : List Call) → CodePoolKept rig pool alone calls
+code-pool-kept rig pool alone calls before rest e first q ts t p shows h =
+    rw (opened-is rig pool alone before first q ts t p, turns-are rig pool alone before first q ts t p, shows-is t _ shows (table-is rig pool alone before first q ts t p) h)
+    (pool-kept rig pool alone calls before rest e)
 
-pub code-whole-calls : (rig pool : ℕ) (calls : List Call) → CodeWholeCalls rig pool calls
-code-whole-calls rig pool calls first q ts t p =
-    subst WholeCalls (sym (table-is rig pool calls first q ts t p ∙ table-after (new rig pool .model) calls)) (whole-calls-after rig pool calls)
+pub code-shares-kept : (rig pool : ℕ) (alone : Bool) (calls : List Call) → CodeSharesKept rig pool alone calls
+code-shares-kept rig pool alone calls = record {
+  at-any-time = λ before rest e first q ts t p.
+      rw (opened-is rig pool alone before first q ts t p, turns-are rig pool alone before first q ts t p) (shares-kept rig pool alone calls .at-any-time before rest e);
+  at-any-call = λ before c rest e first q ts t p a u one.
+      let answer = made-is one .0 ∙ ap (λ (x : Model). step x c .answer) (table-is rig pool alone before first q ts t p) in
+      rw (opened-is rig pool alone before first q ts t p, turns-are rig pool alone before first q ts t p, answer) (shares-kept rig pool alone calls .at-any-call before c rest e);
+}
+
+pub code-whole-calls : (rig pool : ℕ) (alone : Bool) (calls : List Call) → CodeWholeCalls rig pool alone calls
+code-whole-calls rig pool alone calls first q ts t p =
+    subst WholeCalls (sym (table-is rig pool alone calls first q ts t p ∙ table-after (new rig pool alone .model) calls)) (whole-calls-after rig pool alone calls)

@@ -1,7 +1,7 @@
 -- From the parts of a call to its outcome by the rules.
 use mathlib.Core.Path.{_≡_, refl, sym, _∙_, ap, subst}
 use mathlib.Core.Logic.{_≢_}
-use mathlib.Core.Bool.{Bool, true, false, not, _&&_}
+use mathlib.Core.Bool.{Bool, true, false, not, _&&_, cond}
 use mathlib.Core.List.{List, [], _∷_, _++_}
 use Prim.Native.Nat.{ℕ, _+_, _^_, _≤_, _<_}
 use native.Mathlib.Omega.{arith}
@@ -21,15 +21,18 @@ use Rattle.rules.specs.Claims.{on, at, withPhase}
 use Rattle.rules.specs.Packing.{packedStart, moved, pack}
 use Rattle.rules.specs.Placing.{place}
 use Rattle.rules.specs.Granting.{grant, grants}
+use Rattle.rules.specs.Shares.{undeclared, firstShares}
 use Rattle.rules.specs.Tests.{firstOf}
 use Rattle.rules.specs.declared.Reply.{Reply}
 use Rattle.rules.specs.declared.Request.{Request}
 use Rattle.rules.specs.Calls.{plain, granting, Model, withPending, withClock, ruled, settingOf, Call, claim, clock, Step, unchanged, advance, finish, join, remove, fresh, admit, act, step, tests, blank, new}
 use Rattle.rules.specs.Tables.{encode, model, pad, vacant}
-use Rattle.rules.specs.Invariants.{Still, Invariant}
+use Rattle.rules.specs.Invariants.{Still, Invariant, IsBooked}
 use Rattle.rules.proofs.Bools.{clash, by-test}
 use Rattle.rules.proofs.Lists.{any-none, map-e}
 use Rattle.rules.proofs.Calls.{placed, new-cases, blank-invariant, step-invariant}
+use Rattle.rules.proofs.Shares.{first-booked}
+use Rattle.rules.proofs.Booking.{step-booked}
 use Rattle.rules.proofs.NoOverrun.{NoOverrunAt, no-overrun-still}
 use Rattle.rules.proofs.Packing.{pack-length, pack-holders, moved-cases}
 use Rattle.rules.proofs.Repacking.{NoneDraws}
@@ -58,37 +61,50 @@ refused t c n r v e f z =
 
 -- A call that the rules accept keeps tables valid.
 pub accepted : (t : Table) (c : Call) (r : Outcome) → Valid t → r ≡ outcome (step (model t) c) → Formed (r .table) → (r ≡ outcome (step (model t) c)) × Valid (r .table)
-accepted t c r v e f = (
-  e,
-  record {
-    formed = f;
-    settled = subst Invariant (sym (model-is (r .table) (step (model t) c .model) (ap (λ (x : Outcome). x .table) e))) (step-invariant (model t) c (v .settled));
-  },
-)
+accepted t c r v e f =
+    let m = model-is (r .table) (step (model t) c .model) (ap (λ (x : Outcome). x .table) e) in (
+      e,
+      record {
+        formed = f;
+        settled = subst Invariant (sym m) (step-invariant (model t) c (v .settled));
+        booked = subst IsBooked (sym m) (step-booked (model t) c (v .settled) (v .booked));
+      },
+    )
 
 -- ── new ──
 -- The table that the code makes for a rig and a pool.
-abbrev pub emptyTable : ℕ → ℕ → Table
-emptyTable g k = record { rig = g; clock = 0; pool = k; issued = 0; count = 0; claims = replicate 64 vacant }
+abbrev pub emptyTable : ℕ → ℕ → Bool → Table
+emptyTable g k alone = record { rig = g; clock = 0; pool = k; issued = 0; shares = firstShares alone; count = 0; claims = replicate 64 vacant }
 
-opened : (g k n : ℕ) (r : Outcome) → k ≤ mostUnits → r ≡ unchangedIn (emptyTable g k) n → (r ≡ outcome (unchanged (blank g k) n)) × Valid (r .table)
+opened : (g k n : ℕ) (alone : Bool) (r : Outcome) → k ≤ mostUnits → r ≡ unchangedIn (emptyTable g k alone) n
+    → (r ≡ outcome (unchanged (blank g k alone) n)) × Valid (r .table)
 unfolding pad
-opened g k n r h e =
-    let f = formed-is (emptyTable g k) (blank g k) refl (blank-ranged g k h) in
-    let m = model-is (emptyTable g k) (blank g k) refl in (
-      e ∙ unchanged-is (emptyTable g k) n f ∙ ap (λ (m : Model). outcome (unchanged m n)) m,
-      subst Valid (sym (ap (λ (x : Outcome). x .table) e)) (record { formed = f; settled = subst Invariant (sym m) (blank-invariant g k) }),
+opened g k n alone r h e =
+    let f = formed-is (emptyTable g k alone) (blank g k alone) refl (blank-ranged g k alone h) in
+    let m = model-is (emptyTable g k alone) (blank g k alone) refl in (
+      e ∙ unchanged-is (emptyTable g k alone) n f ∙ ap (λ (m : Model). outcome (unchanged m n)) m,
+      subst Valid (sym (ap (λ (x : Outcome). x .table) e))
+          (record { formed = f; settled = subst Invariant (sym m) (blank-invariant g k alone); booked = subst IsBooked (sym m) (first-booked alone) }),
     )
 
--- A rig of 64 bits without groups is 0.
-pub new-dark : (g k : ℕ) (r : Outcome) → g < 2 ^ 64 → true ≡ empty g → r ≡ unchangedIn (emptyTable g 0) 1 → (r ≡ outcome (new g k)) × Valid (r .table)
-new-dark g k r h d e =
-    let z : g ≡ 0 = eqb-true g 0 (sym (empty-word g h) ∙ sym d) in
-    let o = opened 0 0 1 r (omega arith) (e ∙ ap (λ (x : ℕ). unchangedIn (emptyTable x 0) 1) z) in
-    new-cases (λ (s : Step). (r ≡ outcome s) × Valid (r .table)) g k (λ q. o) (λ q. clash (sym d) q)
+-- The shares as the code makes them: those of client 1, and seven of nobody.
+pub shares-are : (g k : ℕ) (alone : Bool) (places n : ℕ) (r : Outcome) → places ≡ cond alone 64 0
+    → r ≡ unchangedIn (record { rig = g; clock = 0; pool = k; issued = 0; shares = record { declared = alone; reserved = places; limit = places } ∷ replicate 7 undeclared; count = 0; claims = replicate 64 vacant }) n
+    → r ≡ unchangedIn (emptyTable g k alone) n
+shares-are g k true places n r e q = q ∙ rw e
+shares-are g k false places n r e q = q ∙ rw e
 
-pub new-lit : (g k : ℕ) (r : Outcome) → k ≤ mostUnits → false ≡ empty g → r ≡ unchangedIn (emptyTable g k) 0 → (r ≡ outcome (new g k)) × Valid (r .table)
-new-lit g k r h d e = new-cases (λ (s : Step). (r ≡ outcome s) × Valid (r .table)) g k (λ q. clash q (sym d)) (λ q. opened g k 0 r h e)
+-- A rig of 64 bits without groups is 0.
+pub new-dark : (g k : ℕ) (alone : Bool) (r : Outcome) → g < 2 ^ 64 → true ≡ empty g → r ≡ unchangedIn (emptyTable g 0 alone) 1
+    → (r ≡ outcome (new g k alone)) × Valid (r .table)
+new-dark g k alone r h d e =
+    let z : g ≡ 0 = eqb-true g 0 (sym (empty-word g h) ∙ sym d) in
+    let o = opened 0 0 1 alone r (omega arith) (e ∙ ap (λ (x : ℕ). unchangedIn (emptyTable x 0 alone) 1) z) in
+    new-cases (λ (s : Step). (r ≡ outcome s) × Valid (r .table)) g k alone (λ q. o) (λ q. clash (sym d) q)
+
+pub new-lit : (g k : ℕ) (alone : Bool) (r : Outcome) → k ≤ mostUnits → false ≡ empty g → r ≡ unchangedIn (emptyTable g k alone) 0
+    → (r ≡ outcome (new g k alone)) × Valid (r .table)
+new-lit g k alone r h d e = new-cases (λ (s : Step). (r ≡ outcome s) × Valid (r .table)) g k alone (λ q. clash q (sym d)) (λ q. opened g k 0 alone r h e)
 
 -- ── the clock set, and packed ──
 -- What packing makes of a table that encodes m.
@@ -156,7 +172,7 @@ granted-is t rep g v e =
 -- ── fewer claims, and one more ──
 -- A table with other claims, and as many of them.
 abbrev pub counted : Table → ℕ → List Claim → Table
-counted t n l = record { rig = t .rig; clock = t .clock; pool = t .pool; issued = t .issued; count = n; claims = l }
+counted t n l = record { rig = t .rig; clock = t .clock; pool = t .pool; issued = t .issued; shares = t .shares; count = n; claims = l }
 
 -- t is the table t₀ with other claims; with l as its claims, m of them, it is t₀ without the claim of ticket k.
 pub removed-is : (t₀ t : Table) (k m : ℕ) (l : List Claim) → Formed t₀ → t ≡ withClaims t₀ (t .claims) → m ≡ length (without k (model t₀ .pending)) → l ≡ pad vacant (without k (model t₀ .pending))
@@ -168,7 +184,7 @@ removed-is t₀ t k m l v e f g r q =
 
 -- A table with the claim w after the others.
 abbrev extended : Table → Claim → Table
-extended t w = record { rig = t .rig; clock = t .clock; pool = t .pool; issued = t .issued + 1; count = t .count + 1; claims = set (t .claims) (t .count) w }
+extended t w = record { rig = t .rig; clock = t .clock; pool = t .pool; issued = t .issued + 1; shares = t .shares; count = t .count + 1; claims = set (t .claims) (t .count) w }
 
 extended-is : (m : Model) (w : Claim) → length (m .pending) < 64 → extended (encode m) w ≡ encode (join m w)
 unfolding join
@@ -241,10 +257,10 @@ leaves-is t b x k rest u r v z q g s f =
 
 -- A new claim with its ticket as the code counts it.
 abbrev pub asked : Table → Request → Claim
-asked t ask = record { groups = ask .groups; phase = Waiting (t .clock); length = ask .length; ticket = t .issued + 1; units = ask .units }
+asked t ask = record { groups = ask .groups; phase = Waiting (t .clock); length = ask .length; ticket = t .issued + 1; units = ask .units; client = ask .client }
 
 pub asked-is : (t : Table) (ask : Request) → asked t ask ≡ fresh (model t) ask
-asked-is t ask = ap (λ (k : ℕ). record { groups = ask .groups; phase = Waiting (t .clock); length = ask .length; ticket = k; units = ask .units }) (add-one (t .issued))
+asked-is t ask = ap (λ (k : ℕ). record { groups = ask .groups; phase = Waiting (t .clock); length = ask .length; ticket = k; units = ask .units; client = ask .client }) (add-one (t .issued))
 
 -- In a table where packing changes nothing, starts are as low as packed starts.
 still-capped : (t : Table) → Formed t → Still (model t) → Capped (take (t .count) (t .claims))

@@ -4,6 +4,7 @@ pub mod Events
 pub mod Barring
 pub mod LastEnds
 pub mod Holders
+pub mod Counts
 pub mod Parts
 pub mod Valid
 pub mod Outcomes

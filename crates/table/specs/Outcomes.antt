@@ -10,12 +10,14 @@ use Rattle.rules.specs.declared.Table.{Table}
 use Rattle.rules.specs.declared.Standing.{Standing}
 use Rattle.rules.specs.declared.Standing.the-variants.{NotPending, Waits, Holds}
 use Rattle.numbers.specs.Numbers.{unknownNumber, notYetOnNumber, alreadyOnNumber}
-use Rattle.rules.specs.Tests.{firstOf, late, backward, named}
-use Rattle.rules.specs.Calls.{Model, Call, release, withdraw, Step, advance}
+use Rattle.rules.specs.Shares.{shareOf, pendingOf, unfilledByOthers}
+use Rattle.rules.specs.Tests.{firstOf, late, backward, fullFor, over, named}
+use Rattle.rules.specs.Calls.{Model, clientsOf, Call, release, withdraw, Step, advance}
 use Rattle.rules.specs.Lists.{keep}
 use Rattle.rules.specs.Claims.{on, at}
 use Rattle.rules.specs.Tables.{vacant, encode, model, pad}
 use Rattle.table.specs.declared.Outcome.{Outcome}
+use Rattle.table.specs.Counts.{contested}
 
 -- A step's table and answer; the grants in the first places, 0 after them.
 abbrev pub outcome : Step → Outcome
@@ -46,6 +48,17 @@ pub record Found (t : Table) (k r : ℕ) : Type 0 where
 -- ── the tests 5 and 4, and those of a release and a withdrawal ──
 unfoldable pub timeNumber : ℕ → ℕ → ℕ
 timeNumber now t = firstOf (late t ∷ backward now t ∷ [])
+
+-- The tests 6 and 18, of a claim of client c.
+unfoldable pub shareNumber : Model → ℕ → ℕ
+shareNumber m c =
+    let s = shareOf (m .shares) c in
+    let ks = clientsOf (m .pending) in
+    firstOf (fullFor s (pendingOf ks c) (length (m .pending)) (unfilledByOthers (m .shares) ks c) ∷ over s (pendingOf ks c) ∷ [])
+
+-- That, where it has to be counted for.
+unfoldable pub placesNumber : Model → ℕ → ℕ
+placesNumber m c = cond (contested (m .shares) (length (m .pending)) c) (shareNumber m c) 0
 
 -- c is on, and its promised end is below the clock t.
 abbrev pub pastEnd : ℕ → Claim → Bool

@@ -9,7 +9,7 @@ use Rattle.rules.specs.Lists.{_∈_}
 use Rattle.rules.specs.Pool.{heldUnits}
 use Rattle.rules.specs.Calls.{Model, settingOf}
 use Rattle.rules.specs.Plans.{Ascending}
-use Rattle.rules.specs.Invariants.{Invariant}
+use Rattle.rules.specs.Invariants.{Invariant, IsBooked}
 use Rattle.rules.specs.Tables.{encode, model}
 use Rattle.table.specs.Rows.{Sized}
 
@@ -33,3 +33,4 @@ pub record Formed (t : Table) : Type 0 where
 pub record Valid (t : Table) : Type 0 where
   pub formed : Formed t
   pub settled : Invariant (model t)
+  pub booked : IsBooked (model t)

@@ -43,6 +43,7 @@ pub(crate) fn waiting_from(c: Claim, start: u64) -> Claim
         length: c.length,
         ticket: c.ticket,
         units: c.units,
+        client: c.client,
     }
 }
 
@@ -55,6 +56,7 @@ pub(crate) fn on_since(c: Claim, grant: u64) -> Claim
         length: c.length,
         ticket: c.ticket,
         units: c.units,
+        client: c.client,
     }
 }
 

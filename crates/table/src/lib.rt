@@ -1,24 +1,27 @@
-// The claims table: new, claim, release, withdraw, clock, lookup, common, free. Each call takes a table by value and hands one back with its
-// answer. A claim and a clock call pack only where a holder overruns; a release and a withdrawal only where somebody waits, and once more
-// where there is a pool and a holder overruns.
+// The claims table: new, declare, claim, release, withdraw, clock, lookup, common, free. Each call takes a table by value and hands one
+// back with its answer. A claim and a clock call pack only where a holder overruns; a release and a withdrawal only where somebody waits,
+// and once more where there is a pool and a holder overruns.
 // Packing n claims costs at most n² / 2 tests of two words and two steps for each group of each claim, and for each claim that draws units
 // a sweep over those that do; the search for a claim's start n² tests of two sets, or insertions and a sweep; everything else a few passes.
 ghost use mathlib.Core.Path.{_≡_};
+ghost use mathlib.Core.Bool.{true};
 ghost use Prim.Native.Nat.{_+_, _≤_, _<_};
 ghost use Rattle.numbers.specs.Numbers.{mostClock, mostLength, mostPending, mostTickets};
 ghost use Rattle.rules.specs.Claims.{at};
+ghost use Rattle.rules.specs.Shares.{shareOf};
 ghost use Rattle.rules.specs.Tests.{firstOf};
 ghost use Rattle.rules.specs.Calls.{Call, step, tests, advance, finish, remove, admit, new, standing, standingOf, standingValues, commonOf, commonValues, freeOf};
 ghost use Rattle.rules.specs.Tables.{encode, model};
 ghost use Rattle.rules.specs.Invariants.{Still};
 ghost use Rattle.table.specs.Valid.{Formed, Valid};
-ghost use Rattle.table.specs.Outcomes.{outcome, unchangedIn, Found, timeNumber, pastEnd, departed, phaseNumber, leaving};
+ghost use Rattle.table.specs.Outcomes.{outcome, unchangedIn, Found, timeNumber, shareNumber, placesNumber, pastEnd, departed, phaseNumber, leaving};
 
 mod claims;
 mod granting;
 mod packing;
 mod placing;
 mod pool;
+mod shares;
 
 use groups::MaybeGroup;
 use rules::Claim;
@@ -27,6 +30,7 @@ use rules::Phase;
 use rules::Reply;
 use rules::Request;
 use rules::Setting;
+use rules::Share;
 use rules::Standing;
 use rules::Table;
 
@@ -59,22 +63,36 @@ fn unchanged(t: Table, number: u8) -> Outcome
     }
 }
 
-// A table with nothing pending, at clock 0, and so many units in its pool. A rig without groups is refused (1), and then has no units.
-pub fn new(rig: u64, pool: u16) -> Outcome
-    ensures { λ r. ⌜ (r ≡ outcome (new rig pool)) × Valid (r .table) ⌝ }
+// A table with nothing pending, at clock 0, and so many units in its pool. Client 1 alone is declared, with all places, as for loads of
+// editions 1 and 2, or nobody is. A rig without groups is refused (1), and then has no units.
+pub fn new(rig: u64, pool: u16, alone: bool) -> Outcome
+    ensures { λ r. ⌜ (r ≡ outcome (new rig pool alone)) × Valid (r .table) ⌝ }
 {
+    let places: u8 = if alone { 64 } else { 0 };
+    let first = Share {
+        declared: alone,
+        reserved: places,
+        limit: places,
+    };
+    let other = Share {
+        declared: false,
+        reserved: 0,
+        limit: 0,
+    };
     let vacant = Claim {
         groups: 0,
         phase: Phase::Waiting(0),
         length: 0,
         ticket: 0,
         units: 0,
+        client: 0,
     };
     let mut t = Table {
         rig: rig,
         clock: 0,
         pool: pool,
         issued: 0,
+        shares: [first, other, other, other, other, other, other, other],
         count: 0,
         claims: [vacant; 64],
     };
@@ -309,7 +327,7 @@ pub struct Taken {
 }
 
 // Takes the claim of a ticket out of a table; those after it move up, and the last place becomes vacant. Where there is a pool the table is
-// packed first. Cost: one pass.
+// packed first, if a holder overruns. Cost: one pass, and that packing.
 fn removed(mut t: Table, clock: u64, ticket: u16) -> Taken
     requires { ⌜ Valid t × (t .clock ≤ clock) × (clock ≤ mostClock) ⌝ }
     ensures { λ r. ⌜ (r .standing ≡ standingOf ticket (departed (model t) clock .pending)) × (r .table ≡ encode (remove (departed (model t) clock) ticket))
@@ -339,6 +357,7 @@ fn removed(mut t: Table, clock: u64, ticket: u16) -> Taken
             length: 0,
             ticket: 0,
             units: 0,
+            client: 0,
         };
     }
     t.count = n;
@@ -390,16 +409,69 @@ pub fn withdraw(t: Table, clock: u64, ticket: u16) -> Outcome
     leave(t, false, clock, ticket)
 }
 
+// ── declare ──
+
+// The first of its tests that a declaration fails, or 0.
+fn declare_number(t: Table, client: u8, reserved: u8, limit: u8) -> u8
+    requires { ⌜ Valid t ⌝ }
+    ensures { λ r. ⌜ r ≡ firstOf (tests (model t) (Call.declare client reserved limit)) ⌝ }
+{
+    if refusals::begun(t.issued) {
+        return numbers::MISFIT;
+    }
+    if refusals::no_client(client) {
+        return numbers::STRANGER;
+    }
+    let held = t.shares;
+    let s = shares::share_of(held, client);
+    let all = shares::reserved_in_all(held);
+    if refusals::overbooked(s, all, reserved, limit) {
+        return numbers::OVERBOOKED;
+    }
+    0
+}
+
+// Declares a client, with its guarantee and its limit. Refused: 13, 17, 19.
+pub fn declare(mut t: Table, client: u8, reserved: u8, limit: u8) -> Outcome
+    requires { ⌜ Valid t ⌝ }
+    ensures { λ r. ⌜ (r ≡ outcome (step (model t) (Call.declare client reserved limit))) × Valid (r .table) ⌝ }
+{
+    let number = declare_number(t, client, reserved, limit);
+    if number == 0 {
+        t.shares[(client - 1) as usize] = Share {
+            declared: true,
+            reserved: reserved,
+            limit: limit,
+        };
+    }
+    unchanged(t, number)
+}
+
 // ── claim ──
 
-// The first of its tests that a claim fails, or 0.
-fn claim_number(t: Table, clock: u64, ask: Request) -> u8
-    requires { ⌜ Formed t ⌝ }
+// The first of the tests 6 and 18 that a claim of a declared client fails, or 0. Cost: one pass.
+fn share_number(t: Table, client: u8) -> u8
+    requires { ⌜ Valid t × (shareOf (t .shares) client .declared ≡ true) ⌝ }
+    ensures { λ r. ⌜ r ≡ shareNumber (model t) client ⌝ }
+{
+    let held = t.shares;
+    let each = shares::pending_each(t);
+    shares::number_of(held, each, t.count, client)
+}
+
+// The first of its tests that a claim fails, or 0. `places` is what `share_number` gives, where the tests 6 and 18 hang on it.
+fn claim_number(t: Table, clock: u64, ask: Request, places: u8) -> u8
+    requires { ⌜ Valid t × (places ≡ placesNumber (model t) (ask .client)) ⌝ }
     ensures { λ r. ⌜ r ≡ firstOf (tests (model t) (Call.claim clock ask)) ⌝ }
 {
     let timing = time_number(t.clock, clock);
     if timing != 0 {
         return timing;
+    }
+    let held = t.shares;
+    let s = shares::share_of(held, ask.client);
+    if refusals::stranger(s) {
+        return numbers::STRANGER;
     }
     if refusals::nothing_asked(ask.groups, ask.units) {
         return numbers::DARK;
@@ -415,6 +487,9 @@ fn claim_number(t: Table, clock: u64, ask: Request) -> u8
     }
     if refusals::full(t.count) {
         return numbers::FULL;
+    }
+    if places != 0 {
+        return places;
     }
     if refusals::ticketless(t.issued) {
         return numbers::TICKETLESS;
@@ -436,17 +511,24 @@ fn admitted(t: Table, ask: Request) -> Outcome
         length: ask.length,
         ticket: ticket,
         units: ask.units,
+        client: ask.client,
     };
     let p = placing::place(t, w);
     finished(p.table, p.reply)
 }
 
-// Claims what is asked for. Refused: 5, 4, 1, 2, 16, 3, 6, 7.
+// Claims what is asked for. Refused: 5, 4, 17, 1, 2, 16, 3, 6, 18, 7. Counting what clients have pending stands here and not in
+// `claim_number`: a table handed on is a table copied, so it is handed on only where they have to be counted.
 pub fn claim(t: Table, clock: u64, ask: Request) -> Outcome
     requires { ⌜ Valid t ⌝ }
     ensures { λ r. ⌜ (r ≡ outcome (step (model t) (Call.claim clock ask))) × Valid (r .table) ⌝ }
 {
-    let number = claim_number(t, clock, ask);
+    let held = t.shares;
+    let mut places: u8 = 0;
+    if shares::contested(held, t.count, ask.client) {
+        places = share_number(t, ask.client);
+    }
+    let number = claim_number(t, clock, ask, places);
     if number != 0 {
         return unchanged(t, number);
     }

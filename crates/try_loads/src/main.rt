@@ -177,7 +177,7 @@ fn attempts(load: &[u8], call: Call) {
     attempt(load, call, &mut short);
 }
 
-// A call without a ticket.
+// A call of client 1 without a ticket.
 fn call(kind: u8, clock: u64, groups: u64, length: u32, pool: u16, units: u16) -> Call {
     Call {
         kind,
@@ -187,6 +187,9 @@ fn call(kind: u8, clock: u64, groups: u64, length: u32, pool: u16, units: u16) -
         ticket: 0,
         pool,
         units,
+        client: 1,
+        reserved: 0,
+        limit: 0,
     }
 }
 
@@ -206,6 +209,14 @@ fn print(load: &[u8]) {
     attempts(load, call(5, 1, 0, 0, 0, 0));
     attempts(load, call(1, 0, 15, 0, 3, 0));
     attempts(load, call(2, 1, 1, 1, 0, 2));
+    let mut c = call(2, 1, 1, 1, 0, 0);
+    c.client = 2;
+    attempts(load, c);
+    let mut d = call(6, 0, 0, 0, 0, 0);
+    d.client = 2;
+    d.reserved = 3;
+    d.limit = 4;
+    attempts(load, d);
 }
 
 // `room` is for the longest load and one byte more.

@@ -1,7 +1,8 @@
 // Runs the plots of document 01, "Plots to try", on the table, and prints a line for each: for every call its answer (number, ticket,
 // start, crowd, ceiling, then "on" with the tickets granted), for every look what it tells. Then it issues every ticket that a table has,
-// claim and release in turn, and shows what comes then.
+// claim and release in turn, and shows what comes then. Last two clients with shares.
 ghost use Rattle.table.specs.Valid.{Valid};
+use rules::Request;
 use rules::Standing;
 use rules::Table;
 use table::Outcome;
@@ -111,7 +112,7 @@ fn end() {
 fn rig(groups: u64) -> Table
     ensures { λ r. ⌜ Valid r ⌝ }
 {
-    let r = table::new(groups, 0);
+    let r = table::new(groups, 0, true);
     r.table
 }
 
@@ -236,7 +237,7 @@ fn line(text: &[u8], n: u64) {
 fn exhausted() -> Table
     ensures { λ r. ⌜ Valid r ⌝ }
 {
-    let o = table::new(0x1, 0);
+    let o = table::new(0x1, 0, true);
     let mut t = o.table;
     let mut i: u32 = 0;
     while i < 65_535 {
@@ -263,6 +264,64 @@ fn tickets() {
     line(b"a clock call: ", d.number as u64);
 }
 
+// ── clients with shares ──
+
+fn declare(t: Table, client: u8, reserved: u8, limit: u8) -> Table
+    requires { ⌜ Valid t ⌝ }
+    ensures { λ r. ⌜ Valid r ⌝ }
+{
+    let r = table::declare(t, client, reserved, limit);
+    number(r.number as u64);
+    r.table
+}
+
+fn claim_by(t: Table, client: u8) -> Outcome
+    requires { ⌜ Valid t ⌝ }
+    ensures { λ r. ⌜ Valid (r .table) ⌝ }
+{
+    let ask = Request {
+        groups: 0x1,
+        length: 10,
+        units: 0,
+        client: client,
+    };
+    table::claim(t, 0, ask)
+}
+
+// 40 claims of a client, and their numbers.
+fn forty(from: Table, client: u8) -> Table
+    requires { ⌜ Valid from ⌝ }
+    ensures { λ r. ⌜ Valid r ⌝ }
+{
+    let mut t = from;
+    let mut i: usize = 0;
+    while i < 40 {
+        let r = claim_by(t, client);
+        number(r.number as u64);
+        t = r.table;
+        i += 1;
+    }
+    end();
+    t
+}
+
+// Two clients with 32 places reserved each ask for 40; then a declaration, which comes late.
+fn desks() {
+    let o = table::new(0xF, 0, false);
+    let t = o.table;
+    io::write_all(1, b"desks 1 and 2, 32 and 32:");
+    let u = declare(t, 1, 32, 64);
+    let v = declare(u, 2, 32, 32);
+    end();
+    io::write_all(1, b"desk 1:");
+    let w = forty(v, 1);
+    io::write_all(1, b"desk 2:");
+    let x = forty(w, 2);
+    io::write_all(1, b"desk 3:");
+    declare(x, 3, 0, 0);
+    end();
+}
+
 fn main() {
     plots_1_to_4();
     plots_5_to_8();
@@ -270,4 +329,5 @@ fn main() {
     plots_11_and_12();
     plots_13_and_14();
     tickets();
+    desks();
 }

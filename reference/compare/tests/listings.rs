@@ -1,14 +1,19 @@
 //! The proved listing against the reference, byte for byte.
 
+use std::collections::BTreeMap;
+
 use compare::{listing, output_of, report, seeds};
 use reference::generate::{self, Prng, Shape};
 use reference::load::{self, Call};
-use reference::table::TimedCall;
+use reference::table::{Declaration, TableCall, TimedCall, ONLY_CLIENT};
 use reference::text;
 
 /// The two differ in the listing, or the proved call touches what it must not.
 fn differs(load: &[u8]) -> bool {
-    let expected = reference::listing::listing(load);
+    differs_from(load, &reference::listing::listing(load))
+}
+
+fn differs_from(load: &[u8], expected: &[u8]) -> bool {
     let mut out = vec![0xA5; expected.len() + 7];
     let count = listing(load, &mut out);
     count != expected.len()
@@ -38,13 +43,49 @@ fn check(load: &[u8]) {
     }
 }
 
+/// How often each number comes in lines, and how often a listing stops at a declaration that comes too late.
+#[derive(Default, Debug)]
+struct Counts {
+    numbers: BTreeMap<u8, u64>,
+    late: u64,
+}
+
+impl Counts {
+    fn add(&mut self, load: &[u8], listing: &[u8]) {
+        let text = std::str::from_utf8(listing).expect("a listing is plain text");
+        for line in text.lines().skip(1) {
+            let words: Vec<&str> = line.split(' ').collect();
+            if let [_, number, _, _] = words[..] {
+                let number = number.parse().expect("a number");
+                *self.numbers.entry(number).or_default() += 1;
+            } else if line.starts_with("stop 13") {
+                self.late += u64::from(load::read_all(load).is_ok());
+            }
+        }
+    }
+}
+
+/// What clients meet comes often.
 #[test]
 fn generated_loads() {
-    for seed in seeds("COMPARE_LOADS", 20_000) {
+    let mut counts = Counts::default();
+    let seeds = seeds("COMPARE_LOADS", 20_000);
+    let loads = seeds.end - seeds.start;
+    for seed in seeds {
         let load = generate::any_load(seed);
-        if differs(&load) {
+        let expected = reference::listing::listing(&load);
+        if differs_from(&load, &expected) {
             report(seed, &load, differs);
         }
+        counts.add(&load, &expected);
+    }
+    println!("COMPARE_LOADS: {counts:?}");
+    if loads >= 2_000 {
+        for (number, in_loads) in [(6, 2), (17, 4), (18, 4), (19, 10)] {
+            let count = counts.numbers.get(&number).copied().unwrap_or(0);
+            assert!(count >= loads / in_loads, "{number}: {count}");
+        }
+        assert!(counts.late >= loads / 25, "late: {}", counts.late);
     }
 }
 
@@ -89,7 +130,7 @@ fn truncations_and_flips() {
 
 #[test]
 fn loads_of_the_greatest_length() {
-    for edition in [1, 2] {
+    for edition in [1, 2, 3] {
         for size in [65_535, 65_536, 65_537] {
             for seed in 1..=3 {
                 if let Some(load) = generate::sized_load(edition, seed, size) {
@@ -103,7 +144,7 @@ fn loads_of_the_greatest_length() {
     }
 }
 
-/// Every first byte, with nothing behind it, and before the records of both editions.
+/// Every first byte, with nothing behind it, and before the records of every edition.
 #[test]
 fn every_edition() {
     let claim = Call::Timed(TimedCall::Claim {
@@ -111,14 +152,73 @@ fn every_edition() {
         groups: 1,
         length: 5,
         units: 0,
+        client: 1,
     });
     let rig = Call::Rig { groups: 1, pool: 0 };
     for first in 0..=255 {
         check(&[first]);
-        for edition in [1, 2] {
+        for edition in [1, 2, 3] {
             let mut load = load::join(edition, &[rig, claim]);
             load[0] = first;
             check(&load);
+        }
+        let mut load = load::join(3, &[rig, Call::Declare(ONLY_CLIENT), claim]);
+        load[0] = first;
+        check(&load);
+    }
+}
+
+/// Every kind and every length up to those of the longest records, behind a rig of each edition.
+#[test]
+fn every_kind_and_length() {
+    let rig = Call::Rig { groups: 1, pool: 0 };
+    for edition in [1, 2, 3] {
+        for kind in 0..=16 {
+            for length in 1..=32 {
+                let mut load = load::join(edition, &[rig]);
+                load.extend([0, length, kind]);
+                load.resize(load.len() + usize::from(length) - 1, 1);
+                check(&load);
+                load.pop();
+                check(&load);
+            }
+        }
+    }
+}
+
+/// Every client, guarantee and limit in one declaration, and every client in a claim.
+#[test]
+fn every_byte_of_a_declaration() {
+    let rig = Call::Rig { groups: 1, pool: 0 };
+    let claim = |client| {
+        Call::Timed(TimedCall::Claim {
+            clock: 0,
+            groups: 1,
+            length: 5,
+            units: 0,
+            client,
+        })
+    };
+    for byte in 0..=255 {
+        for (client, reserved, limit) in
+            [(byte, 1, 2), (2, byte, 64), (2, 0, byte), (2, byte, byte)]
+        {
+            let declared = Call::Declare(Declaration {
+                client,
+                reserved,
+                limit,
+            });
+            let first = Call::Declare(Declaration {
+                client: 1,
+                reserved: 3,
+                limit: 3,
+            });
+            check(&load::join(3, &[rig, declared, claim(client)]));
+            check(&load::join(
+                3,
+                &[rig, first, declared, claim(byte), claim(2)],
+            ));
+            check(&load::join(3, &[rig, first, claim(1), declared, claim(2)]));
         }
     }
 }
@@ -131,6 +231,33 @@ fn pools() {
         let mut run = generate::run_of(shape, seed);
         for pool in [run.pool, run.pool / 2, run.pool.saturating_mul(2), 0] {
             run.pool = pool;
+            let load = run.load();
+            if differs(&load) {
+                report(seed, &load, differs);
+            }
+        }
+    }
+}
+
+/// Runs of several clients as they are, without guarantees, with every limit lowered, and each client declared with one
+/// place more.
+#[test]
+fn clients() {
+    for seed in seeds("COMPARE_CLIENTS", 3_000) {
+        let run = generate::run_of(Shape::Clients, seed);
+        let changes: [fn(&mut Declaration); 4] = [
+            |_| {},
+            |own| own.reserved = 0,
+            |own| own.limit = own.limit.min(9).max(own.reserved),
+            |own| own.reserved = own.reserved.saturating_add(1),
+        ];
+        for change in changes {
+            let mut run = run.clone();
+            for call in &mut run.calls {
+                if let TableCall::Declare(declaration) = call {
+                    change(declaration);
+                }
+            }
             let load = run.load();
             if differs(&load) {
                 report(seed, &load, differs);
@@ -231,7 +358,10 @@ fn the_fifteen_scenarios() {
         (&[2], ""),
         (&[2, 0], "stop 12 1\n"),
         (&[2, 0, 0], "stop 13 1\n"),
-        (&[3], "stop 11 0\n"),
+        (&[3], ""),
+        (&[3, 0], "stop 12 1\n"),
+        (&[3, 0, 0], "stop 13 1\n"),
+        (&[4], "stop 11 0\n"),
     ] {
         assert_eq!(agreed(load), format!("{header}{stop}"));
     }
@@ -325,6 +455,106 @@ fn the_fifteen_scenarios_in_edition_2() {
             calls[0] = Call::Rig { groups: 0xF, pool };
             assert_eq!(agreed(&load::join(2, &calls)), listing, "{text}");
         }
+    }
+}
+
+/// With client 1 at 64 and 64 and nobody else the listing is that of edition 1, with a line more.
+#[test]
+fn the_fifteen_scenarios_in_edition_3() {
+    for text in scenarios() {
+        let load = text::make(text.as_bytes()).expect("a load's text");
+        let older = agreed(&load);
+        let mut calls = load::read_all(&load).expect("a good load");
+        calls.insert(1, Call::Declare(ONLY_CLIENT));
+        let newer = agreed(&load::join(3, &calls));
+        // Records behind the rig have the next number.
+        let moved: String = older
+            .lines()
+            .map(|line| match line.split_once(' ') {
+                Some((number, rest)) if number.parse().is_ok_and(|n: u32| n > 1) => {
+                    let next = number.parse::<u32>().expect("a number") + 1;
+                    format!("{next} {rest}\n")
+                }
+                _ => format!("{line}\n"),
+            })
+            .collect();
+        assert_eq!(
+            newer,
+            moved.replacen("\n1 0 0 0\n", "\n1 0 0 0\n2 0 0 0\n", 1),
+            "{text}"
+        );
+    }
+}
+
+/// Clients, by the text of the calls behind the rig and the last lines of their listings.
+#[test]
+fn clients_by_hand() {
+    let claims = |client: u8, count: usize| format!("claim 0 1 5 0 {client}\n").repeat(count);
+    for (calls, last) in [
+        // Half for each: client 1 gets 32, then client 2 its own.
+        (
+            format!(
+                "desk 1 32 64\ndesk 2 32 64\n{}{}{}",
+                claims(1, 33),
+                claims(2, 32),
+                claims(1, 1)
+            ),
+            "36 6 0 0\n37 0 33 160\n",
+        ),
+        (
+            format!(
+                "desk 1 32 64\ndesk 2 32 64\n{}{}{}",
+                claims(1, 33),
+                claims(2, 32),
+                claims(1, 1)
+            ),
+            "68 0 64 315\n69 6 0 0\n",
+        ),
+        // The last place is kept for client 7; then all is full, before any limit.
+        (
+            format!("desk 4 0 64\ndesk 7 1 1\n{}{}{}", claims(4, 64), claims(7, 2), claims(4, 1)),
+            "67 6 0 0\n68 0 64 315\n69 6 0 0\n70 6 0 0\n",
+        ),
+        // A limit, and none.
+        (
+            format!("desk 5 1 2\ndesk 8 0 0\n{}{}", claims(5, 3), claims(8, 1)),
+            "5 0 2 5\n6 18 0 0\n7 18 0 0\n",
+        ),
+        // 17 before 1; 1 before 18.
+        (
+            "desk 8 0 0\nclaim 0 0 0 0 7\nclaim 0 0 0 0 0\nclaim 0 0 0 0 9\nclaim 0 0 0 0 255\nclaim 0 0 0 0 8\n".to_string(),
+            "3 17 0 0\n4 17 0 0\n5 17 0 0\n6 17 0 0\n7 1 0 0\n",
+        ),
+        // 17 behind 5 and 4.
+        (
+            "desk 8 0 0\nclock 3\nclaim 2 0 0 0 7\nclaim 1000000000001 0 0 0 7\nclaim 3 0 0 0 7\n".to_string(),
+            "4 4 0 0\n5 5 0 0\n6 17 0 0\n",
+        ),
+        // 19 for each of its reasons, and what is just good.
+        (
+            "desk 1 60 60\ndesk 2 5 5\ndesk 2 4 3\ndesk 2 0 65\ndesk 1 0 0\ndesk 2 4 64\ndesk 3 0 0\n".to_string(),
+            "2 0 0 0\n3 19 0 0\n4 19 0 0\n5 19 0 0\n6 19 0 0\n7 0 0 0\n8 0 0 0\n",
+        ),
+        // 17 before 19.
+        (
+            "desk 0 65 3\ndesk 9 0 0\ndesk 255 255 0\n".to_string(),
+            "2 17 0 0\n3 17 0 0\n4 17 0 0\n",
+        ),
+        // Behind a refused claim a declaration is good; behind an accepted one it ends all.
+        (
+            "claim 0 1 5 0 1\ndesk 1 0 9\nclaim 0 0 5 0 1\ndesk 2 0 9\nclaim 0 1 5 0 2\ndesk 9 65 1\nclock 1\n".to_string(),
+            "2 17 0 0\n3 0 0 0\n4 1 0 0\n5 0 0 0\n6 0 1 0\non 1 0\nstop 13 7\n",
+        ),
+        // Also where nothing is pending any more.
+        (
+            "desk 1 0 9\nclaim 0 1 5 0 1\nrelease 1 1\ndesk 2 0 9\n".to_string(),
+            "3 0 1 0\non 1 0\n4 0 1 1\nstop 13 5\n",
+        ),
+    ] {
+        let text = format!("edition 3\nrig F 3\n{calls}");
+        let load = text::make(text.as_bytes()).expect("a load's text");
+        let listing = agreed(&load);
+        assert!(listing.contains(last), "{text}gives\n{listing}");
     }
 }
 

@@ -3,7 +3,7 @@
 use compare::{output_of, report, seeds};
 use reference::generate;
 use reference::load::{self, Call, MAX_LOAD};
-use reference::table::TimedCall;
+use reference::table::{Declaration, TimedCall};
 use reference::tries::tries;
 
 fn differs(load: &[u8]) -> bool {
@@ -18,9 +18,10 @@ fn agreed(load: &[u8]) -> String {
     String::from_utf8(tries(load)).expect("lines of words and numbers")
 }
 
-/// The last lines: a rig, a clock call, a rig with a pool and a claim with units appended to the load as it stands, each
-/// with much room and with one byte. Given are the number and the length that each has with much room.
-fn last_lines(answers: [(u8, usize); 4]) -> String {
+/// The last lines: a rig, a clock call, a rig with a pool, a claim with units, a claim of client 2 and a declaration
+/// appended to the load as it stands, each with much room and with one byte. Given are the number and the length that
+/// each has with much room.
+fn last_lines(answers: [(u8, usize); 6]) -> String {
     answers
         .map(|(number, length)| {
             let short = if number == 0 { 15 } else { number };
@@ -55,18 +56,20 @@ fn reader_and_writer_on_generated_loads() {
 
 #[test]
 fn reader_and_writer_on_short_loads() {
-    let alone = [(0, 12), MISFIT, MISFIT, MISFIT];
-    let alone_2 = [(0, 14), MISFIT, (0, 14), MISFIT];
+    let alone = [(0, 12), MISFIT, MISFIT, MISFIT, MISFIT, MISFIT];
+    let alone_2 = [(0, 14), MISFIT, (0, 14), MISFIT, MISFIT, MISFIT];
     for (load, lines, answers) in [
-        (&b""[..], "scan 0 12\nstop 1 12\n", [(12, 0); 4]),
+        (&b""[..], "scan 0 12\nstop 1 12\n", [(12, 0); 6]),
         (&[1], "scan 0 0\nstop 1 0\nsame 1\n", alone),
         (&[2], "scan 0 0\nstop 1 0\nsame 1\n", alone_2),
-        (&[0], "scan 0 11\nstop 1 11\n", [(11, 0); 4]),
-        (&[3], "scan 0 11\nstop 1 11\n", [(11, 0); 4]),
-        (&[0xFF], "scan 0 11\nstop 1 11\n", [(11, 0); 4]),
-        (&[1, 0], "scan 0 12\nstop 1 12\nsame 1\n", [(12, 0); 4]),
-        (&[1, 0, 0], "scan 0 13\nstop 1 13\nsame 1\n", [(13, 0); 4]),
-        (&[2, 0, 0], "scan 0 13\nstop 1 13\nsame 1\n", [(13, 0); 4]),
+        (&[3], "scan 0 0\nstop 1 0\nsame 1\n", alone_2),
+        (&[0], "scan 0 11\nstop 1 11\n", [(11, 0); 6]),
+        (&[4], "scan 0 11\nstop 1 11\n", [(11, 0); 6]),
+        (&[0xFF], "scan 0 11\nstop 1 11\n", [(11, 0); 6]),
+        (&[1, 0], "scan 0 12\nstop 1 12\nsame 1\n", [(12, 0); 6]),
+        (&[1, 0, 0], "scan 0 13\nstop 1 13\nsame 1\n", [MISFIT; 6]),
+        (&[2, 0, 0], "scan 0 13\nstop 1 13\nsame 1\n", [MISFIT; 6]),
+        (&[3, 0, 0], "scan 0 13\nstop 1 13\nsame 1\n", [MISFIT; 6]),
     ] {
         assert_eq!(agreed(load), format!("{lines}{}", last_lines(answers)));
     }
@@ -78,61 +81,112 @@ fn reader_and_writer_on_refused_records() {
     let rig = |groups, pool| Call::Rig { groups, pool };
     let good = load::join(1, &[rig(0xF, 0), clock]);
     let read = "record 1 11\nstop 12 13\nappend 0 12\nsame 1\n";
-    for edition in [0xFF, 3] {
+    for edition in [0xFF, 4] {
         let mut load = good.clone();
         load[0] = edition;
-        let lines = last_lines([(11, 0); 4]);
+        let lines = last_lines([(11, 0); 6]);
         assert_eq!(agreed(&load), format!("scan 0 11\nstop 1 11\n{lines}"));
     }
-    // The records of the other edition.
-    for edition in [1, 2] {
-        let mut load = load::join(3 - edition, &[rig(0xF, 0), clock]);
+    // The records of another edition.
+    for (edition, other) in [(1, 2), (2, 1), (1, 3), (3, 1)] {
+        let mut load = load::join(other, &[rig(0xF, 0), clock]);
         load[0] = edition;
-        let lines = last_lines([MISFIT; 4]);
+        let lines = last_lines([MISFIT; 6]);
         let expected = format!("scan 0 13\nstop 1 13\nsame 1\n{lines}");
         assert_eq!(agreed(&load), expected);
     }
+    let claim = |client| {
+        Call::Timed(TimedCall::Claim {
+            clock: 7,
+            groups: 1,
+            length: 1,
+            units: 2,
+            client,
+        })
+    };
+    for (edition, other) in [(2, 3), (3, 2)] {
+        let mut load = load::join(other, &[rig(0xF, 3), claim(1)]);
+        load[0] = edition;
+        let lines = last_lines([MISFIT; 6]);
+        let read = "scan 1 13\nrecord 1 13\nstop 14 13\nappend 0 14\nsame 1\n";
+        assert_eq!(agreed(&load), format!("{read}{lines}"));
+    }
+    // Declarations and clients of any value, where they may stand and where not.
+    let declared = Call::Declare(Declaration {
+        client: 0,
+        reserved: 255,
+        limit: 1,
+    });
+    let load = load::join(3, &[rig(0, 3), claim(9), declared, claim(0)]);
+    let lines = last_lines([MISFIT, (0, 83), MISFIT, (0, 98), (0, 98), (0, 78)]);
+    assert_eq!(
+        agreed(&load),
+        format!(
+            "scan 4 0\nrecord 1 13\nrecord 14 26\nrecord 40 6\nrecord 46 26\nstop 72 0\n\
+             append 0 14\nappend 0 40\nappend 0 46\nappend 0 72\nsame 1\n{lines}"
+        )
+    );
+    for edition in [1, 2] {
+        let mut load = load::join(edition, &[rig(0xF, 0)]);
+        let length = load.len();
+        load.extend(load::encode(3, declared).expect("a call of edition 3"));
+        let lines = last_lines([MISFIT; 6]);
+        let stop = format!("stop {length} 13\nappend 0 {length}\nsame 1\n");
+        let record = length - 1;
+        assert_eq!(
+            agreed(&load),
+            format!("scan 1 13\nrecord 1 {record}\n{stop}{lines}")
+        );
+    }
     let dark = load::join(1, &[rig(0, 0)]);
-    let lines = last_lines([MISFIT, (0, 23), MISFIT, MISFIT]);
+    let lines = last_lines([MISFIT, (0, 23), MISFIT, MISFIT, MISFIT, MISFIT]);
     assert_eq!(
         agreed(&dark),
         format!("scan 1 0\nrecord 1 11\nstop 12 0\nappend 0 12\nsame 1\n{lines}")
     );
     let dark = load::join(2, &[rig(0, 65_535)]);
-    let lines = last_lines([MISFIT, (0, 25), MISFIT, (0, 39)]);
+    let lines = last_lines([MISFIT, (0, 25), MISFIT, (0, 39), MISFIT, MISFIT]);
     assert_eq!(
         agreed(&dark),
         format!("scan 1 0\nrecord 1 13\nstop 14 0\nappend 0 14\nsame 1\n{lines}")
     );
     let second = load::join(1, &[rig(0xF, 0), rig(0xF, 0), clock]);
-    let lines = last_lines([MISFIT; 4]);
+    let lines = last_lines([MISFIT; 6]);
     assert_eq!(agreed(&second), format!("scan 1 13\n{read}{lines}"));
     for end in 13..good.len() {
-        let lines = last_lines([(12, 0); 4]);
+        let lines = last_lines([(12, 0); 6]);
         let read = read.replace("12 13", "12 12");
         assert_eq!(agreed(&good[..end]), format!("scan 1 12\n{read}{lines}"));
     }
 }
 
-/// A clock record has 11 bytes: behind 65,525 it goes in, behind 65,526 it does not. A claim of edition 2 has 25.
+/// A clock record has 11 bytes: behind 65,525 it goes in, behind 65,526 it does not. A claim of edition 2 has 25, one of
+/// edition 3 has 26, a declaration has 6.
 #[test]
 fn reader_and_writer_on_the_longest_loads() {
-    for (edition, size, clock, claim) in [
-        (1, 65_525, (0, 65_536), MISFIT),
-        (1, 65_526, (14, 0), MISFIT),
-        (1, 65_536, (14, 0), MISFIT),
-        (2, 65_511, (0, 65_522), (0, 65_536)),
-        (2, 65_512, (0, 65_523), (14, 0)),
-        (2, 65_525, (0, 65_536), (14, 0)),
-        (2, 65_526, (14, 0), (14, 0)),
-        (2, 65_536, (14, 0), (14, 0)),
+    let over = (14, 0);
+    for (edition, size, [clock, claim, own, declaration]) in [
+        (1, 65_525, [(0, 65_536), MISFIT, MISFIT, MISFIT]),
+        (1, 65_526, [over, MISFIT, MISFIT, MISFIT]),
+        (2, 65_511, [(0, 65_522), (0, 65_536), MISFIT, MISFIT]),
+        (2, 65_512, [(0, 65_523), over, MISFIT, MISFIT]),
+        (2, 65_525, [(0, 65_536), over, MISFIT, MISFIT]),
+        (2, 65_536, [over, over, MISFIT, MISFIT]),
+        (
+            3,
+            65_510,
+            [(0, 65_521), (0, 65_536), (0, 65_536), (0, 65_516)],
+        ),
+        (3, 65_511, [(0, 65_522), over, over, (0, 65_517)]),
+        (3, 65_530, [over, over, over, (0, 65_536)]),
+        (3, 65_531, [over; 4]),
     ] {
         let load = generate::sized_load(edition, 1, size).expect("a load of that size");
-        let last = last_lines([MISFIT, clock, MISFIT, claim]);
+        let last = last_lines([MISFIT, clock, MISFIT, claim, own, declaration]);
         assert!(agreed(&load).ends_with(&last), "{size}");
     }
-    for edition in [1, 2] {
+    for edition in [1, 2, 3] {
         let load = generate::sized_load(edition, 1, 65_537).expect("a load of that size");
-        assert!(agreed(&load).ends_with(&last_lines([(14, 0); 4])));
+        assert!(agreed(&load).ends_with(&last_lines([(14, 0); 6])));
     }
 }

@@ -38,6 +38,10 @@ const S: &str = "rig F\nclaim 0 8 10\nclaim 0 C 10\nclaim 0 6 11\n";
 const UNITS: &str =
     "edition 2\nrig F 9\nclaim 0 1 10 4\nclaim 0 0 10 3\nclaim 0 2 5 5\nclaim 0 4 5 0\n";
 
+/// A client that makes a claim of seven of nine units, and one that is declared too late for its own.
+const CLIENTS: &str =
+    "edition 3\nrig F 9\ndesk 2 1 5\ndesk 2 1 5\ndesk 9 0 0\nclaim 0 1 10 7 2\ndesk 3 0 5\nclaim 0 2 10 0 2\n";
+
 #[test]
 fn generated_questions() {
     for seed in seeds("COMPARE_QUESTIONS", 2_000) {
@@ -86,11 +90,25 @@ fn the_answers() {
             "stop 1 1\n0 of 0 units free\n",
         ),
         (&[2], "0 of 0 units free\n"),
-        (&[3], "stop 11 0\n0 of 0 units free\n"),
+        (&[3], "0 of 0 units free\n"),
+        (&made(CLIENTS), "stop 13 6\n2 of 9 units free\n"),
+        (&[4], "stop 11 0\n0 of 0 units free\n"),
         (&[], "stop 12 0\n0 of 0 units free\n"),
     ] {
         let expected = (said.as_bytes().to_vec(), Vec::new());
         assert_eq!(agreed(load, b"free"), expected);
+    }
+    let clients = made(CLIENTS);
+    for (question, said) in [
+        ("lookup 1", "stop 13 6\nticket 1 is on, promised end 10\n"),
+        ("lookup 2", "stop 13 6\nticket 2 is not pending\n"),
+    ] {
+        let expected = (said.as_bytes().to_vec(), Vec::new());
+        assert_eq!(
+            agreed(&clients, question.as_bytes()),
+            expected,
+            "{question}"
+        );
     }
     for question in [
         "",
@@ -204,7 +222,7 @@ fn questions_of_the_greatest_length() {
 
 #[test]
 fn loads_of_the_greatest_length() {
-    for edition in [1, 2] {
+    for edition in [1, 2, 3] {
         for size in [MAX_LOAD - 1, MAX_LOAD, MAX_LOAD + 1] {
             let load = generate::sized_load(edition, 1, size).expect("a load of that size");
             let issued = left(&load).0.issued();
@@ -221,7 +239,16 @@ fn loads_of_the_greatest_length() {
 /// Loads of a few bytes, and every truncation of a good one.
 #[test]
 fn loads_that_end_early() {
-    for load in [&b""[..], &[1], &[2], &[0xFF], &[1, 0], &[1, 0, 0]] {
+    for load in [
+        &b""[..],
+        &[1],
+        &[2],
+        &[3],
+        &[4],
+        &[0xFF],
+        &[1, 0],
+        &[1, 0, 0],
+    ] {
         agreed(load, b"lookup 1");
         agreed(load, b"free");
     }
@@ -236,5 +263,9 @@ fn loads_that_end_early() {
     let twice = [&units[..], &units[1..]].concat();
     for end in 0..=twice.len() {
         agreed(&twice[..end], b"free");
+    }
+    let clients = made(CLIENTS);
+    for end in 0..=clients.len() {
+        agreed(&clients[..end], b"lookup 1");
     }
 }

@@ -78,6 +78,25 @@ fn the_sample_of_edition_2() {
     assert_eq!(agreed(shown.as_bytes()).0, load);
 }
 
+/// A text of edition 3, with its load.
+#[test]
+fn the_sample_of_edition_3() {
+    let text =
+        b"edition 3\nrig 0-3 2\ndesk 1 40 064  # front of house\ndesk 2 24 24\nclaim 0 3, 10 1 1\n\
+        claim 0 0 10 2 2\nrelease 4 1\n";
+    let hex = "03000B01000000000000000F00020004060128400004060218180018020000000000000000000000000000\
+        00080000000A000101001802000000000000000000000000000000000000000A000202000B0300000000000000040001";
+    let load: Vec<u8> = (0..hex.len())
+        .step_by(2)
+        .map(|at| u8::from_str_radix(&hex[at..at + 2], 16).expect("hex"))
+        .collect();
+    assert_eq!(agreed(text), (load.clone(), Vec::new()));
+    assert!(!show_differs(&load));
+    let shown = "edition 3\nrig F 2\ndesk 1 40 64\ndesk 2 24 24\nclaim 0 8 10 1 1\nclaim 0 0 10 2 2\nrelease 4 1\n";
+    assert_eq!(load_show(&load), shown);
+    assert_eq!(agreed(shown.as_bytes()).0, load);
+}
+
 /// A line for each reason of docs/FORMAT.md that a short text can have.
 #[test]
 fn the_reasons() {
@@ -126,9 +145,50 @@ fn the_reasons() {
         let text = format!("edition 2\nrig F 3\n\n{line}\nfoo\n");
         assert_eq!(agreed(text.as_bytes()), (Vec::new(), message), "{line}");
     }
+    for (line, reason) in [
+        ("rig F", "a number is missing"),
+        ("claim 0 F 1 0", "a number is missing"),
+        ("desk", "a number is missing"),
+        ("desk 1 2", "a number is missing"),
+        ("rig F 0 1", "too many words"),
+        ("claim 0 F 1 0 1 1", "too many words"),
+        ("desk 1 2 3 4", "too many words"),
+        ("claim 0 F 1 0 x", "desk is not a number"),
+        ("claim 0 F 1 x x", "units are not a number"),
+        ("claim 0 F 1 0 256", "number too large"),
+        ("desk x y z", "desk is not a number"),
+        ("desk 1 y z", "guarantee is not a number"),
+        ("desk 1 1 z", "limit is not a number"),
+        ("desk 1, 1 1", "desk is not a number"),
+        ("desk 256 y z", "number too large"),
+        ("desk 1 256 z", "number too large"),
+        ("desk 1 1 256", "number too large"),
+        ("Desk 1 1 1", "unknown call"),
+        ("client 1 1 1", "unknown call"),
+        ("edition 3", "unknown call"),
+        ("rig F 0", "rig must be first"),
+    ] {
+        let message = format!("line 4: {reason}\n").into_bytes();
+        let text = format!("edition 3\nrig F 3\n\n{line}\nfoo\n");
+        assert_eq!(agreed(text.as_bytes()), (Vec::new(), message), "{line}");
+    }
+    for (text, message) in [
+        ("edition 3\ndesk 1 1 1\n", "line 2: rig must be first\n"),
+        ("edition 3\ndesk 1 1 x\n", "line 2: limit is not a number\n"),
+        ("rig F\ndesk 1 1 1\n", "line 2: unknown call\n"),
+        ("rig F\ndesk x\n", "line 2: unknown call\n"),
+        ("edition 2\nrig F 0\ndesk 1 1 1\n", "line 3: unknown call\n"),
+        (
+            "edition 2\nrig F 0\nclaim 0 F 1 0 1\n",
+            "line 3: too many words\n",
+        ),
+    ] {
+        let expected = (Vec::new(), message.as_bytes().to_vec());
+        assert_eq!(agreed(text.as_bytes()), expected, "{text}");
+    }
     for number in 0..=300 {
         let (load, message) = agreed(format!("\n# x\nedition {number}\n").as_bytes());
-        if number == 1 || number == 2 {
+        if (1..=3).contains(&number) {
             assert_eq!((load, message), (vec![number as u8], Vec::new()));
         } else {
             assert_eq!(message, b"line 3: unknown edition\n", "{number}");
@@ -152,6 +212,10 @@ fn every_byte_in_every_place() {
             b"edition 2\nrig F 7?\n",
             b"edition 2\nrig F 7\nclaim 0 1 1?1\n",
             b"edition 2\nrig F 7\nclaim 0 1 1 1?",
+            b"edition 3\nrig F 7\nclaim 0 1 1 1 1?",
+            b"edition 3\nrig F 7\ndesk?1 1 1\n",
+            b"edition 3\nrig F 7\ndesk 1 1?1\n",
+            b"edition 3\nrig F 7\nde?sk 1 1 1\n",
             b"rig F\nclock 1?\nclock 2\n",
         ] {
             let text: Vec<u8> = text
@@ -190,6 +254,25 @@ fn every_number_of_units() {
     }
 }
 
+/// Every number around the limits of a byte.
+#[test]
+fn every_number_of_a_client() {
+    for number in (0..=300).chain(500..=520).chain(65_530..=65_540) {
+        for zeros in [0, 40] {
+            let word = format!("{}{number}", "0".repeat(zeros));
+            for call in [
+                format!("desk {word} 1 1"),
+                format!("desk 1 {word} 1"),
+                format!("desk 1 1 {word}"),
+                format!("claim 0 0 1 1 {word}"),
+            ] {
+                let (load, _) = agreed(format!("edition 3\nrig F 0\n{call}\n").as_bytes());
+                assert_eq!(load.is_empty(), number > 255, "{call}");
+            }
+        }
+    }
+}
+
 #[test]
 fn texts_of_the_greatest_length() {
     for size in [MAX_TEXT - 1, MAX_TEXT, MAX_TEXT + 1, MAX_TEXT + 70_000] {
@@ -223,7 +306,16 @@ fn loads_of_the_greatest_length() {
     ] {
         agreed(format!("{full}{more}\n").as_bytes());
     }
-    for edition in [1, 2] {
+    let full = "edition 3\nrig F 3\n".to_string() + &"claim 1 0 1 1 2\n".repeat(2_519);
+    assert_eq!(agreed(full.as_bytes()).0.len(), 65_508);
+    for more in [
+        "claim 1 0 1 1 2\nclock 1",
+        "desk 1 1 1\ndesk 1 1 1\ndesk 1 1 1\ndesk 1 1 1\ndesk 1 1 1",
+        "rig F 3",
+    ] {
+        agreed(format!("{full}{more}\n").as_bytes());
+    }
+    for edition in [1, 2, 3] {
         for size in [65_535, 65_536, 65_537] {
             let load = generate::sized_load(edition, 1, size).expect("a load of that size");
             assert!(!show_differs(&load), "{size}");

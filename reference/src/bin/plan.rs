@@ -6,6 +6,7 @@
 //! Reads a load on standard input, writes the picture on standard output.
 
 use reference::load::{self, Call};
+use reference::refusal::Refusal;
 use reference::table::{Claim, State, Table, TimedCall};
 use std::collections::BTreeMap;
 use std::io::{self, Read, Write};
@@ -29,14 +30,20 @@ const COLORS: [&str; 6] = [
     "#4878a8", "#b8694a", "#5f9960", "#8f6fa8", "#b59a3c", "#4f9c9c",
 ];
 
-/// The rig, the pool and the bars of a run of calls.
-fn bars(calls: &[Call]) -> (u64, u16, Vec<Bar>) {
+/// The rig, the pool and the bars of the calls of a load of this edition.
+fn bars(edition: u8, calls: &[Call]) -> (u64, u16, Vec<Bar>) {
     let mut table = Table::new(0, 0).0;
     let mut bars = Vec::new();
     let mut pending: BTreeMap<u16, Claim> = BTreeMap::new();
     for &call in calls {
         match call {
-            Call::Rig { groups, pool } => table = Table::new(groups, pool).0,
+            Call::Rig { groups, pool } => table = load::new_table(edition, groups, pool).0,
+            Call::Declare(declaration) => {
+                // Too late, it ends the listing, too.
+                if table.declare(declaration).number == Refusal::Misfit.number() {
+                    break;
+                }
+            }
             Call::Timed(timed) => {
                 table.call(timed);
                 let now: BTreeMap<u16, Claim> =
@@ -166,6 +173,6 @@ fn main() -> io::Result<()> {
             std::process::exit(1);
         }
     };
-    let (rig, pool, bars) = bars(&calls);
+    let (rig, pool, bars) = bars(bytes[0], &calls);
     io::stdout().write_all(svg(rig, pool, &bars).as_bytes())
 }

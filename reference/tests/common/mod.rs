@@ -6,7 +6,7 @@ use std::ops::Range;
 use std::panic::{catch_unwind, resume_unwind, AssertUnwindSafe};
 
 use reference::load::{self, Call};
-use reference::table::TimedCall;
+use reference::table::{Declaration, TableCall, TimedCall};
 
 /// Runs a case for each seed and prints the seed of one that fails.
 pub fn for_seeds(seeds: Range<u64>, mut case: impl FnMut(u64)) {
@@ -29,6 +29,26 @@ pub fn draw(clock: u64, groups: u64, length: u32, units: u16) -> TimedCall {
         groups,
         length,
         units,
+        client: 1,
+    }
+}
+
+/// A claim of a client.
+pub fn claim_of(client: u8, clock: u64, groups: u64, length: u32) -> TimedCall {
+    TimedCall::Claim {
+        clock,
+        groups,
+        length,
+        units: 0,
+        client,
+    }
+}
+
+pub fn declare(client: u8, reserved: u8, limit: u8) -> Declaration {
+    Declaration {
+        client,
+        reserved,
+        limit,
     }
 }
 
@@ -59,9 +79,14 @@ pub fn pool_load_of(groups: u64, pool: u16, calls: &[TimedCall]) -> Vec<u8> {
     load::join(2, &all(Call::Rig { groups, pool }, calls))
 }
 
-fn all(rig: Call, calls: &[TimedCall]) -> Vec<Call> {
+/// The load of a rig with a pool and calls, of edition 3.
+pub fn client_load_of(groups: u64, pool: u16, calls: &[TableCall]) -> Vec<u8> {
+    load::join(3, &all(Call::Rig { groups, pool }, calls))
+}
+
+fn all<C: Copy + Into<Call>>(rig: Call, calls: &[C]) -> Vec<Call> {
     let mut all = vec![rig];
-    all.extend(calls.iter().map(|&call| Call::Timed(call)));
+    all.extend(calls.iter().map(|&call| call.into()));
     all
 }
 

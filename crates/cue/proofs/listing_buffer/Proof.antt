@@ -9,7 +9,7 @@ use Rattle.cue.proofs.listing_buffer.Tie as tie
 
 returns : tie.Need-returns
 unfolding roomFor leastLength leastIn format lengthIn total fieldWidth fieldWidths
-returns c = (sym (length-replicate {0} {A = ℕ} 1048576 0), omega arith)
+returns c = (sym (length-replicate {0} {A = ℕ} 1409024 0), omega arith)
 
 pub listing-buffer-spec : {M : Type 1} → statement M
 listing-buffer-spec = tie.close (tie.spec returns)

@@ -4,25 +4,30 @@ use mathlib.Core.Logic.{inl, inr, ⊎-elim}
 use mathlib.Core.Path.{ap, _∙_}
 use native.Mathlib.Omega.{arith}
 use Rattle.table.specs.Outcomes.{outcome}
-use Rattle.listing.proofs.RecordLoop.{step-rig, step-claim, step-leave, step-clock}
+use Rattle.listing.proofs.RecordLoop.{step-rig, step-claim, step-leave, step-declare, step-clock}
 use Rattle.listing.proofs.act.Statement.{statement}
 use Rattle.listing.proofs.act.Tie as tie
 
 returns : tie.Need-returns
-returns c = (c .new .ensures .0 ∙ ap outcome (step-rig _ _ (c .before .match .keys1)), c .new .ensures .1)
+returns c = (c .new .ensures .0 ∙ ap outcome (step-rig _ _ _ (c .before .match .keys1)), c .new .ensures .1)
 
 returns-2 : tie.Need-returns-2
-returns-2 c = (c .claim .ensures .0 ∙ ap outcome (step-claim _ _ (c .before .match .keys2)), c .claim .ensures .1)
+returns-2 c = (c .claim .ensures .0 ∙ ap outcome (step-claim _ _ _ (c .before .match .keys2)), c .claim .ensures .1)
 
 returns-3 : tie.Need-returns-3
-returns-3 c =
+returns-3 c = (c .declare .ensures .0 ∙ ap outcome (step-declare _ _ _ (c .before .match .keys3)), c .declare .ensures .1)
+
+returns-4 : tie.Need-returns-4
+returns-4 c =
     let l = c .before .before in
     let r = l .before .match .rest in
     let k = l .before .before .args .call in
-    (c .leave .ensures .0 ∙ ap outcome (step-leave _ k (omega (arith, l .if1 .left, r .0 .1, r .1)) (omega (arith, c .before .if2 .taken))), c .leave .ensures .1)
+    (c .leave .ensures .0 ∙ ap outcome (step-leave _ _ k (omega (arith, l .if1 .left, r .0 .0 .1, r .0 .1, r .1)) (omega (arith, c .before .if2 .taken))), c .leave .ensures .1)
 
-returns-4 : tie.Need-returns-4
-returns-4 c = (c .clock .ensures .0 ∙ ap outcome (step-clock _ _ (⊎-elim (λ w. inl (w .taken)) (λ w. inr (w .1 .left)) (c .before .if1 .came))), c .clock .ensures .1)
+returns-5 : tie.Need-returns-5
+returns-5 c =
+    let j = c .before in
+    (c .clock .ensures .0 ∙ ap outcome (step-clock _ _ _ (⊎-elim (λ w. inl (w .taken)) (λ w. inr (w .1 .left)) (j .if1 .came)) (j .before .match .rest .1)), c .clock .ensures .1)
 
 pub act-spec : {M : Type 1} → statement M
 act-spec =
@@ -32,7 +37,9 @@ act-spec =
     (λ c κs. search needs)
     (λ c κs. search needs)
     (λ c κs. search needs)
+    (λ c κs. search needs)
     returns
     returns-2
     returns-3
-    returns-4)
+    returns-4
+    returns-5)

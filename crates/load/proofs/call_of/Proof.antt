@@ -4,7 +4,7 @@ use native.Mathlib.Omega.{arith}
 use mathlib.Core.Path.{_≡_, refl, _∙_}
 use Prim.Native.Nat.{ℕ, _-_, _≤_, _<_}
 use lib.ListN.{length, getD}
-use Rattle.load.specs.Format.{fieldWidths, fieldCount, fieldWidth, fieldsOf}
+use Rattle.load.specs.Format.{fieldWidths, fieldCount, fieldWidth, defaults, fieldsOf}
 use Rattle.load.specs.Calls.{filled}
 use Rattle.load.proofs.Format.{row-field, row-under, width-most}
 use Rattle.load.proofs.Rows.{Reading, reading-start, reading-early, reading-next, row-end, row-more}
@@ -42,7 +42,7 @@ loop-again c =
     reading-next _ _ _ _ (f .0) (z .if1 .left) _ _ _ _ _ (refl, f .3) (c .number .ensures) (z .before .loop .inv)
 
 pub call-of-spec : {M : Type 1} → statement M
-unfolding fieldWidth fieldWidths
+unfolding fieldWidth fieldWidths defaults
 call-of-spec =
     tie.close
     (tie.spec

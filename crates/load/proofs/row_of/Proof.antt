@@ -11,6 +11,8 @@ row-of-spec =
     (tie.spec
     (λ c κs. search needs)
     (λ c κs. search needs)
+    (λ c κs. search needs)
     (λ c. rw (c .before .match .keys1) (c .edition-1 .ensures))
     (λ c. rw (c .before .match .keys2) (c .edition-2 .ensures))
-    (λ c. let r = c .match .rest in no-row _ _ (no-edition _ _ (λ z. omega (arith, r .0 .1, r .1)))))
+    (λ c. rw (c .before .match .keys3) (c .edition-3 .ensures))
+    (λ c. let r = c .match .rest in no-row _ _ (no-edition _ _ (λ z. omega (arith, r .0 .0 .1, r .0 .1, r .1)))))

@@ -20,5 +20,9 @@ value-of-spec =
     (λ c. search needs)
     (λ c. search needs)
     (λ c. search needs)
-    (λ c. (refl, typed-call _ (search needs) (search needs) (search needs) (search needs) (search needs) (search needs) (search needs) _))
+    (λ c. omega (arith, c .struct-known8 .given .1 .1 .1 .1 .1 .1 .1 .1 .1 .0))
+    (λ c. search needs)
+    (λ c. search needs)
+    (λ c. let m = c .before .struct-known8 .given .1 .1 .1 .1 .1 .1 .1 .1 .1 .0 in
+    (refl, typed-call _ (search needs) (search needs) (search needs) (search needs) (search needs) (search needs) (search needs) (search needs) (search needs) (omega (arith, m)) _))
     (λ c. no-value _ _ (omega arith)))

@@ -19,6 +19,9 @@ with-value-spec =
     (λ c. search needs)
     (λ c. search needs)
     (λ c. search needs)
+    (λ c. search needs)
+    (λ c. search needs)
+    (λ c. search needs)
     (λ c. rw (c .match .keys1))
     (λ c. rw (c .match .keys2, mod-eq-of-lt {n = c .before .args .value} {m = 256 ^ 8} (search needs)))
     (λ c. rw (c .match .keys3, mod-eq-of-lt {n = c .before .args .value} {m = 256 ^ 8} (search needs)))
@@ -26,7 +29,12 @@ with-value-spec =
     (λ c. rw (c .match .keys5))
     (λ c. rw (c .match .keys6))
     (λ c. rw (c .match .keys7))
+    (λ c. rw (c .match .keys8))
+    (λ c. rw (c .match .keys9))
+    (λ c. rw (c .match .keys10))
     (λ c. let r = c .match .rest in
+    let q = r .0 .0 .0 in
     let f = c .before .args .field in
-    let l : 4 ≤ f = omega (arith, r .0 .0 .0 .1, r .0 .0 .0 .0 .1, r .0 .0 .0 .0 .0 .1, r .0 .0 .0 .0 .0 .0 .1) in
-    with-none f _ _ (omega (arith, l, r .0 .0 .1, r .0 .1, r .1))))
+    let l : 4 ≤ f = omega (arith, q .0 .0 .0 .1, q .0 .0 .0 .0 .1, q .0 .0 .0 .0 .0 .1, q .0 .0 .0 .0 .0 .0 .1) in
+    let m : 7 ≤ f = omega (arith, l, q .0 .0 .1, q .0 .1, q .1) in
+    with-none f _ _ (omega (arith, m, r .0 .0 .1, r .0 .1, r .1))))

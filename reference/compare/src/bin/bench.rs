@@ -4,7 +4,7 @@
 use compare::{listing, listing_before, timed};
 use reference::generate::Prng;
 use reference::load::{self, Call};
-use reference::table::{State, Table, TimedCall, MAX_PENDING};
+use reference::table::{Declaration, State, Table, TimedCall, MAX_PENDING};
 use std::hint::black_box;
 use std::time::Duration;
 
@@ -29,6 +29,7 @@ fn workshop(claims: u32, seed: u64) -> Vec<u8> {
             groups,
             length,
             units: 0,
+            client: 1,
         };
         table.call(claim);
         calls.push(Call::Timed(claim));
@@ -68,6 +69,7 @@ fn steady(pending: usize, rounds: usize) -> Vec<u8> {
                     groups,
                     length,
                     units: 0,
+                    client: 1,
                 },
             );
         }
@@ -100,6 +102,7 @@ fn crowded(groups: u64, late: bool, rounds: u64) -> Vec<u8> {
                 groups: set,
                 length: prng.range(1, 1000) as u32,
                 units: 0,
+                client: 1,
             };
             table.call(claim);
             calls.push(Call::Timed(claim));
@@ -137,6 +140,7 @@ fn pooled(late: bool, rounds: u64) -> Vec<u8> {
                 groups,
                 length: prng.range(1, 1000) as u32,
                 units: prng.range(least, 20) as u16,
+                client: 1,
             };
             table.call(claim);
             calls.push(Call::Timed(claim));
@@ -153,6 +157,51 @@ fn pooled(late: bool, rounds: u64) -> Vec<u8> {
         }
     }
     load::join(2, &calls)
+}
+
+/// A load of edition 3 that keeps a table full with claims of eight clients of
+/// one of 16 groups each: guarantees of four, and a claim of one that has its
+/// share for each that is accepted.
+fn shared(rounds: u64) -> Vec<u8> {
+    let mut prng = Prng::new(8);
+    let (mut table, _) = Table::without_clients(0xFFFF, 0);
+    let mut calls = vec![Call::Rig {
+        groups: 0xFFFF,
+        pool: 0,
+    }];
+    for client in 1..=8 {
+        let declaration = Declaration {
+            client,
+            reserved: 4,
+            limit: 64,
+        };
+        table.declare(declaration);
+        calls.push(Call::Declare(declaration));
+    }
+    for clock in 1..=rounds {
+        let mut claim = |table: &mut Table| {
+            let claim = TimedCall::Claim {
+                clock,
+                groups: 1 << prng.below(16),
+                length: prng.range(1, 1000) as u32,
+                units: 0,
+                client: prng.range(1, 8) as u8,
+            };
+            calls.push(Call::Timed(claim));
+            table.call(claim).accepted()
+        };
+        while table.claims().len() < MAX_PENDING {
+            claim(&mut table);
+        }
+        claim(&mut table);
+        let on = table.claims().iter().find(|c| c.is_on());
+        if let Some(ticket) = on.map(|c| c.ticket) {
+            let release = TimedCall::Release { clock, ticket };
+            table.call(release);
+            calls.push(Call::Timed(release));
+        }
+    }
+    load::join(3, &calls)
 }
 
 /// The shortest of many times of each, taken in turn.
@@ -211,4 +260,5 @@ fn main() {
         let name = format!("64 pending, pool of 40, draws of 0 to 20{past}");
         line(&name, &pooled(late, 400), 50);
     }
+    line("64 pending of eight clients", &shared(400), 50);
 }

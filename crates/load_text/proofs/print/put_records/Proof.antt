@@ -31,7 +31,7 @@ loop-again : tie.Need-loop-again Inv-loop μ-loop
 loop-again c =
     let k = c .before .before .before .before .before in
     let i = k .before .before in
-    turn-more _ _ _ _ _ _ _ _ (i .before .loop .inv) _ _ (open-known _ (i .before .before .before .before .before .pre) .2) _ _ (read i ∙ k .call .given .1) (c .before .before .put-call .ensures)
+    turn-more _ _ _ _ _ _ _ _ (i .before .loop .inv) _ _ (open-known _ (i .before .before .before .before .before .pre) .2) refl _ _ (read i ∙ k .call .given .1) (c .before .before .put-call .ensures)
 
 same-length-2 : tie.Need-same-length-2 Inv-loop μ-loop
 same-length-2 c = c .before .before .put-stop .kept .0 ∙ c .before .before .before .before .before .before .before .before .loop .inv .going .size

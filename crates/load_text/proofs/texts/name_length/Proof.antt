@@ -12,5 +12,5 @@ name-length-spec =
     tie.close
     (tie.spec
     (λ c. rw (c .match .keys1) (refl, omega arith)) (λ c. rw (c .match .keys2) (refl, omega arith)) (λ c. rw (c .match .keys3) (refl, omega arith))
-    (λ c. rw (c .match .keys4) (refl, omega arith)) (λ c. rw (c .match .keys5) (refl, omega arith))
-    (λ c. let r = c .match .rest in rw (no-name (c .before .args .kind) (λ z. omega (arith, r .0 .0 .0 .0 .1, r .0 .0 .0 .1, r .0 .0 .1, r .0 .1, r .1))) (refl, omega arith)))
+    (λ c. rw (c .match .keys4) (refl, omega arith)) (λ c. rw (c .match .keys5) (refl, omega arith)) (λ c. rw (c .match .keys6) (refl, omega arith))
+    (λ c. let r = c .match .rest in rw (no-name (c .before .args .kind) (λ z. omega (arith, r .0 .0 .0 .0 .0 .1, r .0 .0 .0 .0 .1, r .0 .0 .0 .1, r .0 .0 .1, r .0 .1, r .1))) (refl, omega arith)))
