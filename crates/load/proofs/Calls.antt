@@ -37,6 +37,16 @@ numbers-made : (ns : List ℕ) → length ns ≡ fieldCount → numbers (made ns
 unfolding numbers made listed fieldWidths
 numbers-made ns h = subst (λ (n : ℕ). listed (λ i. getD ns i (default i)) n ≡ ns) h (listed-is default ns)
 
+-- The numbers of a call make it, and have its values at their places.
+module _ (ns : List ℕ) (c : Call) (e : ns ≡ numbers c) where
+  pub made-again : made ns ≡ c
+  unfolding made numbers
+  made-again = ap made e
+
+  pub value-at : (f : ℕ) → getD ns f 0 ≡ valueOf f c
+  unfolding valueOf
+  value-at f = ap (λ (xs : List ℕ). getD xs f 0) e
+
 with-numbers : (f v : ℕ) (c : Call) → numbers (withValue f v c) ≡ set (numbers c) f v
 unfolding withValue numbers fieldWidths
 with-numbers f v c = numbers-made (set (numbers c) f v) (length-set (numbers c) f v)

@@ -8,7 +8,7 @@ use lib.Seq.{drop-drop}
 use Rattle.numerals.specs.Digits.{bytesAt}
 use Rattle.load.specs.declared.Call.{Call}
 use Rattle.load.specs.Format.{fieldWidths, fieldCount, fieldWidth, defaults, default, fieldsOf, widths}
-use Rattle.load.specs.Calls.{made, bare, filled, callOf, valuesIn}
+use Rattle.load.specs.Calls.{numbers, made, bare, filled, callOf, valueOf, valuesIn, valuesOf, kept}
 use Rattle.load.specs.Bytes.{bigValue, fieldBytes, fieldValues}
 use Rattle.load.specs.RoundTrip.{Typed}
 use Rattle.load.proofs.Format.{fields-proper, fields-few, place-under, rest-some, rest-none}
@@ -40,6 +40,20 @@ reading-start e k bs h = record { place = omega arith; bytes = omega arith; full
 pub reading-early : {e k : ℕ} {bs ns : List ℕ} {at i : ℕ} → Reading e k bs ns at i → i < 7
 reading-early {e} {k} r = omega (arith, r .place, fields-few e k)
 
+-- Keeping what an edition has of a call, at place i: the numbers kept so far, with the fields left, give all that it keeps.
+pub record Keeping (e : ℕ) (c : Call) (ns : List ℕ) (i : ℕ) : Type 0 where
+  pub place : i ≤ length (fieldsOf e (c .kind))
+  pub full : length ns ≡ fieldCount
+  pub typed : Typed (made ns)
+  pub call : filled (left e (c .kind) i) (valuesIn (left e (c .kind) i) c) (made ns) ≡ kept e c
+
+pub keeping-start : (e : ℕ) (c : Call) (ns : List ℕ) → ns ≡ numbers (bare (c .kind)) → Typed (bare (c .kind)) → Keeping e c ns 0
+unfolding kept callOf valuesOf made numbers fieldWidths
+keeping-start e c ns n t = rw n (record { place = omega arith; full = refl; typed = t; call = refl })
+
+pub keeping-early : {e : ℕ} {c : Call} {ns : List ℕ} {i : ℕ} → Keeping e c ns i → i < 7
+keeping-early {e} {c} r = omega (arith, r .place, fields-few e (c .kind))
+
 -- f is what the row has at place i.
 module _ (e k i f : ℕ) (s : f ≡ getD (fieldsOf e k) i 0) where
   pub row-end : f ≡ 0 → left e k i ≡ []
@@ -49,8 +63,8 @@ module _ (e k i f : ℕ) (s : f ≡ getD (fieldsOf e k) i 0) where
     pub row-more : i < length (fieldsOf e k)
     row-more = rest-some (fieldsOf e k) i f s z .0
 
-    pub row-early : i < 7
-    row-early = omega (arith, row-more, fields-few e k)
+    pub row-within : i + 1 < 7
+    row-within = omega (arith, row-more, fields-few e k)
 
     pub row-next : left e k i ≡ f ∷ left e k (i + 1)
     row-next = rest-some (fieldsOf e k) i f s z .1
@@ -70,3 +84,17 @@ module _ (e k i f : ℕ) (s : f ≡ getD (fieldsOf e k) i 0) where
           typed = rw d (typed-with f v (made ns) b (rw (← (u .0)) (p .1)) (r .typed));
           call = rw (d, x, u .0, ← (drop-drop (fieldWidth f) at bs)) (rw row-next at (r .call));
         }
+
+-- f is what the row of the call's kind has at place i, and v the call's value of it.
+pub keeping-next : (e : ℕ) (c : Call) (i f : ℕ) → f ≡ getD (fieldsOf e (c .kind)) i 0 → (f ≡ 0 → ⊥) → (ns : List ℕ) (v : ℕ) → v ≡ valueOf f c → Typed c
+    → Keeping e c ns i → Keeping e c (set ns f v) (i + 1)
+unfolding filled
+keeping-next e c i f s z ns v h t r =
+    let d = with-made f v ns (r .full) in
+    let b : f < fieldCount = omega (arith, s, place-under (fieldsOf e (c .kind)) i (fields-proper e (c .kind))) in
+    record {
+      place = omega (arith, row-more e (c .kind) i f s z);
+      full = length-set ns f v ∙ r .full;
+      typed = rw d (typed-with f v (made ns) b (rw h (t f)) (r .typed));
+      call = rw (d, h) (rw (row-next e (c .kind) i f s z) at (r .call));
+    }

@@ -1,11 +1,11 @@
 // The load format: opening a load, reading the record at a position, testing a whole load, and appending a record.
 // All calls take any bytes and any values. A load is a slice of the caller's; nothing is copied to read it.
-ghost use Prim.Native.Nat.{_%_, _^_, _≤_, _<_};
+ghost use Prim.Native.Nat.{_%_, _^_, _<_};
 ghost use mathlib.Core.Path.{_≡_};
 ghost use lib.ListN.{length, getD};
 ghost use Rattle.numerals.specs.Laid.{behind, laid, Put};
 ghost use Rattle.load.specs.Format.{known, fieldsOf, rowOf, fieldWidth, widths, lengthOf, leastLength};
-ghost use Rattle.load.specs.Calls.{valueOf, made, withValue, bare, callOf, valuesOf, kept, same, carries};
+ghost use Rattle.load.specs.Calls.{numbers, valueOf, made, withValue, bare, callOf, valuesOf, kept, same, carries};
 ghost use Rattle.load.specs.Answers.{itemValues, writtenValues};
 ghost use Rattle.load.specs.Bytes.{recordBytes, fieldBytes, fieldValues};
 ghost use Rattle.load.specs.Reading.{inPlace, openNumber, misfit, itemAt, recordNumber, loadNumber};
@@ -131,21 +131,11 @@ pub fn length_of(edition: u8, kind: u8) -> usize
     row[7] as usize
 }
 
-// The width of a field in bytes; 0 where there is no such field.
-pub fn width_of(field: u8) -> usize
-    ensures { λ r. ⌜ (r ≡ fieldWidth field) × (r ≤ 8) ⌝ }
+// The numbers of a call, each at the place that names its field. Cost: ten words are laid out; who goes through fields asks once, before.
+fn numbers_of(call: Call) -> [u64; 10]
+    ensures { λ r. ⌜ (r ≡ numbers call) × Typed call ⌝ }
 {
-    if field < 10 {
-        return WIDTHS[field as usize] as usize;
-    }
-    0
-}
-
-// The value of a field; 0 where there is no such field.
-pub fn value_of(call: Call, field: u8) -> u64
-    ensures { λ r. ⌜ (r ≡ valueOf field call) × (r < 256 ^ fieldWidth field) ⌝ }
-{
-    let numbers = [
+    [
         call.kind as u64,
         call.clock,
         call.groups,
@@ -156,7 +146,14 @@ pub fn value_of(call: Call, field: u8) -> u64
         call.client as u64,
         call.reserved as u64,
         call.limit as u64,
-    ];
+    ]
+}
+
+// The value of a field; 0 where there is no such field.
+pub fn value_of(call: Call, field: u8) -> u64
+    ensures { λ r. ⌜ (r ≡ valueOf field call) × (r < 256 ^ fieldWidth field) ⌝ }
+{
+    let numbers = numbers_of(call);
     if field < 10 {
         return numbers[field as usize];
     }
@@ -229,20 +226,21 @@ pub fn least_length() -> usize
     6
 }
 
-// What an edition keeps of a call: the fields that it lacks become as in `bare`.
+// What an edition keeps of a call: the fields that it lacks become as in `bare`. Cost: a few instructions for each field.
 fn kept(edition: u8, call: Call) -> Call
     ensures { λ r. ⌜ r ≡ kept edition call ⌝ }
 {
-    let kind = call.kind;
-    let mut c = bare(kind);
+    let row = row_of(edition, call.kind);
+    let given = numbers_of(call);
+    let none = bare(call.kind);
+    let mut numbers = numbers_of(none);
     let mut i: usize = 0;
     loop {
-        let f = field_at(edition, kind, i);
+        let f = row[i];
         if f == 0 {
-            return c;
+            return made(numbers);
         }
-        let v = value_of(call, f);
-        c = with_value(c, f, v);
+        numbers[f as usize] = given[f as usize];
         i += 1;
     }
 }
@@ -250,10 +248,12 @@ fn kept(edition: u8, call: Call) -> Call
 fn same(a: Call, b: Call) -> bool
     ensures { λ r. ⌜ r ≡ same a b ⌝ }
 {
-    let mut f: u8 = 10;
+    let p = numbers_of(a);
+    let q = numbers_of(b);
+    let mut f: usize = 10;
     while 0 < f {
         f -= 1;
-        if value_of(a, f) != value_of(b, f) {
+        if p[f] != q[f] {
             return false;
         }
     }
@@ -445,21 +445,21 @@ fn append_number(load: &[u8], call: Call, room: usize) -> u8
     grow_number(load[0], load.len(), call, room)
 }
 
-// The fields of a call, laid at a place one after the other.
+// The fields of a call, laid at a place one after the other. Reads the row once.
 fn put_fields(out: &mut [u8], at: usize, edition: u8, call: Call) -> usize
     ensures { λ r. ⌜ Put (now (out .entry)) at (fieldBytes (widths edition (call .kind)) (valuesOf edition call)) r (now (out .exit)) ⌝ }
 {
-    let kind = call.kind;
+    let row = row_of(edition, call.kind);
+    let given = numbers_of(call);
     let mut to = at;
     let mut i: usize = 0;
     loop {
-        let f = field_at(edition, kind, i);
+        let f = row[i];
         if f == 0 {
             return to;
         }
-        let w = width_of(f);
-        let v = value_of(call, f);
-        to = numerals::put_big(out, to, w, v);
+        let w = WIDTHS[f as usize] as usize;
+        to = numerals::put_big(out, to, w, given[f as usize]);
         i += 1;
     }
 }
