@@ -1,7 +1,7 @@
 -- Every call keeps the shares booked. Packing and granting leave each claim its client, so only a claim, a leave and a declaration matter.
 use mathlib.Core.Path.{_≡_, refl, sym, _∙_, ap, subst}
 use mathlib.Core.Logic.{inl, inr, _≢_}
-use mathlib.Core.Bool.{Bool, false, not}
+use mathlib.Core.Bool.{false, not}
 use mathlib.Core.List.{List, [], _∷_, _++_, map}
 use Prim.Native.Nat.{ℕ, _<_}
 use native.Mathlib.Omega.{arith}
@@ -16,14 +16,14 @@ use Rattle.rules.specs.Packing.{packedStart, moved, pack}
 use Rattle.rules.specs.Granting.{granted, grant}
 use Rattle.rules.specs.Shares.{shareOf, pendingOf, unfilledByOthers, withShare, share}
 use Rattle.rules.specs.Tests.{fullFor, named}
-use Rattle.rules.specs.Calls.{Model, settingOf, clientsOf, ruled, Call, claim, Step, tests, advance, plain, finish, join, remove, admit, declared, step, new}
+use Rattle.rules.specs.Calls.{Model, settingOf, clientsOf, ruled, Call, claim, tests, advance, plain, finish, join, remove, admit, declared, step}
 use Rattle.rules.specs.Invariants.{Invariant, Booked, IsBooked}
 use Rattle.rules.proofs.Lists.{here}
 use Rattle.rules.proofs.Tests.{never}
 use Rattle.rules.proofs.Packing.{moved-cases}
 use Rattle.rules.proofs.Granting.{granted-cases}
-use Rattle.rules.proofs.Shares.{first-booked, claim-books, leaving-books, declare-books, claim-room, below-not-full}
-use Rattle.rules.proofs.Calls.{Admissible, claim-number, Declarable, placed, Leaves, by-release, by-withdraw, by-clock, step-cases, new-cases}
+use Rattle.rules.proofs.Shares.{claim-books, leaving-books, declare-books, claim-room, below-not-full}
+use Rattle.rules.proofs.Calls.{Admissible, claim-number, Declarable, placed, Leaves, by-release, by-withdraw, by-clock, step-cases}
 
 -- ── each claim keeps its client ──
 clients-map : (f : Claim → Claim) → ((c : Claim) → f c .client ≡ c .client) → (ps : List Claim) → clientsOf (map f ps) ≡ clientsOf ps
@@ -133,9 +133,6 @@ step-booked m c i b =
     step-cases (λ d s. IsBooked (s .model)) m (λ d n z. b) (λ t ask a. admit-booked m t ask a b)
     (λ d t k q o v. finish-booked q (plain k t) (leaves-booked v (advance-booked m t b)))
     (λ d r l e. declare-booked m i d r l e b) c
-
-pub new-booked : (g k : ℕ) (alone : Bool) → IsBooked (new g k alone .model)
-new-booked g k alone = new-cases (λ (s : Step). IsBooked (s .model)) g k alone (λ e. first-booked alone) (λ e. first-booked alone)
 
 -- A claim that is accepted finds a place.
 pub room-left : (m : Model) (t : ℕ) (ask : Request) → Admissible m t ask → IsBooked m → length (m .pending) < mostPending

@@ -14,16 +14,16 @@ use Rattle.rules.specs.declared.Claim.{Claim}
 use Rattle.rules.specs.declared.Request.{Request}
 use Rattle.rules.specs.declared.Phase.the-variants.{Waiting}
 use Rattle.rules.specs.Lists.{_∈_, sum}
-use Rattle.rules.specs.Shares.{shareOf, pendingOf, unfilledByOthers, reservedInAll}
+use Rattle.rules.specs.Shares.{shareOf, reservedInAll}
 use Rattle.rules.specs.Pool.{used, heldUnits}
 use Rattle.rules.specs.declared.Setting.{Setting}
 use Rattle.rules.specs.Claims.{on, at, withPhase}
 use Rattle.rules.specs.Packing.{packedStart, moved, pack, Packs}
 use Rattle.rules.specs.Placing.{place}
 use Rattle.rules.specs.Granting.{granted, grant}
-use Rattle.rules.specs.Tests.{Test, firstOf, late, backward, stranger, noClient, nothingAsked, offRig, spots, badLength, fullFor, over, begun, overbooked, ticketless, named}
+use Rattle.rules.specs.Tests.{Test, firstOf, late, backward, stranger, noClient, nothingAsked, offRig, spots, badLength, begun, overbooked, ticketless, named}
 use Rattle.rules.specs.declared.Reply.{Reply}
-use Rattle.rules.specs.Calls.{Model, settingOf, clientsOf, ruled, Call, claim, release, withdraw, clock, lookup, common, free, declare, timed, clockOf, looks, declared, Step, tests, unchanged, advance, plain, finish, join, remove, fresh, admit, act, unless, step, blank, new, after}
+use Rattle.rules.specs.Calls.{Model, settingOf, fullTo, overOf, ruled, Call, claim, release, withdraw, clock, lookup, common, free, declare, timed, clockOf, looks, declared, Step, tests, unchanged, advance, plain, finish, join, remove, fresh, admit, act, unless, step, blank, new, after}
 use Rattle.rules.specs.Plans.{Fits, Sane}
 use Rattle.rules.specs.Invariants.{IsSpaced, IsPacked, Invariant}
 use Rattle.rules.proofs.Bools.{by-test, or-fl, or-fr}
@@ -56,25 +56,22 @@ pub record Admissible (m : Model) (t : ℕ) (ask : Request) : Type 0 where
   pub drawn : ask .units ≤ m .pool
   pub long : 1 ≤ ask .length
   pub short : ask .length ≤ mostLength
-  pub room : (let ks = clientsOf (m .pending) in
-      fullFor (shareOf (m .shares) (ask .client)) (pendingOf ks (ask .client)) (length (m .pending)) (unfilledByOthers (m .shares) ks (ask .client)) .fails ≡ false)
-  pub limited : over (shareOf (m .shares) (ask .client)) (pendingOf (clientsOf (m .pending)) (ask .client)) .fails ≡ false
+  pub room : fullTo m (ask .client) .fails ≡ false
+  pub limited : overOf m (ask .client) .fails ≡ false
   pub spare : m .issued < mostTickets
 
 pub admissible : (m : Model) (t : ℕ) (ask : Request) → firstOf (tests m (claim t ask)) ≡ 0 → Admissible m t ask
 unfolding tests
 admissible m t ask e =
     let s = shareOf (m .shares) (ask .client) in
-    let ks = clientsOf (m .pending) in
-    let own = pendingOf ks (ask .client) in
     let a = clock-passes m t _ e in
     let k = passes (stranger s) _ (omega arith) (a .1) in
     let b = passes (nothingAsked (ask .groups) (ask .units)) _ (omega arith) (k .1) in
     let c = passes (offRig (m .rig) (ask .groups)) _ (omega arith) (b .1) in
     let g = passes (spots (m .pool) (ask .units)) _ (omega arith) (c .1) in
     let d = passes (badLength (ask .length)) _ (omega arith) (g .1) in
-    let f = passes (fullFor s own (length (m .pending)) (unfilledByOthers (m .shares) ks (ask .client))) _ (omega arith) (d .1) in
-    let o = passes (over s own) _ (omega arith) (f .1) in
+    let f = passes (fullTo m (ask .client)) _ (omega arith) (d .1) in
+    let o = passes (overOf m (ask .client)) _ (omega arith) (f .1) in
     let h = passes (ticketless (m .issued)) [] (omega arith) (o .1) in
     record {
       clocked = a .0;

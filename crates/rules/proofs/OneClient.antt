@@ -12,9 +12,9 @@ use Rattle.rules.specs.declared.Claim.{Claim}
 use Rattle.rules.specs.declared.Request.{Request}
 use Rattle.rules.specs.declared.Share.{Share}
 use Rattle.rules.specs.Lists.{_∈_}
-use Rattle.rules.specs.Shares.{shareOf, pendingOf, unfilledByOthers}
-use Rattle.rules.specs.Tests.{Test, firstOf, late, backward, stranger, nothingAsked, offRig, spots, badLength, full, fullFor, over, ticketless}
-use Rattle.rules.specs.Calls.{Model, clientsOf, Call, claim, tests, Step, plain, advance, finish, admit, step, new, after}
+use Rattle.rules.specs.Shares.{shareOf}
+use Rattle.rules.specs.Tests.{firstOf, late, backward, stranger, nothingAsked, offRig, spots, badLength, full, ticketless}
+use Rattle.rules.specs.Calls.{Model, clientsOf, fullTo, overOf, Call, claim, tests, Step, plain, advance, finish, admit, step, new, after}
 use Rattle.rules.specs.OneClient.{DeclaresNone, declaresNone, documentedTests, pooledTests, Alone, TestsAsEver}
 use Rattle.rules.proofs.Bools.{by-test, clash, same?}
 use Rattle.rules.proofs.Lists.{none, snoc-each, map-e, map-i}
@@ -32,29 +32,23 @@ module _ (m : Model) (a : Alone m) (t : ℕ) (ask : Request) where
   abbrev ks : List ℕ
   ks = clientsOf (m .pending)
 
-  abbrev isFull : Test
-  isFull = fullFor (shareOf (m .shares) (ask .client)) (pendingOf ks (ask .client)) (length (m .pending)) (unfilledByOthers (m .shares) ks (ask .client))
-
-  abbrev isOver : Test
-  isOver = over (shareOf (m .shares) (ask .client)) (pendingOf ks (ask .client))
-
   known : ask .client ≡ 1 → stranger (shareOf (m .shares) (ask .client)) .fails ≡ false
   unfolding shareOf
   known e = rw (e, a .declared)
 
-  full-is : ask .client ≡ 1 → isFull .fails ≡ full (length (m .pending)) .fails
+  full-is : ask .client ≡ 1 → fullTo m (ask .client) .fails ≡ full (length (m .pending)) .fails
   full-is e =
       rw (e, a .declared, sym (length-map (m .pending) (λ (c : Claim). c .client))) (alone-full ks (clients-own (m .pending) (a .own)))
 
-  over-is : ask .client ≡ 1 → full (length (m .pending)) .fails ≡ false → isOver .fails ≡ false
+  over-is : ask .client ≡ 1 → full (length (m .pending)) .fails ≡ false → overOf m (ask .client) .fails ≡ false
   over-is e h =
       rw (e, a .declared) (alone-over ks (clients-own (m .pending) (a .own)) (ap (λ n. full n .fails) (length-map (m .pending) (λ (c : Claim). c .client)) ∙ h))
 
-  tail : ask .client ≡ 1 → firstOf (isFull ∷ isOver ∷ ticketless (m .issued) ∷ []) ≡ firstOf (full (length (m .pending)) ∷ ticketless (m .issued) ∷ [])
+  tail : ask .client ≡ 1 → firstOf (fullTo m (ask .client) ∷ overOf m (ask .client) ∷ ticketless (m .issued) ∷ []) ≡ firstOf (full (length (m .pending)) ∷ ticketless (m .issued) ∷ [])
   tail e =
       by-test (full (length (m .pending)) .fails)
-      (λ q. swapped isFull (full (length (m .pending))) _ (full-is e) refl ∙ stops (full (length (m .pending))) _ _ q)
-      (λ q. swapped isFull (full (length (m .pending))) _ (full-is e) refl ∙ front (full (length (m .pending))) _ _ (skipped isOver _ (over-is e q)))
+      (λ q. swapped (fullTo m (ask .client)) (full (length (m .pending))) _ (full-is e) refl ∙ stops (full (length (m .pending))) _ _ q)
+      (λ q. swapped (fullTo m (ask .client)) (full (length (m .pending))) _ (full-is e) refl ∙ front (full (length (m .pending))) _ _ (skipped (overOf m (ask .client)) _ (over-is e q)))
 
   as-pooled : ask .client ≡ 1 → firstOf (tests m (claim t ask)) ≡ firstOf (pooledTests m t ask)
   unfolding tests

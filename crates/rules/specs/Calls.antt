@@ -122,16 +122,22 @@ pub record Step : Type 0 where
   pub answer : Answer
 
 -- ── tests ──
+-- 6 and 18 of a claim of client c.
+abbrev pub fullTo : Model → ℕ → Test
+fullTo m c =
+    let ks = clientsOf (m .pending) in
+    fullFor (shareOf (m .shares) c) (pendingOf ks c) (length (m .pending)) (unfilledByOthers (m .shares) ks c)
+
+abbrev pub overOf : Model → ℕ → Test
+overOf m c = over (shareOf (m .shares) c) (pendingOf (clientsOf (m .pending)) c)
+
 -- "A claim is tested in the order 5, 4, 1, 2, 3, 6, 7; a release 5, 4, 8, 9; a withdrawal 5, 4, 8, 10; a clock call 5, 4"; of a claim
 -- "16 .. after 2", "17 .. before 1", "18 .. after 6"; a declaration is answered 13 "before 17", and 19 "after 17".
 unfoldable pub tests : Model → Call → List Test
 tests m (claim t ask) =
-    let s = shareOf (m .shares) (ask .client) in
-    let ks = clientsOf (m .pending) in
-    let own = pendingOf ks (ask .client) in
-    late t ∷ backward (m .clock) t ∷ stranger s ∷ nothingAsked (ask .groups) (ask .units) ∷ offRig (m .rig) (ask .groups)
-    ∷ spots (m .pool) (ask .units) ∷ badLength (ask .length) ∷ fullFor s own (length (m .pending)) (unfilledByOthers (m .shares) ks (ask .client))
-    ∷ over s own ∷ ticketless (m .issued) ∷ []
+    late t ∷ backward (m .clock) t ∷ stranger (shareOf (m .shares) (ask .client)) ∷ nothingAsked (ask .groups) (ask .units)
+    ∷ offRig (m .rig) (ask .groups) ∷ spots (m .pool) (ask .units) ∷ badLength (ask .length)
+    ∷ fullTo m (ask .client) ∷ overOf m (ask .client) ∷ ticketless (m .issued) ∷ []
 tests m (release t k) = late t ∷ backward (m .clock) t ∷ unknown (named k) (m .pending) ∷ notYetOn (named k) on (m .pending) ∷ []
 tests m (withdraw t k) = late t ∷ backward (m .clock) t ∷ unknown (named k) (m .pending) ∷ alreadyOn (named k) on (m .pending) ∷ []
 tests m (clock t) = late t ∷ backward (m .clock) t ∷ []

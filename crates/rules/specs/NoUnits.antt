@@ -13,9 +13,9 @@ use Rattle.rules.specs.Claims.{endOf}
 use Rattle.rules.specs.Order.{precedes}
 use Rattle.rules.specs.Packing.{moved}
 use Rattle.rules.specs.Placing.{clear}
-use Rattle.rules.specs.Shares.{shareOf, pendingOf, unfilledByOthers}
-use Rattle.rules.specs.Tests.{Test, late, backward, stranger, dark, offRig, badLength, fullFor, over, ticketless}
-use Rattle.rules.specs.Calls.{Model, clientsOf, Call, claim, release, withdraw, clock, lookup, common, free, declare}
+use Rattle.rules.specs.Shares.{shareOf}
+use Rattle.rules.specs.Tests.{Test, late, backward, stranger, dark, offRig, badLength, ticketless}
+use Rattle.rules.specs.Calls.{Model, fullTo, overOf, Call, claim, release, withdraw, clock, lookup, common, free, declare}
 
 -- ── a claim ──
 -- "Each waiting claim's planned start becomes the greatest of the clock and the ends of the claims that precede it": of the starts f.
@@ -29,11 +29,8 @@ documentedFits v ps w s = all (clear v w s) ps
 -- Its tests without "1 is now for a claim with neither group nor unit" and without 16.
 abbrev pub undrawnTests : Model → ℕ → Request → List Test
 undrawnTests m t ask =
-    let s = shareOf (m .shares) (ask .client) in
-    let ks = clientsOf (m .pending) in
-    let own = pendingOf ks (ask .client) in
-    late t ∷ backward (m .clock) t ∷ stranger s ∷ dark (ask .groups) ∷ offRig (m .rig) (ask .groups) ∷ badLength (ask .length)
-    ∷ fullFor s own (length (m .pending)) (unfilledByOthers (m .shares) ks (ask .client)) ∷ over s own ∷ ticketless (m .issued) ∷ []
+    late t ∷ backward (m .clock) t ∷ stranger (shareOf (m .shares) (ask .client)) ∷ dark (ask .groups) ∷ offRig (m .rig) (ask .groups)
+    ∷ badLength (ask .length) ∷ fullTo m (ask .client) ∷ overOf m (ask .client) ∷ ticketless (m .issued) ∷ []
 
 -- ── a run ──
 -- The call draws no units.

@@ -13,7 +13,7 @@ use Rattle.rules.specs.declared.Share.{Share}
 use Rattle.rules.specs.declared.Table.{Table}
 use Rattle.rules.specs.Shares.{undeclared, share, shareOf, withShare, pendingOf, unfilledByOthers, unfilledInAll}
 use Rattle.rules.specs.Tests.{Test, firstOf, full, fullFor, over}
-use Rattle.rules.specs.Calls.{Model, clientsOf, declare, unchanged, declared, act, step, tests}
+use Rattle.rules.specs.Calls.{Model, clientsOf, fullTo, overOf, declare, unchanged, declared, act, step, tests}
 use Rattle.rules.specs.Tables.{encode, model}
 use Rattle.rules.proofs.Bools.{by-test}
 use Rattle.rules.proofs.Tests.{passes, past, front, swapped}
@@ -35,13 +35,6 @@ theirs t = clientsOf (model t .pending)
 many : (t : Table) → Valid t → length (theirs t) ≡ t .count
 many t v = length-map (model t .pending) (λ (c : Claim). c .client) ∙ formed-count t (v .formed)
 
--- The test for 6 of client c, and that for 18.
-abbrev pub sixth : Table → ℕ → Test
-sixth t c = fullFor (shareOf (t .shares) c) (pendingOf (theirs t) c) (length (model t .pending)) (unfilledByOthers (t .shares) (theirs t) c)
-
-abbrev pub eighteenth : Table → ℕ → Test
-eighteenth t c = over (shareOf (t .shares) c) (pendingOf (theirs t) c)
-
 -- As the code has them, by what was counted.
 pub number-is : (t : Table) (c : ℕ) → Valid t → shareOf (t .shares) c .declared ≡ true → (each : List ℕ) → each ≡ pendingEach (theirs t)
     → numberBy (t .shares) each (t .count) c ≡ shareNumber (model t) c
@@ -55,12 +48,12 @@ number-is t c v known each e =
     let last = over (getD (t .shares) (c - 1) undeclared) (getD each (c - 1) 0) in
     let a : first .fails ≡ fullFor (shareOf (t .shares) c) (pendingOf (theirs t) c) (length (model t .pending)) (unfilledInAll (t .shares) (theirs t)) .fails =
     cc (s, own, all, formed-count t (v .formed)) in
-    let b : last .fails ≡ eighteenth t c .fails = cc (s, own) in
-    swapped first (sixth t c) (last ∷ []) (a ∙ full-by-all (t .shares) (theirs t) c (length (model t .pending)) (r .0) (r .1)) refl
-    ∙ front (sixth t c) (last ∷ []) (eighteenth t c ∷ []) (swapped last (eighteenth t c) [] b refl)
+    let b : last .fails ≡ overOf (model t) c .fails = cc (s, own) in
+    swapped first (fullTo (model t) c) (last ∷ []) (a ∙ full-by-all (t .shares) (theirs t) c (length (model t .pending)) (r .0) (r .1)) refl
+    ∙ front (fullTo (model t) c) (last ∷ []) (overOf (model t) c ∷ []) (swapped last (overOf (model t) c) [] b refl)
 
 -- Where all places are taken there is none for anybody.
-pub full-shut : (t : Table) (c : ℕ) → Valid t → full (t .count) .fails ≡ true → sixth t c .fails ≡ true
+pub full-shut : (t : Table) (c : ℕ) → Valid t → full (t .count) .fails ≡ true → fullTo (model t) c .fails ≡ true
 full-shut t c v e =
     ap (λ n. fullFor (shareOf (t .shares) c) (pendingOf (theirs t) c) n (unfilledByOthers (t .shares) (theirs t) c) .fails)
     (sym (length-map (model t .pending) (λ (d : Claim). d .client)))

@@ -10,9 +10,8 @@ use Rattle.rules.specs.declared.Table.{Table}
 use Rattle.rules.specs.declared.Standing.{Standing}
 use Rattle.rules.specs.declared.Standing.the-variants.{NotPending, Waits, Holds}
 use Rattle.numbers.specs.Numbers.{unknownNumber, notYetOnNumber, alreadyOnNumber}
-use Rattle.rules.specs.Shares.{shareOf, pendingOf, unfilledByOthers}
-use Rattle.rules.specs.Tests.{firstOf, late, backward, fullFor, over, named}
-use Rattle.rules.specs.Calls.{Model, clientsOf, Call, release, withdraw, Step, advance}
+use Rattle.rules.specs.Tests.{firstOf, late, backward, named}
+use Rattle.rules.specs.Calls.{Model, fullTo, overOf, Call, release, withdraw, Step, advance}
 use Rattle.rules.specs.Lists.{keep}
 use Rattle.rules.specs.Claims.{on, at}
 use Rattle.rules.specs.Tables.{vacant, encode, model, pad}
@@ -51,10 +50,7 @@ timeNumber now t = firstOf (late t ∷ backward now t ∷ [])
 
 -- The tests 6 and 18, of a claim of client c.
 unfoldable pub shareNumber : Model → ℕ → ℕ
-shareNumber m c =
-    let s = shareOf (m .shares) c in
-    let ks = clientsOf (m .pending) in
-    firstOf (fullFor s (pendingOf ks c) (length (m .pending)) (unfilledByOthers (m .shares) ks c) ∷ over s (pendingOf ks c) ∷ [])
+shareNumber m c = firstOf (fullTo m c ∷ overOf m c ∷ [])
 
 -- That, where it has to be counted for.
 unfoldable pub placesNumber : Model → ℕ → ℕ

@@ -9,13 +9,13 @@ use borrow.Author.Needs.{needs}
 use lib.ListN.{drop}
 use Rattle.rules.specs.declared.Share.{Share}
 use Rattle.rules.specs.Shares.{shareOf}
-use Rattle.rules.specs.Calls.{Call, tests}
+use Rattle.rules.specs.Calls.{Call, fullTo, overOf, tests}
 use Rattle.rules.specs.Tests.{Test, firstOf, stranger}
 use Rattle.rules.specs.Tables.{model}
 use Rattle.rules.proofs.Tests.{fails-here, past}
 use Rattle.table.specs.Outcomes.{shareNumber}
 use Rattle.table.proofs.Tests.{timed-fails, timed-passes}
-use Rattle.table.proofs.Sharing.{sixth, eighteenth, full-shut, places-are, two-fail, two-pass}
+use Rattle.table.proofs.Sharing.{full-shut, places-are, two-fail, two-pass}
 use Rattle.table.proofs.claim_number.Statement.{statement}
 use Rattle.table.proofs.claim_number.Tie as tie
 
@@ -73,7 +73,7 @@ unfolding tests shareNumber
 behind8 c n h =
     let a = start (c .before) .args in
     behind6 (c .before .before .before) n
-    (two-pass (sixth (a .t) (a .ask .client)) (eighteenth (a .t) (a .ask .client)) _ (omega arith) (omega arith) (sym (places (c .before)) ∙ c .if8 .left) h)
+    (two-pass (fullTo (model (a .t)) (a .ask .client)) (overOf (model (a .t)) (a .ask .client)) _ (omega arith) (omega arith) (sym (places (c .before)) ∙ c .if8 .left) h)
 
 returns : tie.Need-returns
 unfolding tests
@@ -111,7 +111,7 @@ returns-8 : tie.Need-returns-8
 unfolding tests shareNumber
 returns-8 c =
     let a = start (c .before) .args in
-    behind6 (c .before .before .before) _ (two-fail (sixth (a .t) (a .ask .client)) (eighteenth (a .t) (a .ask .client)) _ (places (c .before)) (c .if8 .taken))
+    behind6 (c .before .before .before) _ (two-fail (fullTo (model (a .t)) (a .ask .client)) (overOf (model (a .t)) (a .ask .client)) _ (places (c .before)) (c .if8 .taken))
 
 returns-9 : tie.Need-returns-9
 unfolding tests

@@ -47,34 +47,34 @@ whole c =
     omega (arith, i .2, sum-end (unfilledAt (a .t1) (a .t2)) (c .before .loop .i) (omega arith) (i .0))
 
 -- The tests as the rules have them.
-abbrev six : tie.Start Inv-loop μ-loop → Test
-six c = let a = c .args in fullFor (getD (a .t1) (a .client - 1) undeclared) (getD (a .t2) (a .client - 1) 0) (a .count) (unfilledEach (a .t1) (a .t2))
+abbrev isFull : tie.Start Inv-loop μ-loop → Test
+isFull c = let a = c .args in fullFor (getD (a .t1) (a .client - 1) undeclared) (getD (a .t2) (a .client - 1) 0) (a .count) (unfilledEach (a .t1) (a .t2))
 
-abbrev eighteen : tie.Start Inv-loop μ-loop → Test
-eighteen c = let a = c .args in over (getD (a .t1) (a .client - 1) undeclared) (getD (a .t2) (a .client - 1) 0)
+abbrev isOver : tie.Start Inv-loop μ-loop → Test
+isOver c = let a = c .args in over (getD (a .t1) (a .client - 1) undeclared) (getD (a .t2) (a .client - 1) 0)
 
-full-is : (c : tie.After-full-for Inv-loop μ-loop) → c .full-for .result ≡ six (c .before .before .before .before) .fails
+full-is : (c : tie.After-full-for Inv-loop μ-loop) → c .full-for .result ≡ isFull (c .before .before .before .before) .fails
 full-is c =
     let a = c .before .before .before .before .args in
     c .full-for .ensures ∙ ap (λ (n : ℕ). fullFor (getD (a .t1) (a .client - 1) undeclared) (getD (a .t2) (a .client - 1) 0) (a .count) n .fails) (whole (c .before))
 
 returns : tie.Need-returns Inv-loop μ-loop
 unfolding numberBy
-returns c = fails-here (six (c .before .before .before .before .before)) _ refl (sym (full-is (c .before)) ∙ c .if2 .taken)
+returns c = fails-here (isFull (c .before .before .before .before .before)) _ refl (sym (full-is (c .before)) ∙ c .if2 .taken)
 
 returns-2 : tie.Need-returns-2 Inv-loop μ-loop
 unfolding numberBy
 returns-2 c =
     let e = c .before .before in
     let b = e .before .before .before .before .before in
-    past (six b) _ (sym (full-is (e .before)) ∙ e .if2 .left) (fails-here (eighteen b) [] refl (sym (c .before .over .ensures) ∙ c .if3 .taken))
+    past (isFull b) _ (sym (full-is (e .before)) ∙ e .if2 .left) (fails-here (isOver b) [] refl (sym (c .before .over .ensures) ∙ c .if3 .taken))
 
 returns-3 : tie.Need-returns-3 Inv-loop μ-loop
 unfolding numberBy firstOf
 returns-3 c =
     let e = c .before .before in
     let b = e .before .before .before .before .before in
-    past (six b) (eighteen b ∷ []) (sym (full-is (e .before)) ∙ e .if2 .left) (past (eighteen b) [] (sym (c .before .over .ensures) ∙ c .if3 .left) refl)
+    past (isFull b) (isOver b ∷ []) (sym (full-is (e .before)) ∙ e .if2 .left) (past (isOver b) [] (sym (c .before .over .ensures) ∙ c .if3 .left) refl)
 
 pub number-of-spec : {M : Type 1} → statement M
 number-of-spec =
