@@ -1,7 +1,9 @@
 /*
- * Belgwyth: what a load of light-cue calls does to a claims table, as a listing; and what a dance show does to a frame table.
+ * Belgwyth: what a load of light-cue calls does to a claims table, as a listing; what a dance show does to a frame table; and loads that
+ * are worked out from a seed.
  *
- * Link with the static library that `rt staticlib listing` writes, and for dance shows with that of `rt staticlib frame_listing`:
+ * Link with the static library that `rt staticlib listing` writes, for dance shows with that of `rt staticlib frame_listing`, and for
+ * workloads with that of `rt staticlib generator`:
  *
  *     gcc -O2 -Iinclude -o player player.c target/staticlib/liblisting.a
  */
@@ -51,6 +53,22 @@ size_t belgwyth_listing(const uint8_t *load, size_t load_length, uint8_t *out, s
  * then no byte of `out` differs. A show of n calls has a listing of at most 42 + 129 * n bytes. Text and buffer as above.
  */
 size_t belgwyth_beat(const uint8_t *text, size_t text_length, uint8_t *out, size_t out_length);
+
+/* The greatest count of claims in a workload, and the bytes of the longest one. */
+#define BELGWYTH_WORKLOAD_MAX_COUNT 1000
+#define BELGWYTH_WORKLOAD_MAX 36012
+
+/* The answer to a count outside 1 to BELGWYTH_WORKLOAD_MAX_COUNT. No workload is that short: every one has at least 35 bytes. */
+#define BELGWYTH_COUNT 20
+
+/*
+ * Writes the workload of a seed and a count, a load of edition 1 that is the same wherever it is made, to the start of `out`.
+ *
+ * Answers the load's length; the bytes of `out` after it keep their contents. For a count outside 1 to 1,000 answers BELGWYTH_COUNT, or
+ * else BELGWYTH_NO_SPACE if the load is longer than `out_length`; then no byte of `out` differs. The load has exactly `count` claims on a
+ * rig of all 64 groups, with a release after about every other one, in at most 12 + 36 * count bytes. Buffer as above.
+ */
+size_t belgwyth_workload(uint32_t seed, uint32_t count, uint8_t *out, size_t out_length);
 
 #ifdef __cplusplus
 }

@@ -1,6 +1,6 @@
 #!/usr/bin/env bash
 # Builds the example player with warnings as errors, in C and with the header in C++, and compares what it prints with the program's
-# listing; and calls the listing of dance shows from C. The last line is 'N passed, M failed'.
+# listing; and calls the listing of dance shows and the workloads from C. The last line is 'N passed, M failed'.
 set -u -o pipefail
 cd "$(dirname "$0")/.." || exit 2
 . tests/lib.sh || exit 2
@@ -39,14 +39,15 @@ printf '\377' >"$work/unknown.load"
 printf '\001\000' >"$work/short.load"
 printf '\001\000\000' >"$work/misfit.load"
 head -c 65537 /dev/zero | tr '\000' '\001' >"$work/long.load"
-cp examples/overture.load examples/spots.load examples/desks.load "$work"
-for name in sample empty edition edition_2 edition_3 unknown short misfit long overture spots desks; do
+cp examples/overture.load examples/spots.load examples/desks.load examples/workshop.load "$work"
+for name in sample empty edition edition_2 edition_3 unknown short misfit long overture spots desks workshop; do
     try "player and program agree on $name" agree "$work/$name.load"
 done
 try "the sample of the paper" lists_as "$work/sample.load" crates/cue/stdout
 try "the sample show's listing" lists_as examples/overture.load examples/overture.listing
 try "the listing of the show with followspots" lists_as examples/spots.load examples/spots.listing
 try "the listing of the show with two desks" lists_as examples/desks.load examples/desks.listing
+try "the listing of the sample workload" lists_as examples/workshop.load examples/workshop.listing
 
 # A dance show from C: its listing, a wrong line, a buffer that is too small, and one whose later bytes stay.
 cat >"$work/dance.c" <<'EOF'
@@ -79,5 +80,41 @@ dances_as() {
 try "rt staticlib frame_listing" quiet rt staticlib frame_listing
 try "a caller in C builds with both libraries" gcc -std=c99 -O2 -Wall -Wextra -Wpedantic -Werror -Iinclude -o "$work/dance" "$work/dance.c" "$library" target/staticlib/libframe_listing.a
 try "the sample dance show from C" dances_as examples/duet.show examples/duet.listing
+
+# A workload from C: a wrong count, a buffer that is a byte too small, and one whose later bytes stay.
+cat >"$work/workload.c" <<'EOF'
+#include <stdio.h>
+#include <string.h>
+
+#include "belgwyth.h"
+
+int main(void)
+{
+    static uint8_t out[BELGWYTH_WORKLOAD_MAX + 1];
+    size_t length;
+
+    memset(out, 'x', sizeof out);
+    if (belgwyth_workload(1, 0, out, sizeof out) != BELGWYTH_COUNT || out[0] != 'x')
+        return 2;
+    if (belgwyth_workload(1, BELGWYTH_WORKLOAD_MAX_COUNT + 1, out, 0) != BELGWYTH_COUNT)
+        return 3;
+    if (belgwyth_workload(1, 1, out, 34) != BELGWYTH_NO_SPACE || out[0] != 'x')
+        return 4;
+    if (belgwyth_workload(1, 1, out, 35) != 35 || out[35] != 'x')
+        return 5;
+    if (belgwyth_workload(UINT32_MAX, BELGWYTH_WORKLOAD_MAX_COUNT, out, sizeof out) > BELGWYTH_WORKLOAD_MAX)
+        return 6;
+    length = belgwyth_workload(1, 20, out, sizeof out);
+    fwrite(out, 1, length, stdout);
+    return 0;
+}
+EOF
+# works: the caller in C and the program write the sample workload.
+works() {
+    "$work/workload" >"$work/c.load" && cmp "$work/c.load" examples/workshop.load && target/bin/workload 1 20 >"$work/program.load" && cmp "$work/program.load" examples/workshop.load
+}
+try "rt staticlib generator" quiet rt staticlib generator
+try "a caller in C builds with all libraries" gcc -std=c99 -O2 -Wall -Wextra -Wpedantic -Werror -Iinclude -o "$work/workload" "$work/workload.c" "$library" target/staticlib/libframe_listing.a target/staticlib/libgenerator.a
+try "the sample workload from C and from the program" works
 
 total

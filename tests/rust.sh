@@ -9,6 +9,7 @@ trap 'rm -f "$log"' EXIT
 
 try "rt staticlib listing" quiet rt staticlib listing
 try "rt staticlib frame_listing" quiet rt staticlib frame_listing
+try "rt staticlib generator" quiet rt staticlib generator
 cd reference || exit 2
 try "cargo fmt" quiet cargo fmt --all --check
 try "cargo clippy" quiet cargo clippy --offline --release --workspace --all-targets -- -D warnings

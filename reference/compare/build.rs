@@ -1,6 +1,6 @@
-//! Links the proved libraries, which `rt staticlib listing` and `rt staticlib frame_listing` write, and for a
-//! benchmark an earlier one of the first: the file that the environment variable LISTING_BEFORE names, its call under
-//! another name.
+//! Links the proved libraries, which `rt staticlib listing`, `rt staticlib frame_listing` and `rt staticlib generator`
+//! write, and for a benchmark an earlier one of the first: the file that the environment variable LISTING_BEFORE names,
+//! its call under another name.
 
 use std::path::Path;
 use std::process::Command;
@@ -9,7 +9,7 @@ fn main() {
     let root = Path::new(env!("CARGO_MANIFEST_DIR")).join("../..");
     let library = root.join("target/staticlib");
     println!("cargo:rustc-link-search=native={}", library.display());
-    for name in ["listing", "frame_listing"] {
+    for name in ["listing", "frame_listing", "generator"] {
         println!("cargo:rustc-link-lib=static={name}");
         let file = library.join(format!("lib{name}.a"));
         println!("cargo:rerun-if-changed={}", file.display());

@@ -1,14 +1,15 @@
 //! A second, plain implementation of the claims table, the load and the
 //! listing of documents 01 and 02, of the planner's text, of questions about a
-//! load and of the frame table with its dance shows, with what is needed to
-//! compare it with another: generators of loads, texts, questions and shows,
-//! monitors of runs and a shrinker.
+//! load, of the frame table with its dance shows and of the workload, with what
+//! is needed to compare it with another: generators of loads, texts, questions
+//! and shows, monitors of runs and a shrinker.
 //!
 //! Words of this crate and of document 01: contention is its crowd, start
 //! bound its ceiling, lookup its look, refusal and refused its call turned
 //! down, overrun its overdue holder, scenario its plot. Document 02's
 //! followspots are the units of a pool, its desks are clients, a desk's
-//! guarantee is what is reserved for the client.
+//! guarantee is what is reserved for the client, its load for the workshop is
+//! the workload.
 
 #![deny(unsafe_code)]
 
@@ -30,3 +31,4 @@ pub mod shrink;
 pub mod table;
 pub mod text;
 pub mod tries;
+pub mod workload;

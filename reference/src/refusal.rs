@@ -46,6 +46,8 @@ pub enum Refusal {
     /// 19, "overbooked": a declaration whose guarantee or limit is too much, or
     /// of a client that is declared already.
     Overbooked = 19,
+    /// 20, "count": a workload of no claims, or of over 1,000.
+    Count = 20,
 }
 
 impl Refusal {

@@ -11,6 +11,7 @@ use common::{claim, claim_of, client_load_of, declare, draw, load_of, pool_load_
 use reference::dance::beat;
 use reference::generate;
 use reference::listing::listing;
+use reference::workload::workload;
 
 /// What a program prints for an input.
 fn print(program: &str, input: &[u8]) -> Output {
@@ -77,6 +78,30 @@ fn the_beat_program_prints_listing_or_message() {
         let output = print(env!("CARGO_BIN_EXE_reference_beat"), text);
         assert!(output.status.success());
         assert_eq!((output.stdout, output.stderr), beat(text));
+    }
+}
+
+#[test]
+fn the_workload_program_writes_the_load() {
+    let run = |arguments: &[&str]| {
+        let mut program = Command::new(env!("CARGO_BIN_EXE_reference_workload"));
+        program.args(arguments).output().expect("it ends")
+    };
+    for (seed, count) in [(0, 1), (1, 10), (u32::MAX, 1_000)] {
+        let output = run(&[&seed.to_string(), &count.to_string()]);
+        assert!(output.status.success());
+        assert_eq!(Ok(output.stdout), workload(seed, count));
+    }
+    for count in ["0", "1001", "4294967295"] {
+        let output = run(&["1", count]);
+        assert_eq!(output.status.code(), Some(1));
+        assert_eq!(output.stderr, b"refused: 20\n");
+        assert!(output.stdout.is_empty());
+    }
+    for wrong in [&[][..], &["1"], &["1", "x"], &["4294967296", "1"]] {
+        let output = run(wrong);
+        assert_eq!(output.status.code(), Some(2));
+        assert!(output.stdout.is_empty());
     }
 }
 

@@ -4,7 +4,7 @@
 use mathlib.Core.Path.{_≡_, refl, sym, ap, _∙_}
 use mathlib.Core.Bool.{Bool, true, false, not, _&&_, _||_, cond, and-comm, and-eq-true-iff, and-or-distrib-right, or-true, false≢true}
 use Prim.Native.Nat.{ℕ, zero, suc, _+_, _*_, _/_, _%_, _^_, _<_}
-use native.Mathlib.Nat.{add-zero, zero-add, div-one}
+use native.Mathlib.Nat.{add-zero, zero-add, div-one, two-pow-succ}
 use native.Mathlib.Omega.{arith}
 use lib.Dec.{eqb, ltb}
 use lib.Pow.{shr-shr}
@@ -123,6 +123,16 @@ low-digit false n = omega arith
 high-digits : (t : Bool) (n : ℕ) → (cond t 1 0 + 2 * n) / 2 ≡ n
 high-digits true n = omega arith
 high-digits false n = omega arith
+
+-- A set of k groups is a number of k bits.
+pub set-under : (k g : ℕ) (p : ℕ → Bool) → setFrom k g p < 2 ^ k
+unfolding setFrom
+set-under zero g p = omega arith
+set-under (suc k) g p = more (p g) (set-under k (suc g) p)
+  where
+    more : (t : Bool) {n : ℕ} → n < 2 ^ k → cond t 1 0 + 2 * n < 2 ^ suc k
+    more true h = let e = two-pow-succ k in omega arith
+    more false h = let e = two-pow-succ k in omega arith
 
 -- Group g + j is in the set of the k groups from g on that pass p exactly where it passes.
 from-has : (k g : ℕ) (p : ℕ → Bool) (j : ℕ) → j < k → has (setFrom k g p) j ≡ p (g + j)

@@ -95,7 +95,7 @@ unfolding recordBytes
 record-some e c = simp (length-append, digits-length) (omega arith)
 
 -- ── loads ──
-records-append : (e : ℕ) (cs ds : List Call) → recordsBytes e (cs ++ ds) ≡ recordsBytes e cs ++ recordsBytes e ds
+pub records-append : (e : ℕ) (cs ds : List Call) → recordsBytes e (cs ++ ds) ≡ recordsBytes e cs ++ recordsBytes e ds
 unfolding recordsBytes
 records-append e [] ds = refl
 records-append e (c ∷ cs) ds = ap (λ r. recordBytes e c ++ r) (records-append e cs ds) ∙ sym (append-assoc (recordBytes e c) (recordsBytes e cs) (recordsBytes e ds))

@@ -20,12 +20,12 @@ use Rattle.load.proofs.Writing.{Grows, grows, append-grows}
 
 -- ── what the writer makes reads as its calls ──
 -- What holds of the calls of every load that the writer makes.
-record Good (e : ℕ) (cs : List Call) : Type 0 where
+pub record Good (e : ℕ) (cs : List Call) : Type 0 where
   pub edition : known e ≡ true
   pub calls : Loadable e true cs
   pub bound : length (loadBytes e cs) ≤ 65536
 
-good-reads : (e : ℕ) (cs : List Call) → Good e cs → (loadNumber (loadBytes e cs) ≡ 0) × (walk (loadBytes e cs) 1 ≡ record { calls = cs; stop = 0 })
+pub good-reads : (e : ℕ) (cs : List Call) → Good e cs → (loadNumber (loadBytes e cs) ≡ 0) × (walk (loadBytes e cs) 1 ≡ record { calls = cs; stop = 0 })
 unfolding loadNumber
 good-reads e cs g = rw (opens e cs (g .edition) (g .bound), reads-back e cs (g .calls)) (refl, refl)
 
@@ -34,7 +34,7 @@ appended-is : (s : List ℕ) (c : Call) (out : List ℕ) → appendNumber s c (l
 unfolding appendOut
 appended-is s c out z = rw z (take-at (grown s c) (drop (length (grown s c)) out) (length (grown s c)) refl)
 
-answer-length : (k m n : ℕ) → answered k m ≡ Length n → (k ≡ 0) × (m ≡ n)
+pub answer-length : (k m n : ℕ) → answered k m ≡ Length n → (k ≡ 0) × (m ≡ n)
 answer-length zero m n h = (refl, cc)
 answer-length (suc k) m n h = let z : _≡_ {A = ℕ} 0 1 = cc in absurd (omega arith)
 

@@ -104,7 +104,7 @@ module _ (out : List ℕ) (n : ℕ) (c : Call) where
   held-known h = let q = held-within h in grow-known (take n out) c (length out) (rw (first-length (q .0) (q .1), first-edition (q .0) (q .1)) (q .2))
 
 -- ── the answer and the buffer ──
--- k is the number, and g the grown load.
+-- k is the number, and g the load to be written.
 abbrev pub Answers : List ℕ → List ℕ → ℕ → Written → List ℕ → Type 0
 Answers g out k r p = (r ≡ answered k (length g)) × ((p ≡ lent k (begun g out) out) × (writtenValues r ≡ answeredValues k (length g)))
 
@@ -112,10 +112,14 @@ pub refused : (g out : List ℕ) (k n : ℕ) → n ≡ k → (n ≡ 0 → ⊥) �
 refused g out zero n p q = absurd (q p)
 refused g out (suc k) n p q = (ap Refusal p, (refl, ap (λ (m : ℕ). writtenValues (Refusal m)) p))
 
+-- A text g that goes in and is laid at the start.
+pub accepted : (g out : List ℕ) (k : ℕ) (p : List ℕ) (r : ℕ) → k ≡ 0 → length g ≤ 65536 → length g ≤ length out → Put out 0 g r p → Answers g out k (Length r) p
+accepted g out k p r h b l w =
+    let e = put-short (omega arith) w in
+    rw h (ap Length (e .0), (e .1 ∙ laid-fits out g l, ap (λ (m : ℕ). writtenValues (Length m)) (e .0)))
+
 pub written : (s : List ℕ) (c : Call) (out : List ℕ) (k : ℕ) (p : List ℕ) (r : ℕ) → k ≡ 0 → Grows s c (length out) → Put out 0 (grown s c) r p → Answers (grown s c) out k (Length r) p
-written s c out k p r h g w =
-    let e = put-short (omega (arith, g .bounded)) w in
-    rw h (ap Length (e .0), (e .1 ∙ laid-fits out (grown s c) (g .goes-in), ap (λ (m : ℕ). writtenValues (Length m)) (e .0)))
+written s c out k p r h g w = accepted (grown s c) out k p r h (g .bounded) (g .goes-in) w
 
 -- A record laid after the first bytes of a buffer is the grown load laid at its start.
 pub put-behind : (out : List ℕ) (n : ℕ) (c : Call) (p : List ℕ) (r : ℕ) → length out < 2 ^ 64 → 0 < n → n ≤ length out

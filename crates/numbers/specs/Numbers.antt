@@ -78,6 +78,10 @@ overNumber = 18
 abbrev pub overbookedNumber : ℕ
 overbookedNumber = 19
 
+-- "count: count outside 1 to 1,000" (document 02, P5)
+abbrev pub countNumber : ℕ
+countNumber = 20
+
 -- "Clocks run from 0 to 1,000,000,000,000."
 abbrev pub mostClock : ℕ
 mostClock = 1000000000000
@@ -105,3 +109,7 @@ mostClients = 8
 -- "load over 65,536 bytes"
 abbrev pub mostBytes : ℕ
 mostBytes = 65536
+
+-- "a count of 1 to 1,000" (document 02, P5)
+abbrev pub mostClaims : ℕ
+mostClaims = 1000

@@ -37,8 +37,10 @@ pub const OVER: u8 = 18;
 
 pub const OVERBOOKED: u8 = 19;
 
+pub const COUNT: u8 = 20;
+
 // The last clock, the longest length in ticks, how many tickets a table issues, how many claims are pending, how many
-// clients there are, the bytes of a load.
+// clients there are, the bytes of a load, the claims of a workload.
 pub const MOST_CLOCK: u64 = 1_000_000_000_000;
 
 pub const MOST_LENGTH: u32 = 3_600_000;
@@ -50,3 +52,5 @@ pub const MOST_PENDING: usize = 64;
 pub const MOST_CLIENTS: u8 = 8;
 
 pub const MOST_BYTES: usize = 65_536;
+
+pub const MOST_CLAIMS: u32 = 1_000;

@@ -29,6 +29,8 @@ mod proved {
             out_length: usize,
         ) -> usize;
 
+        pub fn belgwyth_workload(seed: u32, count: u32, out: *mut u8, out_length: usize) -> usize;
+
         #[cfg(before)]
         pub fn belgwyth_listing_before(
             load: *const u8,
@@ -49,6 +51,12 @@ pub fn listing(load: &[u8], out: &mut [u8]) -> usize {
 pub fn beat(text: &[u8], out: &mut [u8]) -> usize {
     // SAFETY: both slices are valid for their lengths and don't overlap.
     unsafe { proved::belgwyth_beat(text.as_ptr(), text.len(), out.as_mut_ptr(), out.len()) }
+}
+
+/// The call for a workload: the count of bytes written to the buffer, 20 or 15.
+pub fn workload(seed: u32, count: u32, out: &mut [u8]) -> usize {
+    // SAFETY: the slice is valid for its length.
+    unsafe { proved::belgwyth_workload(seed, count, out.as_mut_ptr(), out.len()) }
 }
 
 /// The player's call of the earlier library that LISTING_BEFORE names, where it does.

@@ -5,6 +5,7 @@ use compare::{listing, listing_before, timed};
 use reference::generate::Prng;
 use reference::load::{self, Call};
 use reference::table::{Declaration, State, Table, TimedCall, MAX_PENDING};
+use reference::workload;
 use std::hint::black_box;
 use std::time::Duration;
 
@@ -12,41 +13,6 @@ use std::time::Duration;
 fn begun(groups: u64, pool: u16) -> (Table, Vec<Call>) {
     let (table, _) = Table::new(groups, pool);
     (table, vec![Call::Rig { groups, pool }])
-}
-
-/// A load of so many claims of two groups of 64 each, with a release of the
-/// lowest ticket that is on behind about every other one.
-fn workshop(claims: u32, seed: u64) -> Vec<u8> {
-    let mut prng = Prng::new(seed);
-    let (mut table, mut calls) = begun(u64::MAX, 0);
-    let mut clock = 0;
-    for _ in 0..claims {
-        clock += prng.below(8);
-        let groups = (1 << prng.below(64)) | (1 << prng.below(64));
-        let length = prng.range(1, 1000) as u32;
-        let claim = TimedCall::Claim {
-            clock,
-            groups,
-            length,
-            units: 0,
-            client: 1,
-        };
-        table.call(claim);
-        calls.push(Call::Timed(claim));
-        let on = table
-            .claims()
-            .iter()
-            .find(|c| matches!(c.state, State::On(_)));
-        if let (true, Some(on)) = (prng.one_in(2), on) {
-            let release = TimedCall::Release {
-                clock,
-                ticket: on.ticket,
-            };
-            calls.push(Call::Timed(release));
-            table.call(release);
-        }
-    }
-    load::join(1, &calls)
 }
 
 /// A load that keeps about so many claims pending: claims of one group of 16
@@ -244,9 +210,32 @@ fn line(name: &str, load: &[u8], turns: usize) {
     println!();
 }
 
+/// Seed and count of the workload that is timed, and its name.
+const SEED: u32 = 1;
+const COUNT: u32 = 1_000;
+const WORKLOAD: &str = "the workload of seed 1, count 1,000";
+
+/// Times the writing of the workload, by both into one buffer.
+fn writing(turns: usize) {
+    let mut out = vec![0u8; load::MAX_LOAD];
+    let (mut proved, mut plain) = (Duration::MAX, Duration::MAX);
+    for _ in 0..turns {
+        let seed = black_box(SEED);
+        let length = timed(&mut proved, || compare::workload(seed, COUNT, &mut out));
+        let count = timed(&mut plain, || {
+            workload::write_workload(seed, COUNT, &mut out)
+        });
+        assert_eq!(length, count);
+    }
+    let records = workload::calls(SEED, COUNT).map_or(0, |calls| calls.len());
+    let ratio = proved.as_secs_f64() / plain.as_secs_f64();
+    println!("{WORKLOAD}: {records} records, {ratio:.2}");
+}
+
 fn main() {
     println!("time of the proved library's listing, as a ratio to plain Rust (and to the library before)");
-    line("1,000 claims over 64 groups", &workshop(1000, 1), 200);
+    let load = workload::workload(SEED, COUNT).expect("a good count");
+    line(WORKLOAD, &load, 200);
     for pending in [1, 2, 4, 8, 16, 32, 64] {
         line(&format!("{pending} pending"), &steady(pending, 400), 200);
     }
@@ -261,4 +250,6 @@ fn main() {
         line(&name, &pooled(late, 400), 50);
     }
     line("64 pending of eight clients", &shared(400), 50);
+    println!("time of the proved library's writing of a workload, as a ratio to plain Rust");
+    writing(200);
 }

@@ -1,0 +1,10 @@
+pub mod AllSamples
+pub mod Records
+pub mod Lowest
+pub mod Turns
+pub mod Entering
+pub mod Drafts
+pub mod Whole
+pub mod Answering
+pub mod Again
+pub mod Walking

@@ -1,0 +1,4 @@
+pub mod Workload
+pub mod Whole
+pub mod Drafts
+pub mod Samples
