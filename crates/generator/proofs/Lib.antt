@@ -4,6 +4,7 @@ pub mod Lowest
 pub mod Turns
 pub mod Entering
 pub mod Drafts
+pub mod Listed
 pub mod Whole
 pub mod Answering
 pub mod Again

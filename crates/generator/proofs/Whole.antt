@@ -6,75 +6,40 @@ use mathlib.Core.List.{List, [], _∷_, _++_, map}
 use Prim.Native.Nat.{ℕ, zero, suc, _+_, _-_, _*_, _^_, _≤_, _<_}
 use native.Mathlib.Omega.{arith}
 use lib.ListN.{length, length-append}
-use Rattle.groups.specs.Groups.{union}
+use Rattle.groups.specs.Groups.{someFrom, empty, setFrom, union}
 use Rattle.groups.proofs.Groups.{set-under}
 use Rattle.rules.specs.declared.Claim.{Claim}
 use Rattle.rules.specs.Lists.{_∈_, keep, least}
 use Rattle.rules.specs.Claims.{on}
-use Rattle.rules.specs.Calls.{Model, Step, asking, claim as claimCall, release as releaseCall}
+use Rattle.rules.specs.Calls.{Model, Step, asking, claim as claimCall, release as releaseCall, new}
 use Rattle.rules.specs.Invariants.{Invariant}
 use Rattle.rules.proofs.Lists.{here, keep-e, map-e}
 use Rattle.rules.proofs.Calls.{step-invariant, new-invariant, new-cases}
 use Rattle.table.proofs.Promised.{by-call, issues-few}
 use Rattle.load.specs.declared.Call.{Call}
-use Rattle.load.specs.Format.{format, rowIn, fieldsOf, defaults, default, fieldWidths, fieldWidth, lengthIn, lengthOf, total, known, knownIn}
-use Rattle.load.specs.Calls.{numbers, made, withValue, bare, filled, callOf, rig, claim, release}
+use Rattle.load.specs.Format.{format, known, knownIn}
+use Rattle.load.specs.Calls.{rig, claim, release}
 use Rattle.load.specs.Bytes.{recordBytes, recordsBytes, loadBytes}
-use Rattle.load.proofs.Calls.{typed-call, call-carried}
-use Rattle.load.proofs.Bytes.{record-length}
-use Rattle.load.proofs.Loads.{Sound, Loadable}
+use Rattle.load.specs.Reading.{openNumber, walk}
+use Rattle.load.proofs.Loads.{Loadable}
+use Rattle.load.proofs.Reading.{load-parts}
 use Rattle.load.proofs.RoundTrip.{Good, good-reads}
 use Rattle.lcg.specs.Draws.{stateIn}
-use Rattle.listing.specs.Text.{stepOf, unrigged}
+use Rattle.listing.specs.Text.{stepOf, ending, aloneIn, unrigged}
+use Rattle.listing.specs.Replay.{replayFrom, replayIn, replayOf}
 use Rattle.generator.specs.declared.Draws.{Draws}
 use Rattle.generator.specs.declared.MaybeTicket.{MaybeTicket}
 use Rattle.generator.specs.declared.MaybeTicket.the-variants.{Ticket, NoTicket}
 use Rattle.generator.specs.Workload.{Turn, drawsFrom, clockFor, groupsFor, lengthFor, tableAfter, lowestOf, lowestOn, turnOf, recordsFrom, allGroups, workloadCalls, workloadOf}
 use Rattle.generator.specs.Whole.{claimsIn, WorkloadReads, LongerThanNumbers}
-use Rattle.generator.proofs.Records.{claim-does, release-does, rig-does}
+use Rattle.generator.proofs.Records.{all-written, claim-does, release-does, rig-does, rig-length, claim-length, release-length, rig-sound, claim-sound, release-sound}
+use Rattle.generator.proofs.Listed.{Runs, none-runs, claim-runs, release-runs}
 use Rattle.generator.proofs.Turns.{claimed, turn-cases, turn-clock}
 
 -- ── values go into their fields ──
 groups-under : (d : Draws) → groupsFor d < 2 ^ 64
 unfolding groupsFor union
 groups-under d = set-under 64 0 _
-
-claim-sound : (t g n : ℕ) → t < 2 ^ 64 → g < 2 ^ 64 → n < 2 ^ 32 → Sound 1 false (claim t g n)
-unfolding format rowIn fieldsOf defaults default numbers made withValue bare filled callOf fieldWidths fieldWidth lengthIn lengthOf total
-claim-sound t g n a b c = record {
-  place = refl;
-  carried = call-carried 1 2 (t ∷ g ∷ n ∷ []) refl (omega arith);
-  typed = typed-call (claim t g n) (omega arith) a b c (omega arith) (omega arith) (omega arith) (omega arith) (omega arith) (omega arith);
-}
-
-release-sound : (t k : ℕ) → t < 2 ^ 64 → k < 2 ^ 16 → Sound 1 false (release t k)
-unfolding format rowIn fieldsOf defaults default numbers made withValue bare filled callOf fieldWidths fieldWidth lengthIn lengthOf total
-release-sound t k a b = record {
-  place = refl;
-  carried = call-carried 1 3 (t ∷ k ∷ []) refl (omega arith);
-  typed = typed-call (release t k) (omega arith) a (omega arith) (omega arith) b (omega arith) (omega arith) (omega arith) (omega arith) (omega arith);
-}
-
-rig-sound : Sound 1 true (rig allGroups)
-unfolding format rowIn fieldsOf defaults default numbers made withValue bare filled callOf fieldWidths fieldWidth lengthIn lengthOf total
-rig-sound = record {
-  place = refl;
-  carried = call-carried 1 1 (allGroups ∷ []) refl (omega arith);
-  typed = typed-call (rig allGroups) (omega arith) (omega arith) (set-under 64 0 (λ g. true)) (omega arith) (omega arith) (omega arith) (omega arith) (omega arith) (omega arith) (omega arith);
-}
-
--- ── lengths ──
-claim-length : (t g n : ℕ) → length (recordBytes 1 (claim t g n)) ≡ 23
-unfolding format rowIn fieldsOf defaults default numbers made withValue bare filled callOf fieldWidths fieldWidth lengthIn lengthOf total
-claim-length t g n = record-length 1 (claim t g n) (omega arith)
-
-release-length : (t k : ℕ) → length (recordBytes 1 (release t k)) ≡ 13
-unfolding format rowIn fieldsOf defaults default numbers made withValue bare filled callOf fieldWidths fieldWidth lengthIn lengthOf total
-release-length t k = record-length 1 (release t k) (omega arith)
-
-rig-length : (g : ℕ) → length (recordBytes 1 (rig g)) ≡ 11
-unfolding format rowIn fieldsOf defaults default numbers made withValue bare filled callOf fieldWidths fieldWidth lengthIn lengthOf total
-rig-length g = record-length 1 (rig g) (omega arith)
 
 -- ── tables ──
 least-under : (k : ℕ) (ks : List ℕ) → least (λ n. true) k ks ≤ k
@@ -123,18 +88,19 @@ record Fine (n : ℕ) (cs : List Call) : Type 0 where
   pub claims : claimsIn cs ≡ n
   pub most : length (recordsBytes 1 cs) ≤ 36 * n
   pub least : 23 * n ≤ length (recordsBytes 1 cs)
+  pub runs : Runs cs
 
 records-length : (c : Call) (cs : List Call) → length (recordsBytes 1 (c ∷ cs)) ≡ length (recordBytes 1 c) + length (recordsBytes 1 cs)
 unfolding recordsBytes
 records-length c cs = length-append (recordBytes 1 c) (recordsBytes 1 cs)
 
 one-claim : (t g l : ℕ) (cs : List Call) → claimsIn (claim t g l ∷ cs) ≡ suc (claimsIn cs)
-unfolding claimsIn keep format rowIn fieldsOf defaults default numbers made withValue bare filled callOf
-one-claim t g l cs = refl
+unfolding claimsIn keep
+one-claim t g l cs = rw (all-written .claim t g l) refl
 
 no-claim : (t k : ℕ) (cs : List Call) → claimsIn (release t k ∷ cs) ≡ claimsIn cs
-unfolding claimsIn keep format rowIn fieldsOf defaults default numbers made withValue bare filled callOf
-no-claim t k cs = refl
+unfolding claimsIn keep
+no-claim t k cs = rw (all-written .release t k) refl
 
 module _ (t g l : ℕ) (at : t < 2 ^ 64) (set : g < 2 ^ 64) (short : l < 2 ^ 32) (n : ℕ) (cs : List Call) (f : Fine n cs) where
   claim-fine : Fine (suc n) (claim t g l ∷ cs)
@@ -144,7 +110,7 @@ module _ (t g l : ℕ) (at : t < 2 ^ 64) (set : g < 2 ^ 64) (short : l < 2 ^ 32)
       let c = f .least in
       let x = records-length (claim t g l) cs in
       let y = claim-length t g l in
-      record { loadable = Loadable.one (claim-sound t g l at set short) (f .loadable); claims = one-claim t g l cs ∙ ap suc (f .claims); most = omega arith; least = omega arith }
+      record { loadable = Loadable.one (claim-sound t g l at set short) (f .loadable); claims = one-claim t g l cs ∙ ap suc (f .claims); most = omega arith; least = omega arith; runs = claim-runs t g l cs (f .runs) }
 
   both-fine : (k : ℕ) → k < 2 ^ 16 → Fine (suc n) (claim t g l ∷ release t k ∷ cs)
   both-fine k h =
@@ -159,6 +125,7 @@ module _ (t g l : ℕ) (at : t < 2 ^ 64) (set : g < 2 ^ 64) (short : l < 2 ^ 32)
         claims = one-claim t g l (release t k ∷ cs) ∙ ap suc (no-claim t k cs ∙ f .claims);
         most = omega arith;
         least = omega arith;
+        runs = claim-runs t g l (release t k ∷ cs) (release-runs t k cs (f .runs));
       }
 
 record Advances (n : ℕ) (x : Turn) : Type 0 where
@@ -180,7 +147,7 @@ turn-advances t m d n early few w =
 
 records-fine : (n s t : ℕ) (m : Model) (k : ℕ) → Stands m k → k + 2 * n < 2 ^ 16 → t + 7 * n < 2 ^ 64 → Fine n (recordsFrom n s t m)
 unfolding recordsFrom claimsIn keep recordsBytes
-records-fine zero s t m k w few early = record { loadable = Loadable.none; claims = refl; most = omega arith; least = omega arith }
+records-fine zero s t m k w few early = record { loadable = Loadable.none; claims = refl; most = omega arith; least = omega arith; runs = none-runs }
 records-fine (suc n) s t m k w few early =
     let x : Turn = turnOf t m (drawsFrom s) in
     let a = turn-advances t m (drawsFrom s) k (omega arith) (omega arith) w in
@@ -197,8 +164,8 @@ all-fine : (seed count : ℕ) → 2 * count < 2 ^ 16 → Fine count (recordsFrom
 all-fine seed count h = records-fine count seed 0 (tableAfter unrigged (rig allGroups)) 0 rigged (omega arith) (omega arith)
 
 no-claim-rig : (cs : List Call) → claimsIn (rig allGroups ∷ cs) ≡ claimsIn cs
-unfolding claimsIn keep format rowIn fieldsOf defaults default numbers made withValue bare filled callOf
-no-claim-rig cs = refl
+unfolding claimsIn keep
+no-claim-rig cs = rw (all-written .rig allGroups) refl
 
 workload-length : (seed count : ℕ) → length (workloadOf seed count) ≡ 12 + length (recordsBytes 1 (recordsFrom count seed 0 (tableAfter unrigged (rig allGroups))))
 unfolding workloadOf workloadCalls loadBytes
@@ -211,6 +178,15 @@ workload-most seed count h = let f = all-fine seed count (omega arith) .most in 
 pub longer-than-numbers : LongerThanNumbers
 longer-than-numbers seed count h l = let f = all-fine seed count (omega arith) .least in omega (arith, workload-length seed count)
 
+-- The rig is run, and what follows it.
+rig-number : stepOf true unrigged (rig allGroups) .answer .number ≡ 0
+unfolding new empty someFrom setFrom
+rig-number = ap (λ (x : Step). x .answer .number) (rig-does unrigged allGroups)
+
+listed : (seed count : ℕ) → 2 * count < 2 ^ 16 → openNumber (workloadOf seed count) ≡ 0 → walk (workloadOf seed count) 1 ≡ record { calls = workloadCalls seed count; stop = 0 } → replayOf (workloadOf seed count) .stop ≡ 0
+unfolding replayOf replayIn replayFrom ending aloneIn workloadOf workloadCalls loadBytes
+listed seed count h o w = rw (o, w, rig-number) (all-fine seed count h .runs 2 (tableAfter unrigged (rig allGroups)) (omega arith))
+
 pub workload-reads : WorkloadReads
 unfolding workloadOf workloadCalls known knownIn format
 workload-reads seed count h =
@@ -218,4 +194,4 @@ workload-reads seed count h =
     let l = workload-most seed count h in
     let g : Good 1 (workloadCalls seed count) = record { edition = refl; calls = Loadable.one rig-sound (f .loadable); bound = omega arith } in
     let r = good-reads 1 (workloadCalls seed count) g in
-    record { good = r .0; calls = r .1; claims = no-claim-rig _ ∙ f .claims; fits = omega arith }
+    record { good = r .0; calls = r .1; claims = no-claim-rig _ ∙ f .claims; fits = omega arith; listed = listed seed count (omega arith) (load-parts (workloadOf seed count) (r .0) .0) (r .1) }
