@@ -17,9 +17,9 @@ use Rattle.lcg.specs.Draws.{stateAfter, drawAfter, stateIn}
 use Rattle.load.specs.Format.{defaults, default, format, rowIn, fieldsOf}
 use Rattle.load.specs.Calls.{numbers, made, withValue, bare, filled, callOf}
 use Rattle.listing.specs.Text.{saysCall, stepOf}
-use Rattle.generator.specs.Workload.{drawsFrom, groupsFor, lowestOn, turnOf, recordsFrom, workloadCalls}
+use Rattle.generator.specs.Workload.{drawsFrom, groupsFor, lowestOn, batchOf, recordsFrom, workloadCalls}
 use Rattle.generator.specs.Samples.{Sample, samples, given}
 
 pub all-samples : map given samples ≡ map (λ (x : Sample). x .calls) samples
-unfolding someFrom lowestFrom common shares empty within setFrom only union greatest least sum all any keep heldUntil endOf remaining precedes before covers unitsAt used enough spare heldUnits ready startFor moved ahead startWithin packedStart pack clear fits seek place contention startBound takenBefore trulyFree goesWithin goes granted grant grants shareOf pendingOf unfilled unfilledByOthers firstOf tests advance finish join remove admit act step new stateAfter drawAfter stateIn defaults default format rowIn fieldsOf numbers made withValue bare filled callOf saysCall stepOf drawsFrom groupsFor lowestOn turnOf recordsFrom workloadCalls samples
+unfolding someFrom lowestFrom common shares empty within setFrom only union greatest least sum all any keep heldUntil endOf remaining precedes before covers unitsAt used enough spare heldUnits ready startFor moved ahead startWithin packedStart pack clear fits seek place contention startBound takenBefore trulyFree goesWithin goes granted grant grants shareOf pendingOf unfilled unfilledByOthers firstOf tests advance finish join remove admit act step new stateAfter drawAfter stateIn defaults default format rowIn fieldsOf numbers made withValue bare filled callOf saysCall stepOf drawsFrom groupsFor lowestOn batchOf recordsFrom workloadCalls samples
 all-samples = refl

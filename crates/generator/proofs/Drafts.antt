@@ -15,9 +15,9 @@ use Rattle.load.proofs.Bytes.{records-append}
 use Rattle.lcg.specs.Draws.{stateIn}
 use Rattle.listing.specs.Text.{unrigged}
 use Rattle.generator.specs.declared.Draft.{Draft}
-use Rattle.generator.specs.Workload.{Turn, drawsFrom, turnOf, recordsFrom, allGroups, tableAfter, workloadCalls, workloadOf}
+use Rattle.generator.specs.Workload.{Batch, drawsFrom, batchOf, recordsFrom, allGroups, tableAfter, workloadCalls, workloadOf}
 use Rattle.generator.specs.Drafts.{Ready, Begins, Enters}
-use Rattle.generator.proofs.Turns.{turn-clock}
+use Rattle.generator.proofs.Batches.{batch-clock}
 
 -- What n claims lay from a state on, after a claim at clock t and in table m.
 abbrev left : ℕ → ℕ → ℕ → Model → List ℕ
@@ -27,9 +27,9 @@ none : (s t : ℕ) (m : Model) → left 0 s t m ≡ []
 unfolding recordsFrom recordsBytes
 none s t m = refl
 
-more : (n s t : ℕ) (m : Model) → left (suc n) s t m ≡ recordsBytes 1 (turnOf t m (drawsFrom s) .records) ++ left n (stateIn 5 s) (turnOf t m (drawsFrom s) .clock) (turnOf t m (drawsFrom s) .left)
+more : (n s t : ℕ) (m : Model) → left (suc n) s t m ≡ recordsBytes 1 (batchOf t m (drawsFrom s) .records) ++ left n (stateIn 5 s) (batchOf t m (drawsFrom s) .clock) (batchOf t m (drawsFrom s) .left)
 unfolding recordsFrom
-more n s t m = records-append 1 (turnOf t m (drawsFrom s) .records) _
+more n s t m = records-append 1 (batchOf t m (drawsFrom s) .records) _
 
 whole : (seed count : ℕ) → workloadOf seed count ≡ loadBytes 1 (rig allGroups ∷ []) ++ left count seed 0 (tableAfter unrigged (rig allGroups))
 unfolding workloadOf workloadCalls loadBytes
@@ -56,12 +56,12 @@ pub drafting-ready : (seed count : ℕ) (o₀ : List ℕ) (n s : ℕ) (w : Draft
 drafting-ready seed count o₀ n s w o d = let e = d .early in record { valid = d .valid; early = omega arith }
 
 pub drafting-step : (seed count : ℕ) (o₀ : List ℕ) (n s : ℕ) (w : Draft) (o : List ℕ) → Drafting seed count o₀ (suc n) s w o
-    → (r : Draft) (q : List ℕ) → Enters w (turnOf (w .clock) (model (w .table)) (drawsFrom s)) o r q → Drafting seed count o₀ n (stateIn 5 s) r q
+    → (r : Draft) (q : List ℕ) → Enters w (batchOf (w .clock) (model (w .table)) (drawsFrom s)) o r q → Drafting seed count o₀ n (stateIn 5 s) r q
 drafting-step seed count o₀ n s w o d r q p =
-    let x : Turn = turnOf (w .clock) (model (w .table)) (drawsFrom s) in
+    let x : Batch = batchOf (w .clock) (model (w .table)) (drawsFrom s) in
     let e : r .clock ≡ x .clock = p .clock in
     let f = d .early in
-    let l = turn-clock (w .clock) (model (w .table)) (drawsFrom s) in
+    let l = batch-clock (w .clock) (model (w .table)) (drawsFrom s) in
     record {
       valid = p .valid;
       early = omega arith;

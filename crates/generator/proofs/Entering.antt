@@ -1,4 +1,4 @@
--- The records of a turn laid in a buffer, and the table that they leave: what the code has after each call is what the turn says.
+-- The records of a batch laid in a buffer, and the table that they leave: what the code has after each call is what the batch says.
 use mathlib.Core.Path.{_≡_, refl, sym, ap, _∙_}
 use mathlib.Core.Bool.{true}
 use mathlib.Core.List.{List, [], _∷_, append-nil}
@@ -23,7 +23,7 @@ use Rattle.listing.specs.Text.{unrigged}
 use Rattle.generator.specs.declared.Draft.{Draft}
 use Rattle.generator.specs.declared.Draws.{Draws}
 use Rattle.generator.specs.declared.MaybeTicket.the-variants.{Ticket, NoTicket}
-use Rattle.generator.specs.Workload.{Turn, clockFor, groupsFor, lengthFor, claimTurn, lowestOn, releaseTurn, andThen, turnOf, allGroups}
+use Rattle.generator.specs.Workload.{Batch, clockFor, groupsFor, lengthFor, claimBatch, lowestOn, releaseBatch, andThen, batchOf, allGroups}
 use Rattle.generator.specs.Drafts.{Enters, Begins}
 use Rattle.generator.proofs.Records.{claim-does, release-does, rig-does}
 
@@ -40,7 +40,7 @@ module _ (w : Draft) (o q : List ℕ) (r : ℕ) (b : Call) (p : (r ≡ behind (w
   -- A claim.
   pub claim-enters : (d : Draws) (t g n : ℕ) → t ≡ clockFor (w .clock) d → g ≡ groupsFor d → n ≡ lengthFor d → b ≡ claim t g n
       → (u ≡ outcome (step (model (w .table)) (claimCall t (asking g n)))) × Valid (u .table)
-      → Enters w (claimTurn (w .clock) (model (w .table)) d) o (record { table = u .table; clock = t; size = r }) q
+      → Enters w (claimBatch (w .clock) (model (w .table)) d) o (record { table = u .table; clock = t; size = r }) q
   claim-enters d t g n et eg en e v = rw (← et, ← eg, ← en) (record {
     lays = puts-one o (w .size) b (claim t g n) r q e p;
     clock = refl;
@@ -51,7 +51,7 @@ module _ (w : Draft) (o q : List ℕ) (r : ℕ) (b : Call) (p : (r ≡ behind (w
   -- A release.
   pub release-enters : (k : ℕ) → lowestOn (model (w .table)) ≡ Ticket k → b ≡ release (w .clock) k
       → (u ≡ outcome (step (model (w .table)) (releaseCall (w .clock) k))) × Valid (u .table)
-      → Enters w (releaseTurn (w .clock) (model (w .table))) o (record { table = u .table; clock = w .clock; size = r }) q
+      → Enters w (releaseBatch (w .clock) (model (w .table))) o (record { table = u .table; clock = w .clock; size = r }) q
   release-enters k l e v = rw l (record {
     lays = puts-one o (w .size) b (release (w .clock) k) r q e p;
     clock = refl;
@@ -60,21 +60,21 @@ module _ (w : Draft) (o q : List ℕ) (r : ℕ) (b : Call) (p : (r ≡ behind (w
   })
 
 -- No release.
-pub none-enters : (w : Draft) (o : List ℕ) → w .size < 2 ^ 64 → lowestOn (model (w .table)) ≡ NoTicket → Valid (w .table) → Enters w (releaseTurn (w .clock) (model (w .table))) o w o
+pub none-enters : (w : Draft) (o : List ℕ) → w .size < 2 ^ 64 → lowestOn (model (w .table)) ≡ NoTicket → Valid (w .table) → Enters w (releaseBatch (w .clock) (model (w .table))) o w o
 unfolding recordsBytes
 none-enters w o h l v = rw l (record { lays = record { next = sym (behind-none (w .size) h); is = sym (laid-none o (w .size)) }; clock = refl; left = refl; valid = v })
 
--- ── a turn ──
-module _ (w : Draft) (d : Draws) (o : List ℕ) (c : Draft) (p : List ℕ) (e : Enters w (claimTurn (w .clock) (model (w .table)) d) o c p) where
-  pub turn-even : d .last % 2 ≡ 0 → Enters w (turnOf (w .clock) (model (w .table)) d) o c p
-  unfolding turnOf
-  turn-even z = rw (ne-eqb (d .last % 2) 1 (λ x. omega arith)) e
+-- ── a batch ──
+module _ (w : Draft) (d : Draws) (o : List ℕ) (c : Draft) (p : List ℕ) (e : Enters w (claimBatch (w .clock) (model (w .table)) d) o c p) where
+  pub batch-even : d .last % 2 ≡ 0 → Enters w (batchOf (w .clock) (model (w .table)) d) o c p
+  unfolding batchOf
+  batch-even z = rw (ne-eqb (d .last % 2) 1 (λ x. omega arith)) e
 
-  pub turn-odd : length o < 2 ^ 64 → (d .last % 2 ≡ 0 → ⊥) → (r : Draft) (q : List ℕ) → Enters c (releaseTurn (c .clock) (model (c .table))) p r q → Enters w (turnOf (w .clock) (model (w .table)) d) o r q
-  unfolding turnOf
-  turn-odd h z r q f =
-      let x : Turn = claimTurn (w .clock) (model (w .table)) d in
-      let y : Turn = releaseTurn (c .clock) (model (c .table)) in
+  pub batch-odd : length o < 2 ^ 64 → (d .last % 2 ≡ 0 → ⊥) → (r : Draft) (q : List ℕ) → Enters c (releaseBatch (c .clock) (model (c .table))) p r q → Enters w (batchOf (w .clock) (model (w .table)) d) o r q
+  unfolding batchOf
+  batch-odd h z r q f =
+      let x : Batch = claimBatch (w .clock) (model (w .table)) d in
+      let y : Batch = releaseBatch (c .clock) (model (c .table)) in
       let odd : d .last % 2 ≡ 1 = omega arith in
       let both : Enters w (andThen x y) o r q = record {
         lays = rw (records-append 1 (x .records) (y .records)) (put-then o (w .size) (recordsBytes 1 (x .records)) (recordsBytes 1 (y .records)) (c .size) (r .size) p q h (e .lays) (f .lays));

@@ -1,7 +1,7 @@
 pub mod AllSamples
 pub mod Records
 pub mod Lowest
-pub mod Turns
+pub mod Batches
 pub mod Entering
 pub mod Drafts
 pub mod Listed

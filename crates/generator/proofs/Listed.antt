@@ -1,13 +1,14 @@
 -- A workload is listed to its end: no record of it is answered by a number that ends a listing.
-use mathlib.Core.Path.{_≡_, refl, sym, subst}
+use mathlib.Core.Path.{_≡_, refl, sym, ap, subst, _∙_}
 use mathlib.Core.Bool.{true}
 use mathlib.Core.List.{List, [], _∷_}
-use Prim.Native.Nat.{ℕ, zero, suc, _+_, _<_}
+use Prim.Native.Nat.{ℕ, _+_, _<_}
 use native.Mathlib.Omega.{arith}
 use borrow.Author.Tests.{ne-eqb}
 use Rattle.rules.specs.Tests.{Test, firstOf}
-use Rattle.rules.specs.Calls.{Model, Step, Call as TableCall, claim as claimCall, release as releaseCall, asking, tests, finish, admit, act, unless, step}
+use Rattle.rules.specs.Calls.{Model, Step, Call as TableCall, claim as claimCall, release as releaseCall, asking, tests, step}
 use Rattle.rules.proofs.Bools.{by-test}
+use Rattle.rules.proofs.Calls.{step-number}
 use Rattle.load.specs.declared.Call.{Call}
 use Rattle.load.specs.Calls.{claim, release}
 use Rattle.listing.specs.Text.{stepOf, ending}
@@ -40,23 +41,16 @@ release-silents : (m : Model) (t j : ℕ) → Silents (tests m (releaseCall t j)
 unfolding tests ending
 release-silents m t j = (λ k h. refl, (λ k h. refl, (λ k h. refl, (λ k h. refl, tt))))
 
--- The number of a step is that of its first test that fails, where an accepted one answers 0.
-step-silent : (m : Model) (c : TableCall) → act m c .answer .number ≡ 0 → Silents (tests m c) → Silent (step m c .answer .number)
-unfolding step ending
-step-silent m c a s = go (firstOf (tests m c)) (first-silent (tests m c) s)
-  where
-    go : (n : ℕ) → Silent n → Silent (unless m n (act m c) .answer .number)
-    go zero q = λ k h. rw a refl
-    go (suc n) q = q
+-- What a record does is a call of the table whose tests are all silent.
+does-silent : (m : Model) (r : Call) (c : TableCall) → stepOf true m r ≡ step m c → Silents (tests m c) → Silent (stepOf true m r .answer .number)
+does-silent m r c e s = subst Silent (sym (ap (λ (x : Step). x .answer .number) e ∙ step-number m c)) (first-silent (tests m c) s)
 
 module _ (m : Model) where
   claim-silent : (t g n : ℕ) → Silent (stepOf true m (claim t g n) .answer .number)
-  unfolding act admit finish
-  claim-silent t g n = subst (λ (s : Step). Silent (s .answer .number)) (sym (claim-does m t g n)) (step-silent m (claimCall t (asking g n)) refl (claim-silents m t g n))
+  claim-silent t g n = does-silent m (claim t g n) (claimCall t (asking g n)) (claim-does m t g n) (claim-silents m t g n)
 
   release-silent : (t j : ℕ) → Silent (stepOf true m (release t j) .answer .number)
-  unfolding act finish
-  release-silent t j = subst (λ (s : Step). Silent (s .answer .number)) (sym (release-does m t j)) (step-silent m (releaseCall t j) refl (release-silents m t j))
+  release-silent t j = does-silent m (release t j) (releaseCall t j) (release-does m t j) (release-silents m t j)
 
 -- ── records ──
 -- Records behind a rig that are all run.

@@ -1,7 +1,7 @@
 -- The search for the lowest ticket that is on: tickets ascend, so the first claim that is on has it.
 use mathlib.Core.Path.{_≡_, refl, sym, ap, _∙_}
 use mathlib.Core.Bool.{true, false}
-use mathlib.Core.List.{List, [], _∷_, map}
+use mathlib.Core.List.{List, [], _∷_}
 use Prim.Native.Nat.{ℕ, _+_, _≤_, _<_}
 use native.Mathlib.Omega.{arith}
 use lib.ListN.{length, take, drop, getD}
@@ -11,31 +11,26 @@ use Rattle.rules.specs.Lists.{keep, least}
 use Rattle.rules.specs.Claims.{on}
 use Rattle.rules.specs.Plans.{Ascending}
 use Rattle.rules.specs.Tables.{vacant, model}
-use Rattle.rules.proofs.Lists.{Each, here, there, keep-e, map-e, ascends-drop}
+use Rattle.rules.proofs.Lists.{Each, keep-e, map-e, least-under, least-low, ascends-drop}
 use Rattle.rules.proofs.Places.{prefix-step, prefix-end, pad-length}
 use Rattle.table.specs.Valid.{Valid}
 use Rattle.generator.specs.declared.MaybeTicket.the-variants.{Ticket, NoTicket}
-use Rattle.generator.specs.Workload.{lowestOf, lowestOn}
-
-abbrev tickets : List Claim → List ℕ
-tickets ps = map (λ (c : Claim). c .ticket) ps
+use Rattle.generator.specs.Workload.{ticketsOn, lowestOf, lowestOn}
 
 least-first : (d : ℕ) (l : List ℕ) → Each (λ n. d ≤ n) l → least (λ n. true) d l ≡ d
-unfolding least
-least-first d [] h = refl
-least-first d (n ∷ l) h = let z = least-first d l (λ x m. h x (there m)) in let k = h n here in omega arith
+least-first d l h = let a = least-under (λ n. true) d l in let b = least-low (λ n. true) d d l (omega arith) h in omega arith
 
 -- Of claims in ascending order of ticket.
-first-on : (c : Claim) (ps : List Claim) → Ascending (c ∷ ps) → on c ≡ true → lowestOf (tickets (keep on (c ∷ ps))) ≡ Ticket (c .ticket)
+first-on : (c : Claim) (ps : List Claim) → Ascending (c ∷ ps) → on c ≡ true → lowestOf (ticketsOn (c ∷ ps)) ≡ Ticket (c .ticket)
 unfolding keep
 first-on c ps a e =
-    rw e (ap Ticket (least-first (c .ticket) (tickets (keep on ps)) (λ n m.
+    rw e (ap Ticket (least-first (c .ticket) (ticketsOn ps) (λ n m.
     let x = map-e (λ (y : Claim). y .ticket) (keep on ps) m in
     let l = a .0 (x .0) (keep-e on ps (x .1) .0) in
     let q = x .2 in
     omega arith)))
 
-passed-by : (c : Claim) (ps : List Claim) → on c ≡ false → lowestOf (tickets (keep on (c ∷ ps))) ≡ lowestOf (tickets (keep on ps))
+passed-by : (c : Claim) (ps : List Claim) → on c ≡ false → lowestOf (ticketsOn (c ∷ ps)) ≡ lowestOf (ticketsOn ps)
 unfolding keep
 passed-by c ps e = rw e refl
 
@@ -45,7 +40,7 @@ pub record Seeking (t : Table) (i : ℕ) : Type 0 where
   pub few : t .count ≤ 64
   pub within : i ≤ t .count
   pub ascends : Ascending (model t .pending)
-  pub same : lowestOf (tickets (keep on (drop i (take (t .count) (t .claims))))) ≡ lowestOn (model t)
+  pub same : lowestOf (ticketsOn (drop i (take (t .count) (t .claims)))) ≡ lowestOn (model t)
 
 pub seeking-start : (t : Table) → Valid t → Seeking t 0
 unfolding lowestOn

@@ -21,32 +21,32 @@ use Rattle.listing.specs.Text.{saysCall, stepOf}
 use Rattle.generator.specs.Workload.{allGroups}
 
 -- ── by their fields ──
-abbrev written : ℕ → ℕ → ℕ → ℕ → ℕ → Call
-written k t g n j = record { kind = k; clock = t; groups = g; length = n; ticket = j; pool = 0; units = 0; client = 1; reserved = 0; limit = 0 }
+abbrev callWith : ℕ → ℕ → ℕ → ℕ → ℕ → Call
+callWith k t g n j = record { kind = k; clock = t; groups = g; length = n; ticket = j; pool = 0; units = 0; client = 1; reserved = 0; limit = 0 }
 
-pub record Written : Type 0 where
-  pub bare : (k : ℕ) → bare k ≡ written k 0 0 0 0
-  pub rig : (g : ℕ) → rig g ≡ written 1 0 g 0 0
-  pub claim : (t g n : ℕ) → claim t g n ≡ written 2 t g n 0
-  pub release : (t j : ℕ) → release t j ≡ written 3 t 0 0 j
+pub record ByFields : Type 0 where
+  pub bare : (k : ℕ) → bare k ≡ callWith k 0 0 0 0
+  pub rig : (g : ℕ) → rig g ≡ callWith 1 0 g 0 0
+  pub claim : (t g n : ℕ) → claim t g n ≡ callWith 2 t g n 0
+  pub release : (t j : ℕ) → release t j ≡ callWith 3 t 0 0 j
 
-pub all-written : Written
+pub by-fields : ByFields
 unfolding format rowIn fieldsOf defaults default numbers made withValue bare filled callOf
-all-written = record { bare = λ k. refl; rig = λ g. refl; claim = λ t g n. refl; release = λ t j. refl }
+by-fields = record { bare = λ k. refl; rig = λ g. refl; claim = λ t g n. refl; release = λ t j. refl }
 
 -- So the code makes them, from a bare call.
 module _ (b : Call) where
   pub rig-is : (g : ℕ) → b ≡ bare 1
       → _≡_ {A = Call} (record { kind = b .kind; clock = b .clock; groups = g; length = b .length; ticket = b .ticket; pool = b .pool; units = b .units; client = b .client; reserved = b .reserved; limit = b .limit }) (rig g)
-  rig-is g e = rw (e ∙ all-written .bare 1) (sym (all-written .rig g))
+  rig-is g e = rw (e ∙ by-fields .bare 1) (sym (by-fields .rig g))
 
   pub claim-is : (t g n : ℕ) → b ≡ bare 2
       → _≡_ {A = Call} (record { kind = b .kind; clock = t; groups = g; length = n; ticket = b .ticket; pool = b .pool; units = b .units; client = b .client; reserved = b .reserved; limit = b .limit }) (claim t g n)
-  claim-is t g n e = rw (e ∙ all-written .bare 2) (sym (all-written .claim t g n))
+  claim-is t g n e = rw (e ∙ by-fields .bare 2) (sym (by-fields .claim t g n))
 
   pub release-is : (t j : ℕ) → b ≡ bare 3
       → _≡_ {A = Call} (record { kind = b .kind; clock = t; groups = b .groups; length = b .length; ticket = j; pool = b .pool; units = b .units; client = b .client; reserved = b .reserved; limit = b .limit }) (release t j)
-  release-is t j e = rw (e ∙ all-written .bare 3) (sym (all-written .release t j))
+  release-is t j e = rw (e ∙ by-fields .bare 3) (sym (by-fields .release t j))
 
 -- ── what they do ──
 module _ (m : Model) where
@@ -55,15 +55,15 @@ module _ (m : Model) where
 
   pub rig-does : (g : ℕ) → stepOf true m (rig g) ≡ new g 0 true
   unfolding stepOf
-  rig-does g = does (rig g) (written 1 0 g 0 0) _ (all-written .rig g) refl
+  rig-does g = does (rig g) (callWith 1 0 g 0 0) _ (by-fields .rig g) refl
 
   pub claim-does : (t g n : ℕ) → stepOf true m (claim t g n) ≡ step m (claimCall t (asking g n))
   unfolding stepOf saysCall
-  claim-does t g n = does (claim t g n) (written 2 t g n 0) _ (all-written .claim t g n) refl
+  claim-does t g n = does (claim t g n) (callWith 2 t g n 0) _ (by-fields .claim t g n) refl
 
   pub release-does : (t j : ℕ) → stepOf true m (release t j) ≡ step m (releaseCall t j)
   unfolding stepOf saysCall
-  release-does t j = does (release t j) (written 3 t 0 0 j) _ (all-written .release t j) refl
+  release-does t j = does (release t j) (callWith 3 t 0 0 j) _ (by-fields .release t j) refl
 
 -- ── in a load ──
 -- A kind of edition 1 with so many fields, and its records of so many bytes behind their length.
@@ -84,11 +84,11 @@ module _ (k : ℕ) (vs : List ℕ) (n : ℕ) (s : Shape k (length vs) n) (some :
       let e : lengthOf 1 (callOf 1 k vs .kind) ≡ n = ap (lengthOf 1) (kind-of-call 1 k vs) ∙ s .size in
       record-length 1 (callOf 1 k vs) (omega arith) ∙ ap (λ (x : ℕ). 2 + x) e
 
-  sound : (first : Bool) → agree (eqb k 1) first ≡ true → (t g l j : ℕ) → callOf 1 k vs ≡ written k t g l j → k < 2 ^ 8 → t < 2 ^ 64 → g < 2 ^ 64 → l < 2 ^ 32 → j < 2 ^ 16 → Sound 1 first (callOf 1 k vs)
+  sound : (first : Bool) → agree (eqb k 1) first ≡ true → (t g l j : ℕ) → callOf 1 k vs ≡ callWith k t g l j → k < 2 ^ 8 → t < 2 ^ 64 → g < 2 ^ 64 → l < 2 ^ 32 → j < 2 ^ 16 → Sound 1 first (callOf 1 k vs)
   sound first p t g l j e hk ht hg hl hj = record {
     place = ap (λ (x : ℕ). agree (eqb x 1) first) (kind-of-call 1 k vs) ∙ p;
     carried = call-carried 1 k vs (sym (s .fields)) some-size;
-    typed = subst Typed (sym e) (typed-call (written k t g l j) hk ht hg hl hj (omega arith) (omega arith) (omega arith) (omega arith) (omega arith));
+    typed = subst Typed (sym e) (typed-call (callWith k t g l j) hk ht hg hl hj (omega arith) (omega arith) (omega arith) (omega arith) (omega arith));
   }
 
 pub rig-length : (g : ℕ) → length (recordBytes 1 (rig g)) ≡ 11
@@ -102,10 +102,10 @@ release-length t j = long 3 (t ∷ j ∷ []) 11 (shapes .2) (omega arith)
 
 pub rig-sound : Sound 1 true (rig allGroups)
 rig-sound =
-    sound 1 (allGroups ∷ []) 9 (shapes .0) (omega arith) true refl 0 allGroups 0 0 (all-written .rig allGroups) (omega arith) (omega arith) (set-under 64 0 (λ g. true)) (omega arith) (omega arith)
+    sound 1 (allGroups ∷ []) 9 (shapes .0) (omega arith) true refl 0 allGroups 0 0 (by-fields .rig allGroups) (omega arith) (omega arith) (set-under 64 0 (λ g. true)) (omega arith) (omega arith)
 
 pub claim-sound : (t g n : ℕ) → t < 2 ^ 64 → g < 2 ^ 64 → n < 2 ^ 32 → Sound 1 false (claim t g n)
-claim-sound t g n a b c = sound 2 (t ∷ g ∷ n ∷ []) 21 (shapes .1) (omega arith) false refl t g n 0 (all-written .claim t g n) (omega arith) a b c (omega arith)
+claim-sound t g n a b c = sound 2 (t ∷ g ∷ n ∷ []) 21 (shapes .1) (omega arith) false refl t g n 0 (by-fields .claim t g n) (omega arith) a b c (omega arith)
 
 pub release-sound : (t j : ℕ) → t < 2 ^ 64 → j < 2 ^ 16 → Sound 1 false (release t j)
-release-sound t j a b = sound 3 (t ∷ j ∷ []) 11 (shapes .2) (omega arith) false refl t 0 0 j (all-written .release t j) (omega arith) a (omega arith) (omega arith) b
+release-sound t j a b = sound 3 (t ∷ j ∷ []) 11 (shapes .2) (omega arith) false refl t 0 0 j (by-fields .release t j) (omega arith) a (omega arith) (omega arith) b

@@ -2,7 +2,7 @@
 -- its field.
 use mathlib.Core.Path.{_≡_, refl, sym, ap, subst, _∙_}
 use mathlib.Core.Bool.{true, false}
-use mathlib.Core.List.{List, [], _∷_, _++_, map}
+use mathlib.Core.List.{List, [], _∷_, _++_}
 use Prim.Native.Nat.{ℕ, zero, suc, _+_, _-_, _*_, _^_, _≤_, _<_}
 use native.Mathlib.Omega.{arith}
 use lib.ListN.{length, length-append}
@@ -13,7 +13,7 @@ use Rattle.rules.specs.Lists.{_∈_, keep, least}
 use Rattle.rules.specs.Claims.{on}
 use Rattle.rules.specs.Calls.{Model, Step, asking, claim as claimCall, release as releaseCall, new}
 use Rattle.rules.specs.Invariants.{Invariant}
-use Rattle.rules.proofs.Lists.{here, keep-e, map-e}
+use Rattle.rules.proofs.Lists.{here, keep-e, map-e, least-under}
 use Rattle.rules.proofs.Calls.{step-invariant, new-invariant, new-cases}
 use Rattle.table.proofs.Promised.{by-call, issues-few}
 use Rattle.load.specs.declared.Call.{Call}
@@ -30,11 +30,11 @@ use Rattle.listing.specs.Replay.{replayFrom, replayIn, replayOf}
 use Rattle.generator.specs.declared.Draws.{Draws}
 use Rattle.generator.specs.declared.MaybeTicket.{MaybeTicket}
 use Rattle.generator.specs.declared.MaybeTicket.the-variants.{Ticket, NoTicket}
-use Rattle.generator.specs.Workload.{Turn, drawsFrom, clockFor, groupsFor, lengthFor, tableAfter, lowestOf, lowestOn, turnOf, recordsFrom, allGroups, workloadCalls, workloadOf}
+use Rattle.generator.specs.Workload.{Batch, drawsFrom, clockFor, groupsFor, lengthFor, tableAfter, ticketsOn, lowestOf, lowestOn, batchOf, recordsFrom, allGroups, workloadCalls, workloadOf}
 use Rattle.generator.specs.Whole.{claimsIn, WorkloadReads, LongerThanNumbers}
-use Rattle.generator.proofs.Records.{all-written, claim-does, release-does, rig-does, rig-length, claim-length, release-length, rig-sound, claim-sound, release-sound}
+use Rattle.generator.proofs.Records.{by-fields, claim-does, release-does, rig-does, rig-length, claim-length, release-length, rig-sound, claim-sound, release-sound}
 use Rattle.generator.proofs.Listed.{Runs, none-runs, claim-runs, release-runs}
-use Rattle.generator.proofs.Turns.{claimed, turn-cases, turn-clock}
+use Rattle.generator.proofs.Batches.{claimed, batch-cases, batch-clock}
 
 -- ── values go into their fields ──
 groups-under : (d : Draws) → groupsFor d < 2 ^ 64
@@ -42,17 +42,12 @@ unfolding groupsFor union
 groups-under d = set-under 64 0 _
 
 -- ── tables ──
-least-under : (k : ℕ) (ks : List ℕ) → least (λ n. true) k ks ≤ k
-unfolding least
-least-under k [] = omega arith
-least-under k (n ∷ ks) = let h = least-under k ks in omega arith
-
 abbrev ticketOf : MaybeTicket → ℕ
 ticketOf (Ticket k) = k
 ticketOf NoTicket = 0
 
 module _ (m : Model) (i : Invariant m) where
-  pending-issued : (n : ℕ) → n ∈ map (λ (c : Claim). c .ticket) (keep on (m .pending)) → n ≤ m .issued
+  pending-issued : (n : ℕ) → n ∈ ticketsOn (m .pending) → n ≤ m .issued
   pending-issued n e =
       let x = map-e (λ (c : Claim). c .ticket) (keep on (m .pending)) e in
       let p = i .spaced .proper (x .0) (keep-e on (m .pending) (x .1) .0) .issued in
@@ -61,11 +56,11 @@ module _ (m : Model) (i : Invariant m) where
 
   lowest-issued : (k : ℕ) → lowestOn m ≡ Ticket k → k ≤ m .issued
   unfolding lowestOn
-  lowest-issued k e = subst (λ (n : ℕ). n ≤ m .issued) (ap ticketOf e) (go (map (λ (c : Claim). c .ticket) (keep on (m .pending))) pending-issued)
+  lowest-issued k e = subst (λ (n : ℕ). n ≤ m .issued) (ap ticketOf e) (go (ticketsOn (m .pending)) pending-issued)
     where
       go : (ks : List ℕ) → ((n : ℕ) → n ∈ ks → n ≤ m .issued) → ticketOf (lowestOf ks) ≤ m .issued
       go [] h = omega arith
-      go (n ∷ ks) h = let a = least-under n ks in let b = h n here in omega arith
+      go (n ∷ ks) h = let a = least-under (λ x. true) n ks in let b = h n here in omega arith
 
 -- A table that a workload's record may find: so many tickets are issued.
 record Stands (m : Model) (n : ℕ) : Type 0 where
@@ -96,11 +91,11 @@ records-length c cs = length-append (recordBytes 1 c) (recordsBytes 1 cs)
 
 one-claim : (t g l : ℕ) (cs : List Call) → claimsIn (claim t g l ∷ cs) ≡ suc (claimsIn cs)
 unfolding claimsIn keep
-one-claim t g l cs = rw (all-written .claim t g l) refl
+one-claim t g l cs = rw (by-fields .claim t g l) refl
 
 no-claim : (t k : ℕ) (cs : List Call) → claimsIn (release t k ∷ cs) ≡ claimsIn cs
 unfolding claimsIn keep
-no-claim t k cs = rw (all-written .release t k) refl
+no-claim t k cs = rw (by-fields .release t k) refl
 
 module _ (t g l : ℕ) (at : t < 2 ^ 64) (set : g < 2 ^ 64) (short : l < 2 ^ 32) (n : ℕ) (cs : List Call) (f : Fine n cs) where
   claim-fine : Fine (suc n) (claim t g l ∷ cs)
@@ -128,14 +123,14 @@ module _ (t g l : ℕ) (at : t < 2 ^ 64) (set : g < 2 ^ 64) (short : l < 2 ^ 32)
         runs = claim-runs t g l (release t k ∷ cs) (release-runs t k cs (f .runs));
       }
 
-record Advances (n : ℕ) (x : Turn) : Type 0 where
+record Advances (n : ℕ) (x : Batch) : Type 0 where
   pub stands : Stands (x .left) (suc (suc n))
   pub fine : (k : ℕ) (cs : List Call) → Fine k cs → Fine (suc k) (x .records ++ cs)
 
-turn-advances : (t : ℕ) (m : Model) (d : Draws) (n : ℕ) → t + 7 < 2 ^ 64 → n + 2 < 2 ^ 16 → Stands m n → Advances n (turnOf t m d)
-turn-advances t m d n early few w =
+batch-advances : (t : ℕ) (m : Model) (d : Draws) (n : ℕ) → t + 7 < 2 ^ 64 → n + 2 < 2 ^ 16 → Stands m n → Advances n (batchOf t m d)
+batch-advances t m d n early few w =
     let q = claim-stands m (clockFor t d) (groupsFor d) (lengthFor d) n w in
-    turn-cases t m d (Advances n)
+    batch-cases t m d (Advances n)
     (record {
       stands = let i = q .issued in record { invariant = q .invariant; issued = omega arith };
       fine = λ k cs f. claim-fine (clockFor t d) (groupsFor d) (lengthFor d) (omega arith) (groups-under d) (omega arith) k cs f;
@@ -149,9 +144,9 @@ records-fine : (n s t : ℕ) (m : Model) (k : ℕ) → Stands m k → k + 2 * n 
 unfolding recordsFrom claimsIn keep recordsBytes
 records-fine zero s t m k w few early = record { loadable = Loadable.none; claims = refl; most = omega arith; least = omega arith; runs = none-runs }
 records-fine (suc n) s t m k w few early =
-    let x : Turn = turnOf t m (drawsFrom s) in
-    let a = turn-advances t m (drawsFrom s) k (omega arith) (omega arith) w in
-    let c = turn-clock t m (drawsFrom s) in
+    let x : Batch = batchOf t m (drawsFrom s) in
+    let a = batch-advances t m (drawsFrom s) k (omega arith) (omega arith) w in
+    let c = batch-clock t m (drawsFrom s) in
     a .fine n (recordsFrom n (stateIn 5 s) (x .clock) (x .left)) (records-fine n (stateIn 5 s) (x .clock) (x .left) (suc (suc k)) (a .stands) (omega arith) (omega arith))
 
 -- ── the load ──
@@ -165,7 +160,7 @@ all-fine seed count h = records-fine count seed 0 (tableAfter unrigged (rig allG
 
 no-claim-rig : (cs : List Call) → claimsIn (rig allGroups ∷ cs) ≡ claimsIn cs
 unfolding claimsIn keep
-no-claim-rig cs = rw (all-written .rig allGroups) refl
+no-claim-rig cs = rw (by-fields .rig allGroups) refl
 
 workload-length : (seed count : ℕ) → length (workloadOf seed count) ≡ 12 + length (recordsBytes 1 (recordsFrom count seed 0 (tableAfter unrigged (rig allGroups))))
 unfolding workloadOf workloadCalls loadBytes

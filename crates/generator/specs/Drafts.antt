@@ -11,15 +11,15 @@ use Rattle.load.specs.Calls.{rig}
 use Rattle.load.specs.Bytes.{recordsBytes, loadBytes}
 use Rattle.listing.specs.Text.{unrigged}
 use Rattle.generator.specs.declared.Draft.{Draft}
-use Rattle.generator.specs.Workload.{Turn, tableAfter, allGroups, workloadAnswer, workloadOut, workloadValues}
+use Rattle.generator.specs.Workload.{Batch, tableAfter, allGroups, workloadAnswer, workloadOut, workloadValues}
 
 -- A draft that a claim can follow: its clock is far from the greatest u64.
 pub record Ready (w : Draft) : Type 0 where
   pub valid : Valid (w .table)
   pub early : w .clock < 2 ^ 63
 
--- Draft w with buffer o has become r with q: the records of a turn were laid, and the table is the turn's.
-pub record Enters (w : Draft) (x : Turn) (o : List ℕ) (r : Draft) (q : List ℕ) : Type 0 where
+-- Draft w with buffer o has become r with q: the records of a batch were laid, and the table is the batch's.
+pub record Enters (w : Draft) (x : Batch) (o : List ℕ) (r : Draft) (q : List ℕ) : Type 0 where
   pub lays : Put o (w .size) (recordsBytes 1 (x .records)) (r .size) q
   pub clock : r .clock ≡ x .clock
   pub left : model (r .table) ≡ x .left

@@ -48,48 +48,51 @@ abbrev pub tableAfter : Model → Call → Model
 tableAfter m c = stepOf true m c .model
 
 -- Records that follow one another; the clock of the last claim among them or before, and the table after them.
-pub record Turn : Type 0 where
+pub record Batch : Type 0 where
   pub records : List Call
   pub clock : ℕ
   pub left : Model
 
 -- A claim, by its draws, after a claim at clock `before` and in table m.
-abbrev pub claimTurn : ℕ → Model → Draws → Turn
-claimTurn before m d =
+abbrev pub claimBatch : ℕ → Model → Draws → Batch
+claimBatch before m d =
     let t = clockFor before d in
     let c = claim t (groupsFor d) (lengthFor d) in
     record { records = c ∷ []; clock = t; left = tableAfter m c }
 
 -- "the lowest on ticket", if "a claim is on"
+abbrev pub ticketsOn : List Claim → List ℕ
+ticketsOn ps = map (λ (c : Claim). c .ticket) (keep on ps)
+
 abbrev pub lowestOf : List ℕ → MaybeTicket
 lowestOf [] = NoTicket
 lowestOf (k ∷ ks) = Ticket (least (λ n. true) k ks)
 
 unfoldable pub lowestOn : Model → MaybeTicket
-lowestOn m = lowestOf (map (λ (c : Claim). c .ticket) (keep on (m .pending)))
+lowestOn m = lowestOf (ticketsOn (m .pending))
 
 -- "if .. a claim is on, a release of the lowest on ticket follows at the same clock"
-abbrev pub releaseOf : ℕ → Model → MaybeTicket → Turn
+abbrev pub releaseOf : ℕ → Model → MaybeTicket → Batch
 releaseOf t m NoTicket = record { records = []; clock = t; left = m }
 releaseOf t m (Ticket k) = record { records = release t k ∷ []; clock = t; left = tableAfter m (release t k) }
 
-abbrev pub releaseTurn : ℕ → Model → Turn
-releaseTurn t m = releaseOf t m (lowestOn m)
+abbrev pub releaseBatch : ℕ → Model → Batch
+releaseBatch t m = releaseOf t m (lowestOn m)
 
-abbrev pub andThen : Turn → Turn → Turn
+abbrev pub andThen : Batch → Batch → Batch
 andThen x y = record { records = x .records ++ y .records; clock = y .clock; left = y .left }
 
 -- "If that last draw is odd": whether a claim is on is judged in the table after the claim, accepted or not.
-unfoldable pub turnOf : ℕ → Model → Draws → Turn
-turnOf before m d =
-    let x = claimTurn before m d in
-    cond (eqb (d .last % 2) 1) (andThen x (releaseTurn (x .clock) (x .left))) x
+unfoldable pub batchOf : ℕ → Model → Draws → Batch
+batchOf before m d =
+    let x = claimBatch before m d in
+    cond (eqb (d .last % 2) 1) (andThen x (releaseBatch (x .clock) (x .left))) x
 
 -- The records of n claims, from state s on, after a claim at clock t and in table m.
 unfoldable pub recordsFrom : ℕ → ℕ → ℕ → Model → List Call
 recordsFrom zero s t m = []
 recordsFrom (suc n) s t m =
-    let x = turnOf t m (drawsFrom s) in
+    let x = batchOf t m (drawsFrom s) in
     x .records ++ recordsFrom n (stateIn 5 s) (x .clock) (x .left)
 
 -- ── the load ──
@@ -123,7 +126,7 @@ workloadValues seed count out = answeredValues (workloadNumber seed count out) (
 unfoldable pub workloadOut : ℕ → ℕ → List ℕ → List ℕ
 workloadOut seed count out = lent (workloadNumber seed count out) (begun (workloadOf seed count) out) out
 
--- For C: the length or the number. (No load has under 35 bytes: proofs/Workload, `workload-long`.)
+-- For C: the length or the number. (No length is a number: `LongerThanNumbers` in Whole.)
 abbrev pub returned : Written → ℕ
 returned (Length n) = n
 returned (Refusal k) = k

@@ -9,7 +9,7 @@ ghost use Rattle.load.specs.Calls.{claim, release};
 ghost use Rattle.lcg.specs.Draws.{stateIn};
 ghost use Rattle.table.specs.Valid.{Valid};
 ghost use Rattle.rules.specs.Tables.{model};
-ghost use Rattle.generator.specs.Workload.{drawsFrom, groupsFor, claimTurn, releaseTurn, turnOf, lowestOn, workloadOf, numberOf, workloadAnswer, workloadOut, workloadValues, returned};
+ghost use Rattle.generator.specs.Workload.{drawsFrom, groupsFor, claimBatch, releaseBatch, batchOf, lowestOn, workloadOf, numberOf, workloadAnswer, workloadOut, workloadValues, returned};
 ghost use Rattle.generator.specs.Drafts.{Ready, Begins, Enters, Answers};
 use lcg::Generator;
 use load::Call;
@@ -108,7 +108,7 @@ fn lowest_on(t: Table) -> MaybeTicket
 
 fn claimed(out: &mut [u8], w: Draft, d: Draws) -> Draft
     requires { ⌜ Ready w ⌝ }
-    ensures { λ r. ⌜ Enters w (claimTurn (w .clock) (model (w .table)) d) (now (out .entry)) r (now (out .exit)) ⌝ }
+    ensures { λ r. ⌜ Enters w (claimBatch (w .clock) (model (w .table)) d) (now (out .entry)) r (now (out .exit)) ⌝ }
 {
     let clock = w.clock + (d.advance % 8) as u64;
     let groups = groups_for(d);
@@ -123,7 +123,7 @@ fn claimed(out: &mut [u8], w: Draft, d: Draws) -> Draft
 
 fn released(out: &mut [u8], w: Draft) -> Draft
     requires { ⌜ Valid (w .table) ⌝ }
-    ensures { λ r. ⌜ Enters w (releaseTurn (w .clock) (model (w .table))) (now (out .entry)) r (now (out .exit)) ⌝ }
+    ensures { λ r. ⌜ Enters w (releaseBatch (w .clock) (model (w .table))) (now (out .entry)) r (now (out .exit)) ⌝ }
 {
     match lowest_on(w.table) {
         MaybeTicket::NoTicket => w,
@@ -141,7 +141,7 @@ fn released(out: &mut [u8], w: Draft) -> Draft
 // The records of one claim's draws laid after a load, and the table that they leave.
 fn entered(out: &mut [u8], w: Draft, d: Draws) -> Draft
     requires { ⌜ Ready w ⌝ }
-    ensures { λ r. ⌜ Enters w (turnOf (w .clock) (model (w .table)) d) (now (out .entry)) r (now (out .exit)) ⌝ }
+    ensures { λ r. ⌜ Enters w (batchOf (w .clock) (model (w .table)) d) (now (out .entry)) r (now (out .exit)) ⌝ }
 {
     let c = claimed(out, w, d);
     if d.last % 2 == 0 {

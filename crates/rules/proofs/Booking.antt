@@ -23,7 +23,7 @@ use Rattle.rules.proofs.Tests.{never}
 use Rattle.rules.proofs.Packing.{moved-cases}
 use Rattle.rules.proofs.Granting.{granted-cases}
 use Rattle.rules.proofs.Shares.{claim-books, leaving-books, declare-books, claim-room, below-not-full}
-use Rattle.rules.proofs.Calls.{Admissible, claim-number, Declarable, placed, Leaves, by-release, by-withdraw, by-clock, step-cases}
+use Rattle.rules.proofs.Calls.{Admissible, step-number, Declarable, placed, Leaves, by-release, by-withdraw, by-clock, step-cases}
 
 -- ── each claim keeps its client ──
 clients-map : (f : Claim → Claim) → ((c : Claim) → f c .client ≡ c .client) → (ps : List Claim) → clientsOf (map f ps) ≡ clientsOf ps
@@ -168,4 +168,4 @@ below-never-full m t ask h e =
         ),
       ),
     )
-    (sym (claim-number m t ask) ∙ e)
+    (sym (step-number m (claim t ask)) ∙ e)

@@ -104,13 +104,24 @@ declarable m c r l e =
     let d = passes (overbooked (shareOf (m .shares) c) (reservedInAll (m .shares)) r l) [] (omega arith) (b .1) in
     record { unissued = (let z = ltb-false 0 (m .issued) (a .0) in omega arith); client = b .0; books = d .0 }
 
--- ── the number of a claim's answer is that of its first test that fails ──
-pub claim-number : (m : Model) (t : ℕ) (ask : Request) → step m (claim t ask) .answer .number ≡ firstOf (tests m (claim t ask))
-unfolding step act admit finish
-claim-number m t ask = go (firstOf (tests m (claim t ask)))
+-- ── the number of an answer is that of the call's first test that fails ──
+accepted-number : (m : Model) (c : Call) → act m c .answer .number ≡ 0
+unfolding act admit finish
+accepted-number m (claim t ask) = refl
+accepted-number m (release t k) = refl
+accepted-number m (withdraw t k) = refl
+accepted-number m (clock t) = refl
+accepted-number m (lookup k) = refl
+accepted-number m (common j k) = refl
+accepted-number m free = refl
+accepted-number m (declare c r l) = refl
+
+pub step-number : (m : Model) (c : Call) → step m c .answer .number ≡ firstOf (tests m c)
+unfolding step
+step-number m c = go (firstOf (tests m c))
   where
-    go : (n : ℕ) → unless m n (act m (claim t ask)) .answer .number ≡ n
-    go zero = refl
+    go : (n : ℕ) → unless m n (act m c) .answer .number ≡ n
+    go zero = accepted-number m c
     go (suc n) = refl
 
 -- ── what the acts keep ──

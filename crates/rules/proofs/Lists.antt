@@ -256,6 +256,11 @@ least-le p d {n} (List·Memᴰ·head {x} {xs = l} e) h =
     rw (e, q) (omega arith)
 least-le p d {n} (List·Memᴰ·tail {x} {xs = l} m) h = let k = least-le p d m h in by-test (p x) (λ e. rw e (omega arith)) (λ e. rw e k)
 
+pub least-under : (p : ℕ → Bool) (d : ℕ) (l : List ℕ) → least p d l ≤ d
+unfolding least
+least-under p d [] = omega arith
+least-under p d (n ∷ l) = let h = least-under p d l in by-test (p n) (λ e. rw e (omega arith)) (λ e. rw e h)
+
 pub least-passes : (p : ℕ → Bool) (d : ℕ) (l : List ℕ) → p d ≡ true → p (least p d l) ≡ true
 unfolding least
 least-passes p d [] h = h

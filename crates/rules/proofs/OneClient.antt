@@ -21,7 +21,7 @@ use Rattle.rules.proofs.Lists.{none, snoc-each, map-e, map-i}
 use Rattle.rules.proofs.Tests.{front, skipped, stops, swapped, never}
 use Rattle.rules.proofs.Shares.{alone-full, alone-over, alone-stranger}
 use Rattle.rules.proofs.NoUnits.{undrawn-dark}
-use Rattle.rules.proofs.Calls.{Admissible, claim-number, Leaves, leaves-old, step-cases, new-cases}
+use Rattle.rules.proofs.Calls.{Admissible, step-number, Leaves, leaves-old, step-cases, new-cases}
 use Rattle.rules.proofs.Booking.{advance-clients, finish-clients, admit-clients, admit-shares, finish-shares, leaves-shares}
 
 -- ── a table of client 1 alone ──
@@ -83,7 +83,7 @@ pub tests-as-ever : (m : Model) → Alone m → TestsAsEver m
 tests-as-ever m a = record {
   pooled = λ t ask e. as-pooled m a t ask e;
   documented = λ t ask e z. tests-documented m a t ask e z;
-  never-over = λ t ask q. first-not-over m a t ask (same? (ask .client) 1) (sym (claim-number m t ask) ∙ q);
+  never-over = λ t ask q. first-not-over m a t ask (same? (ask .client) 1) (sym (step-number m (claim t ask)) ∙ q);
 }
 
 -- ── a run ──

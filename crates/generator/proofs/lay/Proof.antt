@@ -58,7 +58,7 @@ use Rattle.lcg.specs.Draws.{stateIn}
 use Rattle.lcg.specs.declared.Generator.{Generator}
 use Rattle.lcg.proofs.Generator as G
 use Rattle.lcg.proofs.Generator.Laws as G′
-use Rattle.generator.specs.Workload.{drawsFrom, turnOf, workloadOf}
+use Rattle.generator.specs.Workload.{drawsFrom, batchOf, workloadOf}
 use Rattle.generator.specs.Drafts.{Ready, Begins, Enters}
 use Rattle.generator.specs.declared.Draft.{Draft}
 use Rattle.generator.specs.declared.Draws.{Draws}
@@ -108,7 +108,7 @@ abbrev Drawn : Generator → Draws → Generator → Type 0
 Drawn g d g′ = (d ≡ drawsFrom (g .state)) × (g′ .state ≡ stateIn 5 (g .state))
 
 abbrev Entered : Draft → Draws → List ℕ → Draft → List ℕ → Type 0
-Entered w d o r q = Enters w (turnOf (w .clock) (model (w .table)) d) o r q
+Entered w d o r q = Enters w (batchOf (w .clock) (model (w .table)) d) o r q
 
 -- ---- where a turn begins: k claims are laid, in the list o with the draft w, and the generator is g
 record Now (seed count : ℕ) (o₀ : List ℕ) : Type 0 where

@@ -10,7 +10,7 @@ use Rattle.load.specs.Calls.{claim}
 use Rattle.generator.specs.declared.Draws.{Draws}
 use Rattle.generator.specs.declared.MaybeTicket.{MaybeTicket}
 use Rattle.generator.specs.declared.MaybeTicket.the-variants.{Ticket, NoTicket}
-use Rattle.generator.specs.Workload.{Turn, clockFor, groupsFor, lengthFor, tableAfter, claimTurn, lowestOn, releaseOf, andThen, turnOf}
+use Rattle.generator.specs.Workload.{Batch, clockFor, groupsFor, lengthFor, tableAfter, claimBatch, lowestOn, releaseOf, andThen, batchOf}
 
 -- The claim of draws, after a claim at clock t.
 abbrev pub claimIn : ℕ → Draws → Call
@@ -20,14 +20,14 @@ module _ (t : ℕ) (m : Model) (d : Draws) where
   abbrev pub claimed : Model
   claimed = tableAfter m (claimIn t d)
 
-  pub turn-cases : (P : Turn → Type 0) → P (claimTurn t m d)
-      → ((k : ℕ) → lowestOn claimed ≡ Ticket k → P (andThen (claimTurn t m d) (releaseOf (clockFor t d) claimed (Ticket k)))) → P (turnOf t m d)
-  unfolding turnOf
-  turn-cases P p q = by-test (eqb (d .last % 2) 1) (λ e. rw e (go (lowestOn claimed) refl)) (λ e. rw e p)
+  pub batch-cases : (P : Batch → Type 0) → P (claimBatch t m d)
+      → ((k : ℕ) → lowestOn claimed ≡ Ticket k → P (andThen (claimBatch t m d) (releaseOf (clockFor t d) claimed (Ticket k)))) → P (batchOf t m d)
+  unfolding batchOf
+  batch-cases P p q = by-test (eqb (d .last % 2) 1) (λ e. rw e (go (lowestOn claimed) refl)) (λ e. rw e p)
     where
-      go : (x : MaybeTicket) → lowestOn claimed ≡ x → P (andThen (claimTurn t m d) (releaseOf (clockFor t d) claimed x))
+      go : (x : MaybeTicket) → lowestOn claimed ≡ x → P (andThen (claimBatch t m d) (releaseOf (clockFor t d) claimed x))
       go NoTicket e = p
       go (Ticket k) e = q k e
 
-  pub turn-clock : turnOf t m d .clock ≤ t + 7
-  turn-clock = turn-cases (λ (x : Turn). x .clock ≤ t + 7) (omega arith) (λ k e. omega arith)
+  pub batch-clock : batchOf t m d .clock ≤ t + 7
+  batch-clock = batch-cases (λ (x : Batch). x .clock ≤ t + 7) (omega arith) (λ k e. omega arith)
