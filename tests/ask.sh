@@ -54,6 +54,7 @@ load drawn 'edition 2\nrig F 3\nclaim 0 1 10 2\nclaim 0 0 5 1\nclaim 0 2 5 3\nre
 load overrun 'edition 2\nrig F 3\nclaim 0 1 10 3\nclaim 0 2 5 1\nclock 12\n'
 load dark_pool 'edition 2\nrig 0 3\n'
 load desks 'edition 3\nrig F 9\ndesk 2 1 5\ndesk 9 0 0\nclaim 0 1 10 7 2\nclaim 0 1 10 0 1\ndesk 3 0 5\nclaim 0 2 10 0 2\n'
+load overdue 'edition 3\nrig F 0\ngrace 5\ndesk 1 64 64\nclaim 0 8 10 0 1\nclaim 0 C 10 0 1\nclaim 0 6 11 0 1\nclock 12\ngrace 9\n'
 : >"$tmp/empty"
 printf '\377' >"$tmp/edition"
 head -c 65537 /dev/zero >"$tmp/overlong"
@@ -127,5 +128,8 @@ try "a wrong question leaves the load unread" cmp "$tmp/out" "$tmp/plot"
 answers 'stop 13 6\n2 of 9 units free\n' "units free before a late declaration" desks free
 answers 'stop 13 6\nticket 1 is on, promised end 10\n' "a desk's claim before a late declaration" desks lookup 1
 answers 'stop 13 6\nticket 2 is not pending\n' "nothing behind a late declaration" desks lookup 2
+answers 'ticket 1 is on, promised end 10\n' "a holder past its promised end" overdue lookup 1
+answers 'ticket 2 waits, start 17\n' "a claim behind it, a grace after the clock" overdue lookup 2
+answers 'ticket 3 waits, start 27\n' "the next one" overdue lookup 3
 
 total

@@ -57,6 +57,7 @@ shown() {
 rig=000901000000000000000f
 rig2=000b01000000000000000f0003 # of editions 2 and 3: a pool of 3
 desk=000406020a40 # desk 2, guarantee 10, limit 64
+grace=0005080000ea60 # 60,000 ticks
 header='# edition 1\n'
 
 # the sample, there and back
@@ -95,8 +96,8 @@ shown "edition 1 with a rig of edition 2" "01$rig2" "$header# stop 13 1\n"
 shown "edition 3 alone" 03 'edition 3\n'
 shown "edition 4" 04 '# stop 11 0\n'
 shown "edition 3 with all of its calls" \
-    "03${rig2}${desk}0018020000000000000007000000000000000c0000000affff02000b0300000000000000080001000b040000000000000009000200090500000000000000ff" \
-    'edition 3\nrig F 3\ndesk 2 10 64\nclaim 7 C 10 65535 2\nrelease 8 1\nwithdraw 9 2\nclock 255\n'
+    "03${rig2}${grace}${desk}0018020000000000000007000000000000000c0000000affff02000b0300000000000000080001000b040000000000000009000200090500000000000000ff" \
+    'edition 3\nrig F 3\ngrace 60000\ndesk 2 10 64\nclaim 7 C 10 65535 2\nrelease 8 1\nwithdraw 9 2\nclock 255\n'
 shown "edition 3 with a rig of edition 1" "03$rig" 'edition 3\n# stop 13 1\n'
 shown "edition 3 with a claim of edition 2" "03${rig2}001702000000000000000700000000000000080000000a0002" 'edition 3\nrig F 3\n# stop 13 2\n'
 shown "edition 2 with a claim of edition 3" "02${rig2}001802000000000000000700000000000000080000000a000202" 'edition 2\nrig F 3\n# stop 13 2\n'
@@ -104,7 +105,14 @@ shown "edition 2 with a desk" "02$rig2$desk" 'edition 2\nrig F 3\n# stop 13 2\n'
 shown "edition 1 with a desk" "01$rig$desk" "${header}rig F\n# stop 13 2\n"
 shown "a desk before the rig" "03$desk" 'edition 3\n# stop 13 1\n'
 shown "a desk without its limit" "03${rig2}000306020a" 'edition 3\nrig F 3\n# stop 13 2\n'
-shown "kind 7 in edition 3" "03${rig2}00040700000000" 'edition 3\nrig F 3\n# stop 13 2\n'
+shown "largest and least grace shown" "03${rig2}000508ffffffff00050800000000" 'edition 3\nrig F 3\ngrace 4294967295\ngrace 0\n'
+shown "edition 2 with a grace" "02$rig2$grace" 'edition 2\nrig F 3\n# stop 13 2\n'
+shown "edition 1 with a grace" "01$rig$grace" "${header}rig F\n# stop 13 2\n"
+shown "a grace before the rig" "03$grace" 'edition 3\n# stop 13 1\n'
+shown "a grace in three bytes" "03${rig2}00040800ea60" 'edition 3\nrig F 3\n# stop 13 2\n'
+shown "a grace that is cut off" "03${rig2}0005080000ea" 'edition 3\nrig F 3\n# stop 12 2\n'
+shown "kind 7 in edition 3" "03${rig2}0005070000ea60" 'edition 3\nrig F 3\n# stop 13 2\n'
+shown "kind 9 in edition 3" "03${rig2}0005090000ea60" 'edition 3\nrig F 3\n# stop 13 2\n'
 
 # other refusals of load_show
 shown "second rig" "01$rig$rig" "${header}rig F\n# stop 13 2\n"
@@ -162,6 +170,9 @@ good "edition 3" 'edition 3\nrig F 3\ndesk 2 10 64 # lights\nclaim 7 8 10 2 2\nr
     "03${rig2}${desk}001802000000000000000700000000000000080000000a000202000b0300000000000000080001"
 good "largest and least desk, guarantee and limit" 'edition 3\nrig F 3\ndesk 255 255 0255\ndesk 0 0 0\nclaim 0 1 1 0 255\nclaim 0 1 1 0 0\n' \
     "03${rig2}000406ffffff00040600000000180200000000000000000000000000000001000000010000ff0018020000000000000000000000000000000100000001000000"
+good "a grace" 'edition 3\nrig F 3\ngrace 60000 # ticks\ndesk 2 10 64\n' "03$rig2$grace$desk"
+good "largest and least grace" 'edition 3\nrig F 3\ngrace 4294967295\ngrace 0\ngrace 000000000000060000\n' \
+    "03${rig2}000508ffffffff00050800000000${grace}"
 bad "edition 4" '# x\nedition 4\nrig F\n' 'line 2: unknown edition'
 bad "edition 3 behind a call" 'rig F\nedition 3\n' 'line 2: unknown call'
 bad "a desk in edition 2" 'edition 2\nrig F 3\ndesk 1 64 64\n' 'line 3: unknown call'
@@ -180,6 +191,14 @@ bad "guarantee of 256" 'edition 3\nrig F 3\ndesk 1 256 64\n' 'line 3: number too
 bad "limit of 256" 'edition 3\nrig F 3\ndesk 1 64 256\n' 'line 3: number too large'
 bad "a claim's desk 256" 'edition 3\nrig F 3\nclaim 0 F 1 2 256\n' 'line 3: number too large'
 bad "a desk's line before the rig" 'edition 3\ndesk 1 64 64\nrig F 3\n' 'line 2: rig must be first'
+bad "a grace in edition 2" 'edition 2\nrig F 3\ngrace 60000\n' 'line 3: unknown call'
+bad "a grace in edition 1" 'rig F\ngrace 60000\n' 'line 2: unknown call'
+bad "a grace without its ticks" 'edition 3\nrig F 3\ngrace # 60000\n' 'line 3: a number is missing'
+bad "a grace with a word more" 'edition 3\nrig F 3\ngrace 60000 1\n' 'line 3: too many words'
+bad "grace is no number" 'edition 3\nrig F 3\ngrace 60,000\n' 'line 3: grace is not a number'
+bad "grace in hex" 'edition 3\nrig F 3\ngrace EA60\n' 'line 3: grace is not a number'
+bad "grace of 2^32" 'edition 3\nrig F 3\ngrace 4294967296\n' 'line 3: number too large'
+bad "a grace's line before the rig" 'edition 3\ngrace 60000\nrig F 3\n' 'line 2: rig must be first'
 bad "edition 2 behind a call" 'rig F\nedition 2\n' 'line 2: unknown call'
 bad "edition 1 with a pool" 'rig F 3\n' 'line 1: too many words'
 bad "edition 1 with units" 'edition 1\nrig F\nclaim 0 F 1 2\n' 'line 3: too many words'
@@ -235,6 +254,16 @@ verdict "a full load of desks there and back"
 { cat "$tmp/full"; echo "desk 1 1 1"; } | run load_write
 : >"$tmp/want"
 verdict "one desk over a full load" "line 10923: load over 65,536 bytes"
+{
+    echo "edition 3"
+    echo "rig FFFFFFFFFFFFFFFF 65535"
+    yes "grace 4294967295" | head -n 9360
+} >"$tmp/full"
+run load_write <"$tmp/full"
+mv "$tmp/out" "$tmp/load"
+run load_show <"$tmp/load"
+cp "$tmp/full" "$tmp/want"
+verdict "a full load of graces there and back"
 {
     echo "edition 3"
     echo "rig FFFFFFFFFFFFFFFF 65535"

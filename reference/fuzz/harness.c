@@ -61,6 +61,7 @@ static void walk(const uint8_t *text, size_t length)
             case 13: seen += 13; break;
             case 14: seen += 14; break;
             case 16: seen += 17; break;
+            case 21: seen += 18; break;
             default: seen += 15; break;
             }
         }

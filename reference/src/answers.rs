@@ -37,7 +37,11 @@ pub fn answers(load: &[u8]) -> Vec<u8> {
                     break;
                 }
             }
-            (Call::Timed(_) | Call::Declare(_), None) => {
+            (Call::Grace(ticks), Some(table)) => {
+                let answer = table.set_grace(ticks);
+                lines(&mut out, record, &answer, table);
+            }
+            (Call::Timed(_) | Call::Declare(_) | Call::Grace(_), None) => {
                 unreachable!("the reader lets only a rig come first")
             }
         }

@@ -91,6 +91,9 @@ pub fn left(load: &[u8]) -> (Table, Option<(Refusal, usize)>) {
                         return (table, Some((Refusal::Misfit, record)));
                     }
                 }
+                Call::Grace(ticks) => {
+                    table.set_grace(ticks);
+                }
             },
         }
     }

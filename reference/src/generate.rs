@@ -6,7 +6,7 @@ use std::iter::once;
 use crate::load::{self, Call, Kind, FORMATS, MAX_LOAD};
 use crate::monitor::{RunCall, Start};
 use crate::table::{Claim, Declaration, State, Table, TableCall, TimedCall, ONLY_CLIENT};
-use crate::table::{MAX_CLIENT, MAX_CLOCK, MAX_LENGTH, MAX_PENDING};
+use crate::table::{MAX_CLIENT, MAX_CLOCK, MAX_GRACE, MAX_LENGTH, MAX_PENDING};
 
 /// A small generator of numbers (splitmix64).
 #[derive(Clone, Debug)]
@@ -103,10 +103,13 @@ pub enum Shape {
     /// Claims of several clients, most of which stay pending: guarantees are
     /// filled and not, and limits are met.
     Clients,
+    /// A grace is set, and holders overrun by more than it and less, with units
+    /// and without; clocks at promised ends and one past them.
+    Grace,
 }
 
 /// Every shape.
-pub const SHAPES: [Shape; 15] = [
+pub const SHAPES: [Shape; 16] = [
     Shape::Short,
     Shape::Long,
     Shape::Full,
@@ -122,6 +125,7 @@ pub const SHAPES: [Shape; 15] = [
     Shape::Pool,
     Shape::PoolInTime,
     Shape::Clients,
+    Shape::Grace,
 ];
 
 /// A generated run: the edition of its load, the rig with its pool, and the
@@ -151,6 +155,27 @@ impl Run {
         load::join(self.edition, &self.load_calls())
     }
 
+    /// The same calls in edition 3 behind this grace, without graces that were
+    /// accepted. Where clients could not be declared the first is.
+    pub fn with_grace(&self, ticks: u32) -> Run {
+        let mut table = self.table();
+        let mut calls = vec![TableCall::Grace(ticks)];
+        if self.edition < 3 {
+            calls.push(ONLY_CLIENT.into());
+        }
+        for &call in &self.calls {
+            let accepted = table.call(call).accepted();
+            if !accepted || !matches!(call, TableCall::Grace(_)) {
+                calls.push(call);
+            }
+        }
+        Run {
+            edition: 3,
+            calls,
+            ..*self
+        }
+    }
+
     /// The new table that the run begins with.
     pub fn table(&self) -> Table {
         load::new_table(self.edition, self.rig, self.pool).0
@@ -172,7 +197,7 @@ impl Run {
 
 /// The run of a seed, its shape chosen by the seed.
 pub fn run(seed: u64) -> Run {
-    let weights = [4, 1, 2, 2, 4, 4, 3, 4, 3, 2, 1, 3, 5, 3, 7];
+    let weights = [4, 1, 2, 2, 4, 4, 3, 4, 3, 2, 1, 3, 5, 3, 7, 7];
     let shape = SHAPES[Prng::new(!seed).weighted(&weights)];
     run_of(shape, seed)
 }
@@ -195,10 +220,14 @@ pub fn any_load(seed: u64) -> Vec<u8> {
 /// The run of a shape and a seed, of any edition that has what the shape needs.
 pub fn run_of(shape: Shape, seed: u64) -> Run {
     let mut prng = Prng::new(seed);
-    let drawing = matches!(shape, Shape::Pool | Shape::PoolInTime);
+    let drawing = match shape {
+        Shape::Pool | Shape::PoolInTime => true,
+        Shape::Grace => prng.one_in(2),
+        _ => false,
+    };
     let edition = match shape {
         Shape::Pool | Shape::PoolInTime => prng.pick(&[2, 2, 3]),
-        Shape::Clients => 3,
+        Shape::Clients | Shape::Grace => 3,
         _ => prng.pick(&[1, 2, 3]),
     };
     let rig = rig(&mut prng, shape);
@@ -209,7 +238,14 @@ pub fn run_of(shape: Shape, seed: u64) -> Run {
     let in_time = matches!(shape, Shape::InTime | Shape::PoolInTime);
     let mut build = Builder::new(prng, (edition, rig, pool), MAX_LOAD, in_time);
     if edition == 3 {
+        let first = build.prng.one_in(2);
+        if first {
+            build.set_graces(shape);
+        }
         build.declare(shape);
+        if !first {
+            build.set_graces(shape);
+        }
     }
     match shape {
         Shape::Short => {
@@ -285,6 +321,16 @@ pub fn run_of(shape: Shape, seed: u64) -> Run {
             let habits = build.prng.pick(&[&CLIENTS, &CLIENTS, &CLIENTS_LEAVE]);
             build.mix(count, habits);
         }
+        Shape::Grace => {
+            let count = build.prng.range(6, 90);
+            build.mix(count, &GRACE);
+            if build.prng.one_in(6) {
+                build.empty();
+                let ticks = ticks(&mut build.prng);
+                build.push(TableCall::Grace(ticks));
+                build.mix(4, &GRACE);
+            }
+        }
     }
     if edition == 3 && build.prng.one_in(4) {
         build.declare_late();
@@ -293,14 +339,25 @@ pub fn run_of(shape: Shape, seed: u64) -> Run {
 }
 
 /// The calls of a run with lookups of one ticket, of two and of the units free
-/// between them, and with declarations and claims of other clients. These are
-/// refused, or change nothing for the calls of the run: in a table as of the
-/// older editions all places are kept for client 1.
+/// between them, and with graces, declarations and claims of other clients.
+/// These are refused, or change nothing for the calls of the run: in a table as
+/// of the older editions all places are kept for client 1. Only the grace of
+/// such a table may come to be another.
 pub fn with_lookups(run: &Run, seed: u64) -> Vec<RunCall> {
     let mut prng = Prng::new(seed ^ 0x1005_0B07);
     let mut table = run.table();
     let mut calls = Vec::new();
+    let mut graces = match run.edition {
+        3 => 0,
+        _ => prng.pick(&[0, 0, 1, 2]),
+    };
     for &call in &run.calls {
+        if graces > 0 {
+            graces -= 1;
+            let ticks = ticks(&mut prng);
+            table.set_grace(ticks);
+            calls.push(RunCall::Grace(ticks));
+        }
         if prng.one_in(8) {
             let more = extra(&mut prng, run, &mut table);
             calls.extend(more.map(RunCall::from));
@@ -322,9 +379,18 @@ pub fn with_lookups(run: &Run, seed: u64) -> Vec<RunCall> {
     calls
 }
 
-/// A declaration, or a claim of a client that is not declared or, in a table as
-/// of the older editions, not the first.
+/// A grace, a declaration, or a claim of a client that is not declared or, in a
+/// table as of the older editions, not the first.
 fn extra(prng: &mut Prng, run: &Run, table: &mut Table) -> Option<TableCall> {
+    if prng.one_in(4) {
+        let ticks = ticks(prng);
+        // In edition 3 the graces of the run itself are to stand.
+        if run.edition == 3 && table.clone().set_grace(ticks).accepted() {
+            return None;
+        }
+        table.set_grace(ticks);
+        return Some(TableCall::Grace(ticks));
+    }
     let client = prng.pick(&[0, 2, 2, 3, 8, 9, 255]);
     let declared = table.declared().iter().any(|own| own.client == client);
     if prng.one_in(3) && (run.edition < 3 || !declared) {
@@ -385,6 +451,7 @@ pub fn sized_load(edition: u8, seed: u64, size: usize) -> Option<Vec<u8>> {
                 limit,
             });
         }
+        build.push(TableCall::Grace(7));
     }
     while build.bytes + CLAIM + 120 <= size {
         build.step(&BRISK);
@@ -409,7 +476,7 @@ pub fn sized_load(edition: u8, seed: u64, size: usize) -> Option<Vec<u8>> {
 fn rig(prng: &mut Prng, shape: Shape) -> u64 {
     match shape {
         Shape::AllGroups | Shape::Chain => u64::MAX,
-        Shape::Ties | Shape::Pool | Shape::PoolInTime | Shape::Clients => {
+        Shape::Ties | Shape::Pool | Shape::PoolInTime | Shape::Clients | Shape::Grace => {
             prng.pick(&[0x3, 0x7, 0xF, 0x1F, 0x8000_0000_0000_0001])
         }
         Shape::Full => prng.pick(&[0x1, 1 << 63, 0x7, u64::MAX]),
@@ -444,6 +511,30 @@ fn pool(prng: &mut Prng, drawing: bool) -> u16 {
     } else {
         prng.pick(&[0, 1, few, few, 40, 65_535, random])
     }
+}
+
+/// A grace, mostly a good one, and often at the limits.
+fn ticks(prng: &mut Prng) -> u32 {
+    let few = prng.range(2, 40) as u32;
+    let some = prng.below(u64::from(MAX_GRACE)) as u32;
+    let any = prng.magnitude() as u32;
+    prng.pick(&[
+        0,
+        1,
+        1,
+        5,
+        5,
+        10,
+        few,
+        few,
+        few,
+        some,
+        any,
+        MAX_GRACE - 1,
+        MAX_GRACE,
+        MAX_GRACE + 1,
+        u32::MAX,
+    ])
 }
 
 /// How the groups of a claim are drawn from the rig.
@@ -505,6 +596,8 @@ enum Pace {
     Jump,
     /// Past a promised end.
     Late,
+    /// At a promised end, past it by one tick or a few, or by about the grace.
+    Graced,
     /// Of any magnitude more.
     Far,
 }
@@ -699,6 +792,37 @@ const CLIENTS_LEAVE: Habits = Habits {
     ..CLIENTS
 };
 
+const GRACE: Habits = Habits {
+    weights: [12, 5, 2, 5, 3],
+    groups: &[Groups::One, Groups::One, Groups::Pair, Groups::Few],
+    lengths: &[
+        Lengths::Tiny,
+        Lengths::Small,
+        Lengths::Equal,
+        Lengths::Touch,
+    ],
+    draws: &[
+        Draws::None,
+        Draws::None,
+        Draws::One,
+        Draws::Few,
+        Draws::Half,
+        Draws::Free,
+    ],
+    paces: &[
+        Pace::Graced,
+        Pace::Graced,
+        Pace::Late,
+        Pace::Still,
+        Pace::Still,
+        Pace::Slow,
+        Pace::Event,
+    ],
+    bare: 3,
+    miss: 16,
+    over: 8,
+};
+
 /// A run being built, with the table that it leads to.
 struct Builder {
     prng: Prng,
@@ -773,6 +897,44 @@ impl Builder {
         self.calls.push(call);
         if self.table.issued() > 0 {
             self.begun.get_or_insert(self.calls.len());
+        }
+    }
+
+    /// Sets the grace as suits the shape: once or several times, or not at all.
+    /// Refused claims may come before.
+    fn set_graces(&mut self, shape: Shape) {
+        let counts: &[u64] = match shape {
+            Shape::Grace => &[1, 1, 1, 2, 3],
+            Shape::Overrun | Shape::Pool | Shape::Boundary => &[0, 1, 1, 2],
+            _ => &[0, 0, 1],
+        };
+        for _ in 0..self.prng.pick(counts) {
+            if self.prng.one_in(4) {
+                let client = self.stray_client();
+                self.push(TimedCall::Claim {
+                    clock: self.table.now(),
+                    groups: 0,
+                    length: 1,
+                    units: 0,
+                    client,
+                });
+            }
+            let ticks = ticks(&mut self.prng);
+            self.push(TableCall::Grace(ticks));
+        }
+    }
+
+    /// Takes away all claims, from the lowest ticket on.
+    fn empty(&mut self) {
+        let clock = self.table.now();
+        for _ in 0..MAX_PENDING {
+            let Some(&Claim { ticket, state, .. }) = self.table.claims().first() else {
+                return;
+            };
+            self.push(match state {
+                State::On(_) => TimedCall::Release { clock, ticket },
+                State::Waiting(_) => TimedCall::Withdraw { clock, ticket },
+            });
         }
     }
 
@@ -970,14 +1132,14 @@ impl Builder {
     }
 
     fn step(&mut self, habits: &Habits) {
-        let call = match self.prng.weighted(&habits.weights) {
-            0 => self.claim(habits),
-            1 => self.release(habits),
-            2 => self.withdraw(habits),
+        let call: TableCall = match self.prng.weighted(&habits.weights) {
+            0 => self.claim(habits).into(),
+            1 => self.release(habits).into(),
+            2 => self.withdraw(habits).into(),
             3 => {
                 let pace = self.prng.pick(habits.paces);
                 let clock = self.clock(pace);
-                TimedCall::Clock { clock }
+                TimedCall::Clock { clock }.into()
             }
             _ => self.stray(),
         };
@@ -1069,7 +1231,7 @@ impl Builder {
         let now = self.table.now();
         let mut events = vec![now];
         for claim in self.table.claims() {
-            events.push(claim.end(now));
+            events.push(claim.end(now, self.table.grace()));
             events.extend(claim.planned_start());
         }
         events
@@ -1104,6 +1266,28 @@ impl Builder {
                 Some(end) => end.max(now) + self.prng.pick(&[0, 1, 1, 2, 7, 30]),
                 None => now + self.prng.below(4),
             },
+            Pace::Graced => {
+                let grace = u64::from(self.table.grace());
+                let claims = self.table.claims().iter();
+                let ends: Vec<u64> = claims.filter_map(Claim::promised_end).collect();
+                let end = match ends[..] {
+                    [] => now,
+                    _ => self.prng.pick(&ends),
+                };
+                let few = self.prng.range(2, 30);
+                let past = self.prng.pick(&[
+                    0,
+                    0,
+                    1,
+                    1,
+                    few,
+                    grace.saturating_sub(1),
+                    grace,
+                    grace + 1,
+                    2 * grace + few,
+                ]);
+                now.max(end + past)
+            }
             Pace::Far => now + self.prng.magnitude() % (MAX_CLOCK / 4),
         };
         match self.earliest_end() {
@@ -1171,14 +1355,17 @@ impl Builder {
     }
 
     /// A call with boundary values, mostly refused.
-    fn stray(&mut self) -> TimedCall {
+    fn stray(&mut self) -> TableCall {
+        if self.edition == 3 && self.prng.one_in(6) {
+            return TableCall::Grace(ticks(&mut self.prng));
+        }
         let clock = self.stray_clock();
         let client = if self.prng.one_in(4) {
             self.stray_client()
         } else {
             self.client(&BOUNDARY)
         };
-        match self.prng.below(8) {
+        let call = match self.prng.below(8) {
             0..=2 => TimedCall::Claim {
                 clock,
                 groups: self.stray_groups(),
@@ -1203,7 +1390,8 @@ impl Builder {
                 }
             }
             _ => TimedCall::Clock { clock },
-        }
+        };
+        call.into()
     }
 
     fn stray_clock(&mut self) -> u64 {
@@ -1289,10 +1477,13 @@ impl Builder {
     }
 
     /// A call with any values.
-    fn noise(&mut self) -> TimedCall {
+    fn noise(&mut self) -> TableCall {
+        if self.edition == 3 && self.prng.one_in(8) {
+            return TableCall::Grace(self.prng.magnitude() as u32);
+        }
         let clock = self.prng.magnitude();
         let ticket = self.prng.magnitude() as u16;
-        match self.prng.below(4) {
+        let call = match self.prng.below(4) {
             0 => TimedCall::Claim {
                 clock,
                 groups: self.prng.draw() & self.prng.magnitude(),
@@ -1306,7 +1497,8 @@ impl Builder {
             1 => TimedCall::Release { clock, ticket },
             2 => TimedCall::Withdraw { clock, ticket },
             _ => TimedCall::Clock { clock },
-        }
+        };
+        call.into()
     }
 
     /// A claim of one group each, until 64 are pending, and some more; then
@@ -1491,7 +1683,7 @@ pub fn damage(load: &[u8], seed: u64) -> Vec<u8> {
     } else {
         prng.pick(&places)
     };
-    match prng.below(21) {
+    match prng.below(24) {
         // Cut anywhere.
         0 | 1 => {
             let keep = prng.below(load.len() as u64 + 1) as usize;
@@ -1518,6 +1710,7 @@ pub fn damage(load: &[u8], seed: u64) -> Vec<u8> {
                     9,
                     11,
                     4,
+                    5,
                     21,
                     23,
                     24,
@@ -1626,8 +1819,7 @@ pub fn damage(load: &[u8], seed: u64) -> Vec<u8> {
                 out[end - 2..end].copy_from_slice(&units.to_be_bytes());
             }
         }
-        // A declaration anywhere but first, now and then cut or of another
-        // length.
+        // A declaration behind the first record.
         17 | 18 => {
             let declared = Declaration {
                 client: prng.range(1, 8) as u8,
@@ -1636,28 +1828,7 @@ pub fn damage(load: &[u8], seed: u64) -> Vec<u8> {
             };
             let odd = odd_declaration(&mut prng, &[]);
             let declaration = prng.pick(&[declared, odd]);
-            let call = Call::Declare(declaration);
-            let mut record = load::encode(3, call).expect("edition 3 has it");
-            match prng.below(6) {
-                0 => {
-                    let keep = prng.below(record.len() as u64) as usize;
-                    record.truncate(keep);
-                }
-                1 => {
-                    record.push(0);
-                    record[1] += 1;
-                }
-                2 => {
-                    record.pop();
-                    record[1] -= 1;
-                }
-                _ => {}
-            }
-            let at = match places.get(1..) {
-                Some(later) if !later.is_empty() && !prng.one_in(3) => prng.pick(later),
-                _ => out.len(),
-            };
-            out.splice(at..at, record);
+            insert_later(&mut prng, &mut out, &places, Call::Declare(declaration));
         }
         // Other bytes of a declaration, and now and then another kind.
         19 => {
@@ -1666,6 +1837,25 @@ pub fn damage(load: &[u8], seed: u64) -> Vec<u8> {
                 out[byte] = prng.pick(&[0, 1, 2, 8, 9, 63, 64, 65, 255]);
                 if prng.one_in(6) {
                     out[at + 2] = prng.pick(&[5, 7, 8]);
+                }
+            }
+        }
+        // A grace behind the first record.
+        20 | 21 => {
+            let ticks = ticks(&mut prng);
+            insert_later(&mut prng, &mut out, &places, Call::Grace(ticks));
+        }
+        // Another grace, or a byte of it, and now and then another kind.
+        22 => {
+            if let Some((at, end)) = record_of(&mut prng, load, &[Kind::Grace]) {
+                let byte = prng.range(at as u64 + 3, end as u64 - 1) as usize;
+                if prng.one_in(2) {
+                    out[at + 3..end].copy_from_slice(&ticks(&mut prng).to_be_bytes());
+                } else {
+                    out[byte] = prng.pick(&[0, 1, 0x5F, 0x60, 0x61, 0xE9, 0xEA, 0xEB, 255]);
+                }
+                if prng.one_in(6) {
+                    out[at + 2] = prng.pick(&[5, 6, 7, 9]);
                 }
             }
         }
@@ -1680,6 +1870,32 @@ pub fn damage(load: &[u8], seed: u64) -> Vec<u8> {
         }
     }
     out
+}
+
+/// Puts the record of a call as edition 3 has it anywhere but first, now and
+/// then cut or of another length.
+fn insert_later(prng: &mut Prng, load: &mut Vec<u8>, places: &[usize], call: Call) {
+    let mut record = load::encode(3, call).expect("edition 3 has it");
+    match prng.below(6) {
+        0 => {
+            let keep = prng.below(record.len() as u64) as usize;
+            record.truncate(keep);
+        }
+        1 => {
+            record.push(0);
+            record[1] += 1;
+        }
+        2 => {
+            record.pop();
+            record[1] -= 1;
+        }
+        _ => {}
+    }
+    let at = match places.get(1..) {
+        Some(later) if !later.is_empty() && !prng.one_in(3) => prng.pick(later),
+        _ => load.len(),
+    };
+    load.splice(at..at, record);
 }
 
 /// A known edition other than this one.

@@ -48,7 +48,7 @@ pub fn any_text(seed: u64) -> Vec<u8> {
         damage_bytes(&mut prng, &mut text);
     }
     if prng.one_in(400) {
-        let size = MAX_TEXT + prng.below(3) as usize;
+        let size = MAX_TEXT + prng.pick(&[0, 1, 1, 2]);
         pad(&mut prng, &mut text, size);
     }
     text
@@ -71,6 +71,7 @@ fn calls(prng: &mut Prng, seed: u64) -> (u8, Vec<Call>) {
         Shape::Noise,
         Shape::Pool,
         Shape::Clients,
+        Shape::Grace,
     ]);
     let run = generate::run_of(shape, seed);
     let mut calls = run.load_calls();
@@ -360,7 +361,7 @@ fn odd_set(prng: &mut Prng) -> String {
 }
 
 /// Words in the place of a line's first.
-const NAMES: [&str; 28] = [
+const NAMES: [&str; 32] = [
     "rig",
     "claim",
     "release",
@@ -371,6 +372,10 @@ const NAMES: [&str; 28] = [
     "desks",
     "Desk",
     "client",
+    "grace",
+    "grace",
+    "graces",
+    "Grace",
     "edition",
     "editions",
     "Edition",

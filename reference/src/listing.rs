@@ -50,7 +50,11 @@ pub fn listing(load: &[u8]) -> Vec<u8> {
                     }
                     line(&mut out, record, &answer, 0);
                 }
-                (Call::Timed(_) | Call::Declare(_), None) => {
+                (Call::Grace(ticks), Some(table)) => {
+                    let answer = table.set_grace(ticks);
+                    line(&mut out, record, &answer, 0);
+                }
+                (Call::Timed(_) | Call::Declare(_) | Call::Grace(_), None) => {
                     unreachable!("the reader lets only a rig come first")
                 }
             },

@@ -16,6 +16,7 @@ pub enum Kind {
     Withdraw = 4,
     Clock = 5,
     Declare = 6,
+    Grace = 8,
 }
 
 /// The fields of records.
@@ -30,10 +31,11 @@ pub enum Field {
     Client,
     Reserved,
     Limit,
+    Grace,
 }
 
 /// Every field, in the order of its values in `Values`.
-pub const FIELDS: [Field; 9] = [
+pub const FIELDS: [Field; 10] = [
     Field::Clock,
     Field::Groups,
     Field::Length,
@@ -43,6 +45,7 @@ pub const FIELDS: [Field; 9] = [
     Field::Client,
     Field::Reserved,
     Field::Limit,
+    Field::Grace,
 ];
 
 impl Field {
@@ -58,7 +61,7 @@ impl Field {
     pub fn bytes(self) -> usize {
         match self {
             Field::Clock | Field::Groups => 8,
-            Field::Length => 4,
+            Field::Length | Field::Grace => 4,
             Field::Pool | Field::Ticket | Field::Units => 2,
             Field::Client | Field::Reserved | Field::Limit => 1,
         }
@@ -114,6 +117,7 @@ pub const FORMATS: [(u8, &[Form]); 3] = [
                 Kind::Declare,
                 &[Field::Client, Field::Reserved, Field::Limit],
             ),
+            (Kind::Grace, &[Field::Grace]),
         ],
     ),
 ];
@@ -175,6 +179,8 @@ pub enum Call {
     },
     Timed(TimedCall),
     Declare(Declaration),
+    /// The grace, in ticks.
+    Grace(u32),
 }
 
 impl From<TableCall> for Call {
@@ -182,6 +188,7 @@ impl From<TableCall> for Call {
         match call {
             TableCall::Timed(call) => Call::Timed(call),
             TableCall::Declare(declaration) => Call::Declare(declaration),
+            TableCall::Grace(ticks) => Call::Grace(ticks),
         }
     }
 }
@@ -197,6 +204,7 @@ impl Call {
         match self {
             Call::Rig { .. } => Kind::Rig,
             Call::Declare(_) => Kind::Declare,
+            Call::Grace(_) => Kind::Grace,
             Call::Timed(TimedCall::Claim { .. }) => Kind::Claim,
             Call::Timed(TimedCall::Release { .. }) => Kind::Release,
             Call::Timed(TimedCall::Withdraw { .. }) => Kind::Withdraw,
@@ -215,6 +223,7 @@ impl Call {
                 .with(Field::Client, declaration.client.into())
                 .with(Field::Reserved, declaration.reserved.into())
                 .with(Field::Limit, declaration.limit.into()),
+            Call::Grace(ticks) => values.with(Field::Grace, ticks.into()),
             Call::Timed(call) => {
                 let values = values.with(Field::Clock, call.clock());
                 match call {
@@ -258,6 +267,7 @@ impl Call {
                     limit: values.get(Field::Limit) as u8,
                 })
             }
+            Kind::Grace => return Call::Grace(values.get(Field::Grace) as u32),
             Kind::Claim => TimedCall::Claim {
                 clock,
                 groups,

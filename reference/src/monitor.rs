@@ -1,5 +1,5 @@
 //! A monitor of demand 3 (document 01: "A run of calls"), with what document
-//! 02, P3 and P4, makes of it. It judges a run from its rig and pool and the
+//! 02, P3, P4 and P6, makes of it. It judges a run from its rig and pool and the
 //! clients declared in its new table, its calls, their answers and the lookups
 //! asked after each call.
 //!
@@ -16,8 +16,14 @@
 //! - the units free and those of the holders make the pool after every call;
 //! - a first planned start is within its start bound, for claims that draw no
 //!   units;
+//! - after every accepted timed call a waiting claim's planned start is not
+//!   before the end of a holder that shares a group with it;
 //! - a lookup says what calls and answers say, one of two tickets the lowest
 //!   group that both claims asked for.
+//!
+//! The end of a holder is its promised end while the clock is not past it, and
+//! after that the clock and the grace more, which is that of the last accepted
+//! call that set it, and 0 before any.
 //!
 //! While no accepted call bears a clock past the promised end of a claim held
 //! when it comes, for all claims:
@@ -30,13 +36,14 @@ use std::fmt::Debug;
 
 use crate::refusal::Refusal;
 use crate::table::{Answer, Common, Declaration, Lookup, Table, TableCall, TimedCall};
-use crate::table::{MAX_CLIENT, MAX_CLOCK, MAX_LENGTH, MAX_PENDING, MAX_TICKET};
+use crate::table::{MAX_CLIENT, MAX_CLOCK, MAX_GRACE, MAX_LENGTH, MAX_PENDING, MAX_TICKET};
 
 /// One call of a run's list.
 #[derive(Clone, Copy, PartialEq, Eq, Debug)]
 pub enum RunCall {
     Timed(TimedCall),
     Declare(Declaration),
+    Grace(u32),
     Lookup(u16),
     /// A lookup of two tickets.
     Common(u16, u16),
@@ -55,6 +62,7 @@ impl From<TableCall> for RunCall {
         match call {
             TableCall::Timed(call) => RunCall::Timed(call),
             TableCall::Declare(declaration) => RunCall::Declare(declaration),
+            TableCall::Grace(ticks) => RunCall::Grace(ticks),
         }
     }
 }
@@ -64,6 +72,7 @@ impl From<TableCall> for RunCall {
 pub enum Asked {
     Timed(TimedCall, Answer),
     Declare(Declaration, Answer),
+    Grace(u32, Answer),
     /// A lookup that stands in the list itself.
     Lookup(u16, Lookup),
     /// A lookup of two tickets.
@@ -109,6 +118,8 @@ pub enum Rule {
     Free,
     /// A first planned start is past its start bound.
     Bound,
+    /// A planned start is before the end of a holder that shares a group.
+    Early,
     /// A lookup contradicts the calls and answers.
     Lookup,
     /// A planned start is raised.
@@ -116,8 +127,8 @@ pub enum Rule {
     /// A claim waits past its first planned start.
     Waits,
     /// Calls and answers make no run: a ticket issued twice, a grant of a claim
-    /// that does not wait, a refused call or a declaration with grants, or no
-    /// lookup of a pending ticket.
+    /// that does not wait, a refused call with grants, a declaration or a grace
+    /// that answers more than its number, or no lookup of a pending ticket.
     Form,
 }
 
@@ -147,6 +158,13 @@ pub struct Summary {
     pub let_in: usize,
     /// Claims answered 18.
     pub over: usize,
+    /// Graces accepted.
+    pub graces: usize,
+    /// Graces answered 21.
+    pub refused_graces: usize,
+    /// Claims that waited behind an overrun with a grace other than 0, counted
+    /// after each accepted call.
+    pub behind_grace: usize,
 }
 
 /// A pending claim as calls, answers and lookups tell it.
@@ -166,6 +184,17 @@ impl Pending {
     fn promised_end(&self) -> Option<u64> {
         self.grant
             .map(|grant| grant.saturating_add(u64::from(self.length)))
+    }
+
+    /// The end of a holder.
+    fn end(&self, clock: u64, grace: u32) -> Option<u64> {
+        self.promised_end().map(|promised| {
+            if clock > promised {
+                clock.saturating_add(u64::from(grace))
+            } else {
+                promised
+            }
+        })
     }
 }
 
@@ -197,6 +226,7 @@ fn judge_by(start: Start, steps: &[Step], numbers: bool) -> Result<Summary, Viol
         // A refused table has none.
         pool: if start.rig == 0 { 0 } else { start.pool },
         clock: 0,
+        grace: 0,
         declared: declared.collect(),
         pending: BTreeMap::new(),
         issued: BTreeSet::new(),
@@ -224,6 +254,8 @@ struct Monitor {
     pool: u16,
     /// The clock of the last accepted timed call.
     clock: u64,
+    /// The grace of the last accepted call that set it.
+    grace: u32,
     /// The clients declared, by the accepted declarations.
     declared: BTreeMap<u8, Declaration>,
     pending: BTreeMap<u16, Pending>,
@@ -236,6 +268,18 @@ type Verdict = Result<(), (Rule, String)>;
 /// A verdict against the run.
 fn against(rule: Rule, description: String) -> Verdict {
     Err((rule, description))
+}
+
+/// A call that is not timed answers its number and nothing else.
+fn number_alone(call: &dyn Debug, answer: &Answer) -> Verdict {
+    let expected = Answer {
+        number: answer.number,
+        ..Answer::default()
+    };
+    if *answer == expected {
+        return Ok(());
+    }
+    against(Rule::Form, format!("{answer:?} to {call:?}"))
 }
 
 /// Places that are taken, and those kept for clients, are at most 64.
@@ -265,21 +309,25 @@ impl Monitor {
                 }
             }
             Asked::Declare(declaration, answer) => {
-                let number = answer.number;
-                let expected = Answer {
-                    number,
-                    ..Answer::default()
-                };
-                if *answer != expected {
-                    return against(Rule::Form, format!("{answer:?} to a declaration"));
-                }
+                number_alone(declaration, answer)?;
                 let refusal = self.overbooked(declaration);
                 if answer.accepted() {
                     self.declared.insert(declaration.client, *declaration);
                     self.summary.declared += 1;
                     self.room()?;
                 }
-                self.number(declaration, refusal, number)?;
+                self.number(declaration, refusal, answer.number)?;
+            }
+            Asked::Grace(ticks, answer) => {
+                let call = RunCall::Grace(*ticks);
+                number_alone(&call, answer)?;
+                self.number(&call, self.grace_refusal(*ticks), answer.number)?;
+                if answer.accepted() {
+                    self.grace = *ticks;
+                    self.summary.graces += 1;
+                } else {
+                    self.summary.refused_graces += 1;
+                }
             }
             Asked::Lookup(ticket, lookup) => self.lookup(*ticket, *lookup)?,
             Asked::Common(first, second, said) => self.common(*first, *second, *said)?,
@@ -300,7 +348,8 @@ impl Monitor {
         match &step.asked {
             Asked::Timed(call, answer) if answer.accepted() => {
                 self.count_short();
-                self.waits(call.clock())
+                self.waits(call.clock())?;
+                self.behind_holders()
             }
             _ => Ok(()),
         }
@@ -396,6 +445,12 @@ impl Monitor {
         ];
         let mut tests = tests.into_iter();
         tests.find(|(fails, _)| *fails).map(|(_, refusal)| refusal)
+    }
+
+    /// Why a grace is refused, by the calls and answers before it.
+    fn grace_refusal(&self, ticks: u32) -> Option<Refusal> {
+        let refused = ticks > MAX_GRACE || !self.issued.is_empty();
+        refused.then_some(Refusal::Grace)
     }
 
     /// Why a call is refused, by the calls and answers before it.
@@ -508,8 +563,8 @@ impl Monitor {
         let mut bound = clock;
         for claim in self.pending.values() {
             if claim.groups & groups != 0 {
-                let remaining = match claim.promised_end() {
-                    Some(end) => end.max(clock) - clock,
+                let remaining = match claim.end(clock, self.grace) {
+                    Some(end) => end - clock,
                     None => u64::from(claim.length),
                 };
                 let more = remaining + u64::from(length).saturating_sub(1);
@@ -703,12 +758,40 @@ impl Monitor {
         }
         Ok(())
     }
+
+    /// A waiting claim starts at or behind the end of every holder that shares
+    /// a group with it.
+    fn behind_holders(&mut self) -> Verdict {
+        for (ticket, claim) in &self.pending {
+            let Some(start) = claim.start else { continue };
+            let mut graced = false;
+            for (other, holder) in &self.pending {
+                let Some(end) = holder.end(self.clock, self.grace) else {
+                    continue;
+                };
+                if holder.groups & claim.groups == 0 {
+                    continue;
+                }
+                if start < end {
+                    return against(
+                        Rule::Early,
+                        format!("ticket {ticket} starts at {start}, {other} ends at {end}"),
+                    );
+                }
+                let overrun = holder.promised_end().is_some_and(|end| self.clock > end);
+                graced |= overrun && self.grace > 0;
+            }
+            self.summary.behind_grace += usize::from(graced);
+        }
+        Ok(())
+    }
 }
 
 /// A table that can be run under the monitor.
 pub trait ClaimsTable {
     fn call(&mut self, call: TimedCall) -> Answer;
     fn declare(&mut self, declaration: Declaration) -> Answer;
+    fn set_grace(&mut self, ticks: u32) -> Answer;
     fn lookup(&self, ticket: u16) -> Lookup;
     fn common(&self, first: u16, second: u16) -> Common;
     fn free(&self) -> u16;
@@ -721,6 +804,10 @@ impl ClaimsTable for Table {
 
     fn declare(&mut self, declaration: Declaration) -> Answer {
         Table::declare(self, declaration)
+    }
+
+    fn set_grace(&mut self, ticks: u32) -> Answer {
+        Table::set_grace(self, ticks)
     }
 
     fn lookup(&self, ticket: u16) -> Lookup {
@@ -750,6 +837,7 @@ pub fn run<C: Copy + Into<RunCall>>(table: &mut dyn ClaimsTable, calls: &[C]) ->
             RunCall::Declare(declaration) => {
                 Asked::Declare(declaration, table.declare(declaration))
             }
+            RunCall::Grace(ticks) => Asked::Grace(ticks, table.set_grace(ticks)),
             RunCall::Lookup(ticket) => Asked::Lookup(ticket, table.lookup(ticket)),
             RunCall::Common(first, second) => {
                 Asked::Common(first, second, table.common(first, second))

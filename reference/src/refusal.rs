@@ -48,6 +48,9 @@ pub enum Refusal {
     Overbooked = 19,
     /// 20, "count": a workload of no claims, or of over 1,000.
     Count = 20,
+    /// 21, "grace": a grace over 60,000, or one that is set after an accepted
+    /// claim.
+    Grace = 21,
 }
 
 impl Refusal {

@@ -1,8 +1,7 @@
 //! Makes a load smaller while a difference that it shows stays: drops records,
 //! then lowers the values of fields, then the edition, where that has no clients
-//! without them. Makes a text smaller:
-//! drops lines, then bytes. Makes a question about a load smaller with the
-//! load: lowers tickets.
+//! or no grace without them. Makes a text smaller: drops lines, then bytes.
+//! Makes a question about a load smaller with the load: lowers tickets.
 
 use crate::ask::{self, Question};
 use crate::load::{self, Call, Field, Kind, FORMATS};
@@ -59,9 +58,9 @@ impl Parts {
         record.expect("a field of the edition")
     }
 
-    /// The same calls in another edition, if it carries them; what is no call
-    /// stays. In one without clients all claims are of the first, and none is
-    /// declared.
+    /// The same calls in another edition, if it carries them, without those of
+    /// kinds that it lacks; what is no call stays. In one without clients all
+    /// claims are of the first.
     fn in_edition(&self, edition: u8) -> Option<Parts> {
         let clients = load::fields(edition, Kind::Declare).is_some();
         let mut parts = self.clone();
@@ -70,7 +69,7 @@ impl Parts {
         for (index, record) in self.records.iter().enumerate() {
             let record = match self.call(index) {
                 None => record.clone(),
-                Some(Call::Declare(_)) if !clients => continue,
+                Some(call) if load::fields(edition, call.kind()).is_none() => continue,
                 Some(call) if !clients => {
                     let only = ONLY_CLIENT.client.into();
                     let values = call.values().with(Field::Client, only);
@@ -111,6 +110,9 @@ impl Parts {
                 }
                 Some(Call::Declare(declaration)) => {
                     table.declare(declaration);
+                }
+                Some(Call::Grace(ticks)) => {
+                    table.set_grace(ticks);
                 }
                 Some(Call::Timed(call @ TimedCall::Claim { .. })) => {
                     ticket = table.call(call).ticket;

@@ -16,6 +16,8 @@ pub const MAX_TICKET: u16 = 65_535;
 pub const GROUPS: u8 = 64;
 /// The last client (document 02, P4: desks 1 to 8).
 pub const MAX_CLIENT: u8 = 8;
+/// The greatest grace in ticks (document 02, P6).
+pub const MAX_GRACE: u32 = 60_000;
 
 /// Document 01: "either waiting, with a planned start, or on, with the clock
 /// of its grant".
@@ -88,19 +90,28 @@ impl Claim {
         }
     }
 
-    /// Document 01: "end"; of an on claim not before the table's clock.
-    pub fn end(&self, clock: u64) -> u64 {
+    /// Document 01: "end"; of an on claim as document 02, P6, has it: its
+    /// promised end while the table's clock is not past it, and after that the
+    /// clock and the grace more.
+    pub fn end(&self, clock: u64, grace: u32) -> u64 {
         match self.state {
             State::Waiting(start) => start + u64::from(self.length),
-            State::On(grant) => (grant + u64::from(self.length)).max(clock),
+            State::On(grant) => {
+                let promised = grant + u64::from(self.length);
+                if clock <= promised {
+                    promised
+                } else {
+                    clock + u64::from(grace)
+                }
+            }
         }
     }
 
     /// Document 01: "remaining time" (the sum in the ceiling).
-    pub fn remaining(&self, clock: u64) -> u64 {
+    pub fn remaining(&self, clock: u64, grace: u32) -> u64 {
         match self.state {
             State::Waiting(_) => u64::from(self.length),
-            State::On(_) => self.end(clock) - clock,
+            State::On(_) => self.end(clock, grace) - clock,
         }
     }
 }
@@ -162,6 +173,8 @@ pub const ONLY_CLIENT: Declaration = Declaration {
 pub enum TableCall {
     Timed(TimedCall),
     Declare(Declaration),
+    /// Document 02, P6: the grace is set, in ticks.
+    Grace(u32),
 }
 
 impl TableCall {
@@ -169,7 +182,7 @@ impl TableCall {
     pub fn clock(&self) -> Option<u64> {
         match self {
             TableCall::Timed(call) => Some(call.clock()),
-            TableCall::Declare(_) => None,
+            TableCall::Declare(_) | TableCall::Grace(_) => None,
         }
     }
 }
@@ -264,6 +277,7 @@ pub struct Table {
     pool: u16,
     clock: u64,
     issued: u16,
+    grace: u32,
     /// The clients declared, in their order.
     declared: Vec<Declaration>,
     /// The pending claims, by ascending ticket.
@@ -272,8 +286,8 @@ pub struct Table {
 
 impl Table {
     /// The call for a new table as loads of editions 1 and 2 begin with it: the
-    /// groups that exist, and the units of the pool; client 1 is declared. When
-    /// refused, the table has neither groups nor units.
+    /// groups that exist, and the units of the pool; client 1 is declared, and
+    /// the grace is 0. When refused, the table has neither groups nor units.
     pub fn new(rig: u64, pool: u16) -> (Table, Answer) {
         Table::begin(rig, pool, &[ONLY_CLIENT])
     }
@@ -294,6 +308,7 @@ impl Table {
             pool,
             clock: 0,
             issued: 0,
+            grace: 0,
             declared: declared.to_vec(),
             claims: Vec::new(),
         };
@@ -320,6 +335,11 @@ impl Table {
         self.issued
     }
 
+    /// Document 02, P6: the ticks that an overrun is expected to need more.
+    pub fn grace(&self) -> u32 {
+        self.grace
+    }
+
     /// The pending claims, by ascending ticket.
     pub fn claims(&self) -> &[Claim] {
         &self.claims
@@ -344,6 +364,7 @@ impl Table {
             TableCall::Timed(TimedCall::Withdraw { clock, ticket }) => self.withdraw(clock, ticket),
             TableCall::Timed(TimedCall::Clock { clock }) => self.clock(clock),
             TableCall::Declare(declaration) => self.declare(declaration),
+            TableCall::Grace(ticks) => self.set_grace(ticks),
         }
     }
 
@@ -353,6 +374,16 @@ impl Table {
             return Answer::refused(refusal);
         }
         self.declared.push(declaration);
+        Answer::default()
+    }
+
+    /// Document 02, P6: sets the grace, before the first accepted claim; the
+    /// last one set counts.
+    pub fn set_grace(&mut self, ticks: u32) -> Answer {
+        if ticks > MAX_GRACE || self.issued > 0 {
+            return Answer::refused(Refusal::Grace);
+        }
+        self.grace = ticks;
         Answer::default()
     }
 
@@ -376,7 +407,7 @@ impl Table {
         for claim in &self.claims {
             if claim.conflicts(groups) {
                 contention += 1;
-                start_bound += claim.remaining(clock);
+                start_bound += claim.remaining(clock, self.grace);
             }
         }
         start_bound += contention * (u64::from(length) - 1);
@@ -473,6 +504,11 @@ impl Table {
     pub fn free(&self) -> u16 {
         let on = self.claims.iter().filter(|claim| claim.is_on());
         self.pool - on.map(|claim| claim.units).sum::<u16>()
+    }
+
+    /// The end of a claim at the table's clock.
+    fn end(&self, claim: &Claim) -> u64 {
+        claim.end(self.clock, self.grace)
     }
 
     /// The pending claim with this ticket.
@@ -603,12 +639,11 @@ impl Table {
     /// the waiting ones come by start, then ticket. Each is put behind the
     /// conflicting claims before it, where its units are free beside them all.
     fn pack(&mut self) {
-        let clock = self.clock;
         let mut plan = Plan::new(self.pool);
         let mut waiting: Vec<(u64, usize)> = Vec::new();
         for (index, claim) in self.claims.iter().enumerate() {
             match claim.state {
-                State::On(grant) => plan.enter(grant, claim.end(clock), claim.units),
+                State::On(grant) => plan.enter(grant, self.end(claim), claim.units),
                 // The claims stand by ticket.
                 State::Waiting(start) => waiting.push((start, index)),
             }
@@ -626,8 +661,8 @@ impl Table {
             let bound = on
                 .chain(packed)
                 .filter(|before| before.conflicts(groups))
-                .map(|before| before.end(clock))
-                .fold(clock, u64::max);
+                .map(|before| self.end(before))
+                .fold(self.clock, u64::max);
             let start = plan.least_start(units, length, bound);
             plan.enter(start, start + u64::from(length), units);
             self.claims[index].state = State::Waiting(start);
@@ -640,7 +675,7 @@ impl Table {
         let mut plan = Plan::new(self.pool);
         let mut candidates = vec![self.clock];
         for claim in &self.claims {
-            let end = claim.end(self.clock);
+            let end = self.end(claim);
             let draws = units > 0 && claim.units > 0;
             if draws {
                 let (State::Waiting(start) | State::On(start)) = claim.state;
@@ -666,7 +701,7 @@ impl Table {
             .iter()
             .filter(|claim| claim.conflicts(groups))
             .all(|claim| {
-                let behind = start >= claim.end(self.clock);
+                let behind = start >= self.end(claim);
                 match claim.state {
                     State::On(_) => behind,
                     State::Waiting(planned) => behind || end <= planned,

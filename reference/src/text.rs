@@ -10,6 +10,7 @@
 //! withdraw CLOCK TICKET
 //! clock CLOCK
 //! desk DESK GUARANTEE LIMIT           in edition 3
+//! grace TICKS                         in edition 3
 //! ```
 //!
 //! The line of a call has a word for each field of its record in the edition.
@@ -49,10 +50,11 @@ pub enum Reason {
     Client = 113,
     Reserved = 114,
     Limit = 115,
+    Grace = 116,
 }
 
 /// Every reason.
-pub const REASONS: [Reason; 18] = [
+pub const REASONS: [Reason; 19] = [
     Reason::Edition,
     Reason::RigNotFirst,
     Reason::LoadTooLong,
@@ -71,6 +73,7 @@ pub const REASONS: [Reason; 18] = [
     Reason::Client,
     Reason::Reserved,
     Reason::Limit,
+    Reason::Grace,
 ];
 
 impl Reason {
@@ -99,6 +102,7 @@ impl Reason {
             Reason::Client => "desk is not a number",
             Reason::Reserved => "guarantee is not a number",
             Reason::Limit => "limit is not a number",
+            Reason::Grace => "grace is not a number",
         }
     }
 }
@@ -199,13 +203,14 @@ fn edition(words: &[&[u8]]) -> Result<u8, Reason> {
 }
 
 /// The words that calls begin with.
-const NAMES: [(Kind, &str); 6] = [
+const NAMES: [(Kind, &str); 7] = [
     (Kind::Rig, "rig"),
     (Kind::Claim, "claim"),
     (Kind::Release, "release"),
     (Kind::Withdraw, "withdraw"),
     (Kind::Clock, "clock"),
     (Kind::Declare, "desk"),
+    (Kind::Grace, "grace"),
 ];
 
 /// The word that a call of a kind begins with.
@@ -242,6 +247,7 @@ fn value(of: Field, word: &[u8]) -> Result<u64, Reason> {
         Field::Client => field::<u8>(word, Reason::Client).map(u64::from),
         Field::Reserved => field::<u8>(word, Reason::Reserved).map(u64::from),
         Field::Limit => field::<u8>(word, Reason::Limit).map(u64::from),
+        Field::Grace => field::<u32>(word, Reason::Grace).map(u64::from),
     }
 }
 

@@ -1,15 +1,15 @@
 //! What the reader and the writer answer on a load, a line for each answer.
 
 use crate::load::{self, Call, Reader};
-use crate::table::{Declaration, TimedCall};
+use crate::table::{Declaration, TimedCall, MAX_GRACE};
 
 /// What a lent buffer holds before a call.
 const FILL: u8 = 0xAA;
 
 /// Calls to append: a rig and a clock call that every edition carries; a rig
 /// and a claim with units; a claim of a client other than the first, and a
-/// declaration.
-const APPENDED: [Call; 6] = [
+/// declaration; and a grace.
+const APPENDED: [Call; 7] = [
     Call::Rig {
         groups: 15,
         pool: 0,
@@ -38,6 +38,7 @@ const APPENDED: [Call; 6] = [
         reserved: 3,
         limit: 4,
     }),
+    Call::Grace(MAX_GRACE),
 ];
 
 /// The records and the stop as a scan counts them and as the reader comes by

@@ -2,8 +2,11 @@
 
 mod common;
 
-use common::{claim, claim_of, client_load_of, declare, draw, load_of, pool_load_of, release};
+use common::{
+    claim, claim_of, client_load_of, clock, declare, draw, load_of, pool_load_of, release,
+};
 use reference::answers::answers;
+use reference::table::TableCall;
 
 fn text(load: &[u8]) -> String {
     String::from_utf8(answers(load)).expect("lines of words and numbers")
@@ -116,6 +119,58 @@ fn declarations_have_their_lines() {
             "8 13 0 0 0 0",
             "free 3",
             "holds 1 10",
+        ]
+    );
+}
+
+/// A grace has its lines like any other call, also where it is refused.
+#[test]
+fn graces_have_their_lines() {
+    let calls = [
+        TableCall::Grace(60_001),
+        TableCall::Grace(5),
+        declare(1, 1, 9).into(),
+        claim(0, 1, 10).into(),
+        TableCall::Grace(7),
+        claim(0, 1, 10).into(),
+        clock(10).into(),
+        clock(12).into(),
+        claim(12, 1, 3).into(),
+        release(13, 1).into(),
+    ];
+    let text = text(&client_load_of(0x1, 0, &calls));
+    let lines: Vec<&str> = text
+        .lines()
+        .filter(|l| !l.starts_with("common") && *l != "free 0")
+        .collect();
+    assert_eq!(
+        lines,
+        [
+            "1 0 0 0 0 0",
+            "2 21 0 0 0 0",
+            "3 0 0 0 0 0",
+            "4 0 0 0 0 0",
+            "5 0 1 0 0 0",
+            "holds 1 10",
+            "6 21 0 0 0 0",
+            "holds 1 10",
+            "7 0 2 10 1 19",
+            "holds 1 10",
+            "waits 2 10",
+            "8 0 0 10 0 0",
+            "holds 1 10",
+            "waits 2 10",
+            "9 0 0 12 0 0",
+            "holds 1 10",
+            "waits 2 17",
+            // Its bound: 5 left of the first, 10 of the second, 2 more for each.
+            "10 0 3 27 2 31",
+            "holds 1 10",
+            "waits 2 17",
+            "waits 3 27",
+            "11 0 1 13 0 0",
+            "holds 2 23",
+            "waits 3 23",
         ]
     );
 }

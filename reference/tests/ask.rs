@@ -8,7 +8,7 @@ use reference::ask::{ask, left, read, Question, MAX_QUESTION, WRONG};
 use reference::generate_question::{asked_load, question};
 use reference::listing::listing;
 use reference::load::MAX_LOAD;
-use reference::table::{Common, Lookup, Table, TableCall, TimedCall};
+use reference::table::{Common, Lookup, Table, TableCall, TimedCall, ONLY_CLIENT};
 
 /// S of document 01: three claims at clock 0.
 fn s() -> Vec<TimedCall> {
@@ -41,6 +41,26 @@ fn how_a_ticket_stands() {
         ("lookup 1", "ticket 1 is not pending\n"),
         ("lookup 2", "ticket 2 is on, promised end 14\n"),
         ("lookup 3", "ticket 3 waits, start 14\n"),
+    ] {
+        assert_eq!(answer(&load, question), said);
+    }
+}
+
+/// A holder past its promised end stands with that, others with the grace; a
+/// grace that is refused ends no load.
+#[test]
+fn how_a_ticket_stands_behind_a_grace() {
+    let s = s().into_iter().map(TableCall::from);
+    let mut calls = vec![TableCall::Grace(5), ONLY_CLIENT.into()];
+    calls.extend(s);
+    calls.extend([TableCall::Grace(7), clock(12).into()]);
+    let load = client_load_of(0xF, 0, &calls);
+    assert_eq!(left(&load).1, None);
+    for (question, said) in [
+        ("lookup 1", "ticket 1 is on, promised end 10\n"),
+        ("lookup 2", "ticket 2 waits, start 17\n"),
+        ("lookup 3", "ticket 3 waits, start 27\n"),
+        ("free", "0 of 0 units free\n"),
     ] {
         assert_eq!(answer(&load, question), said);
     }

@@ -64,7 +64,7 @@ fn every_shape_and_every_number_comes() {
             "{shape:?}"
         );
     }
-    for number in [0, 1, 2, 3, 4, 5, 6, 8, 9, 10, 13, 16, 17, 18, 19] {
+    for number in [0, 1, 2, 3, 4, 5, 6, 8, 9, 10, 13, 16, 17, 18, 19, 21] {
         let count = numbers.get(&number).copied().unwrap_or(0);
         // The one 13 of a run ends its listing.
         let least = if number == 13 { 20 } else { 50 };
@@ -83,6 +83,7 @@ fn every_boundary_value_comes() {
     let mut declared = BTreeSet::new();
     let mut reserved = BTreeSet::new();
     let mut limits = BTreeSet::new();
+    let mut graces = BTreeSet::new();
     for_seeds(0..600, |seed| {
         let run = generate::run_of(Shape::Boundary, seed);
         rigs.insert(run.rig);
@@ -104,9 +105,15 @@ fn every_boundary_value_comes() {
                     reserved.insert(declaration.reserved);
                     limits.insert(declaration.limit);
                 }
+                TableCall::Grace(ticks) => {
+                    graces.insert(ticks);
+                }
             }
         }
     });
+    for ticks in [0, 1, 5, 59_999, 60_000, 60_001, u32::MAX] {
+        assert!(graces.contains(&ticks), "grace {ticks}");
+    }
     for client in [0, 1, 2, 7, 8, 9, 255] {
         assert!(clients.contains(&client), "client {client}");
         assert!(declared.contains(&client), "client {client} declared");
@@ -151,7 +158,8 @@ fn features(call: TableCall, answer: &Answer, table: &Table) -> Vec<(&'static st
     let apart = |c: &&Claim| c.ticket != answer.ticket && !c.conflicts(groups);
     let tie = |c: &Claim| start.is_some() && c.planned_start() == start;
     let late = |c: &Claim| c.promised_end().is_some_and(|end| end < now);
-    let touched = |c: &Claim| own.is_some_and(|own| c.planned_start() == Some(own.end(now)));
+    let end = own.map(|own| own.end(now, table.grace()));
+    let touched = |c: &Claim| end.is_some() && c.planned_start() == end;
     vec![
         ("neither", groups == 0 && units == 0),
         ("units only", groups == 0 && answer.accepted()),
@@ -305,13 +313,13 @@ fn clients_come_in_every_way() {
     let mut counts: BTreeMap<&str, u64> = BTreeMap::new();
     for_seeds(0..1_500, |seed| {
         let run = generate::run(seed);
-        let clients = |call: &TableCall| match call {
-            TableCall::Declare(_) => true,
+        let newer = |call: &TableCall| match call {
+            TableCall::Declare(_) | TableCall::Grace(_) => true,
             TableCall::Timed(TimedCall::Claim { client, .. }) => *client != 1,
             TableCall::Timed(_) => false,
         };
         if run.edition < 3 {
-            assert!(!run.calls.iter().any(clients));
+            assert!(!run.calls.iter().any(newer));
             return;
         }
         let mut table = run.table();
@@ -330,6 +338,168 @@ fn clients_come_in_every_way() {
     for (name, count) in counts {
         assert!(count >= 12, "{name}: {count}");
     }
+}
+
+/// What a call that sets the grace is like, by the table before it and its
+/// answer; how many graces were accepted, and whether a claim was refused.
+fn grace_features(
+    ticks: u32,
+    before: &Table,
+    answer: &Answer,
+    (graces, refused): (usize, bool),
+) -> Vec<(&'static str, bool)> {
+    let accepted = answer.accepted();
+    let over = answer.number == 21 && ticks > 60_000;
+    let late = answer.number == 21 && before.issued() > 0;
+    let empty = before.claims().is_empty();
+    let declared = !before.declared().is_empty();
+    vec![
+        ("0", accepted && ticks == 0),
+        ("1", accepted && ticks == 1),
+        ("59,999", accepted && ticks == 59_999),
+        ("60,000", accepted && ticks == 60_000),
+        ("60,001", over && ticks == 60_001),
+        ("the greatest number", over && ticks == u32::MAX),
+        ("again", accepted && graces > 0),
+        ("a third time", accepted && graces > 1),
+        ("over, behind a good one", over && !late && graces > 0),
+        ("late", late && !over),
+        ("late and over", late && over),
+        ("late, with nothing pending", late && !over && empty),
+        ("behind a refused claim", accepted && refused),
+        ("behind a declaration", accepted && declared),
+        ("before any declaration", accepted && !declared),
+    ]
+}
+
+/// What an accepted call is like where there is a grace, by the tables before
+/// and behind it and its answer.
+fn overrun_features(
+    call: TimedCall,
+    before: &Table,
+    answer: &Answer,
+    after: &Table,
+) -> Vec<(&'static str, bool)> {
+    let now = after.now();
+    let grace = u64::from(after.grace());
+    let claims = after.claims();
+    let end = |c: &Claim| c.promised_end().unwrap_or(u64::MAX);
+    let overruns: Vec<&Claim> = claims.iter().filter(|c| end(c) < now).collect();
+    let past = |ticks| claims.iter().any(|c| end(c).saturating_add(ticks) == now);
+    let waiting: Vec<&Claim> = claims.iter().filter(|c| !c.is_on()).collect();
+    let waits = |fits: fn(&Claim, &Claim) -> bool| {
+        let mut pairs = waiting
+            .iter()
+            .flat_map(|c| overruns.iter().map(move |o| (c, o)));
+        pairs.any(|(c, o)| fits(c, o))
+    };
+    let behind = waits(|c, o| o.conflicts(c.groups));
+    let short = waits(|c, o| c.units > 0 && o.units > 0 && !o.conflicts(c.groups));
+    let claim = matches!(call, TimedCall::Claim { .. });
+    let own = claims.iter().find(|c| claim && c.ticket == answer.ticket);
+    let placed = own.is_some_and(|own| {
+        own.planned_start() == Some(now + grace) && overruns.iter().any(|o| o.conflicts(own.groups))
+    });
+    let leaves = match call {
+        TimedCall::Release { ticket, .. } => before
+            .claims()
+            .iter()
+            .any(|c| c.ticket == ticket && end(c) < now),
+        _ => false,
+    };
+    vec![
+        ("at a promised end", past(0)),
+        ("one past it", past(1)),
+        ("by one less than the grace", grace > 2 && past(grace - 1)),
+        ("by the grace", grace > 1 && past(grace)),
+        ("by one more", past(grace + 1)),
+        (
+            "by much more",
+            overruns.iter().any(|o| end(o) + 2 * grace < now),
+        ),
+        ("several overruns", overruns.len() > 1),
+        ("waits behind an overrun", behind),
+        ("waits for the units of one", short),
+        ("placed behind one", placed),
+        (
+            "up to the end of one",
+            own.is_some_and(|own| end(own) == now + grace && !overruns.is_empty()),
+        ),
+        ("an overrun leaves", leaves),
+        ("and lets others on", leaves && !answer.grants.is_empty()),
+        ("several clients", behind && after.declared().len() > 1),
+    ]
+}
+
+/// Graces are set in every way, and holders overrun by every length.
+#[test]
+fn graces_come_in_every_way() {
+    let mut counts: BTreeMap<&str, u64> = BTreeMap::new();
+    for_seeds(0..1_500, |seed| {
+        let run = generate::run(seed);
+        let mut table = run.table();
+        let (mut graces, mut refused) = (0, false);
+        for &call in run.calls.iter().take(200) {
+            let before = table.clone();
+            let answer = table.call(call);
+            let accepted = answer.accepted();
+            let features = match call {
+                TableCall::Grace(ticks) => {
+                    grace_features(ticks, &before, &answer, (graces, refused))
+                }
+                TableCall::Timed(call) if accepted && table.grace() > 0 => {
+                    overrun_features(call, &before, &answer, &table)
+                }
+                _ => Vec::new(),
+            };
+            for (name, holds) in features {
+                *counts.entry(name).or_default() += u64::from(holds);
+            }
+            graces += usize::from(accepted && matches!(call, TableCall::Grace(_)));
+            let claim = matches!(call, TableCall::Timed(TimedCall::Claim { .. }));
+            refused |= claim && !accepted;
+        }
+    });
+    assert_eq!(counts.len(), 15 + 14);
+    for (name, count) in counts {
+        assert!(count >= 12, "{name}: {count}");
+    }
+}
+
+/// A run behind another grace has its calls otherwise, in edition 3.
+#[test]
+fn a_run_is_put_behind_a_grace() {
+    let mut older = 0;
+    for_seeds(0..300, |seed| {
+        let shape = [Shape::Grace, Shape::Overrun, Shape::Pool][seed as usize % 3];
+        let run = generate::run_of(shape, seed);
+        for ticks in [0, 7, 60_000, 60_001] {
+            let other = run.with_grace(ticks);
+            assert_eq!(
+                (other.edition, other.rig, other.pool),
+                (3, run.rig, run.pool)
+            );
+            assert_eq!(other.calls[0], TableCall::Grace(ticks));
+            let added = 1 + usize::from(run.edition < 3);
+            older += usize::from(run.edition < 3);
+            let mut calls = other.calls[added..].iter();
+            let mut table = run.table();
+            for &call in &run.calls {
+                let dropped = table.call(call).accepted() && matches!(call, TableCall::Grace(_));
+                if !dropped {
+                    assert_eq!(calls.next(), Some(&call));
+                }
+            }
+            assert_eq!(calls.next(), None);
+            let mut table = other.table();
+            for &call in &other.calls {
+                table.call(call);
+            }
+            let grace = if ticks > 60_000 { 0 } else { ticks };
+            assert_eq!(table.grace(), grace);
+        }
+    });
+    assert!(older > 200, "{older}");
 }
 
 /// How often each number comes in the listings of the loads that the comparison
@@ -353,7 +523,13 @@ fn numbers_come_often_in_listings() {
         let stops = text.lines().any(|line| line.starts_with("stop 13"));
         late += u64::from(stops && load::read_all(load).is_ok());
     });
-    for (number, least) in [("6", 800), ("17", 500), ("18", 500), ("19", 200)] {
+    for (number, least) in [
+        ("6", 800),
+        ("17", 500),
+        ("18", 500),
+        ("19", 200),
+        ("21", 500),
+    ] {
         let count = lines.get(number).copied().unwrap_or(0);
         assert!(count >= least, "{number}: {count}");
     }
@@ -377,8 +553,9 @@ fn shapes_keep_what_they_say() {
             (run.calls.len(), most, refused)
         };
         assert_eq!(count(Shape::Full).1, 64);
-        // With at most two calls before each declaration, and behind the last.
-        assert!(count(Shape::Short).0 <= 8 + 8 + 2 * 9 + 1);
+        // With at most two calls before each declaration, and behind the last; a
+        // refused claim and a grace; and a declaration that comes too late.
+        assert!(count(Shape::Short).0 <= 8 + 8 + 2 * 9 + 2 + 1);
         let (calls, _, refused) = count(Shape::Accepted);
         assert!(refused * 3 <= calls * 2, "{refused} of {calls}");
         all = (all.0 + calls, all.1 + refused);
@@ -396,7 +573,8 @@ fn damage_gives_every_stop() {
     let mut editions = BTreeSet::new();
     let (mut turned, mut longer, mut shorter, mut units) = (0, 0, 0, 0);
     let (mut byte, mut declarations, mut foreign) = (0, 0, 0);
-    for_seeds(0..1_200, |seed| {
+    let (mut graces, mut foreign_graces, mut spoilt_graces) = (0, 0, 0);
+    for_seeds(0..1_800, |seed| {
         let good = generate::run_of(Shape::Short, seed).load();
         let load = generate::damage(&good, seed);
         sizes.insert(load.len());
@@ -418,6 +596,14 @@ fn damage_gives_every_stop() {
             declarations += u64::from(declared);
         }
         foreign += u64::from(good[0] < 3 && added == 6 && read.is_err());
+        if let (7, Ok(calls)) = (added, &read) {
+            let graced = calls.iter().any(|call| matches!(call, Call::Grace(_)));
+            graces += u64::from(graced);
+        }
+        foreign_graces += u64::from(good[0] < 3 && added == 7 && read.is_err());
+        // A grace of four bytes or six, in an edition that has graces.
+        let spoilt = |length| load.windows(3).any(|bytes| bytes == [0, length, 8]);
+        spoilt_graces += u64::from(good[0] == 3 && (spoilt(4) || spoilt(6)));
         if load.len() > MAX_LOAD - 2 && load.len() <= MAX_LOAD {
             return;
         }
@@ -440,11 +626,13 @@ fn damage_gives_every_stop() {
     }
     let counts = [turned, longer, shorter, units, byte, declarations, foreign];
     assert!(counts.iter().all(|&count| count >= 10), "{counts:?}");
+    let counts = [graces, foreign_graces, spoilt_graces];
+    assert!(counts.iter().all(|&count| count >= 10), "{counts:?}");
 }
 
 #[test]
 fn sized_loads_have_their_size() {
-    for (edition, pool, least) in [(1, 0, 134), (2, 5, 134), (3, 5, 152)] {
+    for (edition, pool, least) in [(1, 0, 134), (2, 5, 134), (3, 5, 159)] {
         for size in (least..400).chain([1_000, 12_345]) {
             let load = generate::sized_load(edition, size as u64, size).unwrap();
             assert_eq!((load[0], load.len()), (edition, size));

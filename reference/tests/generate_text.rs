@@ -39,7 +39,7 @@ fn every_reason_comes() {
     let mut lines = BTreeSet::new();
     let mut sizes = BTreeSet::new();
     let mut good = 0;
-    for_seeds(0..8_000, |seed| {
+    for_seeds(0..10_000, |seed| {
         let text = any_text(seed);
         sizes.insert(text.len());
         match make(&text) {
@@ -54,7 +54,7 @@ fn every_reason_comes() {
         let count = reasons.get(&reason).copied().unwrap_or(0);
         assert!(count >= 10, "{reason:?}: {count}");
     }
-    assert!((3_000..6_000).contains(&good), "{good}");
+    assert!((4_000..7_500).contains(&good), "{good}");
     let missing = (1..30).find(|line| !lines.contains(line));
     assert_eq!(missing, None);
     for size in [0, MAX_TEXT, MAX_TEXT + 1] {

@@ -207,6 +207,69 @@ on 1 3
     assert_eq!(listing(&load), format!("{HEADER}1 0 0 0\nstop 13 2\n"));
 }
 
+/// A grace that is accepted, over 60,000 or late has its line, and the listing
+/// goes on.
+#[test]
+fn graces_are_listed() {
+    let calls: Vec<TableCall> = vec![
+        TableCall::Grace(9),
+        TableCall::Grace(60_001),
+        claim(0, 1, 10).into(),
+        declare(1, 1, 9).into(),
+        TableCall::Grace(60_000),
+        TableCall::Grace(5),
+        TableCall::Grace(u32::MAX),
+        claim(0, 1, 10).into(),
+        TableCall::Grace(7),
+        claim(12, 1, 10).into(),
+        claim(12, 2, 10).into(),
+        claim(23, 2, 1).into(),
+        release(24, 3).into(),
+        release(25, 1).into(),
+        TableCall::Grace(60_001),
+        declare(2, 0, 1).into(),
+    ];
+    let lines = "\
+rec answer ticket start
+1 0 0 0
+2 0 0 0
+3 21 0 0
+4 17 0 0
+5 0 0 0
+6 0 0 0
+7 0 0 0
+8 21 0 0
+9 0 1 0
+on 1 0
+10 21 0 0
+11 0 2 17
+12 0 3 12
+on 3 12
+13 0 4 28
+14 0 3 24
+on 4 24
+15 0 1 25
+on 2 25
+16 21 0 0
+";
+    let load = client_load_of(0x3, 0, &calls);
+    assert_eq!(listing(&load), format!("{lines}stop 13 17\n"));
+    // A dark rig ends before any grace.
+    let load = client_load_of(0, 9, &calls);
+    assert_eq!(listing(&load), format!("{HEADER}stop 1 1\n"));
+    // In the older editions kind 8 is none of theirs.
+    let record = [0, 5, 8, 0, 0, 0, 5];
+    let load = [&load_of(1, &[])[..], &record].concat();
+    assert_eq!(listing(&load), format!("{HEADER}1 0 0 0\nstop 13 2\n"));
+    let load = [&pool_load_of(1, 1, &[])[..], &record].concat();
+    assert_eq!(listing(&load), format!("{HEADER}1 0 0 0\nstop 13 2\n"));
+    // Before the rig it is out of place, and cut it is short.
+    let load = [&[3], &record[..]].concat();
+    assert_eq!(listing(&load), format!("{HEADER}stop 13 1\n"));
+    let load = [&client_load_of(1, 1, &[])[..], &record[..6]].concat();
+    assert_eq!(listing(&load), format!("{HEADER}1 0 0 0\nstop 12 2\n"));
+}
+
 #[test]
 fn the_header_comes_before_an_early_stop_too() {
     let cases: [(&[u8], &str); 13] = [

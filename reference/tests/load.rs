@@ -7,7 +7,7 @@ use common::{pool_load_of, release, rig, withdraw};
 use reference::generate;
 use reference::load::{self, Call, Field, Next, Reader, Values, FIELDS, FORMATS, MAX_LOAD};
 use reference::refusal::Refusal;
-use reference::table::TimedCall;
+use reference::table::{TableCall, TimedCall};
 
 /// A good load with every kind of record.
 fn good() -> Vec<u8> {
@@ -91,8 +91,9 @@ fn units_stand_last_in_edition_2() {
 #[test]
 fn an_edition_carries_the_fields_that_it_has() {
     let values = FIELDS.map(|field| field as usize);
-    assert_eq!(values, [0, 1, 2, 3, 4, 5, 6, 7, 8]);
-    // Editions 1 and 2 have the same calls but for units, and 3 has clients.
+    assert_eq!(values, [0, 1, 2, 3, 4, 5, 6, 7, 8, 9]);
+    // Editions 1 and 2 have the same calls but for units, and 3 has clients and
+    // a grace.
     for (edition, _) in FORMATS {
         for (pool, units) in [(0, 0), (1, 0), (0, 1), (65_535, 65_535)] {
             let rig = Call::Rig { groups: 7, pool };
@@ -116,6 +117,14 @@ fn an_edition_carries_the_fields_that_it_has() {
                 }
             }
         }
+        for ticks in [0, 1, 5, 255, 256, 60_000, 60_001, u32::MAX] {
+            let call = Call::Grace(ticks);
+            let record = load::encode(edition, call);
+            assert_eq!(record.is_some(), edition == 3);
+            if let Some(record) = record {
+                assert_eq!(load::decode(edition, &record[2..]), Some(call));
+            }
+        }
     }
     // No call is of an edition that is not known.
     for edition in [0, 4, 255] {
@@ -137,6 +146,8 @@ fn a_call_is_its_kind_and_values() {
         Call::Timed(clock(3)),
         Call::Timed(claim_of(255, 0, 0, 0)),
         Call::Declare(declare(8, 64, 65)),
+        Call::Grace(60_000),
+        Call::Grace(u32::MAX),
     ];
     for call in calls {
         assert_eq!(Call::of(call.kind(), &call.values()), call);
@@ -147,6 +158,7 @@ fn a_call_is_its_kind_and_values() {
     // A record without a client is of the first.
     assert_eq!(values.get(Field::Client), 1);
     assert_eq!(values.get(Field::Reserved), 0);
+    assert_eq!(values.get(Field::Grace), 0);
 }
 
 #[test]
@@ -226,10 +238,11 @@ fn a_record_is_tested_12_before_13() {
 /// Each kind and edition has one length.
 #[test]
 fn the_length_of_each_kind_is_its_own() {
-    let lengths = |edition| match edition {
-        1 => vec![9, 21, 11, 11, 9],
-        2 => vec![11, 23, 11, 11, 9],
-        _ => vec![11, 24, 11, 11, 9, 4],
+    // Kind and length.
+    let forms = |edition| match edition {
+        1 => vec![(1, 9), (2, 21), (3, 11), (4, 11), (5, 9)],
+        2 => vec![(1, 11), (2, 23), (3, 11), (4, 11), (5, 9)],
+        _ => vec![(1, 11), (2, 24), (3, 11), (4, 11), (5, 9), (6, 4), (8, 5)],
     };
     for (edition, rig) in [
         (1, load_of(1, &[])),
@@ -241,8 +254,7 @@ fn the_length_of_each_kind_is_its_own() {
                 let mut record = length.to_be_bytes().to_vec();
                 record.push(kind);
                 record.resize(usize::from(length) + 2, 0);
-                let mut forms = (1..).zip(lengths(edition));
-                let fits = forms.any(|form| form == (kind, length));
+                let fits = forms(edition).contains(&(kind, length));
                 // As the first record only a rig is good, behind it only the
                 // others are.
                 let first = [&[edition], &record[..]].concat();
@@ -295,14 +307,62 @@ fn clients_stand_last_in_edition_3() {
     // Only the rig comes first.
     let first = [&[3][..], &expected[14..]].concat();
     assert_eq!(load::next_call(&first, 1), Err(Refusal::Misfit));
-    // Kinds 7 and 8 are not known, nor is 6 in the older editions.
-    for kind in [7, 8] {
+    // Kind 7 is not known, 8 has another length, and 6 is none of the older
+    // editions.
+    for kind in [7, 8, 9] {
         let mut other = expected.clone();
         other[16] = kind;
         assert_eq!(load::next_call(&other, 14), Err(Refusal::Misfit));
     }
     for rig in [load_of(1, &[]), pool_load_of(1, 0, &[])] {
         let other = [&rig[..], &expected[14..20]].concat();
+        assert_eq!(load::next_call(&other, rig.len()), Err(Refusal::Misfit));
+        let cut = &other[..other.len() - 1];
+        assert_eq!(load::next_call(cut, rig.len()), Err(Refusal::Short));
+    }
+}
+
+/// Edition 3: kind 8, the grace in four bytes. The reader judges none.
+#[test]
+fn a_grace_is_kind_8_of_edition_3() {
+    let rig = client_load_of(1, 0, &[]);
+    let record = [0, 5, 8, 0x71, 0x72, 0x73, 0x74];
+    let grace = Call::Grace(0x7172_7374);
+    assert_eq!(load::encode(3, grace), Some(record.to_vec()));
+    let load = [&rig[..], &record].concat();
+    assert_eq!(load, client_load_of(1, 0, &[TableCall::Grace(0x7172_7374)]));
+    let next = Next::Call {
+        call: grace,
+        next: load.len(),
+    };
+    assert_eq!(load::next_call(&load, rig.len()), Ok(next));
+    for (ticks, bytes) in [
+        (0, [0, 0, 0, 0]),
+        (1, [0, 0, 0, 1]),
+        (60_000, [0, 0, 0xEA, 0x60]),
+        (60_001, [0, 0, 0xEA, 0x61]),
+        (u32::MAX, [255; 4]),
+    ] {
+        let load = [&rig[..], &[0, 5, 8], &bytes].concat();
+        let calls = load::read_all(&load).unwrap();
+        assert_eq!(calls[1..], [Call::Grace(ticks)]);
+    }
+    // Cut, then as the first record, then a byte more or less.
+    for end in rig.len() + 1..load.len() {
+        let cut = &load[..end];
+        assert_eq!(load::next_call(cut, rig.len()), Err(Refusal::Short));
+    }
+    let first = [&[3], &record[..]].concat();
+    assert_eq!(load::next_call(&first, 1), Err(Refusal::Misfit));
+    for length in [1, 4, 6, 9] {
+        let mut other = load[..rig.len()].to_vec();
+        other.extend([0, length, 8]);
+        other.resize(other.len() + usize::from(length) - 1, 0);
+        assert_eq!(load::next_call(&other, rig.len()), Err(Refusal::Misfit));
+    }
+    // The older editions have none.
+    for rig in [load_of(1, &[]), pool_load_of(1, 0, &[])] {
+        let other = [&rig[..], &record].concat();
         assert_eq!(load::next_call(&other, rig.len()), Err(Refusal::Misfit));
         let cut = &other[..other.len() - 1];
         assert_eq!(load::next_call(cut, rig.len()), Err(Refusal::Short));
@@ -423,6 +483,34 @@ fn clients_are_written_in_edition_3_only() {
     assert_eq!(append(&most, declared, 70_000), Err(Refusal::Overlong));
     let most = generate::sized_load(2, 1, MAX_LOAD).unwrap();
     assert_eq!(append(&most, declared, 70_000), Err(Refusal::Misfit));
+}
+
+/// A grace is written wherever a load of edition 3 has a rig, and not judged.
+#[test]
+fn graces_are_written_in_edition_3_only() {
+    for ticks in [0, 60_000, 60_001, u32::MAX] {
+        let grace = Call::Grace(ticks);
+        for room in [0, 11, 70_000] {
+            for load in [good(), good_pool()] {
+                assert_eq!(append(&load, grace, room), Err(Refusal::Misfit));
+                assert_eq!(append(&load[..1], grace, room), Err(Refusal::Misfit));
+            }
+            assert_eq!(append(&[3], grace, room), Err(Refusal::Misfit));
+        }
+        let rig = client_load_of(0xF, 3, &[]);
+        let late = client_load_of(0xF, 3, &[claim(0, 1, 1).into()]);
+        for load in [rig, late] {
+            let length = load.len() + 7;
+            assert_eq!(append(&load, grace, length), Ok(length));
+            assert_eq!(append(&load, grace, length - 1), Err(Refusal::NoSpace));
+        }
+        let most = generate::sized_load(3, 1, MAX_LOAD - 7).unwrap();
+        assert_eq!(append(&most, grace, 70_000), Ok(MAX_LOAD));
+        let most = generate::sized_load(3, 1, MAX_LOAD - 6).unwrap();
+        assert_eq!(append(&most, grace, 70_000), Err(Refusal::Overlong));
+        let most = generate::sized_load(2, 1, MAX_LOAD).unwrap();
+        assert_eq!(append(&most, grace, 70_000), Err(Refusal::Misfit));
+    }
 }
 
 /// What edition 1 cannot carry is 13, as a rig out of place is.

@@ -118,6 +118,47 @@ fn no_violation_on_runs_with_clients() {
     assert!(all.late_grants > 500, "{all:?}");
 }
 
+/// Runs with a grace, in which holders overrun.
+#[test]
+fn no_violation_on_runs_with_graces() {
+    let mut all = Summary::default();
+    let mut overrun = 0;
+    for_seeds(0..3_000, |seed| {
+        let (start, calls) = list(generate::run_of(Shape::Grace, seed), seed, 200);
+        let summary = judge_table(start, &calls).unwrap();
+        overrun += u64::from(!summary.in_time);
+        all.drew += summary.drew;
+        all.graces += summary.graces;
+        all.refused_graces += summary.refused_graces;
+        all.behind_grace += summary.behind_grace;
+        all.late_grants += summary.late_grants;
+    });
+    assert!(overrun > 2_000, "{overrun}");
+    assert!(all.drew > 10_000, "{all:?}");
+    assert!(all.graces > 3_000, "{all:?}");
+    assert!(all.refused_graces > 3_000, "{all:?}");
+    assert!(all.behind_grace > 30_000, "{all:?}");
+    assert!(all.late_grants > 5_000, "{all:?}");
+}
+
+/// A grace may be set on tables of the older editions, too.
+#[test]
+fn no_violation_on_older_tables_with_graces() {
+    let mut all = Summary::default();
+    for_seeds(0..600, |seed| {
+        let made = generate::run_of(Shape::Overrun, seed);
+        let edition = made.edition;
+        let (start, calls) = list(made, seed, 200);
+        let summary = judge_table(start, &calls).unwrap();
+        if edition < 3 {
+            all.graces += summary.graces;
+            all.behind_grace += summary.behind_grace;
+        }
+    });
+    assert!(all.graces > 100, "{all:?}");
+    assert!(all.behind_grace > 1_000, "{all:?}");
+}
+
 #[test]
 fn no_violation_on_other_runs() {
     let mut overrun = 0;
@@ -291,10 +332,48 @@ enum Flaw {
     NineClients,
     /// A client without guarantee and limit is refused.
     NothingIsOverbooked,
+    /// An overrun ends at the clock, whatever the grace.
+    GraceIgnored,
+    /// The grace counts from the promised end on, not from the clock.
+    GraceFromPromisedEnd,
+    /// The grace is given at the promised end already.
+    GraceAtPromisedEnd,
+    /// The grace is given to every holder that ends sooner.
+    GraceBeforePromisedEnd,
+    /// The grace is given to waiting claims, too.
+    GraceToWaiting,
+    /// Packing heeds no grace.
+    PacksWithoutGrace,
+    /// Placing heeds no grace.
+    PlacesWithoutGrace,
+    /// The start bound counts no grace.
+    BoundWithoutGrace,
+    /// An overrun is not planned to hold its units for the grace.
+    GraceWithoutUnits,
+    /// A holder past its promised end by more than the grace is treated as gone.
+    GoneAfterGrace,
+    /// A grace is accepted after a claim.
+    GraceAfterClaim,
+    /// A grace is accepted after a claim where nothing is pending any more.
+    GraceAfterAllLeft,
+    /// A claim that is refused ends the time for graces.
+    RefusedClaimEndsGraces,
+    /// A grace of 60,000 is refused.
+    GraceLessOne,
+    /// A grace of 60,001 is accepted.
+    GraceOneMore,
+    /// A grace is set once, and then refused.
+    GraceOnce,
+    /// Of several graces the first counts.
+    FirstGraceCounts,
+    /// A refused grace counts.
+    RefusedGraceCounts,
+    /// A refused grace takes the one before away.
+    RefusedGraceClears,
 }
 
 /// Every flaw.
-const FLAWS: [Flaw; 54] = [
+const FLAWS: [Flaw; 73] = [
     Flaw::GrantsConflicting,
     Flaw::PlacesAtClock,
     Flaw::PlacesBehindLast,
@@ -349,7 +428,35 @@ const FLAWS: [Flaw; 54] = [
     Flaw::DeclaresAgain,
     Flaw::NineClients,
     Flaw::NothingIsOverbooked,
+    Flaw::GraceIgnored,
+    Flaw::GraceFromPromisedEnd,
+    Flaw::GraceAtPromisedEnd,
+    Flaw::GraceBeforePromisedEnd,
+    Flaw::GraceToWaiting,
+    Flaw::PacksWithoutGrace,
+    Flaw::PlacesWithoutGrace,
+    Flaw::BoundWithoutGrace,
+    Flaw::GraceWithoutUnits,
+    Flaw::GoneAfterGrace,
+    Flaw::GraceAfterClaim,
+    Flaw::GraceAfterAllLeft,
+    Flaw::RefusedClaimEndsGraces,
+    Flaw::GraceLessOne,
+    Flaw::GraceOneMore,
+    Flaw::GraceOnce,
+    Flaw::FirstGraceCounts,
+    Flaw::RefusedGraceCounts,
+    Flaw::RefusedGraceClears,
 ];
+
+/// The flaws from this one up to that one, both included.
+fn flaws(first: Flaw, last: Flaw) -> &'static [Flaw] {
+    let at = |flaw| FLAWS.iter().position(|&other| other == flaw);
+    match (at(first), at(last)) {
+        (Some(first), Some(last)) => &FLAWS[first..=last],
+        _ => unreachable!("every flaw is listed"),
+    }
+}
 
 #[derive(Clone, Copy)]
 struct Entry {
@@ -374,6 +481,9 @@ struct Double {
     withdrawn: [usize; 256],
     /// A claim was refused.
     refused: bool,
+    grace: u64,
+    /// A grace was set.
+    graced: bool,
     now: u64,
     issued: u16,
     entries: Vec<Entry>,
@@ -397,6 +507,8 @@ impl Double {
             shares: shares.collect(),
             withdrawn: [0; 256],
             refused: false,
+            grace: 0,
+            graced: false,
             now: 0,
             issued: 0,
             entries: Vec::new(),
@@ -414,17 +526,35 @@ impl Double {
     }
 
     fn end(&self, entry: &Entry) -> u64 {
-        match entry.grant {
-            Some(grant) => (grant + entry.length).max(self.now),
-            None => entry.start + entry.length,
+        let Some(grant) = entry.grant else {
+            let more = match self.flaw {
+                Flaw::GraceToWaiting => self.grace,
+                _ => 0,
+            };
+            return entry.start + entry.length + more;
+        };
+        let promised = grant + entry.length;
+        let (now, graced) = (self.now, self.now + self.grace);
+        match self.flaw {
+            Flaw::GraceIgnored => promised.max(now),
+            Flaw::GraceFromPromisedEnd if promised < now => now.max(promised + self.grace),
+            Flaw::GraceAtPromisedEnd if promised == now => graced,
+            Flaw::GraceBeforePromisedEnd => promised.max(graced),
+            _ if promised < now => graced,
+            _ => promised,
         }
     }
 
     fn gone(&self, entry: &Entry) -> bool {
-        self.flaw == Flaw::OverrunGone
-            && entry
-                .grant
-                .is_some_and(|grant| grant + entry.length < self.now)
+        let past = |ticks| {
+            let mut ends = entry.grant.iter().map(|grant| grant + entry.length);
+            ends.any(|end| end + ticks < self.now)
+        };
+        match self.flaw {
+            Flaw::OverrunGone => past(0),
+            Flaw::GoneAfterGrace => past(self.grace),
+            _ => false,
+        }
     }
 
     fn before(&self, one: &Entry, other: &Entry) -> bool {
@@ -438,8 +568,10 @@ impl Double {
     /// The units in use at a tick by these holds.
     fn used(&self, holds: &[Entry], tick: u64) -> u64 {
         let begun = |hold: &Entry| hold.grant.unwrap_or(hold.start) <= tick;
-        let lasts = |hold: &Entry| match hold.grant {
-            Some(grant) if grant + hold.length < self.now => self.flaw == Flaw::OverrunUnitsPlanned,
+        let past = |hold: &Entry| hold.grant.is_some_and(|on| on + hold.length < self.now);
+        let lasts = |hold: &Entry| match self.flaw {
+            Flaw::OverrunUnitsPlanned if past(hold) => true,
+            Flaw::GraceWithoutUnits if past(hold) => false,
             _ => tick < self.end(hold),
         };
         let taking = holds.iter().filter(|hold| begun(hold) && lasts(hold));
@@ -464,6 +596,10 @@ impl Double {
     /// Each waiting entry in its turn at the least start, of all ends, that is
     /// behind the conflicting ones before it and leaves units enough.
     fn pack(&mut self) {
+        let grace = self.grace;
+        if self.flaw == Flaw::PacksWithoutGrace {
+            self.grace = 0;
+        }
         let old = self.entries.clone();
         let mut order: Vec<usize> = (0..old.len())
             .filter(|&index| old[index].grant.is_none())
@@ -501,6 +637,7 @@ impl Double {
             self.entries[index].start = starts.into_iter().min().unwrap_or(bound);
             done.push(self.entries[index]);
         }
+        self.grace = grace;
     }
 
     fn fits(&self, entry: &Entry, start: u64) -> bool {
@@ -518,7 +655,17 @@ impl Double {
         })
     }
 
-    fn place(&self, entry: &Entry) -> u64 {
+    fn place(&mut self, entry: &Entry) -> u64 {
+        let grace = self.grace;
+        if self.flaw == Flaw::PlacesWithoutGrace {
+            self.grace = 0;
+        }
+        let start = self.least_start(entry);
+        self.grace = grace;
+        start
+    }
+
+    fn least_start(&self, entry: &Entry) -> u64 {
         if self.flaw == Flaw::PlacesAtClock {
             return self.now;
         }
@@ -737,6 +884,9 @@ impl ClaimsTable for Double {
                 let contending = self.entries.iter().filter(contends);
                 let remaining = contending.clone().map(|other| match other.grant {
                     Some(_) if self.flaw == Flaw::BoundByLength => other.length,
+                    Some(grant) if self.flaw == Flaw::BoundWithoutGrace => {
+                        (grant + other.length).saturating_sub(self.now)
+                    }
                     Some(_) => self.end(other) - self.now,
                     None => other.length,
                 });
@@ -815,6 +965,35 @@ impl ClaimsTable for Double {
         };
         Answer {
             number,
+            ..Answer::default()
+        }
+    }
+
+    fn set_grace(&mut self, ticks: u32) -> Answer {
+        let ticks = u64::from(ticks);
+        let most = match self.flaw {
+            Flaw::GraceLessOne => 59_999,
+            Flaw::GraceOneMore => 60_001,
+            _ => 60_000,
+        };
+        let late = match self.flaw {
+            Flaw::GraceAfterClaim => false,
+            Flaw::GraceAfterAllLeft => !self.entries.is_empty(),
+            Flaw::RefusedClaimEndsGraces => self.issued > 0 || self.refused,
+            Flaw::GraceOnce => self.issued > 0 || self.graced,
+            _ => self.issued > 0,
+        };
+        let refused = ticks > most || late;
+        self.grace = match self.flaw {
+            Flaw::RefusedGraceCounts => ticks,
+            Flaw::RefusedGraceClears if refused => 0,
+            Flaw::FirstGraceCounts if self.graced => self.grace,
+            _ if refused => self.grace,
+            _ => ticks,
+        };
+        self.graced |= !refused;
+        Answer {
+            number: if refused { 21 } else { 0 },
             ..Answer::default()
         }
     }
@@ -1216,10 +1395,10 @@ fn numbers_of_clients_are_judged() {
 
 #[test]
 fn flaws_with_clients_are_caught_in_generated_runs() {
+    let flaws = flaws(Flaw::OwnReservedKept, Flaw::NothingIsOverbooked);
     let mut caught = [0; 17];
     let mut promises = [0; 17];
-    let flaws = &FLAWS[FLAWS.len() - 17..];
-    assert_eq!(flaws[0], Flaw::OwnReservedKept);
+    assert_eq!(flaws.len(), caught.len());
     for_seeds(0..80, |seed| {
         let (start, calls) = list(generate::run_of(Shape::Clients, seed), seed, 200);
         for (index, &flaw) in flaws.iter().enumerate() {
@@ -1243,6 +1422,233 @@ fn flaws_with_clients_are_caught_in_generated_runs() {
             | Flaw::NineClients
             | Flaw::NothingIsOverbooked => assert_eq!(broken, 0, "{flaw:?}"),
             _ => {}
+        }
+    }
+}
+
+/// A list of graces, then of calls.
+fn graced(graces: &[u32], calls: &[TimedCall]) -> Vec<RunCall> {
+    let graces = graces.iter().map(|&ticks| RunCall::Grace(ticks));
+    graces
+        .chain(calls.iter().map(|&call| call.into()))
+        .collect()
+}
+
+/// The promises about the grace, each with tables that break it; with numbers
+/// looked at and without.
+#[test]
+fn broken_promises_of_the_grace_are_caught() {
+    let start = older(0xF, 0);
+    let two = |more| [claim(0, 1, 10), claim(0, 1, 10), more];
+    let one = |more| [claim(0, 1, 10), more];
+    for (flaw, rule, calls) in [
+        // One past its promised end the first is expected to end at 16.
+        (
+            Flaw::GraceIgnored,
+            Rule::Early,
+            graced(&[5], &two(clock(11))),
+        ),
+        (
+            Flaw::GraceFromPromisedEnd,
+            Rule::Early,
+            graced(&[5], &two(clock(11))),
+        ),
+        (
+            Flaw::GraceFromPromisedEnd,
+            Rule::Early,
+            graced(&[5], &two(clock(60_000))),
+        ),
+        (
+            Flaw::PacksWithoutGrace,
+            Rule::Early,
+            graced(&[1], &two(clock(11))),
+        ),
+        // In time no start is raised: at the promised end, and before it.
+        (
+            Flaw::GraceAtPromisedEnd,
+            Rule::Raised,
+            graced(&[1], &two(clock(10))),
+        ),
+        (
+            Flaw::GraceBeforePromisedEnd,
+            Rule::Raised,
+            graced(&[5], &two(clock(6))),
+        ),
+        // The third has to start at 20, where the second ends.
+        (
+            Flaw::GraceToWaiting,
+            Rule::Bound,
+            graced(&[1], &two(claim(0, 1, 1))),
+        ),
+        (
+            Flaw::GoneAfterGrace,
+            Rule::Shared,
+            graced(&[5], &two(clock(16))),
+        ),
+        // The second is bound to start at 11 and the grace.
+        (
+            Flaw::RefusedGraceCounts,
+            Rule::Bound,
+            graced(&[60_001], &one(claim(11, 1, 1))),
+        ),
+        (
+            Flaw::RefusedGraceCounts,
+            Rule::Bound,
+            graced(&[5, u32::MAX], &one(claim(11, 1, 1))),
+        ),
+        (
+            Flaw::RefusedGraceClears,
+            Rule::Early,
+            graced(&[5, 60_001], &two(clock(11))),
+        ),
+        (
+            Flaw::FirstGraceCounts,
+            Rule::Early,
+            graced(&[5, 6], &two(clock(11))),
+        ),
+        (
+            Flaw::FirstGraceCounts,
+            Rule::Bound,
+            graced(&[6, 5], &one(claim(11, 1, 1))),
+        ),
+        // A lookup gives the promised end.
+        (
+            Flaw::LookupGivesEnd,
+            Rule::Lookup,
+            graced(&[5], &two(clock(11))),
+        ),
+    ] {
+        assert_eq!(rule_from(flaw, start, &calls), Some(rule), "{flaw:?}");
+        assert_eq!(promise_rule(flaw, start, &calls), Some(rule), "{flaw:?}");
+        // One call less shows nothing.
+        let less = &calls[..calls.len() - 1];
+        assert_eq!(rule_from(flaw, start, less), None, "{flaw:?}");
+    }
+    // A late grace is refused, and does not count.
+    let mut calls = graced(&[5], &two(clock(3)));
+    calls.push(RunCall::Grace(4));
+    for flaw in [Flaw::RefusedGraceCounts, Flaw::RefusedGraceClears] {
+        assert_eq!(rule_from(flaw, start, &calls), None, "{flaw:?}");
+        let late = [&calls[..], &[clock(11).into()]].concat();
+        assert_eq!(rule_from(flaw, start, &late), Some(Rule::Early));
+    }
+    // At the promised end, not past it, there is none.
+    let calls = graced(&[5], &two(clock(10)));
+    for flaw in [Flaw::GraceIgnored, Flaw::GraceFromPromisedEnd] {
+        assert_eq!(rule_from(flaw, start, &calls), None, "{flaw:?}");
+    }
+    // The monitor learns the grace from accepted calls alone.
+    let calls = graced(&[5], &two(clock(11)));
+    let mut steps = run(&mut new_table(start), &calls);
+    assert!(judge(start, &steps).is_ok());
+    steps[0].asked = Asked::Grace(6, Answer::default());
+    assert_eq!(judge(start, &steps).unwrap_err().rule, Rule::Early);
+    steps.remove(0);
+    // Without it nothing is too early, and a bound too low.
+    assert!(judge(start, &steps).is_ok());
+    let calls = graced(&[5], &one(claim(11, 1, 1)));
+    let steps = run(&mut new_table(start), &calls);
+    assert!(judge(start, &steps).is_ok());
+    assert_eq!(judge(start, &steps[1..]).unwrap_err().rule, Rule::Bound);
+}
+
+/// What breaks no promise is told by the numbers, and so by the comparison.
+#[test]
+fn numbers_of_graces_are_judged() {
+    let start = older(0xF, 0);
+    let late = [graced(&[], &[claim(0, 1, 10)]), graced(&[5], &[])].concat();
+    let left = [
+        graced(&[], &[claim(0, 1, 10), release(3, 1)]),
+        graced(&[5], &[]),
+    ]
+    .concat();
+    let dark = [graced(&[], &[claim(0, 0, 10)]), graced(&[5], &[])].concat();
+    for (flaw, calls) in [
+        (Flaw::GraceAfterClaim, late.clone()),
+        (Flaw::GraceAfterAllLeft, left),
+        (Flaw::RefusedClaimEndsGraces, dark),
+        (Flaw::GraceLessOne, graced(&[60_000], &[])),
+        (Flaw::GraceOneMore, graced(&[60_001], &[])),
+        (Flaw::GraceOnce, graced(&[0, 0], &[])),
+    ] {
+        let rule = rule_from(flaw, start, &calls);
+        assert_eq!(rule, Some(Rule::Number), "{flaw:?}");
+        assert_eq!(promise_rule(flaw, start, &calls), None, "{flaw:?}");
+        // A grace is judged alike on the table of a refused rig.
+        let steps = run(&mut new_table(older(0, 7)), &calls);
+        assert!(judge(older(0, 7), &steps).is_ok());
+    }
+    assert_eq!(rule_from(Flaw::GraceAfterAllLeft, start, &late), None);
+    assert_eq!(
+        rule_from(Flaw::GraceLessOne, start, &graced(&[59_999], &[])),
+        None
+    );
+    let most = graced(&[u32::MAX, 60_002], &[]);
+    assert_eq!(rule_from(Flaw::GraceOneMore, start, &most), None);
+}
+
+/// What no promise forbids is told by answers alone.
+#[test]
+fn answers_tell_what_the_monitor_passes() {
+    let calls = [draw(0, 1, 10, 2), claim(0, 1, 3), draw(11, 2, 5, 1)];
+    let calls = graced(&[5], &[&calls[..], &[claim(11, 1, 5)]].concat());
+    let start = older(0xF, 2);
+    let right = run(&mut new_table(start), &calls);
+    for (flaw, at, starts, bounds) in [
+        (Flaw::Nothing, 4, (16, 19), (11, 27)),
+        // The last is answered a start before the second.
+        (Flaw::PlacesWithoutGrace, 3, (11, 11), (11, 27)),
+        (Flaw::BoundWithoutGrace, 4, (16, 19), (11, 22)),
+        (Flaw::GraceWithoutUnits, 3, (11, 19), (11, 27)),
+    ] {
+        let steps = run(&mut Double::new(flaw, start), &calls);
+        assert!(judge(start, &steps).is_ok(), "{flaw:?}");
+        let answers = [3, 4].map(|at| match &steps[at].asked {
+            Asked::Timed(_, answer) => (answer.start, answer.start_bound),
+            _ => unreachable!("a claim"),
+        });
+        let [one, other] = answers;
+        assert_eq!((one.0, other.0), starts, "{flaw:?}");
+        assert_eq!((one.1, other.1), bounds, "{flaw:?}");
+        let differs = steps
+            .iter()
+            .zip(&right)
+            .position(|(one, other)| one != other);
+        let expected = (flaw != Flaw::Nothing).then_some(at);
+        assert_eq!(differs, expected, "{flaw:?}");
+    }
+}
+
+#[test]
+fn flaws_with_graces_are_caught_in_generated_runs() {
+    let flaws = flaws(Flaw::GraceIgnored, Flaw::RefusedGraceClears);
+    let mut caught = [0; 19];
+    let mut promises = [0; 19];
+    assert_eq!(flaws.len(), caught.len());
+    for_seeds(0..120, |seed| {
+        let (start, calls) = list(generate::run_of(Shape::Grace, seed), seed, 200);
+        for (index, &flaw) in flaws.iter().enumerate() {
+            let steps = run(&mut Double::new(flaw, start), &calls);
+            caught[index] += usize::from(judge(start, &steps).is_err());
+            promises[index] += usize::from(judge_promises(start, &steps).is_err());
+        }
+    });
+    for (index, flaw) in flaws.iter().enumerate() {
+        let (caught, broken) = (caught[index], promises[index]);
+        match flaw {
+            Flaw::PlacesWithoutGrace | Flaw::BoundWithoutGrace | Flaw::GraceWithoutUnits => {
+                assert_eq!((caught, broken), (0, 0), "{flaw:?}");
+            }
+            Flaw::GraceAfterClaim
+            | Flaw::GraceAfterAllLeft
+            | Flaw::RefusedClaimEndsGraces
+            | Flaw::GraceLessOne
+            | Flaw::GraceOneMore
+            | Flaw::GraceOnce => {
+                assert!(caught >= 3, "{flaw:?}: {caught} of 120");
+                assert_eq!(broken, 0, "{flaw:?}");
+            }
+            _ => assert!(broken >= 3, "{flaw:?}: {broken} of 120"),
         }
     }
 }
@@ -1427,6 +1833,24 @@ fn answers_that_make_no_run_are_caught() {
             assert_eq!((violation.step, violation.rule), (index, Rule::Form));
         }
     }
+    // So does a grace.
+    let steps = run(&mut new_table(start), &graced(&[5, 60_001], &[]));
+    assert!(judge(start, &steps).is_ok());
+    for index in 0..2 {
+        let changes: [&dyn Fn(&mut Answer); 3] = [
+            &|answer| answer.ticket = 1,
+            &|answer| answer.start_bound = 1,
+            &|answer| answer.grants = vec![1],
+        ];
+        for change in changes {
+            let mut steps = steps.clone();
+            if let Asked::Grace(_, answer) = &mut steps[index].asked {
+                change(answer);
+            }
+            let violation = judge(start, &steps).unwrap_err();
+            assert_eq!((violation.step, violation.rule), (index, Rule::Form));
+        }
+    }
 }
 
 #[test]
@@ -1442,10 +1866,11 @@ fn the_double_without_a_flaw_is_the_table() {
 #[test]
 fn generated_runs_tell_every_flaw_from_the_table() {
     let mut told = [0; FLAWS.len()];
-    for_seeds(0..200, |seed| {
+    for_seeds(0..260, |seed| {
         let made = match seed {
             0..160 => generate::run(seed),
-            _ => generate::run_of(Shape::Clients, seed),
+            160..200 => generate::run_of(Shape::Clients, seed),
+            _ => generate::run_of(Shape::Grace, seed),
         };
         let (start, calls) = list(made, seed, 120);
         let table = run(&mut new_table(start), &calls);
@@ -1458,7 +1883,7 @@ fn generated_runs_tell_every_flaw_from_the_table() {
         }
     });
     for (flaw, told) in FLAWS.iter().zip(told) {
-        assert!(told >= 2, "{flaw:?}: {told} of 200");
+        assert!(told >= 2, "{flaw:?}: {told} of 260");
     }
 }
 

@@ -7,10 +7,13 @@ use std::path::{Path, PathBuf};
 use std::process::{Command, Output, Stdio};
 use std::{env, fs, process};
 
-use common::{claim, claim_of, client_load_of, declare, draw, load_of, pool_load_of, release};
+use common::{
+    claim, claim_of, client_load_of, clock, declare, draw, load_of, pool_load_of, release,
+};
 use reference::dance::beat;
 use reference::generate;
 use reference::listing::listing;
+use reference::table::TableCall;
 use reference::workload::workload;
 
 /// What a program prints for an input.
@@ -69,6 +72,27 @@ fn the_plan_program_draws_groups_and_pool() {
     assert_eq!(bars(&client_load_of(0xF, 0, &calls)).1, 1);
     let output = print(env!("CARGO_BIN_EXE_plan"), &[4]);
     assert_eq!(output.status.code(), Some(1));
+}
+
+/// An overrun is drawn up to its end, the clock and the grace, and what waits
+/// for it from there on.
+#[test]
+fn the_plan_program_draws_the_grace() {
+    for (grace, last) in [(0, 22), (30, 52), (60_000, 60_022), (60_001, 22)] {
+        let calls = [
+            TableCall::Grace(grace),
+            declare(1, 0, 9).into(),
+            claim(0, 0x8, 10).into(),
+            claim(0, 0x8, 10).into(),
+            TableCall::Grace(7),
+            clock(12).into(),
+        ];
+        let output = print(env!("CARGO_BIN_EXE_plan"), &client_load_of(0xF, 0, &calls));
+        assert!(output.status.success());
+        let picture = String::from_utf8(output.stdout).expect("plain text");
+        assert_eq!(picture.matches("<rect x=").count(), 2);
+        assert!(picture.contains(&format!(">{last}</text>")), "{grace}");
+    }
 }
 
 #[test]

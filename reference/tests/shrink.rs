@@ -10,7 +10,7 @@ use reference::ask::{ask, left};
 use reference::generate::{self, Shape};
 use reference::load::{self, Call};
 use reference::shrink::{shrink, shrink_question, shrink_text};
-use reference::table::{Table, TimedCall};
+use reference::table::{Table, TableCall, TimedCall};
 
 /// Whether some line of the listing has this answer.
 fn answers(load: &[u8], number: &str) -> bool {
@@ -62,6 +62,10 @@ fn release_grants(load: &[u8]) -> bool {
         }
         Call::Declare(declaration) => {
             table.declare(declaration);
+            false
+        }
+        Call::Grace(ticks) => {
+            table.set_grace(ticks);
             false
         }
         Call::Timed(call) => {
@@ -163,6 +167,56 @@ fn clients_are_lowered() {
     let calls = load::read_all(&small).unwrap();
     assert_eq!(calls.len(), 3);
     assert_eq!(calls[1], Call::Declare(declare(4, 0, 0)));
+}
+
+/// What needs no grace is shown without, what does with the least.
+#[test]
+fn a_grace_is_dropped_or_lowered() {
+    let calls = [
+        TableCall::Grace(60_001),
+        TableCall::Grace(37),
+        declare(3, 10, 20).into(),
+        claim_of(3, 0, 2, 9).into(),
+        claim_of(3, 4, 2, 9).into(),
+        TableCall::Grace(5),
+        clock(20).into(),
+        release(25, 1).into(),
+    ];
+    let load = client_load_of(0xF, 9, &calls);
+    let small = shrink(&load, release_grants);
+    let expected = load_of(2, &[claim(0, 2, 1), claim(0, 2, 1), release(0, 1)]);
+    assert_eq!(small, expected);
+    // A start past the clock behind an overrun.
+    let graced = |load: &[u8]| {
+        let table = left(load).0;
+        let now = table.now();
+        let mut claims = table.claims().iter();
+        let overrun = claims.any(|claim| claim.promised_end().is_some_and(|end| end < now));
+        overrun && claims.any(|claim| claim.planned_start() > Some(now))
+    };
+    let small = shrink(&client_load_of(0xF, 9, &calls[..7]), graced);
+    let expected = [
+        TableCall::Grace(1),
+        declare(3, 0, 2).into(),
+        claim_of(3, 0, 2, 1).into(),
+        claim_of(3, 0, 2, 1).into(),
+        clock(2).into(),
+    ];
+    let shrunk = load::read_all(&small).unwrap();
+    assert_eq!(shrunk[1..], expected.map(Call::from));
+    // Refused for its size, and for its place.
+    let refused = |load: &[u8]| answers(load, "21");
+    let over = client_load_of(0xF, 9, &[TableCall::Grace(12), TableCall::Grace(u32::MAX)]);
+    let shrunk = load::read_all(&shrink(&over, refused)).unwrap();
+    assert_eq!(shrunk[1..], [Call::Grace(60_001)]);
+    let late = client_load_of(0xF, 9, &calls[1..7]);
+    let shrunk = load::read_all(&shrink(&late, refused)).unwrap();
+    let expected = [
+        declare(3, 0, 1).into(),
+        claim_of(3, 0, 2, 1).into(),
+        TableCall::Grace(0),
+    ];
+    assert_eq!(shrunk[1..], expected.map(Call::from));
 }
 
 /// Three claims that draw units, with others before and behind them.

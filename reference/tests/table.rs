@@ -253,6 +253,16 @@ fn every_group_can_be_the_lowest() {
     }
 }
 
+/// The end of a claim at a clock, by the words of documents 01 and 02.
+fn end_of(claim: &Claim, now: u64, grace: u32) -> u64 {
+    let length = u64::from(claim.length);
+    match claim.state {
+        State::Waiting(start) => start + length,
+        State::On(grant) if now > grant + length => now + u64::from(grace),
+        State::On(grant) => grant + length,
+    }
+}
+
 /// A hold of groups and units, from a tick up to another.
 struct Hold {
     groups: u64,
@@ -263,21 +273,22 @@ struct Hold {
 
 impl Hold {
     /// The planned hold of a claim.
-    fn of(claim: &Claim, now: u64) -> Hold {
+    fn of(claim: &Claim, now: u64, grace: u32) -> Hold {
         let (State::Waiting(from) | State::On(from)) = claim.state;
         Hold {
             groups: claim.groups,
             units: claim.units,
             from,
-            to: claim.end(now),
+            to: end_of(claim, now, grace),
         }
     }
 }
 
 /// The planned holds of a table.
 fn holds(table: &Table) -> Vec<Hold> {
+    let (now, grace) = (table.now(), table.grace());
     let claims = table.claims().iter();
-    claims.map(|claim| Hold::of(claim, table.now())).collect()
+    claims.map(|claim| Hold::of(claim, now, grace)).collect()
 }
 
 /// The units that holds take at a tick.
@@ -324,7 +335,7 @@ fn none_in(times: &[(u64, u64)], from: u64, to: u64) -> bool {
 /// document 01.
 fn fits(table: &Table, groups: u64, length: u32, start: u64) -> bool {
     table.claims().iter().all(|claim| {
-        let end = claim.end(table.now());
+        let end = end_of(claim, table.now(), table.grace());
         claim.groups & groups == 0
             || start >= end
             || matches!(claim.state, State::Waiting(planned) if start + u64::from(length) <= planned)
@@ -373,7 +384,8 @@ fn check_laws(table: &Table) {
             .iter()
             .filter(|other| other.precedes(claim))
             .collect();
-        let ends = before.iter().map(|other| other.end(now));
+        let ends = before.iter();
+        let ends = ends.map(|other| end_of(other, now, table.grace()));
         let bound = ends.fold(now, u64::max);
         if claim.units == 0 {
             assert_eq!(start, bound, "packed");
@@ -415,7 +427,7 @@ fn check_packing(before: &Table, clock: u64) {
     let mut placed = Vec::new();
     for claim in before.claims() {
         match claim.state {
-            State::On(_) => placed.push(Hold::of(claim, clock)),
+            State::On(_) => placed.push(Hold::of(claim, clock, before.grace())),
             State::Waiting(start) => waiting.push((start, claim)),
         }
     }
@@ -481,7 +493,7 @@ fn check_claim(before: &Table, call: TimedCall, answer: &Answer) {
         if claim.groups & groups != 0 {
             contention += 1;
             sum += match claim.state {
-                State::On(grant) => (grant + u64::from(claim.length)).saturating_sub(clock),
+                State::On(_) => end_of(claim, clock, packed.grace()) - clock,
                 State::Waiting(_) => u64::from(claim.length),
             };
         }
@@ -508,8 +520,11 @@ fn rules_hold_on_generated_runs() {
         Shape::PoolInTime,
         Shape::Full,
         Shape::Clients,
+        Shape::Grace,
+        Shape::Grace,
+        Shape::Grace,
     ];
-    for_seeds(0..650, |seed| {
+    for_seeds(0..960, |seed| {
         let run = generate::run_of(shapes[seed as usize % shapes.len()], seed);
         let mut table = run.table();
         for &call in &run.calls {
@@ -528,14 +543,21 @@ fn rules_hold_on_generated_runs() {
                 continue;
             }
             let TableCall::Timed(call) = call else {
-                // A declaration changes nothing else.
+                // A declaration or a grace changes nothing else.
                 assert_eq!(answer, Answer::default());
-                assert_eq!(table.declared().len(), before.declared().len() + 1);
+                let declared = usize::from(matches!(call, TableCall::Declare(_)));
+                assert_eq!(table.declared().len(), before.declared().len() + declared);
+                let grace = match call {
+                    TableCall::Grace(ticks) => ticks,
+                    _ => before.grace(),
+                };
+                assert!(table.grace() == grace && grace <= 60_000);
                 assert_eq!((table.now(), table.issued()), (before.now(), 0));
                 assert!(table.claims().is_empty());
                 continue;
             };
             assert_eq!(table.declared(), before.declared());
+            assert_eq!(table.grace(), before.grace());
             assert_eq!(table.now(), call.clock());
             check_packing(&before, call.clock());
             check_laws(&table);

@@ -222,6 +222,72 @@ fn clients_of_edition_3_have_their_words() {
     }
 }
 
+/// In edition 3 a grace may be set.
+#[test]
+fn a_grace_of_edition_3_has_its_word() {
+    for (ticks, text) in [
+        (0, "grace 0\n"),
+        (5, "grace 5\n"),
+        (60_000, "grace 60000\n"),
+        (60_001, "grace 60001\n"),
+        (u32::MAX, "grace 4294967295\n"),
+    ] {
+        assert_eq!(line(3, Call::Grace(ticks)), text);
+        let whole = format!("edition 3\nrig F 9\n{text}");
+        let load = client_load_of(0xF, 9, &[TableCall::Grace(ticks)]);
+        assert_eq!(made(&whole), load);
+        assert_eq!(load_show(&load), whole);
+    }
+    let calls = [
+        TableCall::Grace(7),
+        claim_of(3, 1, 9, 5).into(),
+        TableCall::Grace(600),
+    ];
+    let text = "edition 3\nrig F 0\n\tgrace 00000000000000000000000000000000000000000007#\n\
+                claim 1 9 5 0 3\n# grace 1\ngrace\t 600 \r";
+    assert_eq!(made(text), client_load_of(0xF, 0, &calls));
+    for (text, line, reason) in [
+        ("edition 3\nrig F 0\ngrace\n", 3, Reason::Missing),
+        ("edition 3\nrig F 0\ngrace # 1\n", 3, Reason::Missing),
+        ("edition 3\nrig F 0\ngrace 1 1\n", 3, Reason::TooMany),
+        ("edition 3\nrig F 0\ngrace x 1\n", 3, Reason::TooMany),
+        ("edition 3\nrig F 0\nGrace 1\n", 3, Reason::UnknownCall),
+        ("edition 3\nrig F 0\ngraces 1\n", 3, Reason::UnknownCall),
+        // Behind its word.
+        ("edition 3\ngrace 1\n", 2, Reason::RigNotFirst),
+        ("edition 3\ngrace 1\nrig F 0\n", 2, Reason::RigNotFirst),
+        ("edition 3\ngrace x\n", 2, Reason::Grace),
+        ("edition 3\ngrace 4294967296\n", 2, Reason::TooLarge),
+        // The older editions have none.
+        ("rig F\ngrace 1\n", 2, Reason::UnknownCall),
+        ("grace 1\n", 1, Reason::UnknownCall),
+        ("edition 2\nrig F 0\ngrace 1\n", 3, Reason::UnknownCall),
+        ("edition 2\nrig F 0\ngrace x\n", 3, Reason::UnknownCall),
+        ("edition 2\nrig F 0\ngrace\n", 3, Reason::UnknownCall),
+    ] {
+        wrong(text, line, reason);
+    }
+    for (word, reason) in [
+        ("x", Reason::Grace),
+        ("-1", Reason::Grace),
+        ("+1", Reason::Grace),
+        ("1,", Reason::Grace),
+        ("1-1", Reason::Grace),
+        ("A", Reason::Grace),
+        ("0x1", Reason::Grace),
+        ("1.0", Reason::Grace),
+        ("60,000", Reason::Grace),
+        ("99999999999999999999999x", Reason::Grace),
+        ("\u{FF11}", Reason::Grace),
+        ("4294967296", Reason::TooLarge),
+        ("4294967301", Reason::TooLarge),
+        ("18446744073709551616", Reason::TooLarge),
+        ("340282366920938463463374607431768211461", Reason::TooLarge),
+    ] {
+        wrong(&format!("edition 3\nrig F 0\ngrace {word}\n"), 3, reason);
+    }
+}
+
 #[test]
 fn what_a_line_may_have_beside_its_words() {
     let load = load_of(0xF, &[claim(0, 8, 10), clock(3)]);
@@ -466,6 +532,10 @@ fn a_load_has_its_greatest_length() {
     let full = "edition 3\nrig F 3\n".to_string() + &"desk 1 1 1\n".repeat(10_920);
     assert_eq!(made(&full).len(), 65_534);
     wrong(&format!("{full}desk 1 1 1\n"), 10_923, Reason::LoadTooLong);
+    // A grace has 7.
+    let full = "edition 3\nrig F 3\n".to_string() + &"grace 60001\n".repeat(9_360);
+    assert_eq!(made(&full).len(), 65_534);
+    wrong(&format!("{full}grace 1\n"), 9_363, Reason::LoadTooLong);
     for edition in [1, 2, 3] {
         for size in [MAX_LOAD - 1, MAX_LOAD] {
             let load = generate::sized_load(edition, 1, size).expect("a load of that size");
@@ -492,7 +562,7 @@ fn a_wrong_line_is_reported_and_nothing_written() {
     assert_eq!(load_write(b"rig F\nclock\n"), (Vec::new(), message));
     let numbers: Vec<u8> = REASONS.iter().map(|reason| reason.number()).collect();
     let expected = [
-        11, 13, 14, 101, 102, 103, 104, 105, 106, 107, 108, 109, 110, 111, 112, 113, 114, 115,
+        11, 13, 14, 101, 102, 103, 104, 105, 106, 107, 108, 109, 110, 111, 112, 113, 114, 115, 116,
     ];
     assert_eq!(numbers, expected);
     for (line, words) in [
@@ -509,6 +579,7 @@ fn a_wrong_line_is_reported_and_nothing_written() {
         ("desk 1 x 1", "guarantee is not a number"),
         ("desk 1 1 x", "limit is not a number"),
         ("claim 0 1 1 0 x", "desk is not a number"),
+        ("grace x", "grace is not a number"),
     ] {
         let text = format!("edition 3\nrig F 0\n{line}");
         let message = format!("line 3: {words}\n").into_bytes();

@@ -9,7 +9,7 @@ use lib.ListN.{length, take}
 use lib.Dec.{leb, eqb}
 use borrow.Author.Tests.{leb-true, eqb-false, eq-eqb, ne-eqb}
 use Rattle.rules.specs.declared.Table.{Table}
-use Rattle.rules.specs.Calls.{Model, claim, clock, declare, step, new}
+use Rattle.rules.specs.Calls.{Model, claim, clock, declare, setGrace, step, new}
 use Rattle.rules.specs.Tables.{model}
 use Rattle.numerals.specs.Laid.{laid, lentOut, Put}
 use Rattle.numerals.proofs.Laying.{laid-fits}
@@ -57,11 +57,17 @@ module _ (alone : Bool) (m : Model) (c : Call) where
   step-declare k =
       rw (ne-eqb (c .kind) 1 (λ z. omega arith), ne-eqb (c .kind) 2 (λ z. omega arith), ne-eqb (c .kind) 3 (λ z. omega arith), ne-eqb (c .kind) 4 (λ z. omega arith), eq-eqb (c .kind) 6 k)
 
-  pub step-clock : (c .kind < 1) ⊎ (5 ≤ c .kind) → c .kind ≢ 6 → step m (clock (c .clock)) ≡ stepOf alone m c
+  pub step-grace : c .kind ≡ 8 → step m (setGrace (c .grace)) ≡ stepOf alone m c
   unfolding stepOf saysCall
-  step-clock h o =
+  step-grace k =
+      let n : (j : ℕ) → j < 8 → eqb (c .kind) j ≡ false = λ j l. ne-eqb (c .kind) j (λ z. omega arith) in
+      rw (n 1 (omega arith), n 2 (omega arith), n 3 (omega arith), n 4 (omega arith), n 6 (omega arith), eq-eqb (c .kind) 8 k)
+
+  pub step-clock : (c .kind < 1) ⊎ (5 ≤ c .kind) → c .kind ≢ 6 → c .kind ≢ 8 → step m (clock (c .clock)) ≡ stepOf alone m c
+  unfolding stepOf saysCall
+  step-clock h o o′ =
       let n : (k : ℕ) → 1 ≤ k → k ≤ 4 → eqb (c .kind) k ≡ false = λ k l u. ne-eqb (c .kind) k (λ z. ⊎-elim (λ v. omega arith) (λ v. omega arith) h) in
-      rw (n 1 (omega arith) (omega arith), n 2 (omega arith) (omega arith), n 3 (omega arith) (omega arith), n 4 (omega arith) (omega arith), ne-eqb (c .kind) 6 o)
+      rw (n 1 (omega arith) (omega arith), n 2 (omega arith) (omega arith), n 3 (omega arith) (omega arith), n 4 (omega arith) (omega arith), ne-eqb (c .kind) 6 o, ne-eqb (c .kind) 8 o′)
 
 -- An outcome of the rules with a valid table.
 module _ (alone : Bool) (m : Model) (c : Call) (o : Outcome) (p : o ≡ outcome (stepOf alone m c)) where

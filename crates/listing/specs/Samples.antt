@@ -1,8 +1,8 @@
--- The listing that document 01 prints, those of case 15 of its "Plots to try" and of a dark rig, and one each of editions 2 and 3, as one
--- table of loads and texts. proofs/AllSamples has the theorem that covers the table.
+-- The listing that document 01 prints, those of case 15 of its "Plots to try" and of a dark rig, and some of editions 2 and 3, as one table of
+-- loads and texts. proofs/AllSamples has the theorem that covers the table.
 use mathlib.Core.List.{List, [], _∷_, _++_}
 use Prim.Native.Nat.{ℕ}
-use Rattle.load.specs.Calls.{rig, claim, release, clock, rigWith, claimWith, claimFrom, declaration}
+use Rattle.load.specs.Calls.{rig, claim, release, clock, rigWith, claimWith, claimFrom, declaration, grace}
 use Rattle.load.specs.Bytes.{loadBytes}
 use Rattle.listing.specs.Lines.{header}
 use Rattle.listing.specs.Text.{listingOf}
@@ -87,6 +87,46 @@ samples =
     53 ∷ 32 ∷ 49 ∷ 55 ∷ 32 ∷ 48 ∷ 32 ∷ 48 ∷ 10 ∷
     -- stop 13 6
     115 ∷ 116 ∷ 111 ∷ 112 ∷ 32 ∷ 49 ∷ 51 ∷ 32 ∷ 54 ∷ 10 ∷
+    [])
+    -- edition 3 with a grace: one over 60,000; one of 5; S, and ticket 1 overruns; a grace that comes late; a claim behind it; its release
+    ∷ sample
+    (loadBytes 3 (rigWith 0xF 0 ∷ grace 60001 ∷ grace 5 ∷ declaration 1 64 64 ∷ claimFrom 0 0x8 10 0 1 ∷ claimFrom 0 0xC 10 0 1 ∷ claimFrom 0 0x6 11 0 1
+    ∷ clock 12 ∷ grace 1 ∷ claimFrom 12 0x8 3 0 1 ∷ release 13 1 ∷ []))
+    (
+    -- 1 0 0 0
+    49 ∷ 32 ∷ 48 ∷ 32 ∷ 48 ∷ 32 ∷ 48 ∷ 10 ∷
+    -- 2 21 0 0
+    50 ∷ 32 ∷ 50 ∷ 49 ∷ 32 ∷ 48 ∷ 32 ∷ 48 ∷ 10 ∷
+    -- 3 0 0 0
+    51 ∷ 32 ∷ 48 ∷ 32 ∷ 48 ∷ 32 ∷ 48 ∷ 10 ∷
+    -- 4 0 0 0
+    52 ∷ 32 ∷ 48 ∷ 32 ∷ 48 ∷ 32 ∷ 48 ∷ 10 ∷
+    -- 5 0 1 0
+    53 ∷ 32 ∷ 48 ∷ 32 ∷ 49 ∷ 32 ∷ 48 ∷ 10 ∷
+    -- on 1 0
+    111 ∷ 110 ∷ 32 ∷ 49 ∷ 32 ∷ 48 ∷ 10 ∷
+    -- 6 0 2 10
+    54 ∷ 32 ∷ 48 ∷ 32 ∷ 50 ∷ 32 ∷ 49 ∷ 48 ∷ 10 ∷
+    -- 7 0 3 20
+    55 ∷ 32 ∷ 48 ∷ 32 ∷ 51 ∷ 32 ∷ 50 ∷ 48 ∷ 10 ∷
+    -- 8 0 0 12
+    56 ∷ 32 ∷ 48 ∷ 32 ∷ 48 ∷ 32 ∷ 49 ∷ 50 ∷ 10 ∷
+    -- 9 21 0 0
+    57 ∷ 32 ∷ 50 ∷ 49 ∷ 32 ∷ 48 ∷ 32 ∷ 48 ∷ 10 ∷
+    -- 10 0 4 27
+    49 ∷ 48 ∷ 32 ∷ 48 ∷ 32 ∷ 52 ∷ 32 ∷ 50 ∷ 55 ∷ 10 ∷
+    -- 11 0 1 13
+    49 ∷ 49 ∷ 32 ∷ 48 ∷ 32 ∷ 49 ∷ 32 ∷ 49 ∷ 51 ∷ 10 ∷
+    -- on 2 13
+    111 ∷ 110 ∷ 32 ∷ 50 ∷ 32 ∷ 49 ∷ 51 ∷ 10 ∷
+    [])
+    -- edition 2 has no kind 8
+    ∷ sample (loadBytes 2 (rigWith 0xF 0 ∷ []) ++ (0x00 ∷ 0x05 ∷ 0x08 ∷ 0x00 ∷ 0x00 ∷ 0x00 ∷ 0x05 ∷ []))
+    (
+    -- 1 0 0 0
+    49 ∷ 32 ∷ 48 ∷ 32 ∷ 48 ∷ 32 ∷ 48 ∷ 10 ∷
+    -- stop 13 2
+    115 ∷ 116 ∷ 111 ∷ 112 ∷ 32 ∷ 49 ∷ 51 ∷ 32 ∷ 50 ∷ 10 ∷
     [])
     ∷ []
 

@@ -6,20 +6,21 @@ use Prim.Native.Nat.{ℕ, zero, suc, _+_}
 use lib.Dec.{ltb, leb, eqb}
 use lib.ListN.{length}
 use Rattle.numbers.specs.Numbers.{darkNumber, editionNumber, overlongNumber, noSpaceNumber}
-use Rattle.rules.specs.Calls.{Model, Step, Call as TableCall, claim, release, withdraw, clock, declare, step, blank, new}
+use Rattle.rules.specs.Calls.{Model, Step, Call as TableCall, claim, release, withdraw, clock, declare, setGrace, step, blank, new}
 use Rattle.load.specs.declared.Call.{Call}
 use Rattle.load.specs.Reading.{Walk, walk, editionOf, openNumber}
 use Rattle.listing.specs.Lines.{header, lineOf, onLines, stopLine}
 
--- The call of the table that a record says: "2 claim", "3 release", "4 withdraw", "5 clock", and kind 6, "a record of desk, guarantee and
--- limit" (document 02, P4). (The reader gives no other kind.)
+-- The call of the table that a record says: "2 claim", "3 release", "4 withdraw", "5 clock", kind 6, "a record of desk, guarantee and limit"
+-- (document 02, P4), and kind 8, "the grace in four bytes" (P6). (The reader gives no other kind.)
 unfoldable pub saysCall : Call → TableCall
 saysCall c =
     cond (eqb (c .kind) 2) (claim (c .clock) (record { groups = c .groups; length = c .length; units = c .units; client = c .client }))
     (cond (eqb (c .kind) 3) (release (c .clock) (c .ticket))
     (cond (eqb (c .kind) 4) (withdraw (c .clock) (c .ticket))
     (cond (eqb (c .kind) 6) (declare (c .client) (c .reserved) (c .limit))
-    (clock (c .clock)))))
+    (cond (eqb (c .kind) 8) (setGrace (c .grace))
+    (clock (c .clock))))))
 
 -- "Older editions start with desk 1 declared, guarantee and limit 64; edition 3 with none"
 unfoldable pub aloneIn : List ℕ → Bool

@@ -107,6 +107,7 @@ pub fn act(t: Table, alone: bool, call: Call) -> Outcome
         }
         3 | 4 => table::leave(t, kind == 3, call.clock, call.ticket),
         6 => table::declare(t, call.client, call.reserved, call.limit),
+        8 => table::set_grace(t, call.grace),
         _ => table::clock(t, call.clock),
     }
 }
@@ -154,6 +155,9 @@ fn records(load: &[u8], out: &mut [u8], from: usize) -> usize
                     }
                     6 => {
                         o = table::declare(o.table, call.client, call.reserved, call.limit);
+                    }
+                    8 => {
+                        o = table::set_grace(o.table, call.grace);
                     }
                     _ => {
                         o = table::clock(o.table, call.clock);

@@ -166,23 +166,24 @@ typed-with f v c l h t g =
 
 -- The numbers of a call in the code go into their widths.
 pub typed-call : (c : Call) → c .kind < 2 ^ 8 → c .clock < 2 ^ 64 → c .groups < 2 ^ 64 → c .length < 2 ^ 32 → c .ticket < 2 ^ 16
-    → c .pool < 2 ^ 16 → c .units < 2 ^ 16 → c .client < 2 ^ 8 → c .reserved < 2 ^ 8 → c .limit < 2 ^ 8 → Typed c
+    → c .pool < 2 ^ 16 → c .units < 2 ^ 16 → c .client < 2 ^ 8 → c .reserved < 2 ^ 8 → c .limit < 2 ^ 8 → c .grace < 2 ^ 32 → Typed c
 unfolding valueOf numbers fieldWidth fieldWidths
-typed-call c k t g l n p u d r m zero = k
-typed-call c k t g l n p u d r m (suc zero) = t
-typed-call c k t g l n p u d r m (suc (suc zero)) = g
-typed-call c k t g l n p u d r m (suc (suc (suc zero))) = l
-typed-call c k t g l n p u d r m (suc (suc (suc (suc zero)))) = n
-typed-call c k t g l n p u d r m (suc (suc (suc (suc (suc zero))))) = p
-typed-call c k t g l n p u d r m (suc (suc (suc (suc (suc (suc zero)))))) = u
-typed-call c k t g l n p u d r m (suc (suc (suc (suc (suc (suc (suc zero))))))) = d
-typed-call c k t g l n p u d r m (suc (suc (suc (suc (suc (suc (suc (suc zero)))))))) = r
-typed-call c k t g l n p u d r m (suc (suc (suc (suc (suc (suc (suc (suc (suc zero))))))))) = m
-typed-call c k t g l n p u d r m (suc (suc (suc (suc (suc (suc (suc (suc (suc (suc f)))))))))) = omega arith
+typed-call c k t g l n p u d r m w zero = k
+typed-call c k t g l n p u d r m w (suc zero) = t
+typed-call c k t g l n p u d r m w (suc (suc zero)) = g
+typed-call c k t g l n p u d r m w (suc (suc (suc zero))) = l
+typed-call c k t g l n p u d r m w (suc (suc (suc (suc zero)))) = n
+typed-call c k t g l n p u d r m w (suc (suc (suc (suc (suc zero))))) = p
+typed-call c k t g l n p u d r m w (suc (suc (suc (suc (suc (suc zero)))))) = u
+typed-call c k t g l n p u d r m w (suc (suc (suc (suc (suc (suc (suc zero))))))) = d
+typed-call c k t g l n p u d r m w (suc (suc (suc (suc (suc (suc (suc (suc zero)))))))) = r
+typed-call c k t g l n p u d r m w (suc (suc (suc (suc (suc (suc (suc (suc (suc zero))))))))) = m
+typed-call c k t g l n p u d r m w (suc (suc (suc (suc (suc (suc (suc (suc (suc (suc zero)))))))))) = w
+typed-call c k t g l n p u d r m w (suc (suc (suc (suc (suc (suc (suc (suc (suc (suc (suc f))))))))))) = omega arith
 
 pub typed-bare : (k : ℕ) → k < 2 ^ 8 → Typed (bare k)
 unfolding bare made defaults default
-typed-bare k h = typed-call (bare k) h (omega arith) (omega arith) (omega arith) (omega arith) (omega arith) (omega arith) (omega arith) (omega arith) (omega arith)
+typed-bare k h = typed-call (bare k) h (omega arith) (omega arith) (omega arith) (omega arith) (omega arith) (omega arith) (omega arith) (omega arith) (omega arith) (omega arith)
 
 -- So do the defaults.
 pub default-typed : (f : ℕ) → default f < 256 ^ fieldWidth f

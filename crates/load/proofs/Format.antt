@@ -190,16 +190,32 @@ no-edition e k h =
     (λ t. let q = both (ltb 0 e) (ltb e 4) t in absurd (omega (arith, h (ltb-true 0 e (q .0)), ltb-true e 4 (q .1))))
     (tested (λ e k fs. ltb 0 e && ltb e 4) e k refl)
 
--- The last kind of an edition.
+-- The last kind of an edition. There is no kind 7.
 abbrev pub lastKind : ℕ → ℕ
-lastKind e = cond (ltb e 3) 5 6
+lastKind e = cond (ltb e 3) 5 8
 
-pub no-kind : (e k : ℕ) → (0 < k → lastKind e < k) → fieldsOf e k ≡ []
+pub no-kind : (e k : ℕ) → (0 < k → (k ≡ 7 → ⊥) → lastKind e < k) → fieldsOf e k ≡ []
 unfolding allRows format
 no-kind e k h =
     ⊎-elim (λ n. n)
-    (λ t. let q = both (ltb 0 k) (leb k (lastKind e)) t in absurd (omega (arith, h (ltb-true 0 k (q .0)), leb-true k (lastKind e) (q .1))))
-    (tested (λ e k fs. ltb 0 k && leb k (lastKind e)) e k refl)
+    (λ t. let q = both (ltb 0 k) (not (eqb k 7) && leb k (lastKind e)) t in
+    let r = both (not (eqb k 7)) (leb k (lastKind e)) (q .1) in
+    let l = h (ltb-true 0 k (q .0)) (eqb-false k 7 (not-true (eqb k 7) (r .0))) in
+    absurd (omega (arith, l, leb-true k (lastKind e) (r .1))))
+    (tested (λ e k fs. ltb 0 k && (not (eqb k 7) && leb k (lastKind e))) e k refl)
+
+-- What a match over the kinds knows in its last arm: the number is none of them.
+abbrev pub Unlisted : ℕ → Type 0
+Unlisted k = ((((((Unit {0} × (k ≡ 1 → ⊥)) × (k ≡ 2 → ⊥)) × (k ≡ 3 → ⊥)) × (k ≡ 4 → ⊥)) × (k ≡ 5 → ⊥)) × (k ≡ 6 → ⊥)) × (k ≡ 8 → ⊥)
+
+pub unlisted-past : (k : ℕ) → Unlisted k → 0 < k → (k ≡ 7 → ⊥) → 8 < k
+unlisted-past k r z s =
+    let q = r .0 .0 .0 in
+    let l = past 3 (past 2 (past 1 (past 0 z (q .0 .0 .0 .1)) (q .0 .0 .1)) (q .0 .1)) (q .1) in
+    past 7 (past 6 (past 5 (past 4 l (r .0 .0 .1)) (r .0 .1)) s) (r .1)
+  where
+    past : (n : ℕ) → n < k → (k ≡ suc n → ⊥) → suc n < k
+    past n l h = omega arith
 
 -- Edition 2 has the kinds of edition 1 but for rig and claim.
 pub from-edition-1 : (k : ℕ) → (k ≡ 1 → ⊥) → (k ≡ 2 → ⊥) → rowOf 1 k ≡ rowOf 2 k
@@ -207,7 +223,7 @@ unfolding rowOf lengthOf fieldsOf rowIn format
 from-edition-1 k a b = ap (λ fs. padded 7 fs ++ (lengthIn fs ∷ [])) (go k a b)
   where
     past : (k : ℕ) → 5 < k → fieldsOf 1 k ≡ fieldsOf 2 k
-    past k h = no-kind 1 k (λ z. h) ∙ sym (no-kind 2 k (λ z. h))
+    past k h = no-kind 1 k (λ z y. h) ∙ sym (no-kind 2 k (λ z y. h))
 
     go : (k : ℕ) → (k ≡ 1 → ⊥) → (k ≡ 2 → ⊥) → fieldsOf 1 k ≡ fieldsOf 2 k
     go zero a b = refl

@@ -9,7 +9,7 @@ use Rattle.load.specs.Format.{fieldCount, default, fieldsOf, lengthOf}
 
 -- Each number stands at the place that names its field.
 unfoldable pub numbers : Call → List ℕ
-numbers c = c .kind ∷ c .clock ∷ c .groups ∷ c .length ∷ c .ticket ∷ c .pool ∷ c .units ∷ c .client ∷ c .reserved ∷ c .limit ∷ []
+numbers c = c .kind ∷ c .clock ∷ c .groups ∷ c .length ∷ c .ticket ∷ c .pool ∷ c .units ∷ c .client ∷ c .reserved ∷ c .limit ∷ c .grace ∷ []
 
 -- The number of a field; its default where the list ends before.
 abbrev pub given : List ℕ → ℕ → ℕ
@@ -28,6 +28,7 @@ made ns = record {
   client = given ns 7;
   reserved = given ns 8;
   limit = given ns 9;
+  grace = given ns 10;
 }
 
 unfoldable pub valueOf : ℕ → Call → ℕ
@@ -102,3 +103,6 @@ claimFrom clock groups length units client = callOf 3 2 (clock ∷ groups ∷ le
 
 abbrev pub declaration : ℕ → ℕ → ℕ → Call
 declaration client reserved limit = callOf 3 6 (client ∷ reserved ∷ limit ∷ [])
+
+abbrev pub grace : ℕ → Call
+grace ticks = callOf 3 8 (ticks ∷ [])

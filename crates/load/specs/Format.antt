@@ -41,9 +41,13 @@ theReserved = 8
 abbrev pub theLimit : ℕ
 theLimit = 9
 
--- Their widths in bytes, in that order: kind 1, clock 8, groups 8, length 4, ticket 2, pool 2, units 2, client 1, reserved 1, limit 1.
+abbrev pub theGrace : ℕ
+theGrace = 10
+
+-- Their widths in bytes, in that order: kind 1, clock 8, groups 8, length 4, ticket 2, pool 2, units 2, client 1, reserved 1, limit 1,
+-- grace 4.
 unfoldable pub fieldWidths : List ℕ
-fieldWidths = 1 ∷ 8 ∷ 8 ∷ 4 ∷ 2 ∷ 2 ∷ 2 ∷ 1 ∷ 1 ∷ 1 ∷ []
+fieldWidths = 1 ∷ 8 ∷ 8 ∷ 4 ∷ 2 ∷ 2 ∷ 2 ∷ 1 ∷ 1 ∷ 1 ∷ 4 ∷ []
 
 abbrev pub fieldCount : ℕ
 fieldCount = length fieldWidths
@@ -54,7 +58,7 @@ fieldWidth f = getD fieldWidths f 0
 -- Their values where a record lacks them, in that order: "edition 1 reads as 0 for both" pool and units, and 1 for the client, the only one
 -- of older editions, which "start with desk 1 declared".
 unfoldable pub defaults : List ℕ
-defaults = 0 ∷ 0 ∷ 0 ∷ 0 ∷ 0 ∷ 0 ∷ 0 ∷ 1 ∷ 0 ∷ 0 ∷ []
+defaults = 0 ∷ 0 ∷ 0 ∷ 0 ∷ 0 ∷ 0 ∷ 0 ∷ 1 ∷ 0 ∷ 0 ∷ 0 ∷ []
 
 unfoldable pub default : ℕ → ℕ
 default f = getD defaults f 0
@@ -104,6 +108,8 @@ edition3 =
     ∷ row 3 2 (theClock ∷ theGroups ∷ theLength ∷ theUnits ∷ theClient ∷ [])
     -- "and a kind 6 record of desk, guarantee and limit, a byte each (length 4)"
     ∷ row 3 6 (theClient ∷ theReserved ∷ theLimit ∷ [])
+    -- "Edition 3 gains kind 8, the grace in four bytes (length 5), after the rig."
+    ∷ row 3 8 (theGrace ∷ [])
     -- the other kinds are edition 1's
     ∷ inEdition 3 (drop 2 edition1)
 
@@ -142,7 +148,7 @@ lengthIn (f ∷ fs) = total (map fieldWidth (theKind ∷ f ∷ fs))
 unfoldable pub lengthOf : ℕ → ℕ → ℕ
 lengthOf e k = lengthIn (fieldsOf e k)
 
--- The names of the kinds, in ASCII, from kind 0 on, which is none.
+-- The names of the kinds, in ASCII, from kind 0 on. There is no kind 0 and no kind 7, and they have no name.
 unfoldable pub names : List (List ℕ)
 names =
     []
@@ -158,6 +164,9 @@ names =
     ∷ (99 ∷ 108 ∷ 111 ∷ 99 ∷ 107 ∷ [])
     -- "desk"
     ∷ (100 ∷ 101 ∷ 115 ∷ 107 ∷ [])
+    ∷ []
+    -- "grace"
+    ∷ (103 ∷ 114 ∷ 97 ∷ 99 ∷ 101 ∷ [])
     ∷ []
 
 -- The name of a kind; none for one that the edition lacks.

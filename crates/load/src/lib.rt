@@ -14,7 +14,7 @@ ghost use Rattle.load.specs.Writing.{growNumber, appendNumber, appendAns
 ghost use Rattle.load.specs.Writing.{heldNumber, growAnswer, growValues, growOut};
 
 // One record of a load: its kind, and a value for each field that some kind has. A field that its kind lacks is 0, but for the client
-// (document 02: desk): a record without one is client 1's. `reserved` is document 02's guarantee.
+// (document 02: desk): a record without one is client 1's. `reserved` is document 02's guarantee; `grace` is the grace in ticks.
 pub struct Call {
     pub kind: u8,
     pub clock: u64,
@@ -26,6 +26,7 @@ pub struct Call {
     pub client: u8,
     pub reserved: u8,
     pub limit: u8,
+    pub grace: u32,
 }
 
 // What stands at a position: a record's call with the position after it, the end, or the number of a refusal.
@@ -42,9 +43,9 @@ pub enum Written {
 }
 
 // ---- the format
-// A field is named by a number: kind 0, clock 1, groups 2, length 3, ticket 4, pool 5, units 6, client 7, reserved 8, limit 9. Their widths in
-// bytes:
-const WIDTHS: [u8; 10] = [1, 8, 8, 4, 2, 2, 2, 1, 1, 1];
+// A field is named by a number: kind 0, clock 1, groups 2, length 3, ticket 4, pool 5, units 6, client 7, reserved 8, limit 9, grace 10.
+// Their widths in bytes:
+const WIDTHS: [u8; 11] = [1, 8, 8, 4, 2, 2, 2, 1, 1, 1, 4];
 
 // A row of the format: the fields of a kind in their order, 0 after the last; at place 7 the length of a record, its kind byte and its
 // fields. All 0 for a kind that the edition lacks.
@@ -79,8 +80,8 @@ fn edition_2(kind: u8) -> [u8; 8]
     }
 }
 
-// The rig is edition 2's, the claim has its client at the end, and kind 6 declares a client; the other kinds are edition 1's. All are listed,
-// so that a row is one read of a table.
+// The rig is edition 2's, the claim has its client at the end, kind 6 declares a client, and kind 8 is the grace; the other kinds are
+// edition 1's. All are listed, so that a row is one read of a table.
 fn edition_3(kind: u8) -> [u8; 8]
     ensures { λ r. ⌜ r ≡ rowOf 3 kind ⌝ }
 {
@@ -97,6 +98,8 @@ fn edition_3(kind: u8) -> [u8; 8]
         5 => [1, 0, 0, 0, 0, 0, 0, 9],
         // declaration: client, reserved, limit
         6 => [7, 8, 9, 0, 0, 0, 0, 4],
+        // grace: grace
+        8 => [10, 0, 0, 0, 0, 0, 0, 5],
         _ => [0; 8],
     }
 }
@@ -131,8 +134,9 @@ pub fn length_of(edition: u8, kind: u8) -> usize
     row[7] as usize
 }
 
-// The numbers of a call, each at the place that names its field. Cost: ten words are laid out; who goes through fields asks once, before.
-fn numbers_of(call: Call) -> [u64; 10]
+// The numbers of a call, each at the place that names its field. Cost: eleven words are laid out; who goes through fields asks once,
+// before.
+fn numbers_of(call: Call) -> [u64; 11]
     ensures { λ r. ⌜ (r ≡ numbers call) × Typed call ⌝ }
 {
     [
@@ -146,6 +150,7 @@ fn numbers_of(call: Call) -> [u64; 10]
         call.client as u64,
         call.reserved as u64,
         call.limit as u64,
+        call.grace as u64,
     ]
 }
 
@@ -154,7 +159,7 @@ pub fn value_of(call: Call, field: u8) -> u64
     ensures { λ r. ⌜ (r ≡ valueOf field call) × (r < 256 ^ fieldWidth field) ⌝ }
 {
     let numbers = numbers_of(call);
-    if field < 10 {
+    if field < 11 {
         return numbers[field as usize];
     }
     0
@@ -196,6 +201,9 @@ pub fn with_value(call: Call, field: u8, value: u64) -> Call
         9 => {
             c.limit = (value % 256) as u8;
         }
+        10 => {
+            c.grace = (value % 4294967296) as u32;
+        }
         _ => {}
     }
     c
@@ -216,6 +224,7 @@ pub fn bare(kind: u8) -> Call
         client: 1,
         reserved: 0,
         limit: 0,
+        grace: 0,
     }
 }
 
@@ -250,7 +259,7 @@ fn same(a: Call, b: Call) -> bool
 {
     let p = numbers_of(a);
     let q = numbers_of(b);
-    let mut f: usize = 10;
+    let mut f: usize = 11;
     while 0 < f {
         f -= 1;
         if p[f] != q[f] {
@@ -319,8 +328,8 @@ fn misfits(edition: u8, at: usize, n: usize, kind: u8) -> bool
     !placed(kind, at)
 }
 
-// The call of ten numbers, each of which goes into its field.
-fn made(numbers: [u64; 10]) -> Call
+// The call of eleven numbers, each of which goes into its field.
+fn made(numbers: [u64; 11]) -> Call
     requires { ⌜ Typed (made numbers) ⌝ }
     ensures { λ r. ⌜ r ≡ made numbers ⌝ }
 {
@@ -335,6 +344,7 @@ fn made(numbers: [u64; 10]) -> Call
         client: numbers[7] as u8,
         reserved: numbers[8] as u8,
         limit: numbers[9] as u8,
+        grace: numbers[10] as u32,
     }
 }
 
@@ -343,7 +353,7 @@ fn call_of(edition: u8, kind: u8, fields: &[u8]) -> Call
     ensures { λ r. ⌜ r ≡ callOf edition kind (fieldValues (widths edition kind) (now (fields .entry))) ⌝ }
 {
     let row = row_of(edition, kind);
-    let mut numbers: [u64; 10] = [kind as u64, 0, 0, 0, 0, 0, 0, 1, 0, 0];
+    let mut numbers: [u64; 11] = [kind as u64, 0, 0, 0, 0, 0, 0, 1, 0, 0, 0];
     let mut at: usize = 0;
     let mut i: usize = 0;
     loop {

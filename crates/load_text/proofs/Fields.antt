@@ -20,13 +20,13 @@ use Rattle.load_text.proofs.Within.{field-fits}
 
 -- ── a field: MOST and NONE ──
 module _ (f : ℕ) (w : List ℕ) (n : f ≡ theGroups → ⊥) where
-  pub field-number : f ≤ 9 → numberIn 10 (getD (map (λ w. 256 ^ w - 1) fieldWidths) f 0) (getD noNumbers f 0) tooLarge w ≡ fieldIn f w
+  pub field-number : f ≤ 10 → numberIn 10 (getD (map (λ w. 256 ^ w - 1) fieldWidths) f 0) (getD noNumbers f 0) tooLarge w ≡ fieldIn f w
   unfolding fieldIn allBelow noNumber noNumbers fieldWidth
   field-number h =
-      let q = below-passes 10 (λ i. eqb (getD noNumbers i 0) (noNumber i)) refl f (omega arith) in
+      let q = below-passes 11 (λ i. eqb (getD noNumbers i 0) (noNumber i)) refl f (omega arith) in
       rw (ne-eqb f theGroups n, List·getD-map (λ w. 256 ^ w - 1) fieldWidths f 0, eqb-true (getD noNumbers f 0) (noNumber f) q)
 
-  pub field-none : 9 < f → numberIn 10 0 unknown tooLarge w ≡ fieldIn f w
+  pub field-none : 10 < f → numberIn 10 0 unknown tooLarge w ≡ fieldIn f w
   unfolding fieldIn noNumber noNumbers fieldWidths
   field-none h = rw (ne-eqb f theGroups n, no-width f h, List·getD-eq-default noNumbers unknown h)
 

@@ -1,5 +1,6 @@
 -- The line that a call is printed as says that call: its words are the kind's name and the values of its fields, and these read back.
 use Prim.Native.Nat.{ℕ, zero, suc, _+_, _-_, _*_, _/_, _%_, _^_, _≤_, _<_}
+use mathlib.Core.Logic.{⊎-elim}
 use mathlib.Core.Path.{_≡_, refl, sym, ap, _∙_}
 use mathlib.Core.Bool.{Bool, true, false, not, _&&_, _||_, cond, false≢true}
 use mathlib.Core.List.{List, [], _∷_, _++_, map, append-assoc}
@@ -7,14 +8,14 @@ use native.Mathlib.Nat.{pow-suc, pow-le-pow-right}
 use native.Mathlib.Omega.{arith}
 use lib.Dec.{ltb, leb, eqb}
 use lib.ListN.{length, getD, length-append}
-use borrow.Author.Tests.{eqb-true, ne-eqb, ltb-true, leb-false, leb-true, lt-ltb, le-ltb, le-leb, lt-leb, not-true}
+use borrow.Author.Tests.{eqb-true, ltb-true, leb-false, leb-true, lt-ltb, le-ltb, le-leb, lt-leb, not-true}
 use Rattle.numerals.specs.Digits.{digits, widthUpTo, widthOf, decimalOf, column}
 use Rattle.load.specs.declared.Call.{Call}
-use Rattle.load.specs.Format.{theGroups, fieldWidth, format, known, fieldsOf, lengthOf, names, nameOf}
+use Rattle.load.specs.Format.{theGroups, fieldWidth, format, known, fieldsOf, lengthIn, lengthOf, names, nameOf}
 use Rattle.load.specs.Calls.{valueOf, withValue, bare, filled, callOf, valuesIn, valuesOf, carries}
 use Rattle.load.specs.Reading.{editionOf, walk}
 use Rattle.load.specs.RoundTrip.{Typed}
-use Rattle.load.proofs.Format.{both, allBelow, below-passes, allRows, known-tested, width-most}
+use Rattle.load.proofs.Format.{both, allRows, tested, known-tested, width-most}
 use Rattle.load.proofs.Calls.{carries-length, call-of-values}
 use Rattle.load.proofs.Reading.{load-parts, load-known}
 use Rattle.load.proofs.Loads.{Loadable, read-loadable}
@@ -31,7 +32,6 @@ use Rattle.load_text.proofs.Fields.{kind-some}
 use Rattle.load_text.proofs.Parts.{none-cons, none-less, none-at, until-none}
 use Rattle.load_text.proofs.Numbers.{digit-ten, digit-upper}
 use Rattle.load_text.proofs.Reading.{full-cons}
-use Rattle.load_text.proofs.Tables.{kind-few}
 
 -- ── parts of a text in front of a byte that ends one ──
 module _ (p : ℕ → Bool) where
@@ -229,10 +229,11 @@ fields-spaced c rest w (f ∷ fs) =
     ∙ sym (append-assoc w (32 ∷ spaced v (wordsOf fs c)) (10 ∷ rest))
 
 -- ── the names ──
+-- A name is that of its kind alone, no edition's, and a plain word.
 name-test : ℕ → Bool
 name-test k =
     let n = getD names k [] in
-    eqb (kindOf n) k && (not (isWord n editionWord) && (eqb k 0 || isPlain n))
+    eqb (kindOf n) k && (not (isWord n editionWord) && isPlain n)
 
 record Named (e k : ℕ) : Type 0 where
   some : 0 < k
@@ -242,19 +243,22 @@ record Named (e k : ℕ) : Type 0 where
 
 -- A kind that an edition has is named by its name alone, which is a plain word.
 named : (e k : ℕ) → 0 < lengthOf e k → Named e k
-unfolding nameOf kindNamed name-test allBelow kindOf placeIn names isWord isPlain none
-named e k h =
-    let n = getD names k [] in
-    let l = kind-few e k h in
-    let t = both (eqb (kindOf n) k) (not (isWord n editionWord) && (eqb k 0 || isPlain n)) (below-passes (length names) name-test refl k (l .1)) in
-    let d = both (not (isWord n editionWord)) (eqb k 0 || isPlain n) (t .1) in
-    let x = lt-ltb 0 (lengthOf e k) h in
-    record {
-      some = l .0;
-      kind = rw (x, eqb-true (kindOf n) k (t .0), x);
-      other = rw x (not-true (isWord n editionWord) (d .0));
-      word = rw x (plain-word n (rw (ne-eqb k 0 (λ z. omega (arith, l .0))) at (d .1)));
-    }
+unfolding nameOf kindNamed name-test allRows format lengthOf lengthIn kindOf placeIn names isWord isPlain none
+named e k h = ⊎-elim (λ n. absurd (omega (arith, ap lengthIn n))) go (tested (λ e k fs. ltb 0 k && name-test k) e k refl)
+  where
+    go : (ltb 0 k && name-test k) ≡ true → Named e k
+    go p =
+        let n = getD names k [] in
+        let l = both (ltb 0 k) (name-test k) p in
+        let t = both (eqb (kindOf n) k) (not (isWord n editionWord) && isPlain n) (l .1) in
+        let d = both (not (isWord n editionWord)) (isPlain n) (t .1) in
+        let x = lt-ltb 0 (lengthOf e k) h in
+        record {
+          some = ltb-true 0 k (l .0);
+          kind = rw (x, eqb-true (kindOf n) k (t .0), x);
+          other = rw x (not-true (isWord n editionWord) (d .0));
+          word = rw x (plain-word n (d .1));
+        }
 
 -- ── a line ──
 -- The line of a call, in front of other lines; what it says, and that it is no edition.

@@ -1,19 +1,18 @@
 -- The texts of the code's table, and the search for the kind that a word names.
 use Prim.Native.Nat.{ℕ, zero, suc, _+_, _-_, _≤_, _<_}
-use mathlib.Core.Bool.{Bool, true, false, _&&_, false≢true}
+use mathlib.Core.Bool.{Bool, true, false, false≢true}
 use mathlib.Core.List.{List, [], _∷_, _++_, map}
-use mathlib.Core.Logic.{⊎-elim}
 use mathlib.Core.Path.{_≡_, refl, sym, ap, _∙_}
 use native.Mathlib.Numerals.{add-one}
 use native.Mathlib.Omega.{arith}
 use lib.Dec.{ltb, eqb}
 use lib.ListN.{length, take, drop, getD, replicate, length-append, drop-of-length-le, List·getD-eq-default}
 use lib.Seq.{drop-cons, take-at}
-use borrow.Author.Tests.{eqb-true, eq-eqb, ltb-true, lt-ltb}
-use Rattle.load.specs.Format.{format, lengthIn, lengthOf, names, nameOf}
-use Rattle.load.proofs.Format.{both, allRows, tested}
+use borrow.Author.Tests.{eqb-true, eqb-false, eq-eqb, lt-ltb}
+use Rattle.load.specs.Format.{lengthOf, names, nameOf}
+use Rattle.load.proofs.Format.{both}
 use Rattle.load_text.specs.Lines.{reasons, reasonTexts, reasonText}
-use Rattle.load_text.specs.Parsing.{placeOf, is, isWord, placeIn, kindOf, kindNamed}
+use Rattle.load_text.specs.Parsing.{placeOf, is, isWord, placeIn, kindOf, kindNamed, NamedByName}
 use Rattle.load_text.proofs.Cases.{either}
 
 -- ── words ──
@@ -49,10 +48,12 @@ unfolding reasonText
 reason-is n i e = ap (λ (k : ℕ). getD reasonTexts k []) e
 
 -- A kind that there is not has no name.
-pub no-name : (k : ℕ) → (0 < k → 6 < k) → getD names k [] ≡ []
+pub no-name : (k : ℕ) → (0 < k → (k ≡ 7 → ⊥) → 8 < k) → getD names k [] ≡ []
 unfolding names
-no-name zero h = refl
-no-name (suc k) h = List·getD-eq-default names [] (h (omega arith))
+no-name k h =
+    either (eqb k 0) (λ z. rw (eqb-true k 0 z))
+    (λ z. either (eqb k 7) (λ s. rw (eqb-true k 7 s))
+    (λ s. List·getD-eq-default names [] (h (omega (arith, eqb-false k 0 z)) (eqb-false k 7 s))))
 
 -- So many bytes of what the code has as a name are the name.
 pub name-taken : (k : ℕ) (t : List ℕ) (n : ℕ) → take (length (getD names k [])) t ≡ getD names k [] → n ≡ length (getD names k []) → take n t ≡ getD names k []
@@ -71,14 +72,6 @@ module _ (w : List ℕ) (k : ℕ) (h : k < length names) where
 pub kind-none : (w : List ℕ) (k : ℕ) → length names ≤ k → placeIn w k (drop k names) ≡ 0
 unfolding placeIn
 kind-none w k h = rw (drop-of-length-le names h)
-
--- A kind that an edition has is one of those with a name.
-pub kind-few : (e k : ℕ) → 0 < lengthOf e k → (0 < k) × (k < length names)
-unfolding allRows format lengthOf lengthIn names
-kind-few e k h =
-    ⊎-elim (λ n. absurd (omega (arith, ap lengthIn n)))
-    (λ t. let q = both (ltb 0 k) (ltb k (length names)) t in (ltb-true 0 k (q .0), ltb-true k (length names) (q .1)))
-    (tested (λ e k fs. ltb 0 k && ltb k (length names)) e k refl)
 
 module _ (e k : ℕ) (h : lengthOf e k ≡ 0 → ⊥) where
   some : ltb 0 (lengthOf e k) ≡ true
@@ -99,6 +92,26 @@ lacks-name e k h = rw h
 pub not-named : (e k : ℕ) (w : List ℕ) → k ≡ kindOf w → lengthOf e k ≡ 0 → 0 ≡ kindNamed e w
 unfolding kindNamed
 not-named e k w q h = rw (← q, h)
+
+-- A word that has a place among names is the name there.
+place-said : (w : List ℕ) (k : ℕ) (ns : List (List ℕ)) → 0 < placeIn w k ns → (i : ℕ) × (placeIn w k ns ≡ k + i) × (isWord w (getD ns i []) ≡ true)
+unfolding placeIn
+place-said w k [] h = absurd (omega arith)
+place-said w k (n ∷ ns) h =
+    either (isWord w n) (λ q. rw q (0, omega arith, q))
+    (λ q. let r = place-said w (k + 1) ns (rw q at h) in rw q (suc (r .0), omega (arith, r .1), r .2))
+
+pub named-by-name : NamedByName
+unfolding kindNamed kindOf placeIn names isWord
+named-by-name e w k h =
+    either (ltb 0 (lengthOf e (kindOf w))) (λ q. go w (rw q at h)) (λ q. absurd (omega (arith, rw q at h)))
+  where
+    go : (w : List ℕ) → kindOf w ≡ suc k → (w ≡ getD names (suc k) []) × (0 < length w)
+    go [] q = absurd (omega (arith, q))
+    go (b ∷ w) q =
+        let r = place-said (b ∷ w) 0 names (omega (arith, q)) in
+        let i : r .0 ≡ suc k = omega (arith, r .1, q) in
+        (word-same (b ∷ w) (getD names (r .0) []) (r .2) ∙ ap (λ (j : ℕ). getD names j []) i, omega arith)
 
 -- The kind that a word names is a byte.
 place-below : (w : List ℕ) (k : ℕ) (ns : List (List ℕ)) → placeIn w k ns ≤ k + length ns

@@ -73,7 +73,7 @@ groups-in w = either (isList w) (λ e. rw e (items-in 0 (itemsIn w) (omega arith
 no-number-apart : (f : ℕ) → 101 ≤ noNumber f
 unfolding noNumber noNumbers allBelow
 no-number-apart f =
-    below f 10 (λ h. leb-true 101 (noNumber f) (below-passes 10 (λ i. leb 101 (noNumber i)) refl f h))
+    below f 11 (λ h. leb-true 101 (noNumber f) (below-passes 11 (λ i. leb 101 (noNumber i)) refl f h))
     (λ h. omega (arith, List·getD-eq-default noNumbers unknown h))
 
 field-under : (f : ℕ) (w : List ℕ) → Under 101 (256 ^ fieldWidth f - 1) (fieldIn f w)

@@ -1,5 +1,5 @@
 -- What a text says. Bytes are ASCII: 9 is a tab, 10 a line feed, 13 a carriage return, 32 a space, 35 '#', 44 ',', 45 '-'.
-use Prim.Native.Nat.{ℕ, zero, suc, _+_, _-_, _*_, _^_, _≤_, max}
+use Prim.Native.Nat.{ℕ, zero, suc, _+_, _-_, _*_, _^_, _≤_, _<_, max}
 use mathlib.Core.Path.{_≡_}
 use mathlib.Core.Bool.{Bool, true, false, not, _&&_, _||_, cond}
 use mathlib.Core.List.{List, [], _∷_}
@@ -17,7 +17,7 @@ use Rattle.load_text.specs.declared.words.Field.{Field}
 use Rattle.load_text.specs.declared.words.Field.the-variants.{Value, Wrong}
 use Rattle.load_text.specs.declared.words.Mark.{Mark}
 use Rattle.load_text.specs.declared.words.Mark.the-variants.{Joint, NoDigit}
-use Rattle.load_text.specs.Reasons.{noEdition, unknown, missing, tooMany, noClock, noTicket, noLength, noGroups, tooLarge, over63, backward, noPool, noUnits, noClient, noReserved, noLimit}
+use Rattle.load_text.specs.Reasons.{noEdition, unknown, missing, tooMany, noClock, noTicket, noLength, noGroups, tooLarge, over63, backward, noPool, noUnits, noClient, noReserved, noLimit, noGrace}
 
 -- ── parts of a text ──
 -- How many bytes stand before the first that passes p; these bytes, and those from it on.
@@ -186,9 +186,9 @@ groupsIn w = cond (isList w) (withItems 0 (itemsIn w)) (numberIn 16 184467440737
 
 -- ── calls ──
 -- The reasons of words that say nothing as a field, in the order of the fields: the kind has no word, then clock, groups, length, ticket,
--- pool, units, client, reserved, limit.
+-- pool, units, client, reserved, limit, grace.
 unfoldable pub noNumbers : List ℕ
-noNumbers = unknown ∷ noClock ∷ noGroups ∷ noLength ∷ noTicket ∷ noPool ∷ noUnits ∷ noClient ∷ noReserved ∷ noLimit ∷ []
+noNumbers = unknown ∷ noClock ∷ noGroups ∷ noLength ∷ noTicket ∷ noPool ∷ noUnits ∷ noClient ∷ noReserved ∷ noLimit ∷ noGrace ∷ []
 
 unfoldable pub noNumber : ℕ → ℕ
 noNumber f = getD noNumbers f unknown
@@ -229,6 +229,11 @@ kindOf w = placeIn w 0 names
 -- The same in an edition, which may lack it.
 unfoldable pub kindNamed : ℕ → List ℕ → ℕ
 kindNamed e w = cond (ltb 0 (lengthOf e (kindOf w))) (kindOf w) 0
+
+-- A word that names a kind is the kind's name, and not empty: none names kind 7, which has no name. proofs/Tables has the proof:
+-- named-by-name.
+abbrev pub NamedByName : Type 0
+NamedByName = (e : ℕ) (w : List ℕ) (k : ℕ) → kindNamed e w ≡ suc k → (w ≡ getD names (suc k) []) × (0 < length w)
 
 -- The call of a kind that words say.
 abbrev pub kindSays : ℕ → ℕ → List (List ℕ) → Parsed

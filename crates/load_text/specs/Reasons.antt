@@ -47,6 +47,9 @@ noReserved = 114
 abbrev pub noLimit : ℕ
 noLimit = 115
 
+abbrev pub noGrace : ℕ
+noGrace = 116
+
 abbrev pub noEdition : ℕ
 noEdition = 11
 

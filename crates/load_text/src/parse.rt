@@ -34,7 +34,7 @@ pub enum Head {
 // The groups among the fields, and for each field from 0 on the greatest number and the reason of a word that is none.
 pub(crate) const GROUPS: u8 = 2;
 
-const MOST: [u64; 10] = [
+const MOST: [u64; 11] = [
     255,
     u64::MAX,
     u64::MAX,
@@ -45,9 +45,10 @@ const MOST: [u64; 10] = [
     255,
     255,
     255,
+    4294967295,
 ];
 
-const NONE: [u8; 10] = [
+const NONE: [u8; 11] = [
     reasons::UNKNOWN,
     reasons::NO_CLOCK,
     reasons::NO_GROUPS,
@@ -58,6 +59,7 @@ const NONE: [u8; 10] = [
     reasons::NO_CLIENT,
     reasons::NO_RESERVED,
     reasons::NO_LIMIT,
+    reasons::NO_GRACE,
 ];
 
 // What a word says as a field.
@@ -67,7 +69,7 @@ fn field_of(field: u8, word: &[u8]) -> Field
     if field == GROUPS {
         return groups_of(word);
     }
-    if 9 < field {
+    if 10 < field {
         return number(word, 10, 0, reasons::UNKNOWN, reasons::TOO_LARGE);
     }
     let most = MOST[field as usize];

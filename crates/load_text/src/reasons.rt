@@ -30,6 +30,8 @@ pub const NO_RESERVED: u8 = 114;
 
 pub const NO_LIMIT: u8 = 115;
 
+pub const NO_GRACE: u8 = 116;
+
 pub const NO_EDITION: u8 = 11;
 
 pub const MISFIT: u8 = 13;

@@ -22,6 +22,7 @@ fn name(kind: u8) -> [u8; 8]
         4 => *b"withdraw",
         5 => *b"clock   ",
         6 => *b"desk    ",
+        8 => *b"grace   ",
         _ => *b"        ",
     }
 }
@@ -36,6 +37,7 @@ fn name_length(kind: u8) -> usize
         4 => 8,
         5 => 5,
         6 => 4,
+        8 => 5,
         _ => 0,
     }
 }
@@ -48,12 +50,12 @@ fn is_name(kind: u8, word: &[u8]) -> bool
     check::same(word, &text[..n])
 }
 
-// The kind that a word names, 0 for none.
+// The kind that a word names, 0 for none. An empty word is found at 0, and so is never taken for kind 7, which has no name.
 fn kind_of(word: &[u8]) -> u8
     ensures { λ r. ⌜ r ≡ kindOf (now (word .entry)) ⌝ }
 {
     let mut kind: u8 = 0;
-    while kind < 7 {
+    while kind < 9 {
         if is_name(kind, word) {
             return kind;
         }
@@ -87,7 +89,7 @@ pub(crate) fn put_name(out: &mut [u8], at: usize, edition: u8, kind: u8) -> usiz
 
 // ---- reasons
 // The number of each text but the last.
-const REASONS: [u8; 18] = [
+const REASONS: [u8; 19] = [
     101,
     102,
     103,
@@ -103,12 +105,13 @@ const REASONS: [u8; 18] = [
     113,
     114,
     115,
+    116,
     11,
     13,
     14,
 ];
 
-const TEXTS: [[u8; 32]; 19] = [
+const TEXTS: [[u8; 32]; 20] = [
     *b"unknown call\n                   ",
     *b"a number is missing\n            ",
     *b"too many words\n                 ",
@@ -124,13 +127,14 @@ const TEXTS: [[u8; 32]; 19] = [
     *b"desk is not a number\n           ",
     *b"guarantee is not a number\n      ",
     *b"limit is not a number\n          ",
+    *b"grace is not a number\n          ",
     *b"unknown edition\n                ",
     *b"rig must be first\n              ",
     *b"load over 65,536 bytes\n         ",
     *b"not written\n                    ",
 ];
 
-const LENGTHS: [usize; 19] = [
+const LENGTHS: [usize; 20] = [
     13,
     20,
     15,
@@ -146,6 +150,7 @@ const LENGTHS: [usize; 19] = [
     21,
     26,
     22,
+    22,
     16,
     18,
     23,
@@ -153,7 +158,7 @@ const LENGTHS: [usize; 19] = [
 ];
 
 fn put_row(out: &mut [u8], at: usize, i: usize) -> usize
-    requires { ⌜ i < 19 ⌝ }
+    requires { ⌜ i < 20 ⌝ }
     ensures { λ r. ⌜ Put (now (out .entry)) at (getD reasonTexts i []) r (now (out .exit)) ⌝ }
 {
     let row = TEXTS[i];

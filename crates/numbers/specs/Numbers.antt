@@ -82,6 +82,10 @@ overbookedNumber = 19
 abbrev pub countNumber : ℕ
 countNumber = 20
 
+-- "grace: a grace over 60,000 or set after an accepted claim" (document 02, P6)
+abbrev pub graceNumber : ℕ
+graceNumber = 21
+
 -- "Clocks run from 0 to 1,000,000,000,000."
 abbrev pub mostClock : ℕ
 mostClock = 1000000000000
@@ -89,6 +93,10 @@ mostClock = 1000000000000
 -- "a declared length of 1 to 3,600,000 ticks"
 abbrev pub mostLength : ℕ
 mostLength = 3600000
+
+-- "a grace of 0 to 60,000 ticks" (document 02, P6)
+abbrev pub mostGrace : ℕ
+mostGrace = 60000
 
 -- "Tickets are issued 1, 2, 3 up to 65,535"
 abbrev pub mostTickets : ℕ

@@ -39,11 +39,15 @@ pub const OVERBOOKED: u8 = 19;
 
 pub const COUNT: u8 = 20;
 
-// The last clock, the longest length in ticks, how many tickets a table issues, how many claims are pending, how many
+pub const GRACE: u8 = 21;
+
+// The last clock, the longest length and the longest grace in ticks, how many tickets a table issues, how many claims are pending, how many
 // clients there are, the bytes of a load, the claims of a workload.
 pub const MOST_CLOCK: u64 = 1_000_000_000_000;
 
 pub const MOST_LENGTH: u32 = 3_600_000;
+
+pub const MOST_GRACE: u32 = 60_000;
 
 pub const MOST_TICKETS: u16 = 65_535;
 

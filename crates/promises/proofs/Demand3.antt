@@ -26,8 +26,8 @@ use Rattle.rules.specs.declared.Common.the-variants.{Unknown}
 use Rattle.rules.specs.declared.Standing.the-variants.{Waits, Holds}
 use Rattle.rules.specs.Tests.{named}
 use Rattle.rules.specs.declared.Reply.{Reply}
-use Rattle.rules.specs.Calls.{Model, settingOf, plain, placing, ruled, Call, claim, release, withdraw, clock, lookup, common, free, declare, timed, looks, declared, Answer, Step, unchanged, advance, finish, join, remove, fresh, admit, step, standing, standingOf, between, commonOf, blank, new, after}
-use Rattle.rules.specs.Plans.{Ascending}
+use Rattle.rules.specs.Calls.{Model, settingOf, plain, placing, ruled, Call, claim, release, withdraw, clock, lookup, common, free, declare, setGrace, timed, looks, declared, withGrace, Answer, Step, unchanged, advance, finish, join, remove, fresh, admit, step, standing, standingOf, between, commonOf, blank, new, after}
+use Rattle.rules.specs.Plans.{Ascending, NoOverrunAt}
 use Rattle.rules.specs.Invariants.{IsSpaced, Invariant, IsBooked}
 use Rattle.rules.proofs.Bools.{split, by-test, clash, and-i}
 use Rattle.rules.proofs.Lists.{named-keep}
@@ -37,12 +37,12 @@ use Rattle.rules.proofs.Packing.{moved-cases, moved-at, moved-phase, pack-no-la
 use Rattle.rules.proofs.StartBound.{place-bound}
 use Rattle.rules.proofs.Granting.{granted-cases, granted-at}
 use Rattle.rules.proofs.Invariants.{spaced-packs}
-use Rattle.rules.proofs.Calls.{Clocked, Admissible, advance-packed, advance-drawn, advance-spare, finish-invariant, advance-same, finish-e, finish-clock, placed, fresh-sane, join-spaced, Leaves, by-release, by-withdraw, by-clock, leaves-spaced, leaves-old, leaves-clock, join-old, Idle, looks-untimed, Declarable, step-cases, blank-invariant, new-cases}
+use Rattle.rules.proofs.Calls.{Clocked, Admissible, advance-packed, advance-drawn, advance-spare, finish-invariant, advance-same, finish-e, finish-clock, placed, fresh-sane, join-spaced, Leaves, by-release, by-withdraw, by-clock, leaves-spaced, leaves-old, leaves-clock, join-old, Idle, looks-untimed, Declarable, Settable, finish-grace, leaves-grace, grace-invariant, step-cases, blank-invariant, new-cases}
 use Rattle.rules.proofs.Shares.{first-booked}
 use Rattle.rules.proofs.Booking.{advance-booked, finish-booked, finish-shares, join-booked, leaves-booked, leaves-shares, declare-booked}
-use Rattle.rules.proofs.NoOverrun.{NoOverrunAt, no-overrun-no-later}
+use Rattle.rules.proofs.NoOverrun.{no-overrun-no-later}
 use Rattle.rules.proofs.Lookup.{lookup-absent, none-named, lookup-found, one-named, lookup-waits}
-use Rattle.promises.specs.Ledger.{Turn, turns, tableAfter, Entry, promised, Ledger, opening, issues, without, stay, sharesBy, hold, marked, noted, notedAll, NoOverrun, NoOverruns, ruledBy, remainingOf, rivalsOf, boundOn}
+use Rattle.promises.specs.Ledger.{Turn, turns, tableAfter, Entry, promised, Ledger, opening, issues, without, stay, sharesBy, graceBy, hold, marked, noted, notedAll, NoOverrun, NoOverruns, ruledBy, remainingOf, rivalsOf, boundOn}
 use Rattle.promises.specs.Demand3.{TicketsAscend, Now, Next, tells, Demand3}
 use Rattle.promises.proofs.Matching.{Match, m-nil, m-cons, match-map, match-left, match-weaken, match-snoc, match-none, match-keep, match-length, match-sum, partner, partner-of}
 
@@ -63,6 +63,7 @@ pub record Story (P : Type 0) (l : Ledger) (m : Model) : Type 0 where
   pub clock : m .clock ≡ l .clock
   pub pool : m .pool ≡ l .pool
   pub issued : m .issued ≡ l .issued
+  pub grace : m .grace ≡ l .grace
   pub shares : m .shares ≡ l .shares
   pub match : Match (Tracks P) (m .pending) (l .claims)
 
@@ -333,7 +334,7 @@ module _ (P : Type 0) (l : Ledger) (m : Model) (s : Story P l m) where
   still : NotRaised (m .pending) (m .pending)
   still c d ci di e o = omega (arith, ap at (ascending-same (m .pending) (s .inv .spaced .ascending) d c di ci e))
 
-  -- Nobody is declared by it.
+  -- Nobody is declared by it, and no grace is set.
   looks-shares : (c : Call) → looks c ≡ true → sharesBy c (l .shares) ≡ l .shares
   unfolding sharesBy
   looks-shares (claim t ask) e = refl
@@ -344,10 +345,27 @@ module _ (P : Type 0) (l : Ledger) (m : Model) (s : Story P l m) where
   looks-shares (common j k) e = refl
   looks-shares free e = refl
   looks-shares (declare c r k) e = clash e refl
+  looks-shares (setGrace n) e = refl
+
+  looks-grace : (c : Call) → looks c ≡ true → graceBy c (l .grace) ≡ l .grace
+  unfolding graceBy
+  looks-grace (claim t ask) e = refl
+  looks-grace (release t k) e = refl
+  looks-grace (withdraw t k) e = refl
+  looks-grace (clock t) e = refl
+  looks-grace (lookup k) e = refl
+  looks-grace (common j k) e = refl
+  looks-grace free e = refl
+  looks-grace (declare c r k) e = refl
+  looks-grace (setGrace n) e = clash e refl
 
   idle-shares : (c : Call) (n : ℕ) → Idle c n → cond (eqb n 0) (sharesBy c (l .shares)) (l .shares) ≡ l .shares
   idle-shares c n (inl e) = by-test (eqb n 0) (λ q. rw q (looks-shares c e)) (λ q. rw q)
   idle-shares c n (inr e) = rw (ne-eqb n 0 e)
+
+  idle-grace : (c : Call) (n : ℕ) → Idle c n → cond (eqb n 0) (graceBy c (l .grace)) (l .grace) ≡ l .grace
+  idle-grace c n (inl e) = by-test (eqb n 0) (λ q. rw q (looks-grace c e)) (λ q. rw q)
+  idle-grace c n (inr e) = rw (ne-eqb n 0 e)
 
   told-idle : (c : Call) (n : ℕ) → Idle c n → Told P l m c (unchanged m n)
   told-idle c n i =
@@ -363,42 +381,47 @@ module _ (P : Type 0) (l : Ledger) (m : Model) (s : Story P l m) where
           clock = rw z (s .clock);
           pool = rw z (s .pool);
           issued = rw z (s .issued);
+          grace = rw z (s .grace ∙ sym (idle-grace c n i));
           shares = rw z (s .shares ∙ sym (idle-shares c n i));
           match = rw z (match-weaken (λ d e r. tracks-weaken P _ (λ q. q .0) d e r) (s .match));
         },
       )
+
+  -- The rules are those that the ledger tells.
+  pub ruled-is : (t : ℕ) → ruled m t ≡ ruledBy l t
+  ruled-is t = cc (s .pool, s .grace)
 
   prompt : (t : ℕ) → ((e : Entry) → e ∈ l .claims → e .held ≡ true → t ≤ promised e) → NoOverrunAt t (m .pending)
   prompt t h = no-overrun-of P t (m .pending) (l .claims) (s .match) h
 
   -- What the accepted timed calls have in common: q is what they leave before they pack again and grant, es the same of the ledger.
   told-finish : (t j : ℕ) (rep : Reply) (q : Model) (es : List Entry) (T : Type 0) → m .clock ≤ t → (T → (e : Entry) → e ∈ l .claims → e .held ≡ true → t ≤ promised e)
-      → IsSpaced q → IsBooked q → q .clock ≡ t → q .pool ≡ l .pool → q .issued ≡ j → q .shares ≡ l .shares
+      → IsSpaced q → IsBooked q → q .clock ≡ t → q .pool ≡ l .pool → q .issued ≡ j → q .grace ≡ l .grace → q .shares ≡ l .shares
       → ((y : Claim) → y ∈ q .pending → (y ∈ advance m t .pending) ⊎ (m .issued < y .ticket)) → Match (Tracks (P × T)) (q .pending) es
       → (T → Unraised (m .pending) (finish q rep .model .pending) (map (marked t (finish q rep .answer .grants)) es))
-      × Story (P × T) (record { clock = t; pool = l .pool; issued = j; shares = l .shares; claims = map (marked t (finish q rep .answer .grants)) es }) (finish q rep .model)
-  told-finish t j rep q es T h tm sp bk cl po is sh old ma = (
+      × Story (P × T) (record { clock = t; pool = l .pool; issued = j; grace = l .grace; shares = l .shares; claims = map (marked t (finish q rep .answer .grants)) es }) (finish q rep .model)
+  told-finish t j rep q es T h tm sp bk cl po is gr sh old ma = (
     λ z. unraised (P × T) (m .pending) (finish q rep .model .pending) (map (marked t (finish q rep .answer .grants)) es) done (finish-not-raised m q t rep (s .inv) h (prompt t (tm z)) sp old),
-    record { inv = finish-invariant q rep sp; booked = finish-booked q rep bk; clock = finish-clock q rep ∙ cl; pool = finish-pool q rep ∙ po; issued = finish-issued q rep ∙ is; shares = finish-shares q rep ∙ sh; match = done },
+    record { inv = finish-invariant q rep sp; booked = finish-booked q rep bk; clock = finish-clock q rep ∙ cl; pool = finish-pool q rep ∙ po; issued = finish-issued q rep ∙ is; grace = finish-grace q rep ∙ gr; shares = finish-shares q rep ∙ sh; match = done },
   )
     where
       done : Match (Tracks (P × T)) (finish q rep .model .pending) (map (marked t (finish q rep .answer .grants)) es)
       done = subst (λ (u : ℕ). Match (Tracks (P × T)) (finish q rep .model .pending) (map (marked u (finish q rep .answer .grants)) es)) cl (finish-match (P × T) es q rep sp ma)
 
   told-claim : (t : ℕ) (ask : Request) → Admissible m t ask → Told P l m (claim t ask) (admit (advance m t) ask)
-  unfolding admit finish join advance stay issues sharesBy
+  unfolding admit finish join advance stay issues sharesBy graceBy
   told-claim t ask a =
       let old = join-old (advance m t) (placed (advance m t) ask) refl in
       let next : suc (m .issued) ≡ l .issued + 1 = omega (arith, s .issued) in
       let r =
       told-finish t (l .issued + 1) (placing (advance m t) w) q _ T
-      (a .clocked .later) (λ z. z refl) spaced (join-booked m t ask a (s .booked)) refl (s .pool) next (s .shares) old (match-snoc _ _ first new) in (
+      (a .clocked .later) (λ z. z refl) spaced (join-booked m t ask a (s .booked)) refl (s .pool) next (s .grace) (s .shares) old (match-snoc _ _ first new) in (
         record {
           ticket-next = λ t′ ask′ e _. omega (arith, s .issued);
           start-bounded = λ t′ ask′ e _ z′.
               let same : boundOn (ruledBy l t) (l .claims) ask ≡ boundOn (ruledBy l t′) (l .claims) ask′ = cc in
               let z : ask .units ≡ 0 = cc in
-              omega (arith, place-bound v ps w (fresh-sane (advance m t) ask (a .long) (advance-drawn m t ask a) (advance-spare m t ask a)) z, bound-is (P × T) v ps (l .claims) w ask refl refl first, ap (λ (k : ℕ). boundOn (record { clock = t; pool = k }) (l .claims) ask) (s .pool));
+              omega (arith, place-bound v ps w (fresh-sane (advance m t) ask (a .long) (advance-drawn m t ask a) (advance-spare m t ask a)) z, bound-is (P × T) v ps (l .claims) w ask refl refl first, ap (λ (v : Setting). boundOn v (l .claims) ask) (ruled-is t));
           never-raised = λ _. r .0;
         },
         r .1,
@@ -435,11 +458,11 @@ module _ (P : Type 0) (l : Ledger) (m : Model) (s : Story P l m) where
   left : {c : Call} {t k : ℕ} {q : Model} (a : Answer) (T : Type 0) → Leaves m c t k q → Clocked m t → (T → (e : Entry) → e ∈ l .claims → e .held ≡ true → t ≤ promised e)
       → (let es = map (marked t (finish q (plain k t) .answer .grants)) (stay c (l .claims) ++ issues c a) in
       (T → Unraised (m .pending) (finish q (plain k t) .model .pending) es)
-      × Story (P × T) (record { clock = t; pool = l .pool; issued = l .issued + length (issues c a); shares = l .shares; claims = es }) (finish q (plain k t) .model))
+      × Story (P × T) (record { clock = t; pool = l .pool; issued = l .issued + length (issues c a); grace = l .grace; shares = l .shares; claims = es }) (finish q (plain k t) .model))
   left {c} {t} {k} {q} a T v o tm =
       told-finish t (l .issued + length (issues c a)) (plain k t) q (stay c (l .claims) ++ issues c a) T (o .later) tm
       (leaves-spaced v (advance-packed m t (s .inv) (o .later))) (leaves-booked v (advance-booked m t (s .booked))) (leaves-clock v .0) (leaves-pool v ∙ s .pool) (omega (arith, leaves-issued a v, s .issued))
-      (leaves-shares v ∙ s .shares) (λ y i. inl (leaves-old v y i))
+      (leaves-grace v ∙ s .grace) (leaves-shares v ∙ s .shares) (λ y i. inl (leaves-old v y i))
       (leaves-match (P × T) (l .claims) a v (advance-match P T (l .claims) m t (s .inv) (o .later) (λ z. prompt t (tm z)) (s .match)))
 
   no-claim : {A : Type 0} {c : Call} {t k : ℕ} {q : Model} {u : ℕ} {ask : Request} → Leaves m c t k q → c ≡ claim u ask → A
@@ -454,7 +477,7 @@ module _ (P : Type 0) (l : Ledger) (m : Model) (s : Story P l m) where
   next a v h = record { ticket-next = λ u ask e _. no-claim v e; start-bounded = λ u ask e _ _. no-claim v e; never-raised = λ _. h }
 
   told-left : (c : Call) (t k : ℕ) (q : Model) → Clocked m t → Leaves m c t k q → Told P l m c (finish q (plain k t))
-  unfolding finish sharesBy
+  unfolding finish sharesBy graceBy
   told-left c₀ t₀ k₀ q₀ o (by-release t k) =
       let a : Answer = finish (remove (advance m t) k) (plain k t) .answer in
       let r = left a (NoOverrun l (record { call = release t k; answer = a })) (by-release t k) o (λ z. z refl) in
@@ -468,33 +491,55 @@ module _ (P : Type 0) (l : Ledger) (m : Model) (s : Story P l m) where
       let r = left a (NoOverrun l (record { call = clock t; answer = a })) (by-clock t) o (λ z. z refl) in
       (next a (by-clock t) (r .0), r .1)
 
-  -- A declaration changes no claim.
+  -- A declaration and a grace change no claim.
+  prepared : (c : Call) (q : Model) → timed c ≡ false → q .pending ≡ m .pending → Next P l (record { call = c; answer = unchanged q 0 .answer }) (tells m) (tells q)
+  prepared c q h e =
+      let z : timed c && eqb 0 0 ≡ false = rw h in
+      record {
+        ticket-next = λ u ask k _. clash (ap timed k) h;
+        start-bounded = λ u ask k _ _. clash (ap timed k) h;
+        never-raised = λ p n k x w. rw (z, e) (unraised P (m .pending) (m .pending) (l .claims) (s .match) still k x w);
+      }
+
   told-declare : (c r k : ℕ) → Declarable m c r k → Told P l m (declare c r k) (unchanged (declared m c r k) 0)
-  unfolding sharesBy
+  unfolding sharesBy graceBy
   told-declare c r k d = (
-    record {
-      ticket-next = λ u ask e _. (let z : _≡_ {A = ℕ} 0 1 = cc in absurd (omega arith));
-      start-bounded = λ u ask e _ _. (let z : _≡_ {A = ℕ} 0 1 = cc in absurd (omega arith));
-      never-raised = λ p h. unraised P (m .pending) (m .pending) (l .claims) (s .match) still;
-    },
+    prepared (declare c r k) (declared m c r k) refl refl,
     record {
       inv = s .inv;
       booked = declare-booked m (s .inv) c r k d (s .booked);
       clock = s .clock;
       pool = s .pool;
       issued = s .issued;
+      grace = s .grace;
       shares = ap (λ (ss : List Share). withShare ss c (share r k)) (s .shares);
       match = match-weaken (λ d e r. tracks-weaken P _ (λ q. q .0) d e r) (s .match);
     },
   )
 
+  told-grace : (n : ℕ) → Settable m n → Told P l m (setGrace n) (unchanged (withGrace m n) 0)
+  unfolding sharesBy graceBy
+  told-grace n d = (
+    prepared (setGrace n) (withGrace m n) refl refl,
+    record {
+      inv = grace-invariant m n (s .inv) (d .unissued);
+      booked = s .booked;
+      clock = s .clock;
+      pool = s .pool;
+      issued = s .issued;
+      grace = refl;
+      shares = s .shares;
+      match = match-weaken (λ d e r. tracks-weaken P _ (λ q. q .0) d e r) (s .match);
+    },
+  )
+
   told : (c : Call) → Told P l m c (step m c)
-  told = step-cases (Told P l m) m told-idle told-claim told-left told-declare
+  told = step-cases (Told P l m) m told-idle told-claim told-left told-declare told-grace
 
 -- ── the run ──
 story-weaken : (P Q : Type 0) (l : Ledger) (m : Model) → (Q → P) → Story P l m → Story Q l m
 story-weaken P Q l m f s =
-    record { inv = s .inv; booked = s .booked; clock = s .clock; pool = s .pool; issued = s .issued; shares = s .shares; match = match-weaken (λ c e r. tracks-weaken P Q f c e r) (s .match) }
+    record { inv = s .inv; booked = s .booked; clock = s .clock; pool = s .pool; issued = s .issued; grace = s .grace; shares = s .shares; match = match-weaken (λ c e r. tracks-weaken P Q f c e r) (s .match) }
 
 story-after : (cs : List Call) (P : Type 0) (l : Ledger) (m : Model) → Story P l m
     → Story (P × NoOverruns l (turns step m cs)) (notedAll l (turns step m cs)) (tableAfter step m cs)
@@ -515,7 +560,7 @@ start g k alone =
   where
     blank-story : (r n j : ℕ) → n ≡ cond (eqb j 0) k 0 → Story (Unit {0}) (opening k alone (unchanged (blank r n alone) j .answer)) (blank r n alone)
     blank-story r n j e =
-        record { inv = blank-invariant r n alone; booked = first-booked alone; clock = refl; pool = e; issued = refl; shares = refl; match = m-nil }
+        record { inv = blank-invariant r n alone; booked = first-booked alone; clock = refl; pool = e; issued = refl; grace = refl; shares = refl; match = m-nil }
 
 pub after-calls : (g k : ℕ) (alone : Bool) (cs : List Call)
     → (let l = opened g k alone in

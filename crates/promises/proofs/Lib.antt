@@ -2,5 +2,6 @@ pub mod Matching
 pub mod Demand3
 pub mod PoolKept
 pub mod SharesKept
+pub mod EndsAwaited
 pub mod WholeCalls
 pub mod Worthless

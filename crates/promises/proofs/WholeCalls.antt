@@ -18,7 +18,7 @@ use Rattle.rules.specs.Placing.{place}
 use Rattle.rules.specs.Plans.{Sane, Spare}
 use Rattle.rules.specs.Granting.{goes, granted, grant}
 use Rattle.rules.specs.declared.Reply.{Reply}
-use Rattle.rules.specs.Calls.{Model, settingOf, plain, ruled, Call, claim, release, withdraw, clock, lookup, common, free, declare, timed, clockOf, Step, advance, finish, join, fresh, admit, step, new, after}
+use Rattle.rules.specs.Calls.{Model, settingOf, plain, ruled, Call, claim, release, withdraw, clock, lookup, common, free, declare, setGrace, timed, clockOf, Step, advance, finish, join, fresh, admit, step, new, after}
 use Rattle.rules.specs.Invariants.{IsSpaced, IsPacked, Still, Invariant}
 use Rattle.rules.proofs.Bools.{clash}
 use Rattle.rules.proofs.Lists.{here, map-e}
@@ -205,7 +205,7 @@ of-timed m i =
     (λ t ask a p q. claim-timed m i t ask a)
     (λ c t k q o v p e. timed-finish m q c t (plain k t) i (leaves-spaced v (advance-packed m t i (o .later))) (leaves-clock v .0) (leaves-clock v .1)
     (λ x j. inl (leaves-old v x j)))
-    (λ c r l d p e. clash p refl)
+    (λ c r l d p e. clash p refl) (λ n d p e. clash p refl)
 
 -- Of a claim; nothing of the other calls.
 OfClaim : Model → Call → Step → Type 0
@@ -217,12 +217,13 @@ OfClaim m (lookup k) s = Unit {0}
 OfClaim m (common j k) s = Unit {0}
 OfClaim m free s = Unit {0}
 OfClaim m (declare c r l) s = Unit {0}
+OfClaim m (setGrace n) s = Unit {0}
 
 pub of-claim : (m : Model) → Invariant m → (t : ℕ) (ask : Request) → step m (claim t ask) .answer .number ≡ 0 → ClaimCall m t ask (step m (claim t ask))
 unfolding OfClaim
 of-claim m i t ask =
     step-cases (λ c s. timed c ≡ true → s .answer .number ≡ 0 → OfClaim m c s) m (λ c k z p q. refused c k z p q)
-    (λ t ask a p q. claim-whole m i t ask a) (λ c t k q o v p e. none v) (λ c r l d p e. tt) (claim t ask) refl
+    (λ t ask a p q. claim-whole m i t ask a) (λ c t k q o v p e. none v) (λ c r l d p e. tt) (λ n d p e. tt) (claim t ask) refl
   where
     none : {c : Call} {t k : ℕ} {q : Model} → Leaves m c t k q → OfClaim m c (finish q (plain k t))
     none (by-release t k) = tt

@@ -1,4 +1,4 @@
--- Demand 3 refuses the worthless versions, by computation on a few calls.
+-- Demand 3 and the theorem of ends refuse the worthless versions, by computation on a few calls.
 use mathlib.Core.Path.{_≡_, refl, ap}
 use mathlib.Core.Bool.{false}
 use mathlib.Core.List.{List, [], _∷_, List·Memᴰ·eq-of-singleton}
@@ -16,14 +16,14 @@ use Rattle.rules.specs.Placing.{clear, fits, place, contention, startBound}
 use Rattle.rules.specs.Granting.{takenBefore, trulyFree, goesWithin, goes, granted, grant, grants}
 use Rattle.rules.specs.declared.Standing.the-variants.{NotPending, Holds}
 use Rattle.rules.specs.Tests.{firstOf}
-use Rattle.rules.specs.Calls.{Call, clock, tests, advance, finish, join, remove, admit, act, step, new, standingOf}
+use Rattle.rules.specs.Calls.{Call, clock, setGrace, tests, advance, finish, join, remove, admit, act, step, new, standingOf}
 use Rattle.rules.proofs.Bools.{clash}
-use Rattle.rules.proofs.Lists.{here, none}
-use Rattle.promises.specs.Ledger.{Entry, turns, tableAfter, issues, stay, sharesBy, marked, notedAll}
-use Rattle.promises.specs.Worthless.{claim, neverGrants, untouched, echoes, AllRefused}
+use Rattle.rules.proofs.Lists.{here, there, none}
+use Rattle.promises.specs.Ledger.{Entry, turns, tableAfter, issues, stay, sharesBy, graceBy, marked, notedAll}
+use Rattle.promises.specs.Worthless.{claim, neverGrants, untouched, echoes, showsNow, AllRefused}
 
 pub all-refused : AllRefused
-unfolding someFrom lowestFrom common shares empty within greatest least sum all any keep heldUntil endOf remaining precedes before covers unitsAt used enough spare heldUnits ready startFor moved ahead startWithin packedStart pack clear fits seek place contention startBound takenBefore trulyFree goesWithin goes granted grant grants shareOf pendingOf unfilled unfilledByOthers firstOf tests advance finish join remove admit act step new standingOf turns tableAfter issues stay sharesBy marked notedAll neverGrants untouched echoes
+unfolding someFrom lowestFrom common shares empty within greatest least sum all any keep heldUntil endOf remaining precedes before covers unitsAt used enough spare heldUnits ready startFor moved ahead startWithin packedStart pack clear fits seek place contention startBound takenBefore trulyFree goesWithin goes granted grant grants shareOf pendingOf unfilled unfilledByOthers firstOf tests advance finish join remove admit act step new standingOf turns tableAfter issues stay sharesBy graceBy marked notedAll neverGrants untouched echoes showsNow
 all-refused = (
   λ d.
       let calls : List Call = claim 0 0x1 10 ∷ clock 1 ∷ [] in
@@ -36,5 +36,8 @@ all-refused = (
       omega arith,
   λ d.
       let z : _≡_ {A = ℕ} 1 2 = d .at-any-call (claim 0 0x1 10 ∷ []) (claim 0 0x1 10) [] refl .ticket-next 0 _ refl refl in
+      omega arith,
+  λ d.
+      let z : 17 ≤ 12 = d (setGrace 5 ∷ claim 0 0x1 10 ∷ claim 0 0x1 10 ∷ clock 12 ∷ []) [] refl _ _ here (there here) refl refl 12 refl in
       omega arith,
 )

@@ -13,7 +13,7 @@ use Rattle.rules.specs.declared.Setting.{Setting}
 use Rattle.rules.specs.declared.Share.{Share}
 use Rattle.rules.specs.Shares.{share, firstShares, withShare}
 use Rattle.rules.specs.Claims.{heldUntil}
-use Rattle.rules.specs.Calls.{Model, Call, claim, release, withdraw, clock, lookup, common, free, declare, timed, clockOf, Answer, Step}
+use Rattle.rules.specs.Calls.{Model, Call, claim, release, withdraw, clock, lookup, common, free, declare, setGrace, timed, clockOf, Answer, Step}
 
 -- A call with its answer.
 pub record Turn : Type 0 where
@@ -50,18 +50,20 @@ pub record Entry : Type 0 where
 abbrev pub promised : Entry → ℕ
 promised e = e .grant + e .asked .length
 
--- The table's clock, the units in its pool, the count of claims accepted so far, the shares of clients 1 to 8, and the pending claims.
+-- The table's clock, the units in its pool, the count of claims accepted so far, the grace, the shares of clients 1 to 8, and the pending
+-- claims.
 pub record Ledger : Type 0 where
   pub clock : ℕ
   pub pool : ℕ
   pub issued : ℕ
+  pub grace : ℕ
   pub shares : List Share
   pub claims : List Entry
 
 -- Before any call, by the call that made the table: the units that it named, whether client 1 alone is declared, and its answer. The clock is
--- "0 before any"; a table that was refused has no units.
+-- "0 before any"; a table that was refused has no units; the grace is "0 unless set" (document 02, P6).
 abbrev pub opening : ℕ → Bool → Answer → Ledger
-opening k alone a = record { clock = 0; pool = cond (eqb (a .number) 0) k 0; issued = 0; shares = firstShares alone; claims = [] }
+opening k alone a = record { clock = 0; pool = cond (eqb (a .number) 0) k 0; issued = 0; grace = 0; shares = firstShares alone; claims = [] }
 
 -- "A claim is pending from the accepted call that issued its ticket": what an accepted call issued.
 unfoldable pub issues : Call → Answer → List Entry
@@ -73,6 +75,7 @@ issues (lookup k) a = []
 issues (common j k) a = []
 issues free a = []
 issues (declare c r l) a = []
+issues (setGrace n) a = []
 
 -- "until an accepted release or withdrawal takes it away": what an accepted call leaves of the pending claims.
 abbrev pub without : ℕ → List Entry → List Entry
@@ -87,6 +90,7 @@ stay (lookup k) l = l
 stay (common j k) l = l
 stay free l = l
 stay (declare c r l) l′ = l′
+stay (setGrace n) l = l
 
 -- "A desk has a guarantee and a limit, declared before the first claim": the shares after an accepted call (document 02, P4).
 unfoldable pub sharesBy : Call → List Share → List Share
@@ -98,6 +102,19 @@ sharesBy (lookup k) ss = ss
 sharesBy (common j k) ss = ss
 sharesBy free ss = ss
 sharesBy (declare c r l) ss = withShare ss c (share r l)
+sharesBy (setGrace n) ss = ss
+
+-- "The rig has a grace .. set before the first claim": the grace after an accepted call (document 02, P6).
+unfoldable pub graceBy : Call → ℕ → ℕ
+graceBy (claim t ask) g = g
+graceBy (release t k) g = g
+graceBy (withdraw t k) g = g
+graceBy (clock t) g = g
+graceBy (lookup k) g = g
+graceBy (common j k) g = g
+graceBy free g = g
+graceBy (declare c r l) g = g
+graceBy (setGrace n) g = n
 
 -- "from the call whose answer names its ticket as granted, that call included .. Its grant is that call's clock"
 abbrev pub hold : Entry → ℕ → Entry
@@ -112,9 +129,10 @@ noted l t =
     let now = clockOf (t .call) in
     let new = issues (t .call) (t .answer) in
     let shares = cond (eqb (t .answer .number) 0) (sharesBy (t .call) (l .shares)) (l .shares) in
+    let grace = cond (eqb (t .answer .number) 0) (graceBy (t .call) (l .grace)) (l .grace) in
     cond (accepted t)
-    (record { clock = now; pool = l .pool; issued = l .issued + length new; shares = shares; claims = map (marked now (t .answer .grants)) (stay (t .call) (l .claims) ++ new) })
-    (record { clock = l .clock; pool = l .pool; issued = l .issued; shares = shares; claims = l .claims })
+    (record { clock = now; pool = l .pool; issued = l .issued + length new; grace = grace; shares = shares; claims = map (marked now (t .answer .grants)) (stay (t .call) (l .claims) ++ new) })
+    (record { clock = l .clock; pool = l .pool; issued = l .issued; grace = grace; shares = shares; claims = l .claims })
 
 -- The ledger after these calls.
 unfoldable pub notedAll : Ledger → List Turn → Ledger
@@ -132,7 +150,7 @@ NoOverruns l (t ∷ ts) = NoOverrun l t × NoOverruns (noted l t) ts
 
 -- The rules at clock t, by what the calls so far set.
 abbrev pub ruledBy : Ledger → ℕ → Setting
-ruledBy l t = record { clock = t; pool = l .pool }
+ruledBy l t = record { clock = t; pool = l .pool; grace = l .grace }
 
 -- The bound on a first planned start: "what is pending, on or waiting is taken just before the accepting call; remaining time is as in
 -- the ceiling, the clock being that call's".

@@ -2,5 +2,6 @@ pub mod Ledger
 pub mod Demand3
 pub mod PoolKept
 pub mod SharesKept
+pub mod EndsAwaited
 pub mod WholeCalls
 pub mod Worthless

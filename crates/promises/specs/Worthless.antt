@@ -1,14 +1,15 @@
 -- Three of document 01's "Worthless versions", as steps run in place of the rules', each with a short list of calls at which demand 3 is
--- false of it. proofs/Worthless has the proofs; each goes by the clause that is named here.
+-- false of it; and one that the theorem of ends is false of. proofs/Worthless has the proofs; each goes by the clause that is named here.
 use mathlib.Core.Bool.{true, cond}
 use mathlib.Core.List.{List, [], _∷_, map}
 use Prim.Native.Nat.{ℕ}
 use lib.Dec.{eqb}
 use Rattle.rules.specs.declared.Phase.the-variants.{Waiting}
 use Rattle.rules.specs.Claims.{at, withPhase}
-use Rattle.rules.specs.Calls.{asking, Model, withPending, Call, clock, Answer, Step, step}
+use Rattle.rules.specs.Calls.{asking, Model, withPending, withGrace, Call, clock, setGrace, Answer, Step, step}
 use Rattle.promises.specs.Ledger.{Steps}
 use Rattle.promises.specs.Demand3.{Demand3Of}
+use Rattle.promises.specs.EndsAwaited.{EndsAwaitedOf}
 
 -- A claim at a clock, of groups (hex) and a length.
 abbrev pub claim : ℕ → ℕ → ℕ → Call
@@ -51,5 +52,13 @@ echoes m c =
 abbrev pub EchoesRefused : Type 0
 EchoesRefused = Refused echoes 0x1 (claim 0 0x1 10 ∷ claim 0 0x1 10 ∷ [])
 
+-- A grace that is taken and not looked at: "Plots show "now" for a cue that stays dark because an older one is running over" (document 02, P6).
+unfoldable pub showsNow : Steps
+showsNow m c = step (withGrace m 0) c
+
+-- Shut out by `EndsAwaited`: at clock 12 the second claim waits with the start 12, and the first ends at 17.
+abbrev pub ShowsNowRefused : Type 0
+ShowsNowRefused = EndsAwaitedOf showsNow 0x1 0 true (setGrace 5 ∷ claim 0 0x1 10 ∷ claim 0 0x1 10 ∷ clock 12 ∷ []) → ⊥
+
 abbrev pub AllRefused : Type 0
-AllRefused = NeverGrantsRefused × UntouchedRefused × EchoesRefused
+AllRefused = NeverGrantsRefused × UntouchedRefused × EchoesRefused × ShowsNowRefused

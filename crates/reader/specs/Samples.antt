@@ -7,7 +7,7 @@ use lib.ListN.{length}
 use Rattle.load.specs.declared.Call.{Call}
 use Rattle.load.specs.declared.Item.{Item}
 use Rattle.load.specs.declared.Item.the-variants.{Record, End, Refused}
-use Rattle.load.specs.Calls.{rig, claim, release, clock, rigWith, claimWith, claimFrom, declaration}
+use Rattle.load.specs.Calls.{rig, claim, release, clock, rigWith, claimWith, claimFrom, declaration, grace}
 use Rattle.load.specs.Bytes.{recordBytes, loadBytes}
 use Rattle.load.specs.Reading.{Walk, reading}
 use Rattle.reader.specs.Items.{itemOf}
@@ -72,10 +72,24 @@ samples =
     (rigWith 0xF 3 ∷ declaration 2 10 64 ∷ claimFrom 0 0x8 10 2 2 ∷ release 4 1 ∷ clock 5 ∷ []) 0
     ∷ sample (loadBytes 3 (rigWith 0xF 3 ∷ []) ++ recordBytes 2 (claimWith 0 0x8 10 2)) (Record (rigWith 0xF 3) 14) (rigWith 0xF 3 ∷ []) 13
     ∷ sample (loadBytes 2 (rigWith 0xF 3 ∷ []) ++ recordBytes 3 (claimFrom 0 0x8 10 2 2)) (Record (rigWith 0xF 3) 14) (rigWith 0xF 3 ∷ []) 13
-    -- older editions have no kind 6, and edition 3 no kind after it
+    -- "kind 8, the grace in four bytes (length 5)"; the table judges it
+    ∷ sample (loadBytes 3 (rigWith 0xF 3 ∷ []) ++ (0x00 ∷ 0x05 ∷ 0x08 ∷ 0x00 ∷ 0x00 ∷ 0xEA ∷ 0x60 ∷ [])) (Record (rigWith 0xF 3) 14) (rigWith 0xF 3 ∷ grace 60000 ∷ []) 0
+    ∷ sample (loadBytes 3 (rigWith 0xF 3 ∷ []) ++ (0x00 ∷ 0x05 ∷ 0x08 ∷ 0xFF ∷ 0xFF ∷ 0xFF ∷ 0xFF ∷ [])) (Record (rigWith 0xF 3) 14) (rigWith 0xF 3 ∷ grace 4294967295 ∷ []) 0
+    ∷ sample (loadBytes 3 (rigWith 0xF 3 ∷ grace 5 ∷ declaration 2 10 64 ∷ grace 0 ∷ clock 5 ∷ [])) (Record (rigWith 0xF 3) 14)
+    (rigWith 0xF 3 ∷ grace 5 ∷ declaration 2 10 64 ∷ grace 0 ∷ clock 5 ∷ []) 0
+    -- of another length, cut off, and "after the rig"
+    ∷ sample (loadBytes 3 (rigWith 0xF 3 ∷ []) ++ (0x00 ∷ 0x04 ∷ 0x08 ∷ 0x00 ∷ 0xEA ∷ 0x60 ∷ [])) (Record (rigWith 0xF 3) 14) (rigWith 0xF 3 ∷ []) 13
+    ∷ sample (loadBytes 3 (rigWith 0xF 3 ∷ []) ++ (0x00 ∷ 0x06 ∷ 0x08 ∷ 0x00 ∷ 0x00 ∷ 0x00 ∷ 0xEA ∷ 0x60 ∷ [])) (Record (rigWith 0xF 3) 14) (rigWith 0xF 3 ∷ []) 13
+    ∷ sample (loadBytes 3 (rigWith 0xF 3 ∷ []) ++ (0x00 ∷ 0x05 ∷ 0x08 ∷ 0x00 ∷ 0x00 ∷ 0xEA ∷ [])) (Record (rigWith 0xF 3) 14) (rigWith 0xF 3 ∷ []) 12
+    ∷ sample (loadBytes 3 (grace 60000 ∷ [])) (Refused 13) [] 13
+    -- older editions have no kinds 6 and 8, and edition 3 no kind 7 and none after 8
     ∷ sample (loadBytes 1 (rig 0xF ∷ []) ++ recordBytes 3 (declaration 1 64 64)) (Record (rig 0xF) 12) (rig 0xF ∷ []) 13
     ∷ sample (loadBytes 2 (rigWith 0xF 3 ∷ []) ++ recordBytes 3 (declaration 1 64 64)) (Record (rigWith 0xF 3) 14) (rigWith 0xF 3 ∷ []) 13
+    ∷ sample (loadBytes 1 (rig 0xF ∷ []) ++ recordBytes 3 (grace 60000)) (Record (rig 0xF) 12) (rig 0xF ∷ []) 13
+    ∷ sample (loadBytes 2 (rigWith 0xF 3 ∷ []) ++ recordBytes 3 (grace 60000)) (Record (rigWith 0xF 3) 14) (rigWith 0xF 3 ∷ []) 13
     ∷ sample (loadBytes 3 (rigWith 0xF 3 ∷ []) ++ (0x00 ∷ 0x01 ∷ 0x07 ∷ [])) (Record (rigWith 0xF 3) 14) (rigWith 0xF 3 ∷ []) 13
+    ∷ sample (loadBytes 3 (rigWith 0xF 3 ∷ []) ++ (0x00 ∷ 0x05 ∷ 0x07 ∷ 0x00 ∷ 0x00 ∷ 0xEA ∷ 0x60 ∷ [])) (Record (rigWith 0xF 3) 14) (rigWith 0xF 3 ∷ []) 13
+    ∷ sample (loadBytes 3 (rigWith 0xF 3 ∷ []) ++ (0x00 ∷ 0x05 ∷ 0x09 ∷ 0x00 ∷ 0x00 ∷ 0xEA ∷ 0x60 ∷ [])) (Record (rigWith 0xF 3) 14) (rigWith 0xF 3 ∷ []) 13
     -- a claim of older editions is desk 1's
     ∷ sample (loadBytes 1 (rig 0xF ∷ claim 0 0x8 10 ∷ [])) (Record (rig 0xF) 12) (rig 0xF ∷ claimFrom 0 0x8 10 0 1 ∷ []) 0
     ∷ sample (loadBytes 2 (rig 0xF ∷ claimWith 0 0x8 10 2 ∷ [])) (Record (rig 0xF) 14) (rig 0xF ∷ claimFrom 0 0x8 10 2 1 ∷ []) 0

@@ -1,6 +1,6 @@
 // The tests of a call in code, each on what it looks at; its number stands with it in rules, specs/Tests.antt. A comparison or two each.
 ghost use mathlib.Core.Path.{_≡_};
-ghost use Rattle.rules.specs.Tests.{late, backward, dark, stranger, noClient, nothingAsked, offRig, spots, badLength, full, fullFor, over, begun, overbooked, ticketless};
+ghost use Rattle.rules.specs.Tests.{late, backward, dark, stranger, noClient, nothingAsked, offRig, spots, badLength, full, fullFor, over, begun, overbooked, badGrace, ticketless};
 use rules::Share;
 
 pub fn late(clock: u64) -> bool
@@ -87,6 +87,15 @@ pub fn begun(issued: u16) -> bool
     ensures { λ r. ⌜ r ≡ begun issued .fails ⌝ }
 {
     0 < issued
+}
+
+pub fn bad_grace(issued: u16, grace: u32) -> bool
+    ensures { λ r. ⌜ r ≡ badGrace issued grace .fails ⌝ }
+{
+    if 0 < issued {
+        return true;
+    }
+    numbers::MOST_GRACE < grace
 }
 
 pub fn no_client(client: u8) -> bool

@@ -11,19 +11,17 @@ use Rattle.rules.specs.declared.Claim.{Claim}
 use Rattle.rules.specs.declared.Request.{Request}
 use Rattle.rules.specs.declared.Reply.{Reply}
 use Rattle.rules.specs.declared.Setting.{Setting}
-use Rattle.rules.specs.Lists.{_∈_}
 use Rattle.rules.specs.Packing.{packedStart, moved, pack}
 use Rattle.rules.specs.Granting.{granted, grant}
 use Rattle.rules.specs.Shares.{shareOf, pendingOf, unfilledByOthers, withShare, share}
 use Rattle.rules.specs.Tests.{fullFor, named}
 use Rattle.rules.specs.Calls.{Model, settingOf, clientsOf, ruled, Call, claim, tests, advance, plain, finish, join, remove, admit, declared, step}
 use Rattle.rules.specs.Invariants.{Invariant, Booked, IsBooked}
-use Rattle.rules.proofs.Lists.{here}
 use Rattle.rules.proofs.Tests.{never}
 use Rattle.rules.proofs.Packing.{moved-cases}
 use Rattle.rules.proofs.Granting.{granted-cases}
 use Rattle.rules.proofs.Shares.{claim-books, leaving-books, declare-books, claim-room, below-not-full}
-use Rattle.rules.proofs.Calls.{Admissible, step-number, Declarable, placed, Leaves, by-release, by-withdraw, by-clock, step-cases}
+use Rattle.rules.proofs.Calls.{Admissible, step-number, Declarable, placed, Leaves, by-release, by-withdraw, by-clock, unissued-none, step-cases}
 
 -- ── each claim keeps its client ──
 clients-map : (f : Claim → Claim) → ((c : Claim) → f c .client ≡ c .client) → (ps : List Claim) → clientsOf (map f ps) ≡ clientsOf ps
@@ -113,26 +111,16 @@ admit-booked : (m : Model) (t : ℕ) (ask : Request) → Admissible m t ask → 
 unfolding admit
 admit-booked m t ask a b = finish-booked (join (advance m t) (placed (advance m t) ask)) _ (join-booked m t ask a b)
 
--- Before the first ticket nothing is pending.
-unissued-none : (m : Model) → Invariant m → m .issued ≡ 0 → clientsOf (m .pending) ≡ []
-unissued-none m i e = go (m .pending) refl
-  where
-    go : (ps : List Claim) → m .pending ≡ ps → clientsOf ps ≡ []
-    go [] q = refl
-    go (c ∷ ps) q =
-        let p = i .spaced .proper c (subst (λ (l : List Claim). c ∈ l) (sym q) here) in
-        absurd (omega (arith, p .numbered, p .issued))
-
 pub declare-booked : (m : Model) → Invariant m → (c r l : ℕ) → Declarable m c r l → IsBooked m → IsBooked (declared m c r l)
 declare-booked m i c r l d b =
-    let e = unissued-none m i (d .unissued) in
+    let e = ap clientsOf (unissued-none m i (d .unissued)) in
     subst (Booked (withShare (m .shares) c (share r l))) (sym e) (declare-books (m .shares) c r l (subst (Booked (m .shares)) e b) (d .client) (d .books))
 
 pub step-booked : (m : Model) (c : Call) → Invariant m → IsBooked m → IsBooked (step m c .model)
 step-booked m c i b =
     step-cases (λ d s. IsBooked (s .model)) m (λ d n z. b) (λ t ask a. admit-booked m t ask a b)
     (λ d t k q o v. finish-booked q (plain k t) (leaves-booked v (advance-booked m t b)))
-    (λ d r l e. declare-booked m i d r l e b) c
+    (λ d r l e. declare-booked m i d r l e b) (λ n e. b) c
 
 -- A claim that is accepted finds a place.
 pub room-left : (m : Model) (t : ℕ) (ask : Request) → Admissible m t ask → IsBooked m → length (m .pending) < mostPending

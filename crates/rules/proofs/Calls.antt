@@ -1,14 +1,14 @@
 -- The calls: what accepting one means, its cases, and that every call keeps the invariant.
-use mathlib.Core.Path.{_≡_, refl, sym, _∙_, ap}
+use mathlib.Core.Path.{_≡_, refl, sym, _∙_, ap, subst}
 use mathlib.Core.Logic.{_⊎_, inl, inr, ⊎-elim, _≢_}
 use mathlib.Core.Bool.{Bool, true, false, not, _&&_}
 use mathlib.Core.List.{List, [], _∷_, List·Memᴰ·append-cases, List·Memᴰ·eq-of-singleton}
 use Prim.Native.Nat.{ℕ, zero, suc, _≤_, _<_}
 use native.Mathlib.Omega.{arith}
-use lib.Dec.{eqb}
+use lib.Dec.{ltb, eqb}
 use lib.ListN.{length}
 use borrow.Author.Tests.{ltb-false, le-ltb, leb-false, eqb-false, not-false}
-use Rattle.numbers.specs.Numbers.{mostClock, mostLength, mostTickets}
+use Rattle.numbers.specs.Numbers.{mostClock, mostLength, mostTickets, mostGrace}
 use Rattle.groups.specs.Groups.{empty, within}
 use Rattle.rules.specs.declared.Claim.{Claim}
 use Rattle.rules.specs.declared.Request.{Request}
@@ -21,13 +21,13 @@ use Rattle.rules.specs.Claims.{on, at, withPhase}
 use Rattle.rules.specs.Packing.{packedStart, moved, pack, Packs}
 use Rattle.rules.specs.Placing.{place}
 use Rattle.rules.specs.Granting.{granted, grant}
-use Rattle.rules.specs.Tests.{Test, firstOf, late, backward, stranger, noClient, nothingAsked, offRig, spots, badLength, begun, overbooked, ticketless, named}
+use Rattle.rules.specs.Tests.{Test, firstOf, late, backward, stranger, noClient, nothingAsked, offRig, spots, badLength, begun, overbooked, badGrace, ticketless, named}
 use Rattle.rules.specs.declared.Reply.{Reply}
-use Rattle.rules.specs.Calls.{Model, settingOf, fullTo, overOf, ruled, Call, claim, release, withdraw, clock, lookup, common, free, declare, timed, clockOf, looks, declared, Step, tests, unchanged, advance, plain, finish, join, remove, fresh, admit, act, unless, step, blank, new, after}
+use Rattle.rules.specs.Calls.{Model, withGrace, settingOf, fullTo, overOf, ruled, Call, claim, release, withdraw, clock, lookup, common, free, declare, setGrace, timed, clockOf, looks, declared, Step, tests, unchanged, advance, plain, finish, join, remove, fresh, admit, act, unless, step, blank, new, after}
 use Rattle.rules.specs.Plans.{Fits, Sane}
-use Rattle.rules.specs.Invariants.{IsSpaced, IsPacked, Invariant}
+use Rattle.rules.specs.Invariants.{Settled, IsSpaced, IsPacked, Invariant}
 use Rattle.rules.proofs.Bools.{by-test, or-fl, or-fr}
-use Rattle.rules.proofs.Lists.{Each, none, keep-e, map-e, map-i}
+use Rattle.rules.proofs.Lists.{Each, here, none, keep-e, map-e, map-i}
 use Rattle.rules.proofs.Tests.{passes}
 use Rattle.rules.proofs.Order.{ascending-same}
 use Rattle.rules.proofs.Packing.{moved-ticket, separated-untied, pack-as-documented, pack-unique}
@@ -104,6 +104,17 @@ declarable m c r l e =
     let d = passes (overbooked (shareOf (m .shares) c) (reservedInAll (m .shares)) r l) [] (omega arith) (b .1) in
     record { unissued = (let z = ltb-false 0 (m .issued) (a .0) in omega arith); client = b .0; books = d .0 }
 
+-- And that of a grace that is set.
+pub record Settable (m : Model) (n : ℕ) : Type 0 where
+  pub unissued : m .issued ≡ 0
+  pub modest : n ≤ mostGrace
+
+pub settable : (m : Model) (n : ℕ) → firstOf (tests m (setGrace n)) ≡ 0 → Settable m n
+unfolding tests
+settable m n e =
+    let a = passes (badGrace (m .issued) n) [] (omega arith) e .0 in
+    record { unissued = (let z = ltb-false 0 (m .issued) (or-fl (ltb 0 (m .issued)) _ a) in omega arith); modest = ltb-false mostGrace n (or-fr (ltb 0 (m .issued)) _ a) }
+
 -- ── the number of an answer is that of the call's first test that fails ──
 accepted-number : (m : Model) (c : Call) → act m c .answer .number ≡ 0
 unfolding act admit finish
@@ -115,6 +126,7 @@ accepted-number m (lookup k) = refl
 accepted-number m (common j k) = refl
 accepted-number m free = refl
 accepted-number m (declare c r l) = refl
+accepted-number m (setGrace n) = refl
 
 pub step-number : (m : Model) (c : Call) → step m c .answer .number ≡ firstOf (tests m c)
 unfolding step
@@ -226,6 +238,21 @@ pub finish-clock : (m : Model) (r : Reply) → finish m r .model .clock ≡ m .c
 unfolding finish
 finish-clock m r = refl
 
+-- A timed call leaves the grace as it is.
+pub finish-grace : (m : Model) (r : Reply) → finish m r .model .grace ≡ m .grace
+unfolding finish
+finish-grace m r = refl
+
+pub leaves-grace : {m : Model} {c : Call} {t k : ℕ} {q : Model} → Leaves m c t k q → q .grace ≡ m .grace
+unfolding remove advance
+leaves-grace (by-release t k) = refl
+leaves-grace (by-withdraw t k) = refl
+leaves-grace (by-clock t) = refl
+
+pub admit-grace : (m : Model) (t : ℕ) (ask : Request) → admit (advance m t) ask .model .grace ≡ m .grace
+unfolding admit join advance finish
+admit-grace m t ask = refl
+
 -- ── the cases of a call ──
 -- A call that changes nothing: a lookup, or refused.
 abbrev pub Idle : Call → ℕ → Type 0
@@ -241,20 +268,22 @@ looks-untimed (lookup k) e = refl
 looks-untimed (common j k) e = refl
 looks-untimed free e = refl
 looks-untimed (declare c r l) e = refl
+looks-untimed (setGrace n) e = refl
 
 by-tests : (P : Step → Type 0) (m : Model) (n : ℕ) (s : Step) → ((j : ℕ) → P (unchanged m (suc j))) → (n ≡ 0 → P s) → P (unless m n s)
 by-tests P m zero s h k = k refl
 by-tests P m (suc n) s h k = h n
 
--- To show something of a call's step, show it of these four.
+-- To show something of a call's step, show it of these five.
 pub step-cases : (P : Call → Step → Type 0) (m : Model)
     → ((c : Call) (n : ℕ) → Idle c n → P c (unchanged m n))
     → ((t : ℕ) (ask : Request) → Admissible m t ask → P (claim t ask) (admit (advance m t) ask))
     → ((c : Call) (t k : ℕ) (q : Model) → Clocked m t → Leaves m c t k q → P c (finish q (plain k t)))
     → ((c r l : ℕ) → Declarable m c r l → P (declare c r l) (unchanged (declared m c r l) 0))
+    → ((n : ℕ) → Settable m n → P (setGrace n) (unchanged (withGrace m n) 0))
     → (c : Call) → P c (step m c)
 unfolding step act tests
-step-cases P m no! yes-claim yes-left yes-declare c = by-tests (P c) m (firstOf (tests m c)) (act m c) (λ j. no! c (suc j) (inr (λ e. omega arith))) (accepted c)
+step-cases P m no! yes-claim yes-left yes-declare yes-grace c = by-tests (P c) m (firstOf (tests m c)) (act m c) (λ j. no! c (suc j) (inr (λ e. omega arith))) (accepted c)
   where
     accepted : (c : Call) → firstOf (tests m c) ≡ 0 → P c (act m c)
     accepted (claim t ask) e = yes-claim t ask (admissible m t ask e)
@@ -265,6 +294,7 @@ step-cases P m no! yes-claim yes-left yes-declare c = by-tests (P c) m (firstOf 
     accepted (common j k) e = no! (common j k) 0 (inl refl)
     accepted free e = no! free 0 (inl refl)
     accepted (declare c r l) e = yes-declare c r l (declarable m c r l e)
+    accepted (setGrace n) e = yes-grace n (settable m n e)
 
 -- A clock call whose clock is neither late nor backward is accepted.
 pub clock-accepted : (m : Model) (t : ℕ) → Clocked m t → step m (clock t) ≡ finish (advance m t) (plain 0 t)
@@ -284,16 +314,10 @@ pub advance-drawn : (m : Model) (t : ℕ) (ask : Request) → Admissible m t ask
 unfolding advance
 advance-drawn m t ask a = a .drawn
 
-pub step-invariant : (m : Model) (c : Call) → Invariant m → Invariant (step m c .model)
-step-invariant m c i =
-    step-cases (λ d s. Invariant (s .model)) m (λ d n z. i)
-    (λ t ask a. admit-invariant (advance m t) ask (a .long) (advance-drawn m t ask a) (advance-spare m t ask a) (advance-packed m t i (a .clocked .later)))
-    (λ d t k q o v. finish-invariant q (plain k t) (leaves-spaced v (advance-packed m t i (o .later))))
-    (λ c r l d. i) c
-
-pub blank-invariant : (g k : ℕ) (alone : Bool) → Invariant (blank g k alone)
+-- Nothing pending is settled under any rules,
+none-settled : (k : ℕ) (v : Setting) → Settled k v []
 unfolding heldUnits used sum
-blank-invariant g k alone = record {
+none-settled k v = record {
   spaced =
       record {
         proper = λ c m. none m;
@@ -305,6 +329,30 @@ blank-invariant g k alone = record {
   blocked = λ c m. none m;
   earliest = λ c m. none m;
 }
+
+-- and before the first ticket nothing is pending.
+pub unissued-none : (m : Model) → Invariant m → m .issued ≡ 0 → m .pending ≡ []
+unissued-none m i e = go (m .pending) refl
+  where
+    go : (ps : List Claim) → m .pending ≡ ps → ps ≡ []
+    go [] q = refl
+    go (c ∷ ps) q =
+        let p = i .spaced .proper c (subst (λ (l : List Claim). c ∈ l) (sym q) here) in
+        absurd (omega (arith, p .numbered, p .issued))
+
+pub grace-invariant : (m : Model) (n : ℕ) → Invariant m → m .issued ≡ 0 → Invariant (withGrace m n)
+grace-invariant m n i e =
+    subst (Settled (m .issued) (settingOf (withGrace m n))) (sym (unissued-none m i e)) (none-settled (m .issued) (settingOf (withGrace m n)))
+
+pub step-invariant : (m : Model) (c : Call) → Invariant m → Invariant (step m c .model)
+step-invariant m c i =
+    step-cases (λ d s. Invariant (s .model)) m (λ d n z. i)
+    (λ t ask a. admit-invariant (advance m t) ask (a .long) (advance-drawn m t ask a) (advance-spare m t ask a) (advance-packed m t i (a .clocked .later)))
+    (λ d t k q o v. finish-invariant q (plain k t) (leaves-spaced v (advance-packed m t i (o .later))))
+    (λ c r l d. i) (λ n d. grace-invariant m n i (d .unissued)) c
+
+pub blank-invariant : (g k : ℕ) (alone : Bool) → Invariant (blank g k alone)
+blank-invariant g k alone = none-settled 0 (settingOf (blank g k alone))
 
 -- To show something of a new table, show it of a refused one and of the others.
 pub new-cases : (P : Step → Type 0) (g k : ℕ) (alone : Bool)

@@ -15,7 +15,7 @@ use Rattle.rules.specs.Packing.{packedStart, moved, pack}
 use Rattle.rules.specs.Granting.{goes, granted, grant, grants}
 use Rattle.rules.specs.Tests.{named}
 use Rattle.rules.specs.declared.Reply.{Reply}
-use Rattle.rules.specs.Calls.{Model, settingOf, ruled, Call, Step, unchanged, advance, declared, plain, finish, join, remove, admit, step, blank, new}
+use Rattle.rules.specs.Calls.{Model, settingOf, ruled, Call, Step, unchanged, advance, declared, withGrace, plain, finish, join, remove, admit, step, blank, new}
 use Rattle.rules.proofs.Bools.{by-test}
 use Rattle.rules.proofs.Lists.{keep-length}
 use Rattle.rules.proofs.Packing.{moved-phase}
@@ -107,13 +107,17 @@ module _ (m : Model) where
   unfolding waiting
   declare-counted c r l = record { few = omega arith; once = omega arith; issues-few = omega arith }
 
+  grace-counted : (n : ℕ) → Counted m (unchanged (withGrace m n) 0)
+  unfolding waiting
+  grace-counted n = record { few = omega arith; once = omega arith; issues-few = omega arith }
+
   pub step-counted : (c : Call) → Counted m (step m c)
   step-counted c =
       step-cases (λ d s. Counted m s) m
       (λ d n z. record { few = omega arith; once = omega arith; issues-few = omega arith })
       (λ t ask a. admit-counted t ask)
       (λ d t k q o v. let l = waiting-left v in finish-counted q (plain k t) (omega (arith, l .0)) (omega (arith, l .1)))
-      (λ c r l d. declare-counted c r l) c
+      (λ c r l d. declare-counted c r l) (λ n d. grace-counted n) c
 
   -- A new table has nothing pending.
   pub new-counted : (g k : ℕ) (alone : Bool) → Counted m (new g k alone)

@@ -26,7 +26,7 @@ use Rattle.rules.proofs.Pool.{units-is, units-mono}
 
 -- ── who goes on ──
 -- What goes on at its turn: its start is the clock, nothing precedes it, and by p its units are free.
-abbrev turn : Setting → List Claim → (Claim → Bool) → Claim → Bool
+abbrev pub turn : Setting → List Claim → (Claim → Bool) → Claim → Bool
 turn v ps p w = (not (on w) && eqb (at w) (v .clock)) && (not (any (λ d. precedes d w) ps) && trulyFree v ps p w)
 
 within-on : (j : ℕ) (v : Setting) (ps : List Claim) (c : Claim) → on c ≡ true → goesWithin j v ps c ≡ false
@@ -55,7 +55,7 @@ free-cong v ps p q w h =
     ap (λ (n : ℕ). eqb (w .units) 0 || leb (heldUnits ps + n + w .units) (v .pool))
     (sum-cong (takenBefore p w) (takenBefore q w) ps (λ c m. taken-cong p q w c (h c m)))
 
-turn-cong : (v : Setting) (ps : List Claim) (p q : Claim → Bool) (w : Claim) → Each (λ c. before c w ≡ true → p c ≡ q c) ps → turn v ps p w ≡ turn v ps q w
+pub turn-cong : (v : Setting) (ps : List Claim) (p q : Claim → Bool) (w : Claim) → Each (λ c. before c w ≡ true → p c ≡ q c) ps → turn v ps p w ≡ turn v ps q w
 turn-cong v ps p q w h =
     ap (λ (b : Bool). (not (on w) && eqb (at w) (v .clock)) && (not (any (λ d. precedes d w) ps) && b)) (free-cong v ps p q w h)
 

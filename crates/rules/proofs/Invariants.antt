@@ -84,7 +84,7 @@ spaced-clear k v ps f c w m n d h =
 pub settled-packs : (k : ℕ) (v : Setting) (ps : List Claim) → Settled k v ps → Packs v ps at
 settled-packs k v ps f = packs-at v ps (λ c m. f .spaced .proper c m .sane) (f .spaced .ascending) (f .spaced .fit) (f .spaced .low) (f .earliest)
 
--- The same rules at a later clock, or the same.
+-- A later clock, or the same, and the same pool.
 pub record Later (v u : Setting) : Type 0 where
   pub later : v .clock ≤ u .clock
   pub same : v .pool ≡ u .pool

@@ -24,3 +24,5 @@ pub mod NoOverrun
 pub mod Lookup
 pub mod NoUnits
 pub mod OneClient
+pub mod NoGrace
+pub mod IdleGrace

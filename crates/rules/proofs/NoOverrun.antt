@@ -1,8 +1,8 @@
 -- While no holder is past its promised end, a later clock raises no planned start.
-use mathlib.Core.Path.{_≡_, refl, sym, _∙_}
-use mathlib.Core.Bool.{true, false}
+use mathlib.Core.Path.{_≡_, sym, _∙_}
+use mathlib.Core.Bool.{false}
 use mathlib.Core.List.{List}
-use Prim.Native.Nat.{ℕ, zero, suc, _+_, _≤_, _<_}
+use Prim.Native.Nat.{ℕ, zero, suc, _≤_, _<_}
 use native.Mathlib.Omega.{arith}
 use Rattle.rules.specs.declared.Claim.{Claim}
 use Rattle.rules.specs.Lists.{_∈_, keep}
@@ -11,18 +11,14 @@ use Rattle.rules.specs.Claims.{on, at, endOf}
 use Rattle.rules.specs.Order.{before}
 use Rattle.rules.specs.Pool.{unitsAt, used}
 use Rattle.rules.specs.Packing.{packedStart, pack}
-use Rattle.rules.specs.Plans.{Sane, Separated, StartsFrom, Earliest}
+use Rattle.rules.specs.Plans.{Sane, Separated, NoOverrunAt, StartsFrom, Earliest}
 use Rattle.rules.specs.Invariants.{Settled}
 use Rattle.rules.proofs.Bools.{by-test}
-use Rattle.rules.proofs.Lists.{Each, keep-e, sum-le}
+use Rattle.rules.proofs.Lists.{Each, keep-e, sum-cong}
 use Rattle.rules.proofs.Claims.{end-wait, end-ge, end-no-overrun}
-use Rattle.rules.proofs.Pool.{units-mono}
+use Rattle.rules.proofs.Pool.{units-same}
 use Rattle.rules.proofs.Packing.{pack-no-later, pack-idle}
 use Rattle.rules.proofs.Invariants.{Later, later-sane}
-
--- No holder's promised end is below t.
-abbrev pub NoOverrunAt : ℕ → List Claim → Type 0
-NoOverrunAt t ps = (c : Claim) → c ∈ ps → on c ≡ true → t ≤ at c + c .length
 
 module _ (k : ℕ) (v u : Setting) (ps : List Claim) (settled : Settled k v ps) (later : Later v u) (prompt : NoOverrunAt (u .clock) ps) where
   end-same : (c : Claim) → c ∈ ps → endOf u c ≡ endOf v c
@@ -31,15 +27,11 @@ module _ (k : ℕ) (v u : Setting) (ps : List Claim) (settled : Settled k v ps) 
       (λ o. end-no-overrun u c o (prompt c m o) ∙ sym (end-no-overrun v c o (omega (arith, prompt c m o, later .later))))
       (λ o. omega (arith, end-wait u c o, end-wait v c o))
 
-  -- With its end a claim's use stays.
-  uses-same : (v u : Setting) (x : ℕ) (c : Claim) → endOf v c ≡ endOf u c → unitsAt v x c ≤ unitsAt u x c
-  uses-same v u x c e = units-mono v u x x c c refl (λ k z. record { begun = k .begun; going = omega (arith, k .going) })
-
   prompt-separated : Separated u ps
   unfolding used
   prompt-separated = record {
     behind = λ c w m n o b p. rw (end-same c m) (settled .spaced .fit .behind c w m n o b p);
-    supplied = λ x l. omega (arith, later .same, settled .spaced .fit .supplied x (omega (arith, later .later)), sum-le (unitsAt u x) (unitsAt v x) ps (λ c m. uses-same u v x c (end-same c m)));
+    supplied = λ x l. omega (arith, later .same, settled .spaced .fit .supplied x (omega (arith, later .later)), sum-cong (unitsAt u x) (unitsAt v x) ps (λ c m. units-same u v x c (end-same c m)));
   }
 
   prompt-sane : Each (Sane u) ps
@@ -64,7 +56,7 @@ module _ (k : ℕ) (v u : Setting) (ps : List Claim) (settled : Settled k v ps) 
   prompt-earliest w m o s l k =
       settled .earliest w m o s (omega (arith, later .later)) (record {
         after = λ c i p. omega (arith, end-same c (keep-e (λ c. before c w) ps i .0), k .after c i p);
-        spare = λ z x a b. omega (arith, later .same, k .spare z x a b, sum-le (unitsAt v x) (unitsAt u x) (keep (λ c. before c w) ps) (λ c i. uses-same v u x c (sym (end-same c (keep-e (λ c. before c w) ps i .0)))));
+        spare = λ z x a b. omega (arith, later .same, k .spare z x a b, sum-cong (unitsAt u x) (unitsAt v x) (keep (λ c. before c w) ps) (λ c i. units-same u v x c (end-same c (keep-e (λ c. before c w) ps i .0))));
       })
 
   -- Then packing at the later clock changes nothing.

@@ -22,11 +22,12 @@ use Rattle.rules.specs.Placing.{clear, fits, place, startBound}
 use Rattle.rules.specs.Granting.{trulyFree, goesWithin, goes, granted, grant, grants}
 use Rattle.rules.specs.Shares.{shareOf}
 use Rattle.rules.specs.Tests.{firstOf, late, backward, stranger, dark, nothingAsked, offRig, spots}
-use Rattle.rules.specs.Calls.{Model, Call, claim, release, withdraw, clock, lookup, common, free, declare, Answer, Step, withClock, withPending, ruled, settingOf, tests, advance, plain, granting, finish, join, remove, fresh, admit, act, unless, step, blank, after, answers}
+use Rattle.rules.specs.Calls.{Model, Call, claim, release, withdraw, clock, lookup, common, free, declare, setGrace, Answer, Step, withClock, withPending, ruled, settingOf, tests, advance, plain, granting, finish, join, remove, fresh, admit, act, unless, step, blank, after, answers}
 use Rattle.rules.specs.NoUnits.{documentedStart, documentedFits, undrawnTests, drawsNone, DrawsNone, withPool}
 use Rattle.rules.proofs.Bools.{and-l, and-i, both-ways}
 use Rattle.rules.proofs.Lists.{Each, none, greatest-base, greatest-ge, greatest-le, keep-e, keep-i, keep-cong, map-each, map-cong, snoc-each}
 use Rattle.rules.proofs.Tests.{front, skipped, swapped}
+use Rattle.rules.proofs.Claims.{setting}
 use Rattle.rules.proofs.Pool.{spare-none}
 use Rattle.rules.proofs.Packing.{moved-cong, moved-units}
 use Rattle.rules.proofs.Granting.{granted-cases}
@@ -81,61 +82,57 @@ seek-cong v p q h ps = least-cong p q h (greatest (endOf v) (v .clock) ps) (cand
 abbrev Undrawn : List Claim → Type 0
 Undrawn ps = Each (λ c. c .units ≡ 0) ps
 
--- The rules at clock t with a pool of k.
-abbrev pooled : ℕ → ℕ → Setting
-pooled t k = record { clock = t; pool = k }
-
-module _ (t j k : ℕ) where
-  seek-pool : (p : ℕ → Bool) (ps : List Claim) → seek (pooled t j) p ps ≡ seek (pooled t k) p ps
+module _ (t d j k : ℕ) where
+  seek-pool : (p : ℕ → Bool) (ps : List Claim) → seek (setting t j d) p ps ≡ seek (setting t k d) p ps
   unfolding seek endOf heldUntil
   seek-pool p ps = refl
 
-  ready-pool : (qs : List Claim) (w : Claim) → w .units ≡ 0 → (s : ℕ) → ready (pooled t j) qs w s ≡ ready (pooled t k) qs w s
+  ready-pool : (qs : List Claim) (w : Claim) → w .units ≡ 0 → (s : ℕ) → ready (setting t j d) qs w s ≡ ready (setting t k d) qs w s
   unfolding ready endOf heldUntil
-  ready-pool qs w z s = rw (spare-none (pooled t j) qs w z s, spare-none (pooled t k) qs w z s)
+  ready-pool qs w z s = rw (spare-none (setting t j d) qs w z s, spare-none (setting t k d) qs w z s)
 
-  for-pool : (qs : List Claim) (w : Claim) → w .units ≡ 0 → startFor (pooled t j) qs w ≡ startFor (pooled t k) qs w
+  for-pool : (qs : List Claim) (w : Claim) → w .units ≡ 0 → startFor (setting t j d) qs w ≡ startFor (setting t k d) qs w
   unfolding startFor
-  for-pool qs w z = seek-cong (pooled t j) _ (ready (pooled t k) qs w) (ready-pool qs w z) qs ∙ seek-pool (ready (pooled t k) qs w) qs
+  for-pool qs w z = seek-cong (setting t j d) _ (ready (setting t k d) qs w) (ready-pool qs w z) qs ∙ seek-pool (ready (setting t k d) qs w) qs
 
-  within-pool : (n : ℕ) (ps : List Claim) → Undrawn ps → (w : Claim) → w ∈ ps → startWithin n (pooled t j) ps w ≡ startWithin n (pooled t k) ps w
+  within-pool : (n : ℕ) (ps : List Claim) → Undrawn ps → (w : Claim) → w ∈ ps → startWithin n (setting t j d) ps w ≡ startWithin n (setting t k d) ps w
   unfolding startWithin ahead
   within-pool zero ps u w m = refl
   within-pool (suc n) ps u w m =
       for-pool _ w (u w m)
-      ∙ ap (λ (l : List Claim). startFor (pooled t k) l w)
-      (map-cong _ (moved (λ c. startWithin n (pooled t k) ps c)) (keep (λ c. before c w) ps) (λ c i.
-      moved-cong _ (λ c. startWithin n (pooled t k) ps c) c (λ o. within-pool n ps u c (keep-e (λ c. before c w) ps i .0))))
+      ∙ ap (λ (l : List Claim). startFor (setting t k d) l w)
+      (map-cong _ (moved (λ c. startWithin n (setting t k d) ps c)) (keep (λ c. before c w) ps) (λ c i.
+      moved-cong _ (λ c. startWithin n (setting t k d) ps c) c (λ o. within-pool n ps u c (keep-e (λ c. before c w) ps i .0))))
 
-  pack-pool : (ps : List Claim) → Undrawn ps → pack (pooled t j) ps ≡ pack (pooled t k) ps
+  pack-pool : (ps : List Claim) → Undrawn ps → pack (setting t j d) ps ≡ pack (setting t k d) ps
   unfolding pack packedStart
-  pack-pool ps u = map-cong _ (moved (packedStart (pooled t k) ps)) ps (λ c m. moved-cong _ (packedStart (pooled t k) ps) c (λ o. within-pool (suc (key c)) ps u c m))
+  pack-pool ps u = map-cong _ (moved (packedStart (setting t k d) ps)) ps (λ c m. moved-cong _ (packedStart (setting t k d) ps) c (λ o. within-pool (suc (key c)) ps u c m))
 
-  place-pool : (ps : List Claim) (w : Claim) → w .units ≡ 0 → place (pooled t j) ps w ≡ place (pooled t k) ps w
+  place-pool : (ps : List Claim) (w : Claim) → w .units ≡ 0 → place (setting t j d) ps w ≡ place (setting t k d) ps w
   unfolding place clear endOf heldUntil
   place-pool ps w z =
-      seek-cong (pooled t j) _ (fits (pooled t k) ps w) (λ s. fits-documented (pooled t j) ps w z s ∙ sym (fits-documented (pooled t k) ps w z s)) ps
-      ∙ seek-pool (fits (pooled t k) ps w) ps
+      seek-cong (setting t j d) _ (fits (setting t k d) ps w) (λ s. fits-documented (setting t j d) ps w z s ∙ sym (fits-documented (setting t k d) ps w z s)) ps
+      ∙ seek-pool (fits (setting t k d) ps w) ps
 
-  bound-pool : (ps : List Claim) (w : Claim) → startBound (pooled t j) ps w ≡ startBound (pooled t k) ps w
+  bound-pool : (ps : List Claim) (w : Claim) → startBound (setting t j d) ps w ≡ startBound (setting t k d) ps w
   unfolding startBound remaining endOf heldUntil
   bound-pool ps w = refl
 
-  goes-pool : (ps : List Claim) (w : Claim) → w .units ≡ 0 → goes (pooled t j) ps w ≡ goes (pooled t k) ps w
+  goes-pool : (ps : List Claim) (w : Claim) → w .units ≡ 0 → goes (setting t j d) ps w ≡ goes (setting t k d) ps w
   unfolding goes goesWithin trulyFree
   goes-pool ps w z = rw (eq-eqb (w .units) 0 z)
 
-  granted-pool : (ps : List Claim) (c : Claim) → c .units ≡ 0 → granted (pooled t j) ps c ≡ granted (pooled t k) ps c
+  granted-pool : (ps : List Claim) (c : Claim) → c .units ≡ 0 → granted (setting t j d) ps c ≡ granted (setting t k d) ps c
   unfolding granted
   granted-pool ps c z = rw (goes-pool ps c z, granted)
 
-  grant-pool : (ps : List Claim) → Undrawn ps → grant (pooled t j) ps ≡ grant (pooled t k) ps
+  grant-pool : (ps : List Claim) → Undrawn ps → grant (setting t j d) ps ≡ grant (setting t k d) ps
   unfolding grant
-  grant-pool ps u = map-cong _ (granted (pooled t k) ps) ps (λ c m. granted-pool ps c (u c m))
+  grant-pool ps u = map-cong _ (granted (setting t k d) ps) ps (λ c m. granted-pool ps c (u c m))
 
-  grants-pool : (ps : List Claim) → Undrawn ps → grants (pooled t j) ps ≡ grants (pooled t k) ps
+  grants-pool : (ps : List Claim) → Undrawn ps → grants (setting t j d) ps ≡ grants (setting t k d) ps
   unfolding grants
-  grants-pool ps u = ap (map (λ c. c .ticket)) (keep-cong _ (goes (pooled t k) ps) ps (λ c m. goes-pool ps c (u c m)))
+  grants-pool ps u = ap (map (λ c. c .ticket)) (keep-cong _ (goes (setting t k d) ps) ps (λ c m. goes-pool ps c (u c m)))
 
 -- ── the calls keep it that nobody draws ──
 pack-undrawn : (v : Setting) (ps : List Claim) → Undrawn ps → Undrawn (pack v ps)
@@ -176,7 +173,7 @@ step-undrawn m c d u =
     step-cases (λ c s. drawsNone c → IsUndrawn (s .model)) m (λ c n i d. u)
     (λ t ask a d. admit-undrawn (advance m t) ask d (advance-undrawn m t u))
     (λ c t k q o l d. finish-undrawn q (plain k t) (λ y i. advance-undrawn m t u y (leaves-old l y i)))
-    (λ c r l d e. u) c d
+    (λ c r l d e. u) (λ n d e. u) c d
 
 -- ── the calls at two pools ──
 -- The same step with a pool of k.
@@ -186,25 +183,25 @@ repooled k s = record { model = withPool k (s .model); answer = s .answer }
 module _ (k : ℕ) where
   advance-pool : (m : Model) (t : ℕ) → IsUndrawn m → advance (withPool k m) t ≡ withPool k (advance m t)
   unfolding advance
-  advance-pool m t u = ap (λ (ps : List Claim). withPending (withPool k (withClock m t)) ps) (pack-pool t k (m .pool) (m .pending) u)
+  advance-pool m t u = ap (λ (ps : List Claim). withPending (withPool k (withClock m t)) ps) (pack-pool t (m .grace) k (m .pool) (m .pending) u)
 
   remove-pool : (m : Model) (i : ℕ) → remove (withPool k m) i ≡ withPool k (remove m i)
   unfolding remove
   remove-pool m i = refl
 
   granting-pool : (m : Model) (r : Reply) (ps : List Claim) → Undrawn ps → granting (withPool k m) r ps ≡ repooled k (granting m r ps)
-  granting-pool m r ps u = rw (grant-pool (m .clock) k (m .pool) ps u, grants-pool (m .clock) k (m .pool) ps u)
+  granting-pool m r ps u = rw (grant-pool (m .clock) (m .grace) k (m .pool) ps u, grants-pool (m .clock) (m .grace) k (m .pool) ps u)
 
   finish-pool : (m : Model) (r : Reply) → IsUndrawn m → finish (withPool k m) r ≡ repooled k (finish m r)
   unfolding finish
   finish-pool m r u =
-      ap (granting (withPool k m) r) (pack-pool (m .clock) k (m .pool) (m .pending) u)
+      ap (granting (withPool k m) r) (pack-pool (m .clock) (m .grace) k (m .pool) (m .pending) u)
       ∙ granting-pool m r (pack (settingOf m) (m .pending)) (pack-undrawn (settingOf m) (m .pending) u)
 
   admit-pool : (m : Model) (ask : Request) → ask .units ≡ 0 → IsUndrawn m → admit (withPool k m) ask ≡ repooled k (admit m ask)
   unfolding admit join
   admit-pool m ask z u =
-      rw (place-pool (m .clock) k (m .pool) (m .pending) (fresh m ask) z, bound-pool (m .clock) k (m .pool) (m .pending) (fresh m ask))
+      rw (place-pool (m .clock) (m .grace) k (m .pool) (m .pending) (fresh m ask) z, bound-pool (m .clock) (m .grace) k (m .pool) (m .pending) (fresh m ask))
       (finish-pool (join m (placed m ask)) _ (join-undrawn m (placed m ask) z u))
 
   leave-pool : (m : Model) (t i : ℕ) → IsUndrawn m → finish (remove (advance (withPool k m) t) i) (plain i t) ≡ repooled k (finish (remove (advance m t) i) (plain i t))
@@ -223,6 +220,7 @@ module _ (k : ℕ) where
   act-pool m (common i j) d u = refl
   act-pool m free d u = refl
   act-pool m (declare c r l) d u = refl
+  act-pool m (setGrace n) d u = refl
 
   tests-pool : (m : Model) (c : Call) → drawsNone c → firstOf (tests (withPool k m) c) ≡ firstOf (tests m c)
   unfolding tests firstOf
@@ -234,6 +232,7 @@ module _ (k : ℕ) where
   tests-pool m (common i j) d = refl
   tests-pool m free d = refl
   tests-pool m (declare c r l) d = refl
+  tests-pool m (setGrace n) d = refl
 
   unless-pool : (m : Model) (n : ℕ) (s : Step) → unless (withPool k m) n (repooled k s) ≡ repooled k (unless m n s)
   unless-pool m zero s = refl

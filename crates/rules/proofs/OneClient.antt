@@ -92,7 +92,7 @@ step-alone m c d a =
     step-cases (λ c s. declaresNone c → Alone (s .model)) m (λ c n z d. a)
     (λ t ask p d. record { declared = admit-shares m t ask ∙ a .declared; own = of-clients _ (admitted t ask p) })
     (λ c t k q o v d. record { declared = finish-shares q (plain k t) ∙ leaves-shares v ∙ a .declared; own = of-clients _ (left c t k q v) })
-    (λ c r l e d. absurd d) c d
+    (λ c r l e d. absurd d) (λ n e d. record { declared = a .declared; own = a .own }) c d
   where
     of-clients : (ps : List Claim) → ((k : ℕ) → k ∈ clientsOf ps → k ≡ 1) → (c : Claim) → c ∈ ps → c .client ≡ 1
     of-clients ps h c i = h (c .client) (map-i (λ (c : Claim). c .client) i)

@@ -62,6 +62,15 @@ units-cover v x c z =
 pub units-mono : (v u : Setting) (x y : ℕ) (c d : Claim) → c .units ≡ d .units → (Covers v x c → 0 < c .units → Covers u y d) → unitsAt v x c ≤ unitsAt u y d
 units-mono v u x y c d e h = units-le v x c (unitsAt u y d) (λ k z. omega (arith, units-is u y d (h k z)))
 
+-- With its end a claim's use stays.
+pub units-same : (v u : Setting) (x : ℕ) (c : Claim) → endOf v c ≡ endOf u c → unitsAt v x c ≡ unitsAt u x c
+units-same v u x c e =
+    omega (
+      arith,
+      units-mono v u x x c c refl (λ k z. record { begun = k .begun; going = omega (arith, k .going) }),
+      units-mono u v x x c c refl (λ k z. record { begun = k .begun; going = omega (arith, k .going) }),
+    )
+
 -- ── spare units over a hold ──
 module _ (v : Setting) (qs : List Claim) (w : Claim) where
   -- The last planned start from s up to x, or s.

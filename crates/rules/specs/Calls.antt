@@ -24,7 +24,7 @@ use Rattle.rules.specs.Packing.{pack}
 use Rattle.rules.specs.Placing.{place, contention, startBound}
 use Rattle.rules.specs.Granting.{grant, grants}
 use Rattle.rules.specs.Pool.{freeUnits}
-use Rattle.rules.specs.Tests.{Test, firstOf, late, backward, stranger, noClient, nothingAsked, offRig, spots, badLength, fullFor, over, begun, overbooked, ticketless, named, unknown, notYetOn, alreadyOn}
+use Rattle.rules.specs.Tests.{Test, firstOf, late, backward, stranger, noClient, nothingAsked, offRig, spots, badLength, fullFor, over, begun, overbooked, badGrace, ticketless, named, unknown, notYetOn, alreadyOn}
 
 -- What a table means. The pending claims stand in ascending order of ticket.
 pub record Model : Type 0 where
@@ -32,20 +32,24 @@ pub record Model : Type 0 where
   pub clock : ℕ
   pub pool : ℕ
   pub issued : ℕ
+  pub grace : ℕ
   pub shares : List Share
   pub pending : List Claim
 
 abbrev pub withClock : Model → ℕ → Model
-withClock m t = record { rig = m .rig; clock = t; pool = m .pool; issued = m .issued; shares = m .shares; pending = m .pending }
+withClock m t = record { rig = m .rig; clock = t; pool = m .pool; issued = m .issued; grace = m .grace; shares = m .shares; pending = m .pending }
 
 abbrev pub withIssued : Model → ℕ → Model
-withIssued m n = record { rig = m .rig; clock = m .clock; pool = m .pool; issued = n; shares = m .shares; pending = m .pending }
+withIssued m n = record { rig = m .rig; clock = m .clock; pool = m .pool; issued = n; grace = m .grace; shares = m .shares; pending = m .pending }
 
 abbrev pub withPending : Model → List Claim → Model
-withPending m ps = record { rig = m .rig; clock = m .clock; pool = m .pool; issued = m .issued; shares = m .shares; pending = ps }
+withPending m ps = record { rig = m .rig; clock = m .clock; pool = m .pool; issued = m .issued; grace = m .grace; shares = m .shares; pending = ps }
 
 abbrev pub withShares : Model → List Share → Model
-withShares m ss = record { rig = m .rig; clock = m .clock; pool = m .pool; issued = m .issued; shares = ss; pending = m .pending }
+withShares m ss = record { rig = m .rig; clock = m .clock; pool = m .pool; issued = m .issued; grace = m .grace; shares = ss; pending = m .pending }
+
+abbrev pub withGrace : Model → ℕ → Model
+withGrace m n = record { rig = m .rig; clock = m .clock; pool = m .pool; issued = m .issued; grace = n; shares = m .shares; pending = m .pending }
 
 -- The clients of claims.
 abbrev pub clientsOf : List Claim → List ℕ
@@ -53,7 +57,7 @@ clientsOf ps = map (λ c. c .client) ps
 
 -- The rules at clock t in this table; and at its own.
 abbrev pub ruled : Model → ℕ → Setting
-ruled m t = record { clock = t; pool = m .pool }
+ruled m t = record { clock = t; pool = m .pool; grace = m .grace }
 
 abbrev pub settingOf : Model → Setting
 settingOf m = ruled m (m .clock)
@@ -63,7 +67,7 @@ abbrev pub asking : ℕ → ℕ → Request
 asking g n = record { groups = g; length = n; units = 0; client = 1 }
 
 -- The calls of a run: clock and what is asked for, clock and ticket, clock, ticket, two tickets, nothing; a client with its guarantee and its
--- limit. (Document 01: look is our lookup.)
+-- limit; a grace. (Document 01: look is our lookup.)
 pub data Call : Type 0 where
   claim : ℕ → Request → Call
   release : ℕ → ℕ → Call
@@ -73,6 +77,7 @@ pub data Call : Type 0 where
   common : ℕ → ℕ → Call
   free : Call
   declare : ℕ → ℕ → ℕ → Call
+  setGrace : ℕ → Call
 
 -- "Every accepted timed call (claim, release, withdraw, clock)"
 abbrev pub timed : Call → Bool
@@ -84,6 +89,7 @@ timed (lookup k) = false
 timed (common j k) = false
 timed free = false
 timed (declare c r l) = false
+timed (setGrace n) = false
 
 -- The clock that a timed call bears.
 abbrev pub clockOf : Call → ℕ
@@ -95,6 +101,7 @@ clockOf (lookup k) = 0
 clockOf (common j k) = 0
 clockOf free = 0
 clockOf (declare c r l) = 0
+clockOf (setGrace n) = 0
 
 -- The calls that only tell: they change nothing.
 abbrev pub looks : Call → Bool
@@ -106,6 +113,7 @@ looks (lookup k) = true
 looks (common j k) = true
 looks free = true
 looks (declare c r l) = false
+looks (setGrace n) = false
 
 -- What a call answers: 0 or the refusal's number; ticket; start; contention and start bound; "the answer names those tickets".
 pub record Answer : Type 0 where
@@ -132,7 +140,7 @@ abbrev pub overOf : Model → ℕ → Test
 overOf m c = over (shareOf (m .shares) c) (pendingOf (clientsOf (m .pending)) c)
 
 -- "A claim is tested in the order 5, 4, 1, 2, 3, 6, 7; a release 5, 4, 8, 9; a withdrawal 5, 4, 8, 10; a clock call 5, 4"; of a claim
--- "16 .. after 2", "17 .. before 1", "18 .. after 6"; a declaration is answered 13 "before 17", and 19 "after 17".
+-- "16 .. after 2", "17 .. before 1", "18 .. after 6"; a declaration is answered 13 "before 17", and 19 "after 17"; a grace 21.
 unfoldable pub tests : Model → Call → List Test
 tests m (claim t ask) =
     late t ∷ backward (m .clock) t ∷ stranger (shareOf (m .shares) (ask .client)) ∷ nothingAsked (ask .groups) (ask .units)
@@ -145,6 +153,7 @@ tests m (lookup k) = unknown (named k) (m .pending) ∷ []
 tests m (common j k) = unknown (named j) (m .pending) ∷ unknown (named k) (m .pending) ∷ []
 tests m free = []
 tests m (declare c r l) = begun (m .issued) ∷ noClient c ∷ overbooked (shareOf (m .shares) c) (reservedInAll (m .shares)) r l ∷ []
+tests m (setGrace n) = badGrace (m .issued) n ∷ []
 
 -- "A call turned down answers its number, with ticket, start, crowd and ceiling 0 and no grants; the table is the one handed in"
 abbrev pub unchanged : Model → ℕ → Step
@@ -194,7 +203,7 @@ admit m ask =
     let r : Reply = placing m w in
     finish (join m (withPhase w (Waiting (r .start)))) r
 
--- A declaration gives its client a share. All that it answers is 0.
+-- A declaration gives its client a share. All that it answers is 0, as of a grace that is set.
 abbrev pub declared : Model → ℕ → ℕ → ℕ → Model
 declared m c r l = withShares m (withShare (m .shares) c (share r l))
 
@@ -208,6 +217,7 @@ act m (lookup k) = unchanged m 0
 act m (common j k) = unchanged m 0
 act m free = unchanged m 0
 act m (declare c r l) = unchanged (declared m c r l) 0
+act m (setGrace n) = unchanged (withGrace m n) 0
 
 -- The call's own step, or the refusal.
 abbrev pub unless : Model → ℕ → Step → Step
@@ -219,11 +229,11 @@ step m c = unless m (firstOf (tests m c)) (act m c)
 
 -- ── a new table, lookup, and lists of calls ──
 abbrev pub blank : ℕ → ℕ → Bool → Model
-blank g k alone = record { rig = g; clock = 0; pool = k; issued = 0; shares = firstShares alone; pending = [] }
+blank g k alone = record { rig = g; clock = 0; pool = k; issued = 0; grace = 0; shares = firstShares alone; pending = [] }
 
--- "A new table has clock 0." "A call that would make a table gives, when turned down, one without groups, claims or issued tickets, at
--- clock 0." A pool without groups is dark too, and leaves no units. Client 1 alone is declared, as for loads of editions 1 and 2, or nobody;
--- so it is in a table that was turned down.
+-- "A new table has clock 0." The grace is "0 unless set". "A call that would make a table gives, when turned down, one without groups,
+-- claims or issued tickets, at clock 0." A pool without groups is dark too, and leaves no units. Client 1 alone is declared, as for loads of
+-- editions 1 and 2, or nobody; so it is in a table that was turned down.
 unfoldable pub new : ℕ → ℕ → Bool → Step
 new g k alone = cond (empty g) (unchanged (blank 0 0 alone) darkNumber) (unchanged (blank g k alone) 0)
 

@@ -1,6 +1,7 @@
 -- A claim, its phase and its end. Quotations are from document 01.
 use mathlib.Core.Bool.{Bool, true, false, cond}
-use Prim.Native.Nat.{ℕ, _+_, _-_, max}
+use Prim.Native.Nat.{ℕ, _+_, _-_}
+use lib.Dec.{leb}
 use Rattle.groups.specs.declared.MaybeGroup.{MaybeGroup}
 use Rattle.groups.specs.Groups.{common, shares}
 use Rattle.rules.specs.declared.Claim.{Claim}
@@ -35,11 +36,12 @@ conflicts c d = common (c .groups) (d .groups)
 abbrev pub rival : Claim → Claim → Bool
 rival c d = shares (c .groups) (d .groups)
 
--- The end of an on claim with promised end p: "the greater of promised end and the table's clock".
+-- The end of an on claim with promised end p: "The end of an on claim is its promised end while the clock isn't past it, and after that
+-- clock + grace" (document 02, P6). With a grace of 0 it is document 01's, the greater of promised end and clock (`held-documented`).
 unfoldable pub heldUntil : Setting → ℕ → ℕ
-heldUntil v p = max p (v .clock)
+heldUntil v p = cond (leb (v .clock) p) p (v .clock + v .grace)
 
--- "The end of a waiting claim is planned start + length. The promised end of an on claim is grant + length; its end is the greater .."
+-- "The end of a waiting claim is planned start + length. The promised end of an on claim is grant + length".
 unfoldable pub endOf : Setting → Claim → ℕ
 endOf v c = cond (on c) (heldUntil v (at c + c .length)) (at c + c .length)
 

@@ -13,5 +13,7 @@ pub mod Calls
 pub mod Invariants
 pub mod NoUnits
 pub mod OneClient
+pub mod NoGrace
+pub mod IdleGrace
 pub mod Tables
 pub mod Scenarios

@@ -15,7 +15,7 @@ use Rattle.rules.specs.Packing.{moved}
 use Rattle.rules.specs.Placing.{clear}
 use Rattle.rules.specs.Shares.{shareOf}
 use Rattle.rules.specs.Tests.{Test, late, backward, stranger, dark, offRig, badLength, ticketless}
-use Rattle.rules.specs.Calls.{Model, fullTo, overOf, Call, claim, release, withdraw, clock, lookup, common, free, declare}
+use Rattle.rules.specs.Calls.{Model, fullTo, overOf, Call, claim, release, withdraw, clock, lookup, common, free, declare, setGrace}
 
 -- ── a claim ──
 -- "Each waiting claim's planned start becomes the greatest of the clock and the ends of the claims that precede it": of the starts f.
@@ -43,6 +43,7 @@ drawsNone (lookup k) = Unit {0}
 drawsNone (common j k) = Unit {0}
 drawsNone free = Unit {0}
 drawsNone (declare c r l) = Unit {0}
+drawsNone (setGrace n) = Unit {0}
 
 -- No call of the list does.
 abbrev pub DrawsNone : List Call → Type 0
@@ -51,4 +52,4 @@ DrawsNone (c ∷ cs) = drawsNone c × DrawsNone cs
 
 -- The same table with a pool of k.
 abbrev pub withPool : ℕ → Model → Model
-withPool k m = record { rig = m .rig; clock = m .clock; pool = k; issued = m .issued; shares = m .shares; pending = m .pending }
+withPool k m = record { rig = m .rig; clock = m .clock; pool = k; issued = m .issued; grace = m .grace; shares = m .shares; pending = m .pending }

@@ -11,7 +11,7 @@ use Rattle.rules.specs.Claims.{on, at, endOf}
 
 -- ── planned use ──
 -- The planned hold of c covers the time x, which is not below the clock: from its grant or planned start up to its end. (So an overrun
--- holder, whose end is the clock, is not planned in use.)
+-- holder is planned in use for the grace, and where that is 0, and its end the clock, not at all.)
 unfoldable pub covers : Setting → ℕ → Claim → Bool
 covers v x c = (on c || leb (at c) x) && ltb x (endOf v c)
 

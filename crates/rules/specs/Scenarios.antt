@@ -1,5 +1,6 @@
 -- The starred plots of document 01 ("Plots to try") as one table, and two cases more: what the first packing of a call is for, and the
--- order of grants; then plots of claims that draw on a pool, with the units free; what lookup tells of two tickets; and clients with shares.
+-- order of grants; then plots of claims that draw on a pool, with the units free, and of holders that overrun under a grace; what lookup tells
+-- of two tickets; and clients with shares.
 -- proofs/AllScenarios has the theorem that covers the table.
 use mathlib.Core.Bool.{Bool, true, false}
 use mathlib.Core.List.{List, [], _∷_, _++_, map}
@@ -12,7 +13,7 @@ use Rattle.rules.specs.declared.Phase.the-variants.{On}
 use Rattle.rules.specs.declared.Standing.{Standing}
 use Rattle.rules.specs.declared.Standing.the-variants.{NotPending, Waits, Holds}
 use Rattle.rules.specs.Tests.{firstOf}
-use Rattle.rules.specs.Calls.{asking, Call, release, withdraw, clock, declare, Answer, Model, withIssued, withPending, tests, standingOf, freeOf, commonOf, new, after, answers}
+use Rattle.rules.specs.Calls.{asking, Call, release, withdraw, clock, declare, setGrace, Answer, Model, withIssued, withPending, tests, standingOf, freeOf, commonOf, new, after, answers}
 
 -- Calls made before, calls made now, their answers, and what lookup then tells of tickets 1 to 4.
 pub record Scenario : Type 0 where
@@ -149,6 +150,39 @@ draws =
     ∷ draw 2 (drawing 5 0x10 10 3 ∷ drawing 5 0x1 0 3 ∷ drawing 5 0x1 0 2 ∷ drawing 5 0x0 10 0 ∷ drawing 5 0x0 10 2 ∷ [])
     (refused 2 ∷ refused 16 ∷ refused 3 ∷ refused 1 ∷ ok 1 5 0 5 (1 ∷ []) ∷ [])
     (Holds 15 ∷ NotPending ∷ NotPending ∷ NotPending ∷ []) 0
+    ∷ []
+
+-- The same with a grace.
+unfoldable pub graces : List Draw
+graces =
+    -- S with a grace of 5: at clock 10, the promised end of ticket 1, there is no grace yet
+    draw 0 (setGrace 5 ∷ S ++ (clock 10 ∷ []))
+    (ok 0 0 0 0 [] ∷ ok 1 0 0 0 (1 ∷ []) ∷ ok 2 10 1 19 [] ∷ ok 3 20 1 20 [] ∷ ok 0 10 0 0 [] ∷ [])
+    (Holds 10 ∷ Waits 10 ∷ Waits 20 ∷ NotPending ∷ []) 0
+    -- at clock 12 its end is 17; lookup still tells the promised end
+    ∷ draw 0 (setGrace 5 ∷ S ++ (clock 12 ∷ []))
+    (ok 0 0 0 0 [] ∷ ok 1 0 0 0 (1 ∷ []) ∷ ok 2 10 1 19 [] ∷ ok 3 20 1 20 [] ∷ ok 0 12 0 0 [] ∷ [])
+    (Holds 10 ∷ Waits 17 ∷ Waits 27 ∷ NotPending ∷ []) 0
+    -- while it overruns its end moves on with the clock,
+    ∷ draw 0 (setGrace 5 ∷ S ++ (clock 12 ∷ clock 14 ∷ []))
+    (ok 0 0 0 0 [] ∷ ok 1 0 0 0 (1 ∷ []) ∷ ok 2 10 1 19 [] ∷ ok 3 20 1 20 [] ∷ ok 0 12 0 0 [] ∷ ok 0 14 0 0 [] ∷ [])
+    (Holds 10 ∷ Waits 19 ∷ Waits 29 ∷ NotPending ∷ []) 0
+    -- and its release lets ticket 2 on at once
+    ∷ draw 0 (setGrace 5 ∷ S ++ (clock 12 ∷ release 13 1 ∷ []))
+    (ok 0 0 0 0 [] ∷ ok 1 0 0 0 (1 ∷ []) ∷ ok 2 10 1 19 [] ∷ ok 3 20 1 20 [] ∷ ok 0 12 0 0 [] ∷ ok 1 13 0 0 (2 ∷ []) ∷ [])
+    (NotPending ∷ Holds 23 ∷ Waits 23 ∷ NotPending ∷ []) 0
+    -- a claim is placed behind that end, which counts in its bound
+    ∷ draw 0 (setGrace 5 ∷ S ++ (claim 12 0x8 3 ∷ claim 12 0x1 5 ∷ []))
+    (ok 0 0 0 0 [] ∷ ok 1 0 0 0 (1 ∷ []) ∷ ok 2 10 1 19 [] ∷ ok 3 20 1 20 [] ∷ ok 4 27 2 31 [] ∷ ok 5 12 0 12 (5 ∷ []) ∷ [])
+    (Holds 10 ∷ Waits 17 ∷ Waits 27 ∷ Waits 27 ∷ []) 0
+    -- units are planned to be held until then, and are free with the release
+    ∷ draw 2 (setGrace 5 ∷ drawing 0 0x0 10 2 ∷ drawing 0 0x0 10 1 ∷ clock 12 ∷ drawing 12 0x1 5 1 ∷ release 13 1 ∷ [])
+    (ok 0 0 0 0 [] ∷ ok 1 0 0 0 (1 ∷ []) ∷ ok 2 10 0 0 [] ∷ ok 0 12 0 0 [] ∷ ok 3 17 0 12 [] ∷ ok 1 13 0 0 (2 ∷ 3 ∷ []) ∷ [])
+    (NotPending ∷ Holds 23 ∷ Holds 18 ∷ NotPending ∷ []) 0
+    -- 21: over 60,000, and after an accepted claim, also where nothing is pending any more; a refused claim is none. The last grace counts
+    ∷ draw 0 (setGrace 60001 ∷ setGrace 60000 ∷ claim 0 0x0 10 ∷ setGrace 5 ∷ claim 0 0x1 10 ∷ setGrace 7 ∷ claim 12 0x1 10 ∷ withdraw 12 2 ∷ release 12 1 ∷ setGrace 0 ∷ [])
+    (refused 21 ∷ ok 0 0 0 0 [] ∷ refused 1 ∷ ok 0 0 0 0 [] ∷ ok 1 0 0 0 (1 ∷ []) ∷ refused 21 ∷ ok 2 17 1 26 [] ∷ ok 2 12 0 0 [] ∷ ok 1 12 0 0 [] ∷ refused 21 ∷ [])
+    (NotPending ∷ NotPending ∷ NotPending ∷ NotPending ∷ []) 0
     ∷ []
 
 -- What the rules give, and what is expected.

@@ -16,7 +16,7 @@ unfoldable pub pad : {A : Type 0} → A → List A → List A
 pad d l = l ++ replicate (64 - length l) d
 
 abbrev pub encode : Model → Table
-encode m = record { rig = m .rig; clock = m .clock; pool = m .pool; issued = m .issued; shares = m .shares; count = length (m .pending); claims = pad vacant (m .pending) }
+encode m = record { rig = m .rig; clock = m .clock; pool = m .pool; issued = m .issued; grace = m .grace; shares = m .shares; count = length (m .pending); claims = pad vacant (m .pending) }
 
 abbrev pub model : Table → Model
-model t = record { rig = t .rig; clock = t .clock; pool = t .pool; issued = t .issued; shares = t .shares; pending = take (t .count) (t .claims) }
+model t = record { rig = t .rig; clock = t .clock; pool = t .pool; issued = t .issued; grace = t .grace; shares = t .shares; pending = take (t .count) (t .claims) }

@@ -3,7 +3,7 @@ use mathlib.Core.Bool.{Bool, not, _&&_, _||_, cond}
 use mathlib.Core.List.{List, [], _∷_}
 use Prim.Native.Nat.{ℕ, _+_}
 use lib.Dec.{ltb, leb, eqb}
-use Rattle.numbers.specs.Numbers.{darkNumber, offRigNumber, lengthNumber, backwardNumber, lateNumber, fullNumber, ticketlessNumber, unknownNumber, notYetOnNumber, alreadyOnNumber, misfitNumber, spotsNumber, strangerNumber, overNumber, overbookedNumber, mostClock, mostLength, mostTickets, mostPending, mostClients}
+use Rattle.numbers.specs.Numbers.{darkNumber, offRigNumber, lengthNumber, backwardNumber, lateNumber, fullNumber, ticketlessNumber, unknownNumber, notYetOnNumber, alreadyOnNumber, misfitNumber, spotsNumber, strangerNumber, overNumber, overbookedNumber, graceNumber, mostClock, mostLength, mostTickets, mostPending, mostClients, mostGrace}
 use Rattle.groups.specs.Groups.{empty, within}
 use Rattle.rules.specs.declared.Claim.{Claim}
 use Rattle.rules.specs.declared.Share.{Share}
@@ -74,6 +74,10 @@ begun issued = test (ltb 0 issued) misfitNumber
 abbrev pub overbooked : Share → ℕ → ℕ → ℕ → Test
 overbooked s all reserved limit =
     test (ltb mostPending (all + reserved) || (ltb limit reserved || (ltb mostPending limit || s .declared))) overbookedNumber
+
+-- "a grace over 60,000 or set after an accepted claim" (document 02, P6): of the tickets issued and the grace that is asked for.
+abbrev pub badGrace : ℕ → ℕ → Test
+badGrace issued n = test (ltb 0 issued || ltb mostGrace n) graceNumber
 
 abbrev pub ticketless : ℕ → Test
 ticketless issued = test (leb mostTickets issued) ticketlessNumber

@@ -35,10 +35,12 @@ pub struct Reply {
     pub bound: u64,
 }
 
-// What the rules of one call go by: its clock, and the units in the pool (k followspots that do the same work).
+// What the rules of one call go by: its clock, the units in the pool (k followspots that do the same work), and the grace, the time in ticks
+// that a holder past its promised end is expected to need.
 pub struct Setting {
     pub clock: u64,
     pub pool: u16,
+    pub grace: u32,
 }
 
 // A client's share of the table: whether it is declared, the places reserved for it (document 02: its guarantee), and its limit.
@@ -49,12 +51,13 @@ pub struct Share {
 }
 
 // The table. The shares are those of clients 1 to 8. The first `count` places hold the pending claims in ascending order of ticket; the
-// others are vacant.
+// others are vacant. Fields in this order make its head 56 bytes.
 pub struct Table {
     pub rig: u64,
     pub clock: u64,
     pub pool: u16,
     pub issued: u16,
+    pub grace: u32,
     pub shares: [Share; 8],
     pub count: usize,
     pub claims: [Claim; 64],

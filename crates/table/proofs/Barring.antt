@@ -161,4 +161,4 @@ pub claim-early : (v : Setting) (claims : List Claim) (n : ℕ) → Row v claims
 claim-early v claims n row low g h =
     let m = row-member row g h in
     let c = claimAt claims g in
-    (low c m, end-le v c 3000000000000 (omega (arith, low c m, row .sized c m .short)) (omega (arith, row .timely)))
+    (low c m, end-le v c 3000000000000 (omega (arith, low c m, row .sized c m .short)) (omega (arith, row .timely, row .lenient)))

@@ -75,6 +75,6 @@ module _ {v : Setting} {w : Claim} {ps : List Claim} where
 -- The claim d is w at its planned start s; n claims conflict with it, and b is its start bound.
 pub placed-as : (t : Table) (w d : Claim) (s n b : ℕ) → s ≡ place (ruledIn t (t .clock)) (take (t .count) (t .claims)) w → n ≡ contention (take (t .count) (t .claims)) w
     → b ≡ startBound (ruledIn t (t .clock)) (take (t .count) (t .claims)) w → d ≡ withPhase w (Waiting s)
-    → (let table : Table = record { rig = t .rig; clock = t .clock; pool = t .pool; issued = t .issued + 1; shares = t .shares; count = t .count + 1; claims = set (t .claims) (t .count) d } in
+    → (let table : Table = record { rig = t .rig; clock = t .clock; pool = t .pool; issued = t .issued + 1; grace = t .grace; shares = t .shares; count = t .count + 1; claims = set (t .claims) (t .count) d } in
     _≡_ {A = Placed} (record { table = table; reply = record { ticket = w .ticket; start = s; contention = n; bound = b } }) (placedIn t w))
 placed-as t w d s n b e f g h = rw (h, e, f, g)

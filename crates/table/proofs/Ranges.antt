@@ -8,7 +8,7 @@ use Prim.Native.Nat.{ℕ, suc, _≤_, _<_, _-_}
 use native.Mathlib.Omega.{arith}
 use native.Mathlib.Nat.{mul-le-mul-right}
 use lib.ListN.{length, length-map, length-append, take, length-take}
-use Rattle.numbers.specs.Numbers.{mostClock, mostTickets, mostPending, mostLength, mostUnits}
+use Rattle.numbers.specs.Numbers.{mostClock, mostTickets, mostPending, mostLength, mostUnits, mostGrace}
 use Rattle.rules.specs.declared.Claim.{Claim}
 use Rattle.rules.specs.declared.Phase.the-variants.{On, Waiting}
 use Rattle.rules.specs.declared.Table.{Table}
@@ -48,10 +48,10 @@ sized-later v u c l s = record { sane = later-sane l (s .sane); short = s .short
 pub sized-waiting : {v : Setting} {s : ℕ} {c : Claim} → Sized v c → s ≤ 2000000000000 → Sized v (withPhase c (Waiting s))
 sized-waiting z h = record { sane = record { long = z .sane .long; small = z .sane .small; drawn = z .sane .drawn }; short = z .short; aged = λ o. clash o refl; planned = λ o. h }
 
--- A packed start is at most the latest clock and 65 lengths.
-pub start-small : (v : Setting) (ps : List Claim) → v .clock ≤ mostClock → length ps ≤ 64 → Each (Sized v) ps → (c : Claim) → c ∈ ps → on c ≡ false
+-- A packed start is at most the latest clock and 65 lengths: no grace is longer than the longest length.
+pub start-small : (v : Setting) (ps : List Claim) → v .clock ≤ mostClock → v .grace ≤ mostGrace → length ps ≤ 64 → Each (Sized v) ps → (c : Claim) → c ∈ ps → on c ≡ false
     → packedStart v ps c ≤ 1000300000000
-start-small v ps h few sized c m o =
+start-small v ps h l few sized c m o =
     omega (arith, start-cap v 1000003600000 ps (λ d i. sized d i .sane) (omega arith) ends c m o, sum-le-each (λ c. c .length) mostLength ps (λ d i. sized d i .short))
   where
     ends : (d : Claim) → d ∈ ps → on d ≡ true → endOf v d ≤ 1000003600000
@@ -62,11 +62,11 @@ pub packed-small : (v : Setting) (claims : List Claim) (n : ℕ) → Row v claim
 packed-small v claims n row c m =
     moved-cases (λ (d : Claim). at d ≤ 1000000000000000000) (packedStart v (take n claims)) c
     (λ o. sized-small v c (row .timely) (row .sized c m))
-    (λ o. omega (arith, start-small v (take n claims) (row .timely) (omega (arith, row .few, length-take n claims)) (row .sized) c m o))
+    (λ o. omega (arith, start-small v (take n claims) (row .timely) (row .lenient) (omega (arith, row .few, length-take n claims)) (row .sized) c m o))
 
 -- ── the conflicting claims, their remaining time, the start bound and the planned start ──
-pub remaining-short : (v : Setting) (c : Claim) → Sized v c → remaining v c ≤ mostLength
-remaining-short v c s = omega (arith, remaining-le v c (s .aged), s .short)
+pub remaining-short : (v : Setting) (c : Claim) → v .grace ≤ mostGrace → Sized v c → remaining v c ≤ mostLength
+remaining-short v c l s = remaining-le v c mostLength (s .aged) (s .short) (omega arith)
 
 module _ (v : Setting) (l : List Claim) (n : ℕ) (w : Claim) (r : Row v l n) where
   pub rivals-few : contention (take n l) w ≤ 64
@@ -78,7 +78,7 @@ module _ (v : Setting) (l : List Claim) (n : ℕ) (w : Claim) (r : Row v l n) wh
   time-short = omega (arith, rivals-few, sum-le-each (remaining v) mostLength (rivals (take n l) w) short)
     where
       short : Each (λ c. remaining v c ≤ mostLength) (rivals (take n l) w)
-      short c m = remaining-short v c (r .sized c (keep-e (λ d. rival d w) (take n l) m .0))
+      short c m = remaining-short v c (r .lenient) (r .sized c (keep-e (λ d. rival d w) (take n l) m .0))
 
   pub bound-small : Sized v w → startBound v (take n l) w ≤ 2000000000000
   unfolding startBound
@@ -89,12 +89,12 @@ module _ (v : Setting) (l : List Claim) (n : ℕ) (w : Claim) (r : Row v l n) wh
   place-small s low =
       ⊎-elim
       (λ e. omega (arith, r .timely))
-      (λ e. omega (arith, e .3, end-le v (e .0) 1000303600000 (omega (arith, low (e .0) (e .1), r .sized (e .0) (e .1) .short)) (omega (arith, r .timely))))
+      (λ e. omega (arith, e .3, end-le v (e .0) 1000303600000 (omega (arith, low (e .0) (e .1), r .sized (e .0) (e .1) .short)) (omega (arith, r .timely, r .lenient))))
       (place-is v (take n l) w (s .sane))
 
 -- ── tables and models ──
 pub model-encode : (m : Model) → model (encode m) ≡ m
-model-encode m = ap (λ (l : List Claim). record { rig = m .rig; clock = m .clock; pool = m .pool; issued = m .issued; shares = m .shares; pending = l }) (pad-take vacant (m .pending))
+model-encode m = ap (λ (l : List Claim). record { rig = m .rig; clock = m .clock; pool = m .pool; issued = m .issued; grace = m .grace; shares = m .shares; pending = l }) (pad-take vacant (m .pending))
 
 -- What a table that encodes a model means.
 pub model-is : (t : Table) (m : Model) → t ≡ encode m → model t ≡ m
@@ -129,6 +129,7 @@ formed-row t u v l k = record {
   sized = λ c m. sized-later (settingOf (model t)) (ruledIn t u) c (record { later = l; same = refl }) (v .ranged .sized c m);
   pooled = v .ranged .pooled;
   stock = v .ranged .stock;
+  lenient = v .ranged .lenient;
 }
 
 pub formed-now : (t : Table) → Formed t → Row (ruledIn t (t .clock)) (t .claims) (t .count)
@@ -137,7 +138,7 @@ formed-now t v = formed-row t (t .clock) v (omega arith) (v .ranged .timely)
 -- ── new ──
 pub blank-ranged : (g k : ℕ) (alone : Bool) → k ≤ mostUnits → Ranged (blank g k alone)
 unfolding heldUnits sum
-blank-ranged g k alone h = record { pooled = h; few = omega arith; timely = omega arith; numbered = omega arith; ascending = tt; sized = λ c m. none m; issued = λ c m. none m; stock = omega arith }
+blank-ranged g k alone h = record { pooled = h; few = omega arith; timely = omega arith; numbered = omega arith; ascending = tt; sized = λ c m. none m; issued = λ c m. none m; stock = omega arith; lenient = omega arith }
 
 -- ── claims that change one by one, and keep their tickets ──
 map-ranged : (m : Model) (t : ℕ) (f : Claim → Claim) → Ranged m → t ≤ mostClock → ((c : Claim) → f c .ticket ≡ c .ticket) → Each (λ c. Sized (ruled m t) (f c)) (m .pending) → heldUnits (map f (m .pending)) ≤ m .pool
@@ -151,6 +152,7 @@ map-ranged m t f r k e h s = record {
   issued = map-each (λ (c : Claim). c .ticket ≤ m .issued) f (m .pending) (λ c i. omega (arith, e c, r .issued c i));
   pooled = r .pooled;
   stock = s;
+  lenient = r .lenient;
 }
 
 pub advance-ranged : (m : Model) (t : ℕ) → Ranged m → m .clock ≤ t → t ≤ mostClock → Ranged (advance m t)
@@ -159,7 +161,7 @@ advance-ranged m t r l k =
     let f = packedStart (ruled m t) (m .pending) in
     let later : Each (Sized (ruled m t)) (m .pending) = λ c i. sized-later (settingOf m) (ruled m t) c (record { later = l; same = refl }) (r .sized c i) in
     map-ranged m t (moved f) r k (moved-ticket f)
-    (λ c i. moved-cases (Sized (ruled m t)) f c (λ o. later c i) (λ o. sized-waiting (later c i) (omega (arith, start-small (ruled m t) (m .pending) k (r .few) later c i o))))
+    (λ c i. moved-cases (Sized (ruled m t)) f c (λ o. later c i) (λ o. sized-waiting (later c i) (omega (arith, start-small (ruled m t) (m .pending) k (r .lenient) (r .few) later c i o))))
     (omega (arith, pack-held (ruled m t) (m .pending), r .stock))
 
 pub grant-ranged : (m : Model) (r : Reply) → Ranged m → Ranged (granting m r (m .pending) .model)
@@ -187,6 +189,7 @@ remove-ranged m k r =
       issued = λ c i. r .issued c (keep-e p (m .pending) i .0);
       pooled = r .pooled;
       stock = omega (arith, r .stock, sum-keep-le heldBy p (m .pending));
+      lenient = r .lenient;
     }
 
 pub join-ranged : (m : Model) (w : Claim) → Ranged m → length (m .pending) < mostPending → m .issued < mostTickets → Sized (settingOf m) w → on w ≡ false → w .ticket ≡ suc (m .issued) → Ranged (join m w)
@@ -200,4 +203,5 @@ join-ranged m w r few spare s o e = record {
   issued = snoc-each (λ (c : Claim). c .ticket ≤ suc (m .issued)) (m .pending) w (λ c i. omega (arith, r .issued c i)) (omega arith);
   pooled = r .pooled;
   stock = let z : heldBy w ≡ 0 = rw o in omega (arith, r .stock, sum-snoc heldBy (m .pending) w);
+  lenient = r .lenient;
 }

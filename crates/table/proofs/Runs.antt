@@ -4,18 +4,19 @@ use mathlib.Core.Bool.{Bool}
 use mathlib.Core.List.{List, _∷_}
 use Prim.Native.Nat.{ℕ}
 use Rattle.rules.specs.declared.Table.{Table}
-use Rattle.rules.specs.Calls.{Model, Call, lookup, common, free, declare, Answer, Step, step, standingOf, commonOf, freeOf, new}
+use Rattle.rules.specs.Calls.{Model, Call, lookup, common, free, declare, setGrace, Answer, Step, step, standingOf, commonOf, freeOf, new}
 use Rattle.rules.specs.Tables.{model}
 use Rattle.promises.specs.Ledger.{Turn, opening, turns, tableAfter}
 use Rattle.promises.specs.Demand3.{Told, tells}
 use Rattle.promises.proofs.Demand3.{table-after, demand-3}
 use Rattle.promises.proofs.PoolKept.{pool-kept}
 use Rattle.promises.proofs.SharesKept.{shares-kept}
+use Rattle.promises.proofs.EndsAwaited.{ends-awaited}
 use Rattle.promises.specs.WholeCalls.{WholeCalls}
 use Rattle.promises.proofs.WholeCalls.{whole-calls-after}
 use Rattle.table.specs.declared.Outcome.{Outcome}
 use Rattle.table.specs.Outcomes.{outcome}
-use Rattle.table.specs.Runs.{answered, looked, Made, by-timed, by-declare, by-lookup, by-common, by-free, Run, done, then, Looks, opened, CodeDemand3, CodePoolKept, CodeSharesKept, CodeWholeCalls}
+use Rattle.table.specs.Runs.{answered, looked, Made, by-timed, by-declare, by-grace, by-lookup, by-common, by-free, Run, done, then, Looks, opened, CodeDemand3, CodePoolKept, CodeEndsAwaited, CodeSharesKept, CodeWholeCalls}
 use Rattle.table.proofs.Promised.{outcome-model, outcome-grants}
 use Rattle.table.proofs.Tests.{Looking, of-one, of-two, of-pool, look-answer, look-idle, lookup-told, common-told, free-told}
 
@@ -34,6 +35,7 @@ looked-is m c h n e = ap looked e ∙ look-answer m c h
 made-is : {t u : Table} {c : Call} {a : Answer} → Made t c a u → (a ≡ step (model t) c .answer) × (model u ≡ step (model t) c .model)
 made-is {t} (by-timed c h r e) = (answer-of r (step (model t) c) e, outcome-model r (step (model t) c) e)
 made-is {t} (by-declare c n l r e) = (answer-of r (step (model t) (declare c n l)) e, outcome-model r (step (model t) (declare c n l)) e)
+made-is {t} (by-grace n r e) = (answer-of r (step (model t) (setGrace n)) e, outcome-model r (step (model t) (setGrace n)) e)
 made-is {t} (by-lookup k s e) = (looked-is (model t) (lookup k) (of-one k) _ (lookup-told (model t) k s e .1), sym (look-idle (model t) (lookup k) (of-one k)))
 made-is {t} (by-common j k s e) = (looked-is (model t) (common j k) (of-two j k) _ (common-told (model t) j k s e .1), sym (look-idle (model t) (common j k) (of-two j k)))
 made-is {t} (by-free n e) = (looked-is (model t) free of-pool 0 (free-told (model t)), sym (look-idle (model t) free of-pool))
@@ -91,6 +93,11 @@ pub code-pool-kept : (rig pool : ℕ) (alone : Bool) (calls : List Call) → Cod
 code-pool-kept rig pool alone calls before rest e first q ts t p shows h =
     rw (opened-is rig pool alone before first q ts t p, turns-are rig pool alone before first q ts t p, shows-is t _ shows (table-is rig pool alone before first q ts t p) h)
     (pool-kept rig pool alone calls before rest e)
+
+pub code-ends-awaited : (rig pool : ℕ) (alone : Bool) (calls : List Call) → CodeEndsAwaited rig pool alone calls
+code-ends-awaited rig pool alone calls before rest e first q ts t p shows h =
+    rw (opened-is rig pool alone before first q ts t p, turns-are rig pool alone before first q ts t p, shows-is t _ shows (table-is rig pool alone before first q ts t p) h)
+    (ends-awaited rig pool alone calls before rest e)
 
 pub code-shares-kept : (rig pool : ℕ) (alone : Bool) (calls : List Call) → CodeSharesKept rig pool alone calls
 code-shares-kept rig pool alone calls = record {

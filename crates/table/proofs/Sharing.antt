@@ -1,5 +1,5 @@
 -- The tests 6 and 18 by what is counted, and a declaration: from what the code found to what the rules give.
-use mathlib.Core.Path.{_≡_, refl, sym, _∙_, ap, subst}
+use mathlib.Core.Path.{_≡_, refl, sym, _∙_, ap}
 use mathlib.Core.Logic.{_≢_}
 use mathlib.Core.Bool.{true, false}
 use mathlib.Core.List.{List, [], _∷_}
@@ -13,19 +13,18 @@ use Rattle.rules.specs.declared.Share.{Share}
 use Rattle.rules.specs.declared.Table.{Table}
 use Rattle.rules.specs.Shares.{undeclared, share, shareOf, withShare, pendingOf, unfilledByOthers, unfilledInAll}
 use Rattle.rules.specs.Tests.{Test, firstOf, full, fullFor, over}
-use Rattle.rules.specs.Calls.{Model, clientsOf, fullTo, overOf, declare, unchanged, declared, act, step, tests}
-use Rattle.rules.specs.Tables.{encode, model}
+use Rattle.rules.specs.Calls.{Model, clientsOf, fullTo, overOf, declare, declared, act, step, tests}
+use Rattle.rules.specs.Tables.{model}
 use Rattle.rules.proofs.Bools.{by-test}
 use Rattle.rules.proofs.Tests.{passes, past, front, swapped}
 use Rattle.rules.proofs.Shares.{declared-range, share-place, pending-few, full-by-all, full-for-all, below-not-full, below-not-over}
 use Rattle.table.specs.declared.Outcome.{Outcome}
 use Rattle.table.specs.Counts.{contested, pendingEach, unfilledEach, numberBy}
 use Rattle.table.specs.Outcomes.{outcome, unchangedIn, shareNumber, placesNumber}
-use Rattle.table.specs.Valid.{Ranged, Formed, Valid}
-use Rattle.table.proofs.Ranges.{model-is, formed-count, formed-is}
-use Rattle.table.proofs.Tests.{step-accepted}
+use Rattle.table.specs.Valid.{Ranged, Valid}
+use Rattle.table.proofs.Ranges.{formed-count}
 use Rattle.table.proofs.Counting.{each-at, each-unfilled}
-use Rattle.table.proofs.Steps.{unchanged-is, accepted}
+use Rattle.table.proofs.Steps.{prepared-is}
 
 -- ── the tests 6 and 18 ──
 -- The clients of the pending claims; as many as there are claims.
@@ -92,20 +91,16 @@ two-pass x y ts p q e h =
 -- ── declare ──
 -- The table with other shares.
 abbrev pub withShares : Table → List Share → Table
-withShares t ss = record { rig = t .rig; clock = t .clock; pool = t .pool; issued = t .issued; shares = ss; count = t .count; claims = t .claims }
+withShares t ss = record { rig = t .rig; clock = t .clock; pool = t .pool; issued = t .issued; grace = t .grace; shares = ss; count = t .count; claims = t .claims }
 
 declared-ranged : (m : Model) (c r l : ℕ) → Ranged m → Ranged (declared m c r l)
 declared-ranged m c r l h =
-    record { few = h .few; timely = h .timely; numbered = h .numbered; ascending = h .ascending; sized = h .sized; issued = h .issued; pooled = h .pooled; stock = h .stock }
+    record { few = h .few; timely = h .timely; numbered = h .numbered; ascending = h .ascending; sized = h .sized; issued = h .issued; pooled = h .pooled; stock = h .stock; lenient = h .lenient }
 
 pub declared-is : (t : Table) (c r l : ℕ) (o : Outcome) → Valid t → firstOf (tests (model t) (declare c r l)) ≡ 0
     → o ≡ unchangedIn (withShares t (set (t .shares) (c - 1) (share r l))) 0 → (o ≡ outcome (step (model t) (declare c r l))) × Valid (o .table)
 unfolding withShare act
 declared-is t c r l o v z e =
-    let m : Model = declared (model t) c r l in
-    let u : Table = withShares t (set (t .shares) (c - 1) (share r l)) in
-    let q : u ≡ encode m = ap (λ (x : Table). withShares x (set (t .shares) (c - 1) (share r l))) (sym (v .formed .whole)) in
-    let f = formed-is u m q (declared-ranged (model t) c r l (v .formed .ranged)) in
-    accepted t (declare c r l) o v
-    (e ∙ unchanged-is u 0 f ∙ ap (λ (x : Model). outcome (unchanged x 0)) (model-is u m q) ∙ ap outcome (sym (step-accepted (model t) (declare c r l) z)))
-    (subst Formed (sym (ap (λ (x : Outcome). x .table) e)) f)
+    let ss = set (t .shares) (c - 1) (share r l) in
+    prepared-is t (withShares t ss) (declare c r l) (declared (model t) c r l) o v z refl (ap (λ (x : Table). withShares x ss) (sym (v .formed .whole)))
+    (declared-ranged (model t) c r l (v .formed .ranged)) e

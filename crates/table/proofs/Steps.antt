@@ -25,15 +25,16 @@ use Rattle.rules.specs.Shares.{undeclared, firstShares}
 use Rattle.rules.specs.Tests.{firstOf}
 use Rattle.rules.specs.declared.Reply.{Reply}
 use Rattle.rules.specs.declared.Request.{Request}
-use Rattle.rules.specs.Calls.{plain, granting, Model, withPending, withClock, ruled, settingOf, Call, claim, clock, Step, unchanged, advance, finish, join, remove, fresh, admit, act, step, tests, blank, new}
+use Rattle.rules.specs.Calls.{plain, granting, Model, withPending, withClock, ruled, settingOf, withGrace, Call, claim, clock, setGrace, Step, unchanged, advance, finish, join, remove, fresh, admit, act, step, tests, blank, new}
 use Rattle.rules.specs.Tables.{encode, model, pad, vacant}
+use Rattle.rules.specs.Plans.{NoOverrunAt}
 use Rattle.rules.specs.Invariants.{Still, Invariant, IsBooked}
 use Rattle.rules.proofs.Bools.{clash, by-test}
 use Rattle.rules.proofs.Lists.{any-none, map-e}
-use Rattle.rules.proofs.Calls.{placed, new-cases, blank-invariant, step-invariant}
+use Rattle.rules.proofs.Calls.{settable, placed, new-cases, blank-invariant, step-invariant}
 use Rattle.rules.proofs.Shares.{first-booked}
 use Rattle.rules.proofs.Booking.{step-booked}
-use Rattle.rules.proofs.NoOverrun.{NoOverrunAt, no-overrun-still}
+use Rattle.rules.proofs.NoOverrun.{no-overrun-still}
 use Rattle.rules.proofs.Packing.{pack-length, pack-holders, moved-cases}
 use Rattle.rules.proofs.Repacking.{NoneDraws}
 use Rattle.rules.proofs.Granting.{grant-length}
@@ -44,9 +45,9 @@ use Rattle.table.specs.declared.granting.Granted.{Granted}
 use Rattle.table.specs.declared.placing.Placed.{Placed}
 use Rattle.table.specs.Parts.{withClaims, ruledIn, atClock, packedTable, grantedIn, placedIn}
 use Rattle.table.specs.declared.Outcome.{Outcome}
-use Rattle.table.specs.Valid.{Formed, Valid}
+use Rattle.table.specs.Valid.{Ranged, Formed, Valid}
 use Rattle.table.specs.Outcomes.{outcome, unchangedIn, timeNumber, pastEnd, departed, leaving, without}
-use Rattle.table.proofs.Ranges.{sized-waiting, start-small, place-small, model-is, formed-now, formed-is, formed-count, formed-sane, blank-ranged, advance-ranged, remove-ranged, join-ranged, grant-ranged}
+use Rattle.table.proofs.Ranges.{sized-later, sized-waiting, start-small, place-small, model-is, formed-now, formed-is, formed-count, formed-sane, blank-ranged, advance-ranged, remove-ranged, join-ranged, grant-ranged}
 use Rattle.table.proofs.Tests.{timed-passes, step-refused, step-accepted}
 
 -- ── refusals ──
@@ -71,10 +72,33 @@ accepted t c r v e f =
       },
     )
 
+-- ── what is set before the first claim ──
+-- A call that is accepted and answers nothing but 0: u is the table that it leaves.
+pub prepared-is : (t u : Table) (c : Call) (m : Model) (r : Outcome) → Valid t → firstOf (tests (model t) c) ≡ 0 → act (model t) c ≡ unchanged m 0 → u ≡ encode m → Ranged m
+    → r ≡ unchangedIn u 0 → (r ≡ outcome (step (model t) c)) × Valid (r .table)
+prepared-is t u c m r v z a q h e =
+    let f = formed-is u m q h in
+    accepted t c r v
+    (e ∙ unchanged-is u 0 f ∙ ap (λ (x : Model). outcome (unchanged x 0)) (model-is u m q) ∙ ap outcome (sym a ∙ sym (step-accepted (model t) c z)))
+    (subst Formed (sym (ap (λ (x : Outcome). x .table) e)) f)
+
+-- The table with another grace.
+abbrev pub graced : Table → ℕ → Table
+graced t n = record { rig = t .rig; clock = t .clock; pool = t .pool; issued = t .issued; grace = n; shares = t .shares; count = t .count; claims = t .claims }
+
+pub graced-is : (t : Table) (n : ℕ) (r : Outcome) → Valid t → firstOf (tests (model t) (setGrace n)) ≡ 0 → r ≡ unchangedIn (graced t n) 0
+    → (r ≡ outcome (step (model t) (setGrace n))) × Valid (r .table)
+unfolding act
+graced-is t n r v z e =
+    let h = v .formed .ranged in
+    prepared-is t (graced t n) (setGrace n) (withGrace (model t) n) r v z refl (ap (λ (x : Table). graced x n) (sym (v .formed .whole)))
+    (record { few = h .few; timely = h .timely; numbered = h .numbered; ascending = h .ascending; sized = λ c m. sized-later (settingOf (model t)) (settingOf (withGrace (model t) n)) c (record { later = omega arith; same = refl }) (h .sized c m); issued = h .issued; pooled = h .pooled; stock = h .stock; lenient = settable (model t) n z .modest })
+    e
+
 -- ── new ──
 -- The table that the code makes for a rig and a pool.
 abbrev pub emptyTable : ℕ → ℕ → Bool → Table
-emptyTable g k alone = record { rig = g; clock = 0; pool = k; issued = 0; shares = firstShares alone; count = 0; claims = replicate 64 vacant }
+emptyTable g k alone = record { rig = g; clock = 0; pool = k; issued = 0; grace = 0; shares = firstShares alone; count = 0; claims = replicate 64 vacant }
 
 opened : (g k n : ℕ) (alone : Bool) (r : Outcome) → k ≤ mostUnits → r ≡ unchangedIn (emptyTable g k alone) n
     → (r ≡ outcome (unchanged (blank g k alone) n)) × Valid (r .table)
@@ -89,7 +113,7 @@ opened g k n alone r h e =
 
 -- The shares as the code makes them: those of client 1, and seven of nobody.
 pub shares-are : (g k : ℕ) (alone : Bool) (places n : ℕ) (r : Outcome) → places ≡ cond alone 64 0
-    → r ≡ unchangedIn (record { rig = g; clock = 0; pool = k; issued = 0; shares = record { declared = alone; reserved = places; limit = places } ∷ replicate 7 undeclared; count = 0; claims = replicate 64 vacant }) n
+    → r ≡ unchangedIn (record { rig = g; clock = 0; pool = k; issued = 0; grace = 0; shares = record { declared = alone; reserved = places; limit = places } ∷ replicate 7 undeclared; count = 0; claims = replicate 64 vacant }) n
     → r ≡ unchangedIn (emptyTable g k alone) n
 shares-are g k true places n r e q = q ∙ rw e
 shares-are g k false places n r e q = q ∙ rw e
@@ -172,7 +196,7 @@ granted-is t rep g v e =
 -- ── fewer claims, and one more ──
 -- A table with other claims, and as many of them.
 abbrev pub counted : Table → ℕ → List Claim → Table
-counted t n l = record { rig = t .rig; clock = t .clock; pool = t .pool; issued = t .issued; shares = t .shares; count = n; claims = l }
+counted t n l = record { rig = t .rig; clock = t .clock; pool = t .pool; issued = t .issued; grace = t .grace; shares = t .shares; count = n; claims = l }
 
 -- t is the table t₀ with other claims; with l as its claims, m of them, it is t₀ without the claim of ticket k.
 pub removed-is : (t₀ t : Table) (k m : ℕ) (l : List Claim) → Formed t₀ → t ≡ withClaims t₀ (t .claims) → m ≡ length (without k (model t₀ .pending)) → l ≡ pad vacant (without k (model t₀ .pending))
@@ -184,7 +208,7 @@ removed-is t₀ t k m l v e f g r q =
 
 -- A table with the claim w after the others.
 abbrev extended : Table → Claim → Table
-extended t w = record { rig = t .rig; clock = t .clock; pool = t .pool; issued = t .issued + 1; shares = t .shares; count = t .count + 1; claims = set (t .claims) (t .count) w }
+extended t w = record { rig = t .rig; clock = t .clock; pool = t .pool; issued = t .issued + 1; grace = t .grace; shares = t .shares; count = t .count + 1; claims = set (t .claims) (t .count) w }
 
 extended-is : (m : Model) (w : Claim) → length (m .pending) < 64 → extended (encode m) w ≡ encode (join m w)
 unfolding join
@@ -274,7 +298,7 @@ still-capped t v still c m =
       ap at (r .2),
       moved-cases (λ (x : Claim). at x ≤ 1000300000000) f (r .0)
           (λ o. omega (arith, s .aged o, v .ranged .timely))
-          (λ o. start-small (ruledIn t (t .clock)) (model t .pending) (v .ranged .timely) (v .ranged .few) (v .ranged .sized) (r .0) (r .1) o),
+          (λ o. start-small (ruledIn t (t .clock)) (model t .pending) (v .ranged .timely) (v .ranged .lenient) (v .ranged .few) (v .ranged .sized) (r .0) (r .1) o),
     )
 
 -- A claim placed in a table.

@@ -18,7 +18,7 @@ use Rattle.table.specs.declared.placing.Placed.{Placed}
 
 -- The table with other claims.
 abbrev pub withClaims : Table → List Claim → Table
-withClaims t l = record { rig = t .rig; clock = t .clock; pool = t .pool; issued = t .issued; shares = t .shares; count = t .count; claims = l }
+withClaims t l = record { rig = t .rig; clock = t .clock; pool = t .pool; issued = t .issued; grace = t .grace; shares = t .shares; count = t .count; claims = l }
 
 -- The rules at clock u in table t.
 abbrev pub ruledIn : Table → ℕ → Setting
@@ -26,7 +26,7 @@ ruledIn t u = ruled (model t) u
 
 -- The table at another clock, and packed in a setting.
 abbrev pub atClock : ℕ → Table → Table
-atClock u t = record { rig = t .rig; clock = u; pool = t .pool; issued = t .issued; shares = t .shares; count = t .count; claims = t .claims }
+atClock u t = record { rig = t .rig; clock = u; pool = t .pool; issued = t .issued; grace = t .grace; shares = t .shares; count = t .count; claims = t .claims }
 
 abbrev pub packedTable : Setting → Table → Table
 packedTable v t = withClaims (atClock (v .clock) t) (rewritten (pack v) (t .claims) (t .count))
@@ -46,4 +46,4 @@ abbrev pub placedIn : Table → Claim → Placed
 placedIn t w =
     let r : Reply = placing (model t) w in
     let row = set (t .claims) (t .count) (withPhase w (Waiting (r .start))) in
-    record { table = record { rig = t .rig; clock = t .clock; pool = t .pool; issued = t .issued + 1; shares = t .shares; count = t .count + 1; claims = row }; reply = r }
+    record { table = record { rig = t .rig; clock = t .clock; pool = t .pool; issued = t .issued + 1; grace = t .grace; shares = t .shares; count = t .count + 1; claims = row }; reply = r }

@@ -7,12 +7,13 @@ use lib.ListN.{take}
 use Rattle.rules.specs.declared.Table.{Table}
 use Rattle.rules.specs.declared.Common.{Common}
 use Rattle.rules.specs.declared.Standing.{Standing}
-use Rattle.rules.specs.Calls.{Call, lookup, common, free, declare, timed, Answer, step, standingOf, standingValues, commonOf, commonValues, freeOf, new}
+use Rattle.rules.specs.Calls.{Call, lookup, common, free, declare, setGrace, timed, Answer, step, standingOf, standingValues, commonOf, commonValues, freeOf, new}
 use Rattle.rules.specs.Tables.{model}
 use Rattle.promises.specs.Ledger.{Turn, Ledger, opening, notedAll, NoOverruns}
 use Rattle.promises.specs.Demand3.{Told, Now, Next}
 use Rattle.promises.specs.PoolKept.{Kept}
 use Rattle.promises.specs.SharesKept.{SharesNow, SharesNext}
+use Rattle.promises.specs.EndsAwaited.{Awaited}
 use Rattle.promises.specs.WholeCalls.{WholeCalls}
 use Rattle.table.specs.declared.Outcome.{Outcome}
 use Rattle.table.specs.Outcomes.{outcome}
@@ -32,11 +33,12 @@ answered r =
 abbrev pub looked : ℕ → Answer
 looked n = record { number = n; ticket = 0; start = 0; contention = 0; bound = 0; grants = [] }
 
--- A call made of table t, by kind: what the code answers, and the table it leaves. Claim, release, withdraw, clock and declare promise an
--- `outcome (step ..)`, lookup a `standingOf ..`, common a `commonOf ..`, free a `freeOf ..`.
+-- A call made of table t, by kind: what the code answers, and the table it leaves. Claim, release, withdraw, clock, declare and set_grace
+-- promise an `outcome (step ..)`, lookup a `standingOf ..`, common a `commonOf ..`, free a `freeOf ..`.
 pub data Made (t : Table) : Call → Answer → Table → Type 0 where
   by-timed : (c : Call) → timed c ≡ true → (r : Outcome) → r ≡ outcome (step (model t) c) → Made t c (answered r) (r .table)
   by-declare : (c n l : ℕ) (r : Outcome) → r ≡ outcome (step (model t) (declare c n l)) → Made t (declare c n l) (answered r) (r .table)
+  by-grace : (n : ℕ) (r : Outcome) → r ≡ outcome (step (model t) (setGrace n)) → Made t (setGrace n) (answered r) (r .table)
   by-lookup : (k : ℕ) (s : Standing) → s ≡ standingOf k (model t .pending) → Made t (lookup k) (looked (standingValues s .number)) t
   by-common : (j k : ℕ) (s : Common) → s ≡ commonOf j k (model t .pending) → Made t (common j k) (looked (commonValues s .number)) t
   by-free : (n : ℕ) → n ≡ freeOf (model t) → Made t free (looked 0) t
@@ -75,6 +77,14 @@ CodePoolKept rig pool alone calls =
     → (first : Outcome) → first ≡ outcome (new rig pool alone) → (ts : List Turn) (t : Table) → Run (first .table) before ts t
     → (shows : Told) → Looks t shows
     → Kept (notedAll (opened pool alone first) ts) shows
+
+-- The same of the ends that waiting claims wait for.
+abbrev pub CodeEndsAwaited : ℕ → ℕ → Bool → List Call → Type 0
+CodeEndsAwaited rig pool alone calls =
+    (before rest : List Call) → before ++ rest ≡ calls
+    → (first : Outcome) → first ≡ outcome (new rig pool alone) → (ts : List Turn) (t : Table) → Run (first .table) before ts t
+    → (shows : Told) → Looks t shows
+    → Awaited (notedAll (opened pool alone first) ts) shows
 
 -- The same of shares.
 pub record CodeSharesKept (rig pool : ℕ) (alone : Bool) (calls : List Call) : Type 0 where

@@ -2,7 +2,7 @@
 use mathlib.Core.Path.{_≡_}
 use Prim.Native.Nat.{_≤_}
 use lib.ListN.{length}
-use Rattle.numbers.specs.Numbers.{mostClock, mostTickets, mostUnits, mostPending}
+use Rattle.numbers.specs.Numbers.{mostClock, mostTickets, mostUnits, mostPending, mostGrace}
 use Rattle.rules.specs.declared.Claim.{Claim}
 use Rattle.rules.specs.declared.Table.{Table}
 use Rattle.rules.specs.Lists.{_∈_}
@@ -13,7 +13,7 @@ use Rattle.rules.specs.Invariants.{Invariant, IsBooked}
 use Rattle.rules.specs.Tables.{encode, model}
 use Rattle.table.specs.Rows.{Sized}
 
--- The limits of document 01, "A claim", and of the pool.
+-- The limits of document 01, "A claim", of the pool and of the grace.
 pub record Ranged (m : Model) : Type 0 where
   pub few : length (m .pending) ≤ mostPending
   pub timely : m .clock ≤ mostClock
@@ -23,6 +23,7 @@ pub record Ranged (m : Model) : Type 0 where
   pub issued : (c : Claim) → c ∈ m .pending → c .ticket ≤ m .issued
   pub pooled : m .pool ≤ mostUnits
   pub stock : heldUnits (m .pending) ≤ m .pool
+  pub lenient : m .grace ≤ mostGrace
 
 -- A table as it stands inside a call: in range, and every place after the claims vacant.
 pub record Formed (t : Table) : Type 0 where

@@ -1,6 +1,7 @@
 // One claim at a time: its phase, its end, its remaining time, and the claim in another phase. A few instructions each.
 ghost use mathlib.Core.Path.{_≡_};
 ghost use Prim.Native.Nat.{_≤_, _<_};
+ghost use Rattle.numbers.specs.Numbers.{mostClock};
 ghost use Rattle.rules.specs.Claims.{on, at, withPhase, endOf, remaining};
 ghost use Rattle.rules.specs.declared.Phase.the-variants.{Waiting, On};
 use rules::Claim;
@@ -62,7 +63,7 @@ pub(crate) fn on_since(c: Claim, grant: u64) -> Claim
 
 // The end of a claim.
 pub(crate) fn end_of(v: Setting, c: Claim) -> u64
-    requires { ⌜ at c ≤ 1000000000000000000 ⌝ }
+    requires { ⌜ (at c ≤ 1000000000000000000) × (v .clock ≤ mostClock) ⌝ }
     ensures { λ r. ⌜ r ≡ endOf v c ⌝ }
 {
     let p = c.phase;
@@ -71,14 +72,18 @@ pub(crate) fn end_of(v: Setting, c: Claim) -> u64
         Phase::Waiting(s) => s + n,
         Phase::On(g) => {
             let e = g + n;
-            if e < v.clock { v.clock } else { e }
+            if e < v.clock {
+                v.clock + wide(v.grace)
+            } else {
+                e
+            }
         }
     }
 }
 
 // The time that a claim has left.
 pub(crate) fn time_left(v: Setting, c: Claim) -> u64
-    requires { ⌜ at c ≤ 1000000000000000000 ⌝ }
+    requires { ⌜ (at c ≤ 1000000000000000000) × (v .clock ≤ mostClock) ⌝ }
     ensures { λ r. ⌜ r ≡ remaining v c ⌝ }
 {
     let p = c.phase;

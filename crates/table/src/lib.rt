@@ -1,6 +1,6 @@
-// The claims table: new, declare, claim, release, withdraw, clock, lookup, common, free. Each call takes a table by value and hands one
-// back with its answer. A claim and a clock call pack only where a holder overruns; a release and a withdrawal only where somebody waits,
-// and once more where there is a pool and a holder overruns.
+// The claims table: new, declare, set_grace, claim, release, withdraw, clock, lookup, common, free. Each call takes a table by value and
+// hands one back with its answer. A claim and a clock call pack only where a holder overruns; a release and a withdrawal only where somebody
+// waits, and once more where there is a pool and a holder overruns.
 // Packing n claims costs at most n² / 2 tests of two words and two steps for each group of each claim, and for each claim that draws units
 // a sweep over those that do; the search for a claim's start n² tests of two sets, or insertions and a sweep; everything else a few passes.
 ghost use mathlib.Core.Path.{_≡_};
@@ -92,6 +92,7 @@ pub fn new(rig: u64, pool: u16, alone: bool) -> Outcome
         clock: 0,
         pool: pool,
         issued: 0,
+        grace: 0,
         shares: [first, other, other, other, other, other, other, other],
         count: 0,
         claims: [vacant; 64],
@@ -226,11 +227,13 @@ fn at_clock(mut t: Table, clock: u64) -> Table
         let c = t.claims[i];
         if overruns(clock, c) {
             let pool = t.pool;
+            let grace = t.grace;
             return packing::pack(
                 t,
                 Setting {
                     clock: clock,
                     pool: pool,
+                    grace: grace,
                 },
             );
         }
@@ -252,11 +255,13 @@ fn pulled(mut t: Table, clock: u64) -> Table
         let c = t.claims[i];
         if !claims::is_on(c) {
             let pool = t.pool;
+            let grace = t.grace;
             return packing::pack(
                 t,
                 Setting {
                     clock: clock,
                     pool: pool,
+                    grace: grace,
                 },
             );
         }
@@ -445,6 +450,20 @@ pub fn declare(mut t: Table, client: u8, reserved: u8, limit: u8) -> Outcome
         };
     }
     unchanged(t, number)
+}
+
+// ── grace ──
+
+// Sets the time that a holder past its promised end is expected to need. Refused: 21.
+pub fn set_grace(mut t: Table, grace: u32) -> Outcome
+    requires { ⌜ Valid t ⌝ }
+    ensures { λ r. ⌜ (r ≡ outcome (step (model t) (Call.setGrace grace))) × Valid (r .table) ⌝ }
+{
+    if refusals::bad_grace(t.issued, grace) {
+        return unchanged(t, numbers::GRACE);
+    }
+    t.grace = grace;
+    unchanged(t, 0)
 }
 
 // ── claim ──

@@ -2,7 +2,7 @@
 // What is asked is defined in the rules' specs/Placing.antt.
 ghost use mathlib.Core.Path.{_≡_};
 ghost use Prim.Native.Nat.{_≤_, _<_};
-ghost use Rattle.numbers.specs.Numbers.{mostTickets, mostPending};
+ghost use Rattle.numbers.specs.Numbers.{mostClock, mostTickets, mostPending};
 ghost use Rattle.rules.specs.Claims.{at};
 ghost use Rattle.rules.specs.Placing.{clear};
 ghost use lib.ListN.{take};
@@ -30,7 +30,7 @@ pub struct Placed {
 
 // Whether the claim `c` leaves room for `w` at `s`. Cost: at most four tests.
 fn clears(v: Setting, c: Claim, w: Claim, s: u64) -> bool
-    requires { ⌜ (at c ≤ 1000000000000000000) × (s ≤ 1000000000000000000) ⌝ }
+    requires { ⌜ (at c ≤ 1000000000000000000) × (s ≤ 1000000000000000000) × (v .clock ≤ mostClock) ⌝ }
     ensures { λ r. ⌜ r ≡ clear v w s c ⌝ }
 {
     if !groups::shares(c.groups, w.groups) {
@@ -73,6 +73,7 @@ pub(crate) fn place(mut t: Table, w: Claim) -> Placed
     let v = Setting {
         clock: clock,
         pool: pool,
+        grace: t.grace,
     };
     let count = t.count;
     let length = wide(w.length);

@@ -1,7 +1,8 @@
 // Runs the reader and the writer of loads on standard input and prints what they answer, for comparison with the second program: the scan;
 // each record's position and length, and the stop; the writer's answer to each call so read, written again one after the other; and its
-// answers to four more calls on the load itself (a rig and a clock, then a rig with a pool and a claim with units, which edition 1 cannot
-// carry), each with room for any load and with room for one byte, with whether the lent buffer kept its bytes.
+// answers to seven more calls on the load itself (a rig and a clock, then a rig with a pool and a claim with units, which edition 1 cannot
+// carry, then a claim of client 2, a declaration and a grace, which editions 1 and 2 cannot), each with room for any load and with room for
+// one byte, with whether the lent buffer kept its bytes.
 ghost use mathlib.Core.Path.{_≡_};
 ghost use lib.ListN.{length};
 use load::Call;
@@ -190,6 +191,7 @@ fn call(kind: u8, clock: u64, groups: u64, length: u32, pool: u16, units: u16) -
         client: 1,
         reserved: 0,
         limit: 0,
+        grace: 0,
     }
 }
 
@@ -217,6 +219,9 @@ fn print(load: &[u8]) {
     d.reserved = 3;
     d.limit = 4;
     attempts(load, d);
+    let mut e = call(8, 0, 0, 0, 0, 0);
+    e.grace = 60000;
+    attempts(load, e);
 }
 
 // `room` is for the longest load and one byte more.

@@ -1,6 +1,6 @@
 // Runs the plots of document 01, "Plots to try", on the table, and prints a line for each: for every call its answer (number, ticket,
 // start, crowd, ceiling, then "on" with the tickets granted), for every look what it tells. Then it issues every ticket that a table has,
-// claim and release in turn, and shows what comes then. Last two clients with shares.
+// claim and release in turn, and shows what comes then. Last two clients with shares, and a grace.
 ghost use Rattle.table.specs.Valid.{Valid};
 use rules::Request;
 use rules::Standing;
@@ -125,12 +125,19 @@ fn quiet(t: Table, groups: u64, length: u32) -> Table
 }
 
 // "S is three claims at clock 0"
+fn three_on(r: Table) -> Table
+    requires { ⌜ Valid r ⌝ }
+    ensures { λ t. ⌜ Valid t ⌝ }
+{
+    let t = quiet(r, 0x8, 10);
+    let u = quiet(t, 0xC, 10);
+    quiet(u, 0x6, 11)
+}
+
 fn three() -> Table
     ensures { λ r. ⌜ Valid r ⌝ }
 {
-    let t = quiet(rig(0xF), 0x8, 10);
-    let u = quiet(t, 0xC, 10);
-    quiet(u, 0x6, 11)
+    three_on(rig(0xF))
 }
 
 // ── the plots ──
@@ -322,6 +329,49 @@ fn desks() {
     end();
 }
 
+// ── a grace ──
+
+fn set_grace(t: Table, grace: u32) -> Table
+    requires { ⌜ Valid t ⌝ }
+    ensures { λ r. ⌜ Valid r ⌝ }
+{
+    let r = table::set_grace(t, grace);
+    answer(r);
+    r.table
+}
+
+fn looks(t: Table)
+    requires { ⌜ Valid t ⌝ }
+{
+    look(t, 1);
+    look(t, 2);
+    look(t, 3);
+    end();
+}
+
+// S with a grace of 5: no grace at the promised end of ticket 1, then a grace after the clock, until its release.
+fn graces() {
+    io::write_all(1, b"graces of 60001, 60000 and 5:");
+    let t = set_grace(rig(0xF), 60_001);
+    let u = set_grace(t, 60_000);
+    let v = set_grace(u, 5);
+    end();
+    io::write_all(1, b"S at clock 10:");
+    let w = clock(three_on(v), 10);
+    looks(w);
+    io::write_all(1, b"at clock 12:");
+    let x = clock(w, 12);
+    looks(x);
+    io::write_all(1, b"at clock 14:");
+    looks(clock(x, 14));
+    io::write_all(1, b"a grace of 5:");
+    let y = set_grace(x, 5);
+    end();
+    io::write_all(1, b"a claim, and the release at clock 13:");
+    let z = claim(y, 12, 0x8, 3);
+    looks(release(z, 13, 1));
+}
+
 fn main() {
     plots_1_to_4();
     plots_5_to_8();
@@ -330,4 +380,5 @@ fn main() {
     plots_13_and_14();
     tickets();
     desks();
+    graces();
 }

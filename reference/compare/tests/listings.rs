@@ -3,7 +3,7 @@
 use std::collections::BTreeMap;
 
 use compare::{listing, output_of, report, seeds};
-use reference::generate::{self, Prng, Shape};
+use reference::generate::{self, Prng, Run, Shape};
 use reference::load::{self, Call};
 use reference::table::{Declaration, TableCall, TimedCall, ONLY_CLIENT};
 use reference::text;
@@ -65,7 +65,7 @@ impl Counts {
     }
 }
 
-/// What clients meet comes often.
+/// What clients and graces meet comes often.
 #[test]
 fn generated_loads() {
     let mut counts = Counts::default();
@@ -81,7 +81,7 @@ fn generated_loads() {
     }
     println!("COMPARE_LOADS: {counts:?}");
     if loads >= 2_000 {
-        for (number, in_loads) in [(6, 2), (17, 4), (18, 4), (19, 10)] {
+        for (number, in_loads) in [(6, 2), (17, 4), (18, 4), (19, 10), (21, 5)] {
             let count = counts.numbers.get(&number).copied().unwrap_or(0);
             assert!(count >= loads / in_loads, "{number}: {count}");
         }
@@ -126,6 +126,16 @@ fn truncations_and_flips() {
             check(&bent);
         }
     }
+    // Of a load with graces every bit.
+    let load = text::make(GRACED.as_bytes()).expect("a load's text");
+    for end in 0..=load.len() {
+        check(&load[..end]);
+    }
+    for bit in 0..8 * load.len() {
+        let mut bent = load.clone();
+        bent[bit / 8] ^= 1 << (bit % 8);
+        check(&bent);
+    }
 }
 
 #[test]
@@ -162,9 +172,12 @@ fn every_edition() {
             load[0] = first;
             check(&load);
         }
-        let mut load = load::join(3, &[rig, Call::Declare(ONLY_CLIENT), claim]);
-        load[0] = first;
-        check(&load);
+        let declared = Call::Declare(ONLY_CLIENT);
+        for calls in [[rig, declared, claim], [rig, Call::Grace(5), declared]] {
+            let mut load = load::join(3, &calls);
+            load[0] = first;
+            check(&load);
+        }
     }
 }
 
@@ -175,12 +188,14 @@ fn every_kind_and_length() {
     for edition in [1, 2, 3] {
         for kind in 0..=16 {
             for length in 1..=32 {
-                let mut load = load::join(edition, &[rig]);
-                load.extend([0, length, kind]);
-                load.resize(load.len() + usize::from(length) - 1, 1);
-                check(&load);
-                load.pop();
-                check(&load);
+                for fill in [0, 1] {
+                    let mut load = load::join(edition, &[rig]);
+                    load.extend([0, length, kind]);
+                    load.resize(load.len() + usize::from(length) - 1, fill);
+                    check(&load);
+                    load.pop();
+                    check(&load);
+                }
             }
         }
     }
@@ -266,6 +281,118 @@ fn clients() {
     }
 }
 
+/// A rig of one group, and a client: the first claim overruns, the second waits for it, and one more comes at its
+/// promised end and one past that.
+fn overrun(before: &[Call], late: &[Call]) -> Vec<u8> {
+    let claim = |clock| {
+        Call::Timed(TimedCall::Claim {
+            clock,
+            groups: 1,
+            length: 5,
+            units: 0,
+            client: 1,
+        })
+    };
+    let clock = |clock| Call::Timed(TimedCall::Clock { clock });
+    let rig = Call::Rig { groups: 1, pool: 0 };
+    let first = [rig, Call::Declare(ONLY_CLIENT)];
+    let then = [claim(0), claim(0)];
+    let last = [claim(5), clock(6), claim(7)];
+    load::join(3, &[&first, before, &then, late, &last].concat())
+}
+
+/// Graces around every limit, where they may be set and where not.
+#[test]
+fn every_grace_around_the_limits() {
+    let powers = (0..32).flat_map(|bit| [(1u32 << bit) - 1, 1 << bit, (1 << bit) + 1]);
+    let graces = (0..=300).chain(59_900..=60_100).chain(powers);
+    for ticks in graces.chain(u32::MAX - 2..=u32::MAX) {
+        let grace = Call::Grace(ticks);
+        check(&overrun(&[grace], &[]));
+        check(&overrun(&[], &[grace]));
+        check(&overrun(&[Call::Grace(9), grace], &[grace]));
+        check(&overrun(&[grace, Call::Grace(9)], &[]));
+        for edition in [1, 2] {
+            let mut load = load::join(edition, &[Call::Rig { groups: 1, pool: 0 }]);
+            load.extend(load::encode(3, grace).expect("a call of edition 3"));
+            check(&load);
+        }
+    }
+}
+
+/// The run of a seed in which holders overrun, with units and clients or without.
+fn overrunning(seed: u64) -> Run {
+    let shapes = [
+        Shape::Grace,
+        Shape::Overrun,
+        Shape::Grace,
+        Shape::Pool,
+        Shape::Grace,
+        Shape::Clients,
+    ];
+    generate::run_of(shapes[(seed % 6) as usize], seed)
+}
+
+/// Runs in which holders overrun as they are, and each with six graces, of which the last is refused.
+#[test]
+fn graces() {
+    for seed in seeds("COMPARE_GRACES", 3_000) {
+        let run = overrunning(seed);
+        let mut prng = Prng::new(seed);
+        let few = prng.range(2, 40) as u32;
+        let some = prng.range(2, 59_998) as u32;
+        let between = prng.pick(&[few, few, some]);
+        let graces = [0, 1, between, 59_999, 60_000, 60_001];
+        let loads = graces.map(|ticks| run.with_grace(ticks).load());
+        for load in [&[run.load()][..], &loads].concat() {
+            if differs(&load) {
+                report(seed, &load, differs);
+            }
+        }
+    }
+}
+
+/// A listing with a line more behind that of the rig: the records behind it have the next number.
+fn with_second(listing: &str, second: &str) -> String {
+    let next = |number: &str| number.parse::<u32>().expect("a number") + 1;
+    let mut lines = String::new();
+    for line in listing.lines() {
+        let words: Vec<&str> = line.split(' ').collect();
+        match words[..] {
+            ["rec", ..] | ["on", ..] | ["stop", _, "0" | "1"] => lines += &format!("{line}\n"),
+            ["stop", number, at] => lines += &format!("stop {number} {}\n", next(at)),
+            ["1", ..] => lines += &format!("{line}\n{second}\n"),
+            [at, ..] => lines += &format!("{}{}\n", next(at), &line[at.len()..]),
+            [] => unreachable!("a line has words"),
+        }
+    }
+    lines
+}
+
+/// A grace of 0 changes nothing, nor does one that is refused: there is a line more, and that is all.
+#[test]
+fn a_grace_of_0_is_a_line_more() {
+    for seed in seeds("COMPARE_GRACES", 3_000) {
+        let run = overrunning(seed);
+        let mut plain = run.with_grace(0);
+        plain.calls.remove(0);
+        let load = plain.load();
+        if differs(&load) {
+            report(seed, &load, differs);
+        }
+        let plain = reference::listing::listing(&load);
+        let plain = std::str::from_utf8(&plain).expect("a listing is plain text");
+        for (ticks, second) in [(0, "2 0 0 0"), (60_001, "2 21 0 0")] {
+            let load = run.with_grace(ticks).load();
+            let expected = with_second(plain, second).into_bytes();
+            assert!(
+                !differs_from(&load, &expected),
+                "seed {seed}, grace {ticks}"
+            );
+        }
+    }
+}
+
 #[test]
 fn the_program_prints_the_same() {
     for seed in seeds("COMPARE_PROGRAMS", 300) {
@@ -276,15 +403,85 @@ fn the_program_prints_the_same() {
 }
 
 /// Contention, start bound, units free and lookups are in no listing: the program `try_answers` prints them.
+fn answers_differ(load: &[u8]) -> bool {
+    output_of("try_answers", load) != reference::answers::answers(load)
+}
+
 #[test]
 fn whole_answers() {
-    let differs = |load: &[u8]| output_of("try_answers", load) != reference::answers::answers(load);
     for seed in seeds("COMPARE_ANSWERS", 2_000) {
         let load = generate::any_load(seed);
         let load = &load[..load.len().min(2_500)];
-        if differs(load) {
-            report(seed, load, differs);
+        if answers_differ(load) {
+            report(seed, load, answers_differ);
         }
+    }
+}
+
+/// Behind a grace: a start bound counts it, a lookup gives what was promised.
+#[test]
+fn whole_answers_behind_graces() {
+    for seed in 1..=240 {
+        let ticks = [1, 5, 17, 60_000][(seed % 4) as usize];
+        let load = overrunning(seed).with_grace(ticks).load();
+        let load = &load[..load.len().min(2_500)];
+        if answers_differ(load) {
+            report(seed, load, answers_differ);
+        }
+    }
+    let load = text::make(GRACED.as_bytes()).expect("a load's text");
+    if answers_differ(&load) {
+        report(0, &load, answers_differ);
+    }
+    let answers = String::from_utf8(reference::answers::answers(&load)).expect("plain text");
+    let lines: Vec<&str> = answers
+        .lines()
+        .filter(|line| !line.starts_with("common") && !line.starts_with("free"))
+        .collect();
+    for expected in [
+        // At the promised end nothing of the first remains; past it the grace does.
+        &[
+            "8 0 4 20 2 20",
+            "holds 1 10",
+            "waits 2 10",
+            "waits 3 20",
+            "waits 4 20",
+        ][..],
+        &[
+            "9 0 0 12 0 0",
+            "holds 1 10",
+            "waits 2 17",
+            "waits 3 27",
+            "waits 4 27",
+        ],
+        &[
+            "10 0 5 28 3 28",
+            "holds 1 10",
+            "waits 2 17",
+            "waits 3 27",
+            "waits 4 27",
+            "waits 5 28",
+        ],
+        &[
+            "11 0 1 13 0 0",
+            "holds 2 23",
+            "waits 3 23",
+            "waits 4 23",
+            "waits 5 24",
+        ],
+        &[
+            "12 21 0 0 0 0",
+            "holds 2 23",
+            "waits 3 23",
+            "waits 4 23",
+            "waits 5 24",
+        ],
+    ] {
+        let mut windows = lines.windows(expected.len());
+        assert!(
+            windows.any(|lines| lines == expected),
+            "{expected:?} in\n{answers}"
+        );
     }
 }
 
@@ -467,22 +664,14 @@ fn the_fifteen_scenarios_in_edition_3() {
         let mut calls = load::read_all(&load).expect("a good load");
         calls.insert(1, Call::Declare(ONLY_CLIENT));
         let newer = agreed(&load::join(3, &calls));
-        // Records behind the rig have the next number.
-        let moved: String = older
-            .lines()
-            .map(|line| match line.split_once(' ') {
-                Some((number, rest)) if number.parse().is_ok_and(|n: u32| n > 1) => {
-                    let next = number.parse::<u32>().expect("a number") + 1;
-                    format!("{next} {rest}\n")
-                }
-                _ => format!("{line}\n"),
-            })
-            .collect();
-        assert_eq!(
-            newer,
-            moved.replacen("\n1 0 0 0\n", "\n1 0 0 0\n2 0 0 0\n", 1),
-            "{text}"
-        );
+        assert_eq!(newer, with_second(&older, "2 0 0 0"), "{text}");
+        // So is a grace: only in the tenth does a holder overrun, and no start is listed after that.
+        for (ticks, second) in [(0, "2 0 0 0"), (60_000, "2 0 0 0"), (60_001, "2 21 0 0")] {
+            calls.insert(1, Call::Grace(ticks));
+            let graced = agreed(&load::join(3, &calls));
+            assert_eq!(graced, with_second(&newer, second), "{text}");
+            calls.remove(1);
+        }
     }
 }
 
@@ -555,6 +744,93 @@ fn clients_by_hand() {
         let load = text::make(text.as_bytes()).expect("a load's text");
         let listing = agreed(&load);
         assert!(listing.contains(last), "{text}gives\n{listing}");
+    }
+}
+
+/// S of document 01 behind a grace of 5.
+const GRACED: &str = "edition 3\nrig F 0\ngrace 5\ndesk 1 64 64\nclaim 0 8 10 0 1\nclaim 0 C 10 0 1\nclaim 0 6 11 0 1\n\
+    clock 10\nclaim 10 8 1 0 1\nclock 12\nclaim 12 8 1 0 1\nrelease 13 1\ngrace 7\nclaim 13 2 10 0 1\n";
+
+/// Graces, by the text of the calls behind the rig and the last lines of their listings.
+#[test]
+fn graces_by_hand() {
+    let listing = agreed(&text::make(GRACED.as_bytes()).expect("a load's text"));
+    assert_eq!(
+        listing,
+        "rec answer ticket start\n1 0 0 0\n2 0 0 0\n3 0 0 0\n4 0 1 0\non 1 0\n5 0 2 10\n6 0 3 20\n\
+         7 0 0 10\n8 0 4 20\n9 0 0 12\n10 0 5 28\n11 0 1 13\non 2 13\n12 21 0 0\n13 0 6 13\non 6 13\n"
+    );
+    for (calls, last) in [
+        // At the promised end there is no grace yet, one tick later there is.
+        ("grace 5\nclaim 0 1 10 0 1\nclaim 10 1 1 0 1", "5 0 2 10\n"),
+        ("grace 5\nclaim 0 1 10 0 1\nclaim 11 1 1 0 1", "5 0 2 16\n"),
+        ("grace 5\nclaim 0 1 10 0 1\nclaim 90 1 1 0 1", "5 0 2 95\n"),
+        ("grace 60000\nclaim 0 1 10 0 1\nclaim 11 1 1 0 1", "5 0 2 60011\n"),
+        ("grace 0\nclaim 0 1 10 0 1\nclaim 11 1 1 0 1", "5 0 2 11\n"),
+        ("clock 0\nclaim 0 1 10 0 1\nclaim 11 1 1 0 1", "5 0 2 11\n"),
+        // Before what waits for the grace, and not one tick longer.
+        (
+            "grace 5\nclaim 0 1 10 0 1\nclaim 0 3 10 0 1\nclaim 12 2 5 0 1",
+            "5 0 2 10\n6 0 3 12\non 3 12\n",
+        ),
+        (
+            "grace 5\nclaim 0 1 10 0 1\nclaim 0 3 10 0 1\nclaim 12 2 6 0 1",
+            "5 0 2 10\n6 0 3 27\n",
+        ),
+        // The last good one counts; over 60,000 there is none.
+        (
+            "grace 9\ngrace 60001\ngrace 4\ngrace 4294967295\nclaim 0 1 10 0 1\nclaim 11 1 1 0 1",
+            "2 0 0 0\n3 0 0 0\n4 21 0 0\n5 0 0 0\n6 21 0 0\n7 0 1 0\non 1 0\n8 0 2 15\n",
+        ),
+        // Behind refused claims it is good, behind an accepted one it is not, and the listing goes on.
+        (
+            "claim 0 1 10 0 2\nclaim 0 0 1 0 1\ngrace 3\nclaim 0 1 10 0 1\ngrace 4\nclaim 11 1 1 0 1\ngrace 60001\nclock 12",
+            "3 17 0 0\n4 1 0 0\n5 0 0 0\n6 0 1 0\non 1 0\n7 21 0 0\n8 0 2 14\n9 21 0 0\n10 0 0 12\n",
+        ),
+        // Also where nothing is pending any more.
+        (
+            "grace 3\nclaim 0 1 10 0 1\nrelease 2 1\ngrace 4\nclaim 2 1 1 0 1\nclaim 4 1 1 0 1",
+            "5 0 1 2\n6 21 0 0\n7 0 2 2\non 2 2\n8 0 3 7\n",
+        ),
+        // An overrun is planned to hold its units for the grace, and has them until it is released.
+        (
+            "grace 4\nclaim 0 1 10 3 1\nclaim 0 0 5 1 1\nclock 10\nclaim 12 8 5 2 1\nclaim 12 4 5 1 1\nrelease 14 1",
+            "6 0 0 10\n7 0 3 16\n8 0 4 21\n9 0 1 14\non 2 14\non 3 14\n",
+        ),
+        // Two overruns, of which one leaves.
+        (
+            "grace 7\nclaim 0 1 5 0 1\nclaim 0 2 9 0 1\nclaim 0 3 4 0 1\nclock 10\nrelease 11 1\nclaim 11 3 1 0 1\nrelease 12 2",
+            "7 0 0 10\n8 0 1 11\n9 0 4 22\n10 0 2 12\non 3 12\n",
+        ),
+        // At the greatest clock.
+        (
+            "grace 60000\nclock 999999999998\nclaim 999999999998 1 1 0 1\nclaim 1000000000000 1 3600000 0 1",
+            "5 0 1 999999999998\non 1 999999999998\n6 0 2 1000000060000\n",
+        ),
+    ] {
+        let text = format!("edition 3\nrig F 3\ndesk 1 64 64\n{calls}\n");
+        let load = text::make(text.as_bytes()).expect("a load's text");
+        let listing = agreed(&load);
+        assert!(listing.ends_with(last), "{text}gives\n{listing}");
+    }
+    for (text, listing) in [
+        ("edition 3\nrig 0 3\ngrace 5\n", "stop 1 1\n"),
+        (
+            "edition 3\nrig 1 3\ngrace 5\ngrace 6\n",
+            "1 0 0 0\n2 0 0 0\n3 0 0 0\n",
+        ),
+    ] {
+        let load = text::make(text.as_bytes()).expect("a load's text");
+        assert_eq!(agreed(&load), format!("rec answer ticket start\n{listing}"));
+    }
+    // No kind of the older editions.
+    for text in ["rig 1\n", "edition 2\nrig 1 3\n"] {
+        let mut load = text::make(text.as_bytes()).expect("a load's text");
+        load.extend(load::encode(3, Call::Grace(5)).expect("a call of edition 3"));
+        assert_eq!(
+            agreed(&load),
+            "rec answer ticket start\n1 0 0 0\nstop 13 2\n"
+        );
     }
 }
 

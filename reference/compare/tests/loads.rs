@@ -18,10 +18,10 @@ fn agreed(load: &[u8]) -> String {
     String::from_utf8(tries(load)).expect("lines of words and numbers")
 }
 
-/// The last lines: a rig, a clock call, a rig with a pool, a claim with units, a claim of client 2 and a declaration
-/// appended to the load as it stands, each with much room and with one byte. Given are the number and the length that
-/// each has with much room.
-fn last_lines(answers: [(u8, usize); 6]) -> String {
+/// The last lines: a rig, a clock call, a rig with a pool, a claim with units, a claim of client 2, a declaration and a
+/// grace appended to the load as it stands, each with much room and with one byte. Given are the number and the length
+/// that each has with much room.
+fn last_lines(answers: [(u8, usize); 7]) -> String {
     answers
         .map(|(number, length)| {
             let short = if number == 0 { 15 } else { number };
@@ -56,20 +56,21 @@ fn reader_and_writer_on_generated_loads() {
 
 #[test]
 fn reader_and_writer_on_short_loads() {
-    let alone = [(0, 12), MISFIT, MISFIT, MISFIT, MISFIT, MISFIT];
-    let alone_2 = [(0, 14), MISFIT, (0, 14), MISFIT, MISFIT, MISFIT];
+    let not = MISFIT;
+    let alone = [(0, 12), not, not, not, not, not, not];
+    let alone_2 = [(0, 14), not, (0, 14), not, not, not, not];
     for (load, lines, answers) in [
-        (&b""[..], "scan 0 12\nstop 1 12\n", [(12, 0); 6]),
+        (&b""[..], "scan 0 12\nstop 1 12\n", [(12, 0); 7]),
         (&[1], "scan 0 0\nstop 1 0\nsame 1\n", alone),
         (&[2], "scan 0 0\nstop 1 0\nsame 1\n", alone_2),
         (&[3], "scan 0 0\nstop 1 0\nsame 1\n", alone_2),
-        (&[0], "scan 0 11\nstop 1 11\n", [(11, 0); 6]),
-        (&[4], "scan 0 11\nstop 1 11\n", [(11, 0); 6]),
-        (&[0xFF], "scan 0 11\nstop 1 11\n", [(11, 0); 6]),
-        (&[1, 0], "scan 0 12\nstop 1 12\nsame 1\n", [(12, 0); 6]),
-        (&[1, 0, 0], "scan 0 13\nstop 1 13\nsame 1\n", [MISFIT; 6]),
-        (&[2, 0, 0], "scan 0 13\nstop 1 13\nsame 1\n", [MISFIT; 6]),
-        (&[3, 0, 0], "scan 0 13\nstop 1 13\nsame 1\n", [MISFIT; 6]),
+        (&[0], "scan 0 11\nstop 1 11\n", [(11, 0); 7]),
+        (&[4], "scan 0 11\nstop 1 11\n", [(11, 0); 7]),
+        (&[0xFF], "scan 0 11\nstop 1 11\n", [(11, 0); 7]),
+        (&[1, 0], "scan 0 12\nstop 1 12\nsame 1\n", [(12, 0); 7]),
+        (&[1, 0, 0], "scan 0 13\nstop 1 13\nsame 1\n", [MISFIT; 7]),
+        (&[2, 0, 0], "scan 0 13\nstop 1 13\nsame 1\n", [MISFIT; 7]),
+        (&[3, 0, 0], "scan 0 13\nstop 1 13\nsame 1\n", [MISFIT; 7]),
     ] {
         assert_eq!(agreed(load), format!("{lines}{}", last_lines(answers)));
     }
@@ -84,14 +85,14 @@ fn reader_and_writer_on_refused_records() {
     for edition in [0xFF, 4] {
         let mut load = good.clone();
         load[0] = edition;
-        let lines = last_lines([(11, 0); 6]);
+        let lines = last_lines([(11, 0); 7]);
         assert_eq!(agreed(&load), format!("scan 0 11\nstop 1 11\n{lines}"));
     }
     // The records of another edition.
     for (edition, other) in [(1, 2), (2, 1), (1, 3), (3, 1)] {
         let mut load = load::join(other, &[rig(0xF, 0), clock]);
         load[0] = edition;
-        let lines = last_lines([MISFIT; 6]);
+        let lines = last_lines([MISFIT; 7]);
         let expected = format!("scan 0 13\nstop 1 13\nsame 1\n{lines}");
         assert_eq!(agreed(&load), expected);
     }
@@ -107,7 +108,7 @@ fn reader_and_writer_on_refused_records() {
     for (edition, other) in [(2, 3), (3, 2)] {
         let mut load = load::join(other, &[rig(0xF, 3), claim(1)]);
         load[0] = edition;
-        let lines = last_lines([MISFIT; 6]);
+        let lines = last_lines([MISFIT; 7]);
         let read = "scan 1 13\nrecord 1 13\nstop 14 13\nappend 0 14\nsame 1\n";
         assert_eq!(agreed(&load), format!("{read}{lines}"));
     }
@@ -118,7 +119,7 @@ fn reader_and_writer_on_refused_records() {
         limit: 1,
     });
     let load = load::join(3, &[rig(0, 3), claim(9), declared, claim(0)]);
-    let lines = last_lines([MISFIT, (0, 83), MISFIT, (0, 98), (0, 98), (0, 78)]);
+    let lines = last_lines([MISFIT, (0, 83), MISFIT, (0, 98), (0, 98), (0, 78), (0, 79)]);
     assert_eq!(
         agreed(&load),
         format!(
@@ -127,66 +128,123 @@ fn reader_and_writer_on_refused_records() {
         )
     );
     for edition in [1, 2] {
-        let mut load = load::join(edition, &[rig(0xF, 0)]);
-        let length = load.len();
-        load.extend(load::encode(3, declared).expect("a call of edition 3"));
-        let lines = last_lines([MISFIT; 6]);
-        let stop = format!("stop {length} 13\nappend 0 {length}\nsame 1\n");
-        let record = length - 1;
-        assert_eq!(
-            agreed(&load),
-            format!("scan 1 13\nrecord 1 {record}\n{stop}{lines}")
-        );
+        for call in [declared, Call::Grace(5)] {
+            let mut load = load::join(edition, &[rig(0xF, 0)]);
+            let length = load.len();
+            load.extend(load::encode(3, call).expect("a call of edition 3"));
+            let lines = last_lines([MISFIT; 7]);
+            let stop = format!("stop {length} 13\nappend 0 {length}\nsame 1\n");
+            let record = length - 1;
+            assert_eq!(
+                agreed(&load),
+                format!("scan 1 13\nrecord 1 {record}\n{stop}{lines}")
+            );
+        }
     }
     let dark = load::join(1, &[rig(0, 0)]);
-    let lines = last_lines([MISFIT, (0, 23), MISFIT, MISFIT, MISFIT, MISFIT]);
+    let lines = last_lines([MISFIT, (0, 23), MISFIT, MISFIT, MISFIT, MISFIT, MISFIT]);
     assert_eq!(
         agreed(&dark),
         format!("scan 1 0\nrecord 1 11\nstop 12 0\nappend 0 12\nsame 1\n{lines}")
     );
     let dark = load::join(2, &[rig(0, 65_535)]);
-    let lines = last_lines([MISFIT, (0, 25), MISFIT, (0, 39), MISFIT, MISFIT]);
+    let lines = last_lines([MISFIT, (0, 25), MISFIT, (0, 39), MISFIT, MISFIT, MISFIT]);
     assert_eq!(
         agreed(&dark),
         format!("scan 1 0\nrecord 1 13\nstop 14 0\nappend 0 14\nsame 1\n{lines}")
     );
     let second = load::join(1, &[rig(0xF, 0), rig(0xF, 0), clock]);
-    let lines = last_lines([MISFIT; 6]);
+    let lines = last_lines([MISFIT; 7]);
     assert_eq!(agreed(&second), format!("scan 1 13\n{read}{lines}"));
     for end in 13..good.len() {
-        let lines = last_lines([(12, 0); 6]);
+        let lines = last_lines([(12, 0); 7]);
         let read = read.replace("12 13", "12 12");
         assert_eq!(agreed(&good[..end]), format!("scan 1 12\n{read}{lines}"));
     }
 }
 
+/// Graces of any value behind the rig, and records of them that are cut, first, or of another length.
+#[test]
+fn reader_and_writer_on_graces() {
+    let rig = Call::Rig { groups: 1, pool: 3 };
+    let claim = Call::Timed(TimedCall::Claim {
+        clock: 7,
+        groups: 1,
+        length: 1,
+        units: 2,
+        client: 1,
+    });
+    for ticks in [0, 1, 59_999, 60_000, 60_001, 65_536, u32::MAX] {
+        let load = load::join(3, &[rig, Call::Grace(ticks), claim, Call::Grace(5)]);
+        let lines = last_lines([MISFIT, (0, 65), MISFIT, (0, 80), (0, 80), (0, 60), (0, 61)]);
+        assert_eq!(
+            agreed(&load),
+            format!(
+                "scan 4 0\nrecord 1 13\nrecord 14 7\nrecord 21 26\nrecord 47 7\nstop 54 0\n\
+                 append 0 14\nappend 0 21\nappend 0 47\nappend 0 54\nsame 1\n{lines}"
+            )
+        );
+    }
+    let grace = load::encode(3, Call::Grace(5)).expect("a call of edition 3");
+    let rig_3 = load::join(3, &[rig]);
+    let read =
+        |number| format!("scan 1 {number}\nrecord 1 13\nstop 14 {number}\nappend 0 14\nsame 1\n");
+    for end in 1..grace.len() {
+        let load = [&rig_3[..], &grace[..end]].concat();
+        assert_eq!(agreed(&load), read(12) + &last_lines([(12, 0); 7]));
+    }
+    for length in [1, 2, 3, 4, 6, 7, 9] {
+        let mut load = [&rig_3[..], &[0, length, 8]].concat();
+        load.resize(load.len() + usize::from(length) - 1, 0);
+        assert_eq!(agreed(&load), read(13) + &last_lines([MISFIT; 7]));
+    }
+    let first = [&[3], &grace[..], &rig_3[1..]].concat();
+    let lines = last_lines([MISFIT; 7]);
+    assert_eq!(
+        agreed(&first),
+        format!("scan 0 13\nstop 1 13\nsame 1\n{lines}")
+    );
+}
+
 /// A clock record has 11 bytes: behind 65,525 it goes in, behind 65,526 it does not. A claim of edition 2 has 25, one of
-/// edition 3 has 26, a declaration has 6.
+/// edition 3 has 26, a declaration has 6, and a grace has 7.
 #[test]
 fn reader_and_writer_on_the_longest_loads() {
     let over = (14, 0);
-    for (edition, size, [clock, claim, own, declaration]) in [
-        (1, 65_525, [(0, 65_536), MISFIT, MISFIT, MISFIT]),
-        (1, 65_526, [over, MISFIT, MISFIT, MISFIT]),
-        (2, 65_511, [(0, 65_522), (0, 65_536), MISFIT, MISFIT]),
-        (2, 65_512, [(0, 65_523), over, MISFIT, MISFIT]),
-        (2, 65_525, [(0, 65_536), over, MISFIT, MISFIT]),
-        (2, 65_536, [over, over, MISFIT, MISFIT]),
+    let not = MISFIT;
+    for (edition, size, [clock, claim, own, declaration, grace]) in [
+        (1, 65_525, [(0, 65_536), not, not, not, not]),
+        (1, 65_526, [over, not, not, not, not]),
+        (2, 65_511, [(0, 65_522), (0, 65_536), not, not, not]),
+        (2, 65_512, [(0, 65_523), over, not, not, not]),
+        (2, 65_525, [(0, 65_536), over, not, not, not]),
+        (2, 65_536, [over, over, not, not, not]),
         (
             3,
             65_510,
-            [(0, 65_521), (0, 65_536), (0, 65_536), (0, 65_516)],
+            [
+                (0, 65_521),
+                (0, 65_536),
+                (0, 65_536),
+                (0, 65_516),
+                (0, 65_517),
+            ],
         ),
-        (3, 65_511, [(0, 65_522), over, over, (0, 65_517)]),
-        (3, 65_530, [over, over, over, (0, 65_536)]),
-        (3, 65_531, [over; 4]),
+        (
+            3,
+            65_511,
+            [(0, 65_522), over, over, (0, 65_517), (0, 65_518)],
+        ),
+        (3, 65_529, [over, over, over, (0, 65_535), (0, 65_536)]),
+        (3, 65_530, [over, over, over, (0, 65_536), over]),
+        (3, 65_531, [over; 5]),
     ] {
         let load = generate::sized_load(edition, 1, size).expect("a load of that size");
-        let last = last_lines([MISFIT, clock, MISFIT, claim, own, declaration]);
+        let last = last_lines([not, clock, not, claim, own, declaration, grace]);
         assert!(agreed(&load).ends_with(&last), "{size}");
     }
     for edition in [1, 2, 3] {
         let load = generate::sized_load(edition, 1, 65_537).expect("a load of that size");
-        assert!(agreed(&load).ends_with(&last_lines([(14, 0); 6])));
+        assert!(agreed(&load).ends_with(&last_lines([(14, 0); 7])));
     }
 }

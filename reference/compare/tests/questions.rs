@@ -42,6 +42,11 @@ const UNITS: &str =
 const CLIENTS: &str =
     "edition 3\nrig F 9\ndesk 2 1 5\ndesk 2 1 5\ndesk 9 0 0\nclaim 0 1 10 7 2\ndesk 3 0 5\nclaim 0 2 10 0 2\n";
 
+/// S behind a grace of 5, past the first promised end, with a grace that comes too late.
+const GRACES: &str =
+    "edition 3\nrig F 0\ngrace 60001\ngrace 5\ndesk 1 9 9\nclaim 0 8 10 0 1\nclaim 0 C 10 0 1\n\
+    claim 0 6 11 0 1\ngrace 7\nclock 12\n";
+
 #[test]
 fn generated_questions() {
     for seed in seeds("COMPARE_QUESTIONS", 2_000) {
@@ -109,6 +114,17 @@ fn the_answers() {
             expected,
             "{question}"
         );
+    }
+    let graces = made(GRACES);
+    for (question, said) in [
+        ("lookup 1", "ticket 1 is on, promised end 10\n"),
+        ("lookup 2", "ticket 2 waits, start 17\n"),
+        ("lookup 3", "ticket 3 waits, start 27\n"),
+        ("common 2 3", "tickets 2 and 3 share group 2\n"),
+        ("free", "0 of 0 units free\n"),
+    ] {
+        let expected = (said.as_bytes().to_vec(), Vec::new());
+        assert_eq!(agreed(&graces, question.as_bytes()), expected, "{question}");
     }
     for question in [
         "",
@@ -267,5 +283,9 @@ fn loads_that_end_early() {
     let clients = made(CLIENTS);
     for end in 0..=clients.len() {
         agreed(&clients[..end], b"lookup 1");
+    }
+    let graces = made(GRACES);
+    for end in 0..=graces.len() {
+        agreed(&graces[..end], b"lookup 2");
     }
 }

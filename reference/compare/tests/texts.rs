@@ -97,6 +97,32 @@ fn the_sample_of_edition_3() {
     assert_eq!(agreed(shown.as_bytes()).0, load);
 }
 
+/// Graces of edition 3, with their load.
+#[test]
+fn graces_of_edition_3() {
+    let text = b"edition 3\nrig 0-3 2\ngrace 0060000 # a minute\ngrace 4294967295\nclaim 0 3, 10 1 1\ngrace 5";
+    let hex = "03000B01000000000000000F00020005080000EA60000508FFFFFFFF\
+        001802000000000000000000000000000000080000000A0001010005080000\
+        0005";
+    let load: Vec<u8> = (0..hex.len())
+        .step_by(2)
+        .map(|at| u8::from_str_radix(&hex[at..at + 2], 16).expect("hex"))
+        .collect();
+    assert_eq!(agreed(text), (load.clone(), Vec::new()));
+    assert!(!show_differs(&load));
+    let shown = "edition 3\nrig F 2\ngrace 60000\ngrace 4294967295\nclaim 0 8 10 1 1\ngrace 5\n";
+    assert_eq!(load_show(&load), shown);
+    assert_eq!(agreed(shown.as_bytes()).0, load);
+    for end in 0..load.len() {
+        assert!(!show_differs(&load[..end]), "{end}");
+    }
+    for edition in [1, 2] {
+        let mut other = load.clone();
+        other[0] = edition;
+        assert!(!show_differs(&other), "{edition}");
+    }
+}
+
 /// A line for each reason of docs/FORMAT.md that a short text can have.
 #[test]
 fn the_reasons() {
@@ -165,6 +191,21 @@ fn the_reasons() {
         ("desk 1 1 256", "number too large"),
         ("Desk 1 1 1", "unknown call"),
         ("client 1 1 1", "unknown call"),
+        ("grace", "a number is missing"),
+        ("grace 1 2", "too many words"),
+        ("grace x y", "too many words"),
+        ("grace x", "grace is not a number"),
+        ("grace -1", "grace is not a number"),
+        ("grace 60,000", "grace is not a number"),
+        ("grace 99999999999999999999999x", "grace is not a number"),
+        ("grace 4294967296", "number too large"),
+        ("grace 18446744073709551621", "number too large"),
+        (
+            "grace 340282366920938463463374607431768211461",
+            "number too large",
+        ),
+        ("Grace 1", "unknown call"),
+        ("graces 1", "unknown call"),
         ("edition 3", "unknown call"),
         ("rig F 0", "rig must be first"),
     ] {
@@ -175,6 +216,23 @@ fn the_reasons() {
     for (text, message) in [
         ("edition 3\ndesk 1 1 1\n", "line 2: rig must be first\n"),
         ("edition 3\ndesk 1 1 x\n", "line 2: limit is not a number\n"),
+        (
+            "edition 3\ngrace 1\nrig F 0\n",
+            "line 2: rig must be first\n",
+        ),
+        (
+            "edition 3\ngrace x\nrig F 0\n",
+            "line 2: grace is not a number\n",
+        ),
+        (
+            "edition 3\ngrace 4294967296\n",
+            "line 2: number too large\n",
+        ),
+        ("grace 1\n", "line 1: unknown call\n"),
+        ("rig F\ngrace 1\n", "line 2: unknown call\n"),
+        ("rig F\ngrace x\n", "line 2: unknown call\n"),
+        ("edition 2\nrig F 0\ngrace 1\n", "line 3: unknown call\n"),
+        ("edition 2\nrig F 0\ngrace\n", "line 3: unknown call\n"),
         ("rig F\ndesk 1 1 1\n", "line 2: unknown call\n"),
         ("rig F\ndesk x\n", "line 2: unknown call\n"),
         ("edition 2\nrig F 0\ndesk 1 1 1\n", "line 3: unknown call\n"),
@@ -216,6 +274,9 @@ fn every_byte_in_every_place() {
             b"edition 3\nrig F 7\ndesk?1 1 1\n",
             b"edition 3\nrig F 7\ndesk 1 1?1\n",
             b"edition 3\nrig F 7\nde?sk 1 1 1\n",
+            b"edition 3\nrig F 7\ngrace?1\n",
+            b"edition 3\nrig F 7\ngrace 1?\n",
+            b"edition 3\nrig F 7\ngr?ace 1",
             b"rig F\nclock 1?\nclock 2\n",
         ] {
             let text: Vec<u8> = text
@@ -273,6 +334,24 @@ fn every_number_of_a_client() {
     }
 }
 
+/// Every number around the limits of a grace and of its field.
+#[test]
+fn every_number_of_a_grace() {
+    let most = u64::from(u32::MAX);
+    let numbers = (0..=20).chain(59_990..=60_010).chain(65_530..=65_540);
+    for number in numbers
+        .chain(most - 20..=most + 20)
+        .chain(2 * most..2 * most + 10)
+    {
+        for zeros in [0, 1, 40] {
+            let word = format!("{}{number}", "0".repeat(zeros));
+            let (load, _) = agreed(format!("edition 3\nrig F 0\ngrace {word}\n").as_bytes());
+            assert_eq!(load.is_empty(), number > most, "{word}");
+            assert!(load.is_empty() || !show_differs(&load), "{word}");
+        }
+    }
+}
+
 #[test]
 fn texts_of_the_greatest_length() {
     for size in [MAX_TEXT - 1, MAX_TEXT, MAX_TEXT + 1, MAX_TEXT + 70_000] {
@@ -311,6 +390,8 @@ fn loads_of_the_greatest_length() {
     for more in [
         "claim 1 0 1 1 2\nclock 1",
         "desk 1 1 1\ndesk 1 1 1\ndesk 1 1 1\ndesk 1 1 1\ndesk 1 1 1",
+        "grace 1\ngrace 1\ngrace 1\ngrace 1",
+        "grace 1\ngrace 1\ngrace 1\ngrace 1\ngrace 1",
         "rig F 3",
     ] {
         agreed(format!("{full}{more}\n").as_bytes());

@@ -44,6 +44,9 @@ fn bars(edition: u8, calls: &[Call]) -> (u64, u16, Vec<Bar>) {
                     break;
                 }
             }
+            Call::Grace(ticks) => {
+                table.set_grace(ticks);
+            }
             Call::Timed(timed) => {
                 table.call(timed);
                 let now: BTreeMap<u16, Claim> =
@@ -60,9 +63,10 @@ fn bars(edition: u8, calls: &[Call]) -> (u64, u16, Vec<Bar>) {
         }
     }
     for claim in pending.values() {
+        let end = claim.end(table.now(), table.grace());
         match claim.state {
-            State::On(grant) => bars.push(bar(claim, grant, claim.end(table.now()), false)),
-            State::Waiting(start) => bars.push(bar(claim, start, claim.end(table.now()), true)),
+            State::On(grant) => bars.push(bar(claim, grant, end, false)),
+            State::Waiting(start) => bars.push(bar(claim, start, end, true)),
         }
     }
     (table.rig(), table.pool(), bars)

@@ -12,7 +12,7 @@ use Rattle.table.specs.Valid.{Valid}
 use Rattle.table.specs.Outcomes.{outcome}
 use Rattle.load.proofs.Reading.{step-next}
 use Rattle.listing.specs.Text.{aloneIn, stepOf}
-use Rattle.listing.proofs.RecordLoop.{step-rig, step-claim, step-leave, step-declare, step-clock, Turn, turn-start, turn-more, run-end, run-refused, run-stop, few-granted}
+use Rattle.listing.proofs.RecordLoop.{step-rig, step-claim, step-leave, step-declare, step-grace, step-clock, Turn, turn-start, turn-more, run-end, run-refused, run-stop, few-granted}
 use Rattle.listing.proofs.records.Statement.{statement}
 use Rattle.listing.proofs.records.Tie as tie
 
@@ -39,10 +39,12 @@ called c =
     (⊎-elim
     (λ w. rw (w .2) (w .1 .ensures .0 ∙ ap outcome (step-declare _ _ _ (w .0 .keys3)), w .1 .ensures .1))
     (⊎-elim
+    (λ w. rw (w .2) (w .1 .ensures .0 ∙ ap outcome (step-grace _ _ _ (w .0 .keys4)), w .1 .ensures .1))
+    (⊎-elim
     (λ w.
-    let r = w .0 .rest in
+    let r = w .0 .rest .0 in
     rw (w .4) (w .3 .ensures .0 ∙ ap outcome (step-leave _ _ call (omega (arith, w .1 .left, r .0 .0 .1, r .0 .1, r .1)) (omega (arith, w .2 .taken))), w .3 .ensures .1))
-    (λ w. rw (w .3) (w .2 .ensures .0 ∙ ap outcome (step-clock _ _ _ (⊎-elim (λ v. inl (v .taken)) (λ v. inr (v .1 .left)) (w .1 .came)) (w .0 .rest .1)), w .2 .ensures .1)))))
+    (λ w. rw (w .3) (w .2 .ensures .0 ∙ ap outcome (step-clock _ _ _ (⊎-elim (λ v. inl (v .taken)) (λ v. inr (v .1 .left)) (w .1 .came)) (w .0 .rest .0 .1) (w .0 .rest .1)), w .2 .ensures .1))))))
     (c .match2 .came)
 
 returns : tie.Need-returns Inv-loop μ-loop
@@ -83,8 +85,9 @@ records-spec =
     (λ c. turn-start _ _ _ _ _ (omega arith) (omega arith) (c .new .ensures .0) (c .new .ensures .1))
     (λ c κs. search needs)
     (λ c. search needs)
-    -- new-requires-2, claim-requires, declare-requires, leave-requires, clock-requires
+    -- new-requires-2, claim-requires, declare-requires, set-grace-requires, leave-requires, clock-requires
     (λ c κs. search needs)
+    (λ c κs. c .before .before .before .before .before .loop .inv .reached .valid)
     (λ c κs. c .before .before .before .before .before .loop .inv .reached .valid)
     (λ c κs. c .before .before .before .before .before .loop .inv .reached .valid)
     (λ c κs. c .before .before .before .before .before .before .before .loop .inv .reached .valid)

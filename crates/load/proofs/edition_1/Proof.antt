@@ -15,4 +15,4 @@ edition-1-spec =
     (λ c. rw (c .match .keys3))
     (λ c. rw (c .match .keys4))
     (λ c. rw (c .match .keys5))
-    (λ c. let r = c .match .rest in no-row 1 (c .before .args .kind) (no-kind 1 (c .before .args .kind) (λ z. omega (arith, r .0 .0 .0 .0 .1, r .0 .0 .0 .1, r .0 .0 .1, r .0 .1, r .1)))))
+    (λ c. let r = c .match .rest in no-row 1 (c .before .args .kind) (no-kind 1 (c .before .args .kind) (λ z y. omega (arith, r .0 .0 .0 .0 .1, r .0 .0 .0 .1, r .0 .0 .1, r .0 .1, r .1)))))

@@ -1,7 +1,6 @@
 -- `load::edition_3` meets its contract: each row is the format's, computed.
-use native.Mathlib.Omega.{arith}
 use Rattle.load.specs.Format.{format, fieldWidths, fieldWidth, rowIn, fieldsOf, total, lengthIn, lengthOf, padded, rowOf}
-use Rattle.load.proofs.Format.{no-row, no-kind}
+use Rattle.load.proofs.Format.{no-row, no-kind, unlisted-past}
 use Rattle.load.proofs.edition_3.Statement.{statement}
 use Rattle.load.proofs.edition_3.Tie as tie
 
@@ -16,4 +15,5 @@ edition-3-spec =
     (λ c. rw (c .match .keys4))
     (λ c. rw (c .match .keys5))
     (λ c. rw (c .match .keys6))
-    (λ c. let r = c .match .rest in no-row 3 (c .before .args .kind) (no-kind 3 (c .before .args .kind) (λ z. omega (arith, r .0 .0 .0 .0 .0 .1, r .0 .0 .0 .0 .1, r .0 .0 .0 .1, r .0 .0 .1, r .0 .1, r .1)))))
+    (λ c. rw (c .match .keys7))
+    (λ c. let k = c .before .args .kind in no-row 3 k (no-kind 3 k (unlisted-past k (c .match .rest)))))

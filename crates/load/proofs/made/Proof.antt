@@ -30,4 +30,6 @@ made-spec =
     (λ c. let h = c .pre 8 in omega arith)
     (λ c. search needs)
     (λ c. let h = c .pre 9 in omega arith)
+    (λ c. search needs)
+    (λ c. let h = c .pre 10 in omega arith)
     (λ c. rw (given-is (c .args .t1) 7 1 (search needs))))

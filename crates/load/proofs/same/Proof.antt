@@ -14,7 +14,7 @@ use Rattle.load.proofs.same.Statement.{statement}
 use Rattle.load.proofs.same.Tie as tie
 
 abbrev Inv-loop : tie.InvT-loop
-Inv-loop p q f₀ f = (f ≤ 10) × (sameBelow f (made p) (made q) ≡ same (made p) (made q))
+Inv-loop p q f₀ f = (f ≤ 11) × (sameBelow f (made p) (made q) ≡ same (made p) (made q))
 
 abbrev μ-loop : tie.MeasureT-loop
 μ-loop p q f₀ f = f

@@ -22,6 +22,7 @@ with-value-spec =
     (λ c. search needs)
     (λ c. search needs)
     (λ c. search needs)
+    (λ c. search needs)
     (λ c. rw (c .match .keys1))
     (λ c. rw (c .match .keys2, mod-eq-of-lt {n = c .before .args .value} {m = 256 ^ 8} (search needs)))
     (λ c. rw (c .match .keys3, mod-eq-of-lt {n = c .before .args .value} {m = 256 ^ 8} (search needs)))
@@ -32,9 +33,10 @@ with-value-spec =
     (λ c. rw (c .match .keys8))
     (λ c. rw (c .match .keys9))
     (λ c. rw (c .match .keys10))
+    (λ c. rw (c .match .keys11))
     (λ c. let r = c .match .rest in
-    let q = r .0 .0 .0 in
+    let q = r .0 .0 .0 .0 in
     let f = c .before .args .field in
     let l : 4 ≤ f = omega (arith, q .0 .0 .0 .1, q .0 .0 .0 .0 .1, q .0 .0 .0 .0 .0 .1, q .0 .0 .0 .0 .0 .0 .1) in
     let m : 7 ≤ f = omega (arith, l, q .0 .0 .1, q .0 .1, q .1) in
-    with-none f _ _ (omega (arith, m, r .0 .0 .1, r .0 .1, r .1))))
+    with-none f _ _ (omega (arith, m, r .0 .0 .0 .1, r .0 .0 .1, r .0 .1, r .1))))

@@ -4,7 +4,8 @@
 use compare::{listing, listing_before, timed};
 use reference::generate::Prng;
 use reference::load::{self, Call};
-use reference::table::{Declaration, State, Table, TimedCall, MAX_PENDING};
+use reference::table::{Declaration, State, Table, TableCall, TimedCall};
+use reference::table::{MAX_PENDING, ONLY_CLIENT};
 use reference::workload;
 use std::hint::black_box;
 use std::time::Duration;
@@ -170,6 +171,46 @@ fn shared(rounds: u64) -> Vec<u8> {
     load::join(3, &calls)
 }
 
+/// A load of edition 3 that keeps a table full with claims of one or two of 16
+/// groups behind a grace. Every clock call comes past the promised ends of all
+/// holders; behind three of them the lowest ticket that is on is released, and
+/// a claim takes its place.
+fn overrunning(rounds: u64) -> Vec<u8> {
+    let mut prng = Prng::new(60);
+    let (groups, pool) = (0xFFFF, 0);
+    let (mut table, _) = Table::without_clients(groups, pool);
+    let mut calls = vec![Call::Rig { groups, pool }];
+    let mut push = |table: &mut Table, call: TableCall| {
+        table.call(call);
+        calls.push(call.into());
+    };
+    push(&mut table, TableCall::Grace(500));
+    push(&mut table, ONLY_CLIENT.into());
+    for round in 0..rounds {
+        // No claim is longer than half a round.
+        let begin = 2000 * round;
+        while table.claims().len() < MAX_PENDING {
+            let claim = TimedCall::Claim {
+                clock: begin,
+                groups: 1 << prng.below(16) | 1 << prng.below(16),
+                length: prng.range(1, 1000) as u32,
+                units: 0,
+                client: 1,
+            };
+            push(&mut table, claim.into());
+        }
+        for clock in begin + 1001..=begin + 1003 {
+            push(&mut table, TimedCall::Clock { clock }.into());
+        }
+        let on = table.claims().iter().find(|c| c.is_on());
+        if let Some(ticket) = on.map(|c| c.ticket) {
+            let clock = begin + 1003;
+            push(&mut table, TimedCall::Release { clock, ticket }.into());
+        }
+    }
+    load::join(3, &calls)
+}
+
 /// The shortest of many times of each, taken in turn.
 struct Times {
     proved: Duration,
@@ -250,6 +291,8 @@ fn main() {
         line(&name, &pooled(late, 400), 50);
     }
     line("64 pending of eight clients", &shared(400), 50);
+    let name = "64 pending, a grace, clock calls past promised ends";
+    line(name, &overrunning(400), 50);
     println!("time of the proved library's writing of a workload, as a ratio to plain Rust");
     writing(200);
 }

@@ -14,7 +14,7 @@ abbrev Inv-loop : tie.InvT-loop
 Inv-loop word kind₀ kind = placeIn word kind (drop kind names) ≡ kindOf word
 
 abbrev μ-loop : tie.MeasureT-loop
-μ-loop word kind₀ kind = 7 - kind
+μ-loop word kind₀ kind = 9 - kind
 
 pub kind-of-spec : {M : Type 1} → statement M
 unfolding kindOf names

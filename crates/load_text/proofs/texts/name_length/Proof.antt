@@ -2,6 +2,7 @@
 use native.Mathlib.Omega.{arith}
 use mathlib.Core.Path.{refl}
 use Rattle.load.specs.Format.{names}
+use Rattle.load.proofs.Format.{unlisted-past}
 use Rattle.load_text.proofs.Tables.{no-name}
 use Rattle.load_text.proofs.texts.name_length.Statement.{statement}
 use Rattle.load_text.proofs.texts.name_length.Tie as tie
@@ -13,4 +14,5 @@ name-length-spec =
     (tie.spec
     (λ c. rw (c .match .keys1) (refl, omega arith)) (λ c. rw (c .match .keys2) (refl, omega arith)) (λ c. rw (c .match .keys3) (refl, omega arith))
     (λ c. rw (c .match .keys4) (refl, omega arith)) (λ c. rw (c .match .keys5) (refl, omega arith)) (λ c. rw (c .match .keys6) (refl, omega arith))
-    (λ c. let r = c .match .rest in rw (no-name (c .before .args .kind) (λ z. omega (arith, r .0 .0 .0 .0 .0 .1, r .0 .0 .0 .0 .1, r .0 .0 .0 .1, r .0 .0 .1, r .0 .1, r .1))) (refl, omega arith)))
+    (λ c. rw (c .match .keys7) (refl, omega arith))
+    (λ c. let k = c .before .args .kind in rw (no-name k (unlisted-past k (c .match .rest))) (refl, omega arith)))

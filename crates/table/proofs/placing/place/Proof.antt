@@ -78,7 +78,7 @@ loop-again c =
 clears-requires : tie.Need-clears-requires Inv-loop μ-loop Inv-candidates μ-candidates Inv-loop2 μ-loop2 Inv-loop3 μ-loop3
 clears-requires c κs =
     let b = c .before .before .before .before .before .before .before in
-    (row-small (b .pre .0) _ (omega arith), omega (arith, place-small _ _ _ _ (b .pre .0) (b .pre .1) (b .pre .2)))
+    (row-small (b .pre .0) _ (omega arith), omega (arith, place-small _ _ _ _ (b .pre .0) (b .pre .1) (b .pre .2)), b .pre .0 .timely)
 
 -- ── what bars a claim that draws units ──
 loop2-holds : tie.Need-loop2-holds Inv-loop μ-loop Inv-candidates μ-candidates Inv-loop2 μ-loop2 Inv-loop3 μ-loop3
@@ -166,7 +166,7 @@ add-time : tie.Need-add-time Inv-loop μ-loop Inv-candidates μ-candidates Inv-l
 add-time c =
     let y = c .before .before .before .before .before in
     let t = y .before .before .before .before .args .t1 in
-    omega (arith, y .loop3 .inv .holds, c .time-left .ensures, remaining-short (ruledIn t (t .clock)) _ (row-sized (y .loop3 .inv .row) (y .loop3 .i) (omega arith)))
+    omega (arith, y .loop3 .inv .holds, c .time-left .ensures, remaining-short (ruledIn t (t .clock)) _ (y .loop3 .inv .row .lenient) (row-sized (y .loop3 .inv .row) (y .loop3 .i) (omega arith)))
 
 loop3-again : tie.Need-loop3-again Inv-loop μ-loop Inv-candidates μ-candidates Inv-loop2 μ-loop2 Inv-loop3 μ-loop3
 loop3-again c =
@@ -201,7 +201,7 @@ place-spec =
     (λ c. omega arith)
     clears-requires
     -- end-of-requires, candidates-less
-    (λ c κs. row-small (c .before .before .before .before .loop .inv .1 .row) _ (omega arith))
+    (λ c κs. let row = c .before .before .before .before .loop .inv .1 .row in (row-small row _ (omega arith), row .timely))
     (λ c. omega (arith, nearer c))
     candidates-again
     -- add-j, loop-less
@@ -215,7 +215,10 @@ place-spec =
     (λ c κs. search needs)
     (λ c κs. search needs)
     -- end-of-requires-2
-    (λ c κs. let g = c .before .before .before .before .before in row-small (g .before .before .before .before .before .before .pre .0) _ (omega (arith, g .before .loop2-test .taken)))
+    (λ c κs.
+    let g = c .before .before .before .before .before in
+    let row = g .before .before .before .before .before .before .pre .0 in
+    (row-small row _ (omega (arith, g .before .loop2-test .taken)), row .timely))
     enter-requires
     (λ c. omega arith)
     (λ c. omega arith)
@@ -230,7 +233,7 @@ place-spec =
     (λ c κs. search needs)
     -- add-rivals, time-left-requires
     (λ c. omega arith)
-    (λ c κs. row-small (c .before .before .before .before .loop3 .inv .row) _ (omega arith))
+    (λ c κs. let row = c .before .before .before .before .loop3 .inv .row in (row-small row _ (omega arith), row .timely))
     add-time
     -- add-i, loop3-less
     (λ c. omega arith)

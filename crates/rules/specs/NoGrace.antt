@@ -1,0 +1,30 @@
+-- Runs in which no grace is set: there a claim ends as document 01 says. proofs/NoGrace has it for every such run.
+use mathlib.Core.Path.{_≡_}
+use mathlib.Core.Bool.{true}
+use mathlib.Core.List.{List, [], _∷_}
+use Prim.Native.Nat.{ℕ, _+_, max}
+use Rattle.rules.specs.declared.Claim.{Claim}
+use Rattle.rules.specs.Claims.{on, at, endOf}
+use Rattle.rules.specs.Calls.{Model, ruled, Call, claim, release, withdraw, clock, lookup, common, free, declare, setGrace}
+
+-- The call sets no grace, or one of 0.
+abbrev pub setsNoGrace : Call → Type 0
+setsNoGrace (claim t ask) = Unit {0}
+setsNoGrace (release t k) = Unit {0}
+setsNoGrace (withdraw t k) = Unit {0}
+setsNoGrace (clock t) = Unit {0}
+setsNoGrace (lookup k) = Unit {0}
+setsNoGrace (common j k) = Unit {0}
+setsNoGrace free = Unit {0}
+setsNoGrace (declare c r l) = Unit {0}
+setsNoGrace (setGrace n) = n ≡ 0
+
+-- Nor does any call of the list.
+abbrev pub SetsNoGrace : List Call → Type 0
+SetsNoGrace [] = Unit {0}
+SetsNoGrace (c ∷ cs) = setsNoGrace c × SetsNoGrace cs
+
+-- "The promised end of an on claim is grant + length; its end is the greater of promised end and the table's clock" (document 01): at every
+-- clock that a call may bear.
+abbrev pub EndsAsEver : Model → Type 0
+EndsAsEver m = (t : ℕ) (c : Claim) → on c ≡ true → endOf (ruled m t) c ≡ max (at c + c .length) t
