@@ -19,9 +19,9 @@ extern "C" {
 
 /*
  * A load's first byte is its edition: 1; 2, with a pool of followspots in its rig and units of them in its claims; or 3, with a desk in
- * its claims too, records that declare a desk, and one that sets the grace, the time that a cue past its promised end is expected to
- * need. One of any other edition is listed as `stop 11 0`. A load is at most this long; a
- * longer one is listed as `stop 14 0`.
+ * its claims too, records that declare a desk, and records that set the grace, the time that a cue past its promised end is expected to
+ * need from the clock on. One of any other edition is listed as `stop 11 0`. A load is at most this long; a longer one is listed as
+ * `stop 14 0`.
  */
 #define BELGWYTH_LOAD_MAX 65536
 
@@ -36,11 +36,11 @@ extern "C" {
  * told in its listing. Reads `load[0 .. load_length]` and writes `out[0 .. out_length]`, nothing else; keeps no state between calls.
  * Neither pointer may be null, not even where its length is 0, and the two ranges must not overlap.
  *
- * A refused record has its number, 1 to 21, in its line. With edition 3 come 17 (stranger: the desk is not declared, or outside 1 to 8),
- * 18 (over: the desk is at its limit), 19 (overbooked: a declaration that asks for too much, or for a desk declared before) and 21 (grace:
- * over 60,000 ticks, or set after an accepted claim; the listing goes on). A declaration after an accepted claim ends the listing with
- * `stop 13 RECORD`. A load of n bytes, up to BELGWYTH_LOAD_MAX, has a listing of
- * at most 71 + 129 * (n / 6) bytes, any load one of at most 1,409,009.
+ * A refused record has its number, 1 to 10, 16 to 19 or 21, in its line. With edition 3 come 17 (stranger: the desk is not declared, or
+ * outside 1 to 8), 18 (over: the desk is at its limit), 19 (overbooked: a declaration that asks for too much, or for a desk declared before)
+ * and 21 (grace: over 60,000 ticks, or set after an accepted claim; the listing goes on). A declaration after an accepted claim ends the
+ * listing with `stop 13 RECORD`. A load of n bytes, up to BELGWYTH_LOAD_MAX, has a listing of at most 71 + 129 * (n / 6) bytes, any load one
+ * of at most 1,409,009.
  */
 size_t belgwyth_listing(const uint8_t *load, size_t load_length, uint8_t *out, size_t out_length);
 

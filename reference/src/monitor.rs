@@ -16,8 +16,8 @@
 //! - the units free and those of the holders make the pool after every call;
 //! - a first planned start is within its start bound, for claims that draw no
 //!   units;
-//! - after every accepted timed call a waiting claim's planned start is not
-//!   before the end of a holder that shares a group with it;
+//! - after every call a waiting claim's planned start is not before the end of
+//!   a holder that shares a group with it;
 //! - a lookup says what calls and answers say, one of two tickets the lowest
 //!   group that both claims asked for.
 //!
@@ -345,11 +345,12 @@ impl Monitor {
                 return against(Rule::Form, format!("no lookup of pending ticket {ticket}"));
             }
         }
+        let behind_grace = self.behind_holders()?;
         match &step.asked {
             Asked::Timed(call, answer) if answer.accepted() => {
+                self.summary.behind_grace += behind_grace;
                 self.count_short();
-                self.waits(call.clock())?;
-                self.behind_holders()
+                self.waits(call.clock())
             }
             _ => Ok(()),
         }
@@ -760,8 +761,9 @@ impl Monitor {
     }
 
     /// A waiting claim starts at or behind the end of every holder that shares
-    /// a group with it.
-    fn behind_holders(&mut self) -> Verdict {
+    /// a group with it. How many wait behind an overrun with a grace.
+    fn behind_holders(&self) -> Result<usize, (Rule, String)> {
+        let mut behind_grace = 0;
         for (ticket, claim) in &self.pending {
             let Some(start) = claim.start else { continue };
             let mut graced = false;
@@ -773,17 +775,15 @@ impl Monitor {
                     continue;
                 }
                 if start < end {
-                    return against(
-                        Rule::Early,
-                        format!("ticket {ticket} starts at {start}, {other} ends at {end}"),
-                    );
+                    let early = format!("ticket {ticket} starts at {start}, {other} ends at {end}");
+                    return Err((Rule::Early, early));
                 }
                 let overrun = holder.promised_end().is_some_and(|end| self.clock > end);
                 graced |= overrun && self.grace > 0;
             }
-            self.summary.behind_grace += usize::from(graced);
+            behind_grace += usize::from(graced);
         }
-        Ok(())
+        Ok(behind_grace)
     }
 }
 

@@ -1579,6 +1579,11 @@ fn numbers_of_graces_are_judged() {
         assert!(judge(older(0, 7), &steps).is_ok());
     }
     assert_eq!(rule_from(Flaw::GraceAfterAllLeft, start, &late), None);
+    // Taken while somebody waits behind an overrun, a grace breaks the plan.
+    let behind = [claim(0, 1, 10), claim(0, 1, 10), clock(12)];
+    let behind = [graced(&[], &behind), graced(&[5], &[])].concat();
+    let rule = promise_rule(Flaw::GraceAfterClaim, start, &behind);
+    assert_eq!(rule, Some(Rule::Early));
     assert_eq!(
         rule_from(Flaw::GraceLessOne, start, &graced(&[59_999], &[])),
         None
@@ -1639,8 +1644,7 @@ fn flaws_with_graces_are_caught_in_generated_runs() {
             Flaw::PlacesWithoutGrace | Flaw::BoundWithoutGrace | Flaw::GraceWithoutUnits => {
                 assert_eq!((caught, broken), (0, 0), "{flaw:?}");
             }
-            Flaw::GraceAfterClaim
-            | Flaw::GraceAfterAllLeft
+            Flaw::GraceAfterAllLeft
             | Flaw::RefusedClaimEndsGraces
             | Flaw::GraceLessOne
             | Flaw::GraceOneMore

@@ -335,37 +335,22 @@ module _ (P : Type 0) (l : Ledger) (m : Model) (s : Story P l m) where
   still c d ci di e o = omega (arith, ap at (ascending-same (m .pending) (s .inv .spaced .ascending) d c di ci e))
 
   -- Nobody is declared by it, and no grace is set.
-  looks-shares : (c : Call) → looks c ≡ true → sharesBy c (l .shares) ≡ l .shares
-  unfolding sharesBy
-  looks-shares (claim t ask) e = refl
-  looks-shares (release t k) e = refl
-  looks-shares (withdraw t k) e = refl
-  looks-shares (clock t) e = refl
-  looks-shares (lookup k) e = refl
-  looks-shares (common j k) e = refl
-  looks-shares free e = refl
-  looks-shares (declare c r k) e = clash e refl
-  looks-shares (setGrace n) e = refl
+  looks-kept : (c : Call) → looks c ≡ true → (sharesBy c (l .shares) ≡ l .shares) × (graceBy c (l .grace) ≡ l .grace)
+  unfolding sharesBy graceBy
+  looks-kept (claim t ask) e = (refl, refl)
+  looks-kept (release t k) e = (refl, refl)
+  looks-kept (withdraw t k) e = (refl, refl)
+  looks-kept (clock t) e = (refl, refl)
+  looks-kept (lookup k) e = (refl, refl)
+  looks-kept (common j k) e = (refl, refl)
+  looks-kept free e = (refl, refl)
+  looks-kept (declare c r k) e = clash e refl
+  looks-kept (setGrace n) e = clash e refl
 
-  looks-grace : (c : Call) → looks c ≡ true → graceBy c (l .grace) ≡ l .grace
-  unfolding graceBy
-  looks-grace (claim t ask) e = refl
-  looks-grace (release t k) e = refl
-  looks-grace (withdraw t k) e = refl
-  looks-grace (clock t) e = refl
-  looks-grace (lookup k) e = refl
-  looks-grace (common j k) e = refl
-  looks-grace free e = refl
-  looks-grace (declare c r k) e = refl
-  looks-grace (setGrace n) e = clash e refl
-
-  idle-shares : (c : Call) (n : ℕ) → Idle c n → cond (eqb n 0) (sharesBy c (l .shares)) (l .shares) ≡ l .shares
-  idle-shares c n (inl e) = by-test (eqb n 0) (λ q. rw q (looks-shares c e)) (λ q. rw q)
-  idle-shares c n (inr e) = rw (ne-eqb n 0 e)
-
-  idle-grace : (c : Call) (n : ℕ) → Idle c n → cond (eqb n 0) (graceBy c (l .grace)) (l .grace) ≡ l .grace
-  idle-grace c n (inl e) = by-test (eqb n 0) (λ q. rw q (looks-grace c e)) (λ q. rw q)
-  idle-grace c n (inr e) = rw (ne-eqb n 0 e)
+  -- What x would make of y stays y.
+  idle-kept : {A : Type 0} (c : Call) (n : ℕ) (x y : A) → Idle c n → (looks c ≡ true → x ≡ y) → cond (eqb n 0) x y ≡ y
+  idle-kept c n x y (inl e) h = by-test (eqb n 0) (λ q. rw q (h e)) (λ q. rw q)
+  idle-kept c n x y (inr e) h = rw (ne-eqb n 0 e)
 
   told-idle : (c : Call) (n : ℕ) → Idle c n → Told P l m c (unchanged m n)
   told-idle c n i =
@@ -381,8 +366,8 @@ module _ (P : Type 0) (l : Ledger) (m : Model) (s : Story P l m) where
           clock = rw z (s .clock);
           pool = rw z (s .pool);
           issued = rw z (s .issued);
-          grace = rw z (s .grace ∙ sym (idle-grace c n i));
-          shares = rw z (s .shares ∙ sym (idle-shares c n i));
+          grace = rw z (s .grace ∙ sym (idle-kept c n (graceBy c (l .grace)) (l .grace) i (λ e. looks-kept c e .1)));
+          shares = rw z (s .shares ∙ sym (idle-kept c n (sharesBy c (l .shares)) (l .shares) i (λ e. looks-kept c e .0)));
           match = rw z (match-weaken (λ d e r. tracks-weaken P _ (λ q. q .0) d e r) (s .match));
         },
       )

@@ -1,5 +1,5 @@
 -- What a plan means to who reads it: every waiting start is at least the end of each conflicting holder. So a cue that stays dark behind one
--- that is running over is planned a grace later than the clock, and not for "now" (document 02, P6). Beside demand 3, of the same lists of
+-- that is running over is planned at least a grace later than the clock, and not for "now" (document 02, P6). Beside demand 3, of the same lists of
 -- calls, and by the same ledger. proofs/EndsAwaited has the theorem.
 use mathlib.Core.Path.{_≡_}
 use mathlib.Core.Bool.{Bool, true}
@@ -18,7 +18,7 @@ use Rattle.promises.specs.Demand3.{Told, tells}
 abbrev pub endIn : Ledger → Entry → ℕ
 endIn l e = heldUntil (ruledBy l (l .clock)) (promised e)
 
--- e is held, and f, which shares a group with it, waits with the start s.
+-- Where e is held, and f, which shares a group with it, waits with the start s, that is not before the end of e.
 abbrev pub Awaited : Ledger → Told → Type 0
 Awaited l told =
     (e f : Entry) → e ∈ l .claims → f ∈ l .claims → e .held ≡ true → shares (e .asked .groups) (f .asked .groups) ≡ true

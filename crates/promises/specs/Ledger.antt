@@ -1,5 +1,5 @@
--- What the calls and their answers tell: which claims are pending, which are held since when, and the table's clock. Nothing here
--- looks into a table. Quotations are from document 01, "A run of calls".
+-- What the calls and their answers tell: which claims are pending, which are held since when, the table's clock, and what was set: pool,
+-- shares and grace. Nothing here looks into a table. Quotations are from document 01, "A run of calls".
 use mathlib.Core.Path.{_≡_}
 use mathlib.Core.Bool.{Bool, true, false, not, _&&_, cond}
 use mathlib.Core.List.{List, [], _∷_, _++_, map}

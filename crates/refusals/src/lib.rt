@@ -92,7 +92,7 @@ pub fn begun(issued: u16) -> bool
 pub fn bad_grace(issued: u16, grace: u32) -> bool
     ensures { λ r. ⌜ r ≡ badGrace issued grace .fails ⌝ }
 {
-    if 0 < issued {
+    if begun(issued) {
         return true;
     }
     numbers::MOST_GRACE < grace

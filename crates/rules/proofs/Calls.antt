@@ -107,13 +107,13 @@ declarable m c r l e =
 -- And that of a grace that is set.
 pub record Settable (m : Model) (n : ℕ) : Type 0 where
   pub unissued : m .issued ≡ 0
-  pub modest : n ≤ mostGrace
+  pub lenient : n ≤ mostGrace
 
 pub settable : (m : Model) (n : ℕ) → firstOf (tests m (setGrace n)) ≡ 0 → Settable m n
 unfolding tests
 settable m n e =
     let a = passes (badGrace (m .issued) n) [] (omega arith) e .0 in
-    record { unissued = (let z = ltb-false 0 (m .issued) (or-fl (ltb 0 (m .issued)) _ a) in omega arith); modest = ltb-false mostGrace n (or-fr (ltb 0 (m .issued)) _ a) }
+    record { unissued = (let z = ltb-false 0 (m .issued) (or-fl (ltb 0 (m .issued)) _ a) in omega arith); lenient = ltb-false mostGrace n (or-fr (ltb 0 (m .issued)) _ a) }
 
 -- ── the number of an answer is that of the call's first test that fails ──
 accepted-number : (m : Model) (c : Call) → act m c .answer .number ≡ 0

@@ -25,4 +25,4 @@ pub mod Lookup
 pub mod NoUnits
 pub mod OneClient
 pub mod NoGrace
-pub mod IdleGrace
+pub mod InTime

@@ -14,19 +14,19 @@ pub ends-as-ever : (m : Model) → m .grace ≡ 0 → EndsAsEver m
 ends-as-ever m z t c o = end-on (ruled m t) c o ∙ held-documented (ruled m t) (at c + c .length) z
 
 -- ── a run ──
-step-grace : (m : Model) (c : Call) → setsNoGrace c → m .grace ≡ 0 → step m c .model .grace ≡ 0
+step-grace : (m : Model) (c : Call) → (step m c .answer .number ≡ 0 → setsNoGrace c) → m .grace ≡ 0 → step m c .model .grace ≡ 0
 step-grace m c d z =
-    step-cases (λ c s. setsNoGrace c → s .model .grace ≡ 0) m (λ c n i d. z)
+    step-cases (λ c s. (s .answer .number ≡ 0 → setsNoGrace c) → s .model .grace ≡ 0) m (λ c n i d. z)
     (λ t ask a d. admit-grace m t ask ∙ z)
     (λ c t k q o v d. finish-grace q (plain k t) ∙ leaves-grace v ∙ z)
-    (λ c r l e d. z) (λ n e d. d) c d
+    (λ c r l e d. z) (λ n e d. d refl) c d
 
-after-grace : (m : Model) (cs : List Call) → SetsNoGrace cs → m .grace ≡ 0 → after m cs .grace ≡ 0
+after-grace : (m : Model) (cs : List Call) → SetsNoGrace m cs → m .grace ≡ 0 → after m cs .grace ≡ 0
 unfolding after
 after-grace m [] d z = z
 after-grace m (c ∷ cs) d z = after-grace (step m c .model) cs (d .1) (step-grace m c (d .0) z)
 
 -- After any calls that set none.
-pub no-grace-as-ever : (g k : ℕ) (alone : Bool) (cs : List Call) → SetsNoGrace cs → EndsAsEver (after (new g k alone .model) cs)
+pub no-grace-as-ever : (g k : ℕ) (alone : Bool) (cs : List Call) → SetsNoGrace (new g k alone .model) cs → EndsAsEver (after (new g k alone .model) cs)
 no-grace-as-ever g k alone cs d =
     ends-as-ever (after (new g k alone .model) cs) (after-grace (new g k alone .model) cs d (new-cases (λ (s : Step). s .model .grace ≡ 0) g k alone (λ e. refl) (λ e. refl)))

@@ -203,7 +203,7 @@ admit m ask =
     let r : Reply = placing m w in
     finish (join m (withPhase w (Waiting (r .start)))) r
 
--- A declaration gives its client a share. All that it answers is 0, as of a grace that is set.
+-- A declaration gives its client a share. It answers 0 and nothing else; so does a grace that is set.
 abbrev pub declared : Model → ℕ → ℕ → ℕ → Model
 declared m c r l = withShares m (withShare (m .shares) c (share r l))
 

@@ -14,6 +14,6 @@ pub mod Invariants
 pub mod NoUnits
 pub mod OneClient
 pub mod NoGrace
-pub mod IdleGrace
+pub mod InTime
 pub mod Tables
 pub mod Scenarios

@@ -5,7 +5,7 @@ use mathlib.Core.List.{List, [], _∷_}
 use Prim.Native.Nat.{ℕ, _+_, max}
 use Rattle.rules.specs.declared.Claim.{Claim}
 use Rattle.rules.specs.Claims.{on, at, endOf}
-use Rattle.rules.specs.Calls.{Model, ruled, Call, claim, release, withdraw, clock, lookup, common, free, declare, setGrace}
+use Rattle.rules.specs.Calls.{Model, ruled, Call, claim, release, withdraw, clock, lookup, common, free, declare, setGrace, step}
 
 -- The call sets no grace, or one of 0.
 abbrev pub setsNoGrace : Call → Type 0
@@ -19,10 +19,10 @@ setsNoGrace free = Unit {0}
 setsNoGrace (declare c r l) = Unit {0}
 setsNoGrace (setGrace n) = n ≡ 0
 
--- Nor does any call of the list.
-abbrev pub SetsNoGrace : List Call → Type 0
-SetsNoGrace [] = Unit {0}
-SetsNoGrace (c ∷ cs) = setsNoGrace c × SetsNoGrace cs
+-- Nor does any accepted call of the list, made from table m on.
+abbrev pub SetsNoGrace : Model → List Call → Type 0
+SetsNoGrace m [] = Unit {0}
+SetsNoGrace m (c ∷ cs) = (step m c .answer .number ≡ 0 → setsNoGrace c) × SetsNoGrace (step m c .model) cs
 
 -- "The promised end of an on claim is grant + length; its end is the greater of promised end and the table's clock" (document 01): at every
 -- clock that a call may bear.

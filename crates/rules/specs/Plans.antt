@@ -31,9 +31,12 @@ pub record Separated (v : Setting) (ps : List Claim) : Type 0 where
   pub behind : (c w : Claim) → c ∈ ps → w ∈ ps → on w ≡ false → before c w ≡ true → rival c w ≡ true → endOf v c ≤ at w
   pub supplied : (x : ℕ) → v .clock ≤ x → used v x ps ≤ v .pool
 
--- No holder's promised end is below t: nobody overruns at that clock.
+-- If c is on, its promised end is not below t. So it is of all the claims: nobody overruns at that clock.
+abbrev pub PromptAt : ℕ → Claim → Type 0
+PromptAt t c = on c ≡ true → t ≤ at c + c .length
+
 abbrev pub NoOverrunAt : ℕ → List Claim → Type 0
-NoOverrunAt t ps = (c : Claim) → c ∈ ps → on c ≡ true → t ≤ at c + c .length
+NoOverrunAt t ps = (c : Claim) → c ∈ ps → PromptAt t c
 
 -- No planned start is below t.
 abbrev pub StartsFrom : ℕ → List Claim → Type 0

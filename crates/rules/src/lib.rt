@@ -36,7 +36,7 @@ pub struct Reply {
 }
 
 // What the rules of one call go by: its clock, the units in the pool (k followspots that do the same work), and the grace, the time in ticks
-// that a holder past its promised end is expected to need.
+// that a holder past its promised end is expected to need from the clock on.
 pub struct Setting {
     pub clock: u64,
     pub pool: u16,

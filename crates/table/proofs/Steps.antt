@@ -92,7 +92,7 @@ unfolding act
 graced-is t n r v z e =
     let h = v .formed .ranged in
     prepared-is t (graced t n) (setGrace n) (withGrace (model t) n) r v z refl (ap (λ (x : Table). graced x n) (sym (v .formed .whole)))
-    (record { few = h .few; timely = h .timely; numbered = h .numbered; ascending = h .ascending; sized = λ c m. sized-later (settingOf (model t)) (settingOf (withGrace (model t) n)) c (record { later = omega arith; same = refl }) (h .sized c m); issued = h .issued; pooled = h .pooled; stock = h .stock; lenient = settable (model t) n z .modest })
+    (record { few = h .few; timely = h .timely; numbered = h .numbered; ascending = h .ascending; sized = λ c m. sized-later (settingOf (model t)) (settingOf (withGrace (model t) n)) c (record { later = omega arith; same = refl }) (h .sized c m); issued = h .issued; pooled = h .pooled; stock = h .stock; lenient = settable (model t) n z .lenient })
     e
 
 -- ── new ──

@@ -454,7 +454,7 @@ pub fn declare(mut t: Table, client: u8, reserved: u8, limit: u8) -> Outcome
 
 // ── grace ──
 
-// Sets the time that a holder past its promised end is expected to need. Refused: 21.
+// Sets the time that a holder past its promised end is expected to need from the clock on. Refused: 21.
 pub fn set_grace(mut t: Table, grace: u32) -> Outcome
     requires { ⌜ Valid t ⌝ }
     ensures { λ r. ⌜ (r ≡ outcome (step (model t) (Call.setGrace grace))) × Valid (r .table) ⌝ }

@@ -4,8 +4,10 @@ use mathlib.Core.Path.{_≡_, refl, sym, _∙_, ap}
 use mathlib.Core.Bool.{Bool, true, not}
 use mathlib.Core.List.{List, [], _∷_, map}
 use mathlib.Core.Logic.{_⊎_, inl, inr, ⊎-elim}
-use Prim.Native.Nat.{ℕ, zero, suc, _+_, _≤_}
+use Prim.Native.Nat.{ℕ, zero, suc, _≤_}
 use native.Mathlib.Omega.{arith}
+use borrow.Author.Tests.{le-ltb}
+use Rattle.numbers.specs.Numbers.{mostGrace}
 use Rattle.rules.specs.declared.Claim.{Claim}
 use Rattle.rules.specs.declared.Request.{Request}
 use Rattle.rules.specs.declared.Reply.{Reply}
@@ -17,10 +19,10 @@ use Rattle.rules.specs.Packing.{packedStart, moved, ahead, pack, MayStar
 use Rattle.rules.specs.Placing.{place, startBound}
 use Rattle.rules.specs.Granting.{trulyFree, goesWithin, goes, granted, grant, grants}
 use Rattle.rules.specs.Tests.{firstOf}
-use Rattle.rules.specs.Plans.{Ascending, Sane, NoOverrunAt, Spare, Fits}
+use Rattle.rules.specs.Plans.{Ascending, Sane, PromptAt, NoOverrunAt, Spare, Fits}
 use Rattle.rules.specs.Invariants.{IsSpaced, Invariant}
-use Rattle.rules.specs.Calls.{Model, withClock, withPending, withGrace, settingOf, ruled, Call, claim, release, withdraw, clock, lookup, common, free, declare, setGrace, timed, clockOf, Answer, Step, tests, advance, plain, granting, finish, join, remove, fresh, admit, act, unless, step, blank, answers, after}
-use Rattle.rules.specs.IdleGrace.{Prompt, GraceIdle}
+use Rattle.rules.specs.Calls.{Model, withClock, withPending, withGrace, settingOf, ruled, Call, claim, release, withdraw, clock, lookup, common, free, declare, setGrace, timed, clockOf, Answer, Step, tests, advance, plain, granting, finish, join, remove, fresh, admit, unchanged, act, unless, step, blank, answers, after}
+use Rattle.rules.specs.InTime.{NoOverrunsFrom, GraceIndifferent}
 use Rattle.rules.proofs.Bools.{by-test, clash}
 use Rattle.rules.proofs.Lists.{Each, keep-e, map-each, map-cong, keep-cong, snoc-each, sum-cong}
 use Rattle.rules.proofs.Claims.{setting, end-wait, end-no-overrun}
@@ -28,11 +30,12 @@ use Rattle.rules.proofs.Pool.{units-same}
 use Rattle.rules.proofs.Packing.{moved-cases, moved-cong, ahead-e, Untied, separated-untied, pack-as-documented, pack-unique}
 use Rattle.rules.proofs.Placing.{place-low, place-fits, place-least}
 use Rattle.rules.proofs.Granting.{turn-cong}
+use Rattle.rules.proofs.Invariants.{later-sane}
 use Rattle.rules.proofs.Calls.{clock-passes, admissible, Admissible, advance-packed, advance-drawn, advance-spare, placed, fresh-sane, join-spaced, remove-spaced, step-number, step-invariant, blank-invariant}
 
 -- ── two graces at one clock ──
 module _ (t k d e : ℕ) where
-  end-alike : (c : Claim) → (on c ≡ true → t ≤ at c + c .length) → endOf (setting t k d) c ≡ endOf (setting t k e) c
+  end-alike : (c : Claim) → PromptAt t c → endOf (setting t k d) c ≡ endOf (setting t k e) c
   end-alike c p =
       by-test (on c)
       (λ o. end-no-overrun (setting t k d) c o (p o) ∙ sym (end-no-overrun (setting t k e) c o (p o)))
@@ -44,12 +47,12 @@ module _ (t k d e : ℕ) where
       omega (arith, h z x a b, sum-cong (unitsAt (setting t k d) x) (unitsAt (setting t k e) x) qs (λ c m. units-same (setting t k d) (setting t k e) x c (end-alike c (p c m))))
 
 -- At other starts holders stay as prompt as they were.
-moved-prompt : (t : ℕ) (f : Claim → ℕ) (c : Claim) → (on c ≡ true → t ≤ at c + c .length) → on (moved f c) ≡ true → t ≤ at (moved f c) + moved f c .length
-moved-prompt t f c p = moved-cases (λ (x : Claim). on x ≡ true → t ≤ at x + x .length) f c (λ o. p) (λ o q. clash q refl)
+moved-prompt : (t : ℕ) (f : Claim → ℕ) (c : Claim) → PromptAt t c → PromptAt t (moved f c)
+moved-prompt t f c p = moved-cases (PromptAt t) f c (λ o. p) (λ o q. clash q refl)
 
 pack-prompt : (v : Setting) (t : ℕ) (ps : List Claim) → NoOverrunAt t ps → NoOverrunAt t (pack v ps)
 unfolding pack
-pack-prompt v t ps p = map-each (λ (x : Claim). on x ≡ true → t ≤ at x + x .length) (moved (packedStart v ps)) ps (λ c m. moved-prompt t (packedStart v ps) c (p c m))
+pack-prompt v t ps p = map-each (PromptAt t) (moved (packedStart v ps)) ps (λ c m. moved-prompt t (packedStart v ps) c (p c m))
 
 module _ (t k d e : ℕ) (ps : List Claim) (p : NoOverrunAt t ps) where
   may-alike : (f : Claim → ℕ) (w : Claim) (s : ℕ) → MayStart (setting t k d) ps f w s → MayStart (setting t k e) ps f w s
@@ -73,13 +76,13 @@ module _ (t k d e : ℕ) (ps : List Claim) (p : NoOverrunAt t ps) where
   unfolding pack
   pack-alike sane asc untied =
       let f = packedStart (setting t k d) ps in
-      let sane′ : Each (Sane (setting t k e)) ps = λ c m. (let s = sane c m in record { long = s .long; small = s .small; drawn = s .drawn }) in
+      let sane′ : Each (Sane (setting t k e)) ps = λ c m. later-sane (record { later = omega arith; same = refl }) (sane c m) in
       sym (map-cong (moved f) (moved (packedStart (setting t k e) ps)) ps (λ c m. moved-cong f (packedStart (setting t k e) ps) c (λ o.
       pack-unique (setting t k e) ps sane′ asc untied f (packs-alike f (pack-as-documented (setting t k d) ps sane asc untied)) c m o)))
 
   place-alike : (w : Claim) → Sane (setting t k d) w → place (setting t k e) ps w ≡ place (setting t k d) ps w
   place-alike w s =
-      let s′ : Sane (setting t k e) w = record { long = s .long; small = s .small; drawn = s .drawn } in
+      let s′ : Sane (setting t k e) w = later-sane (record { later = omega arith; same = refl }) s in
       omega (
         arith,
         place-least (setting t k e) ps w s′ (place (setting t k d) ps w) (place-low (setting t k d) ps w) (fits-alike t k d e ps p w _ (place-fits (setting t k d) ps w s)),
@@ -116,11 +119,11 @@ abbrev regraced : ℕ → Step → Step
 regraced d s = record { model = withGrace (s .model) d; answer = s .answer }
 
 module _ (d : ℕ) where
-  advance-alike : (m : Model) (t : ℕ) → Invariant m → NoOverrunAt t (m .pending) → advance (withGrace m d) t ≡ withGrace (advance m t) d
+  advance-alike : (m : Model) (t : ℕ) → Invariant m → m .clock ≤ t → NoOverrunAt t (m .pending) → advance (withGrace m d) t ≡ withGrace (advance m t) d
   unfolding advance
-  advance-alike m t i p =
+  advance-alike m t i l p =
       ap (λ (ps : List Claim). withPending (withGrace (withClock m t) d) ps)
-      (pack-alike t (m .pool) (m .grace) d (m .pending) p (λ c k. (let s = i .spaced .proper c k .sane in record { long = s .long; small = s .small; drawn = s .drawn })) (i .spaced .ascending)
+      (pack-alike t (m .pool) (m .grace) d (m .pending) p (λ c k. later-sane (record { later = l; same = refl }) (i .spaced .proper c k .sane)) (i .spaced .ascending)
       (separated-untied (settingOf m) (m .pending) (λ c k. i .spaced .proper c k .sane) (i .spaced .fit)))
 
   finish-alike : (m : Model) (r : Reply) → IsSpaced m → NoOverrunAt (m .clock) (m .pending) → finish (withGrace m d) r ≡ regraced d (finish m r)
@@ -135,7 +138,7 @@ module _ (d : ℕ) where
   unfolding admit join
   admit-alike m ask s i p =
       rw (place-alike (m .clock) (m .pool) (m .grace) d (m .pending) p (fresh m ask) s, bound-alike (m .clock) (m .pool) (m .grace) d (m .pending) p (fresh m ask))
-      (finish-alike (join m (placed m ask)) _ i (snoc-each (λ (c : Claim). on c ≡ true → m .clock ≤ at c + c .length) (m .pending) (placed m ask) p (λ o. clash o refl)))
+      (finish-alike (join m (placed m ask)) _ i (snoc-each (PromptAt (m .clock)) (m .pending) (placed m ask) p (λ o. clash o refl)))
 
   remove-alike : (m : Model) (j : ℕ) → remove (withGrace m d) j ≡ withGrace (remove m j) d
   unfolding remove
@@ -145,6 +148,22 @@ module _ (d : ℕ) where
   unfolding remove
   remove-prompt m j p c k = p c (keep-e _ (m .pending) k .0)
 
+  tests-alike : (m : Model) (c : Call) → tests (withGrace m d) c ≡ tests m c
+  unfolding tests
+  tests-alike m (claim t ask) = refl
+  tests-alike m (release t j) = refl
+  tests-alike m (withdraw t j) = refl
+  tests-alike m (clock t) = refl
+  tests-alike m (lookup j) = refl
+  tests-alike m (common j l) = refl
+  tests-alike m free = refl
+  tests-alike m (declare c r l) = refl
+  tests-alike m (setGrace n) = refl
+
+  -- A grace that is set makes the two tables one; every other call leaves them apart by the grace alone.
+  abbrev Alike : Step → Step → Type 0
+  Alike s r = (s ≡ regraced d r) ⊎ (s ≡ r)
+
   module _ (m : Model) (i : Invariant m) where
     advance-prompt : (t : ℕ) → NoOverrunAt t (m .pending) → NoOverrunAt (advance m t .clock) (advance m t .pending)
     unfolding advance
@@ -153,24 +172,20 @@ module _ (d : ℕ) where
     leave-alike : (t j : ℕ) → m .clock ≤ t → NoOverrunAt t (m .pending)
         → finish (remove (advance (withGrace m d) t) j) (plain j t) ≡ regraced d (finish (remove (advance m t) j) (plain j t))
     leave-alike t j l p =
-        ap (λ (n : Model). finish (remove n j) (plain j t)) (advance-alike m t i p) ∙ ap (λ (n : Model). finish n (plain j t)) (remove-alike (advance m t) j)
+        ap (λ (n : Model). finish (remove n j) (plain j t)) (advance-alike m t i l p) ∙ ap (λ (n : Model). finish n (plain j t)) (remove-alike (advance m t) j)
         ∙ finish-alike (remove (advance m t) j) (plain j t) (remove-spaced (advance m t) j (advance-packed m t i l .spaced)) (remove-prompt (advance m t) j (advance-prompt t p))
 
     clock-alike : (t : ℕ) → m .clock ≤ t → NoOverrunAt t (m .pending) → finish (advance (withGrace m d) t) (plain 0 t) ≡ regraced d (finish (advance m t) (plain 0 t))
     clock-alike t l p =
-        ap (λ (n : Model). finish n (plain 0 t)) (advance-alike m t i p) ∙ finish-alike (advance m t) (plain 0 t) (advance-packed m t i l .spaced) (advance-prompt t p)
+        ap (λ (n : Model). finish n (plain 0 t)) (advance-alike m t i l p) ∙ finish-alike (advance m t) (plain 0 t) (advance-packed m t i l .spaced) (advance-prompt t p)
 
     claim-alike : (t : ℕ) (ask : Request) → Admissible m t ask → NoOverrunAt t (m .pending) → admit (advance (withGrace m d) t) ask ≡ regraced d (admit (advance m t) ask)
     claim-alike t ask a p =
         let q : Model = advance m t in
         let drawn = advance-drawn m t ask a in
         let spare = advance-spare m t ask a in
-        ap (λ (n : Model). admit n ask) (advance-alike m t i p)
+        ap (λ (n : Model). admit n ask) (advance-alike m t i (a .clocked .later) p)
         ∙ admit-alike q ask (fresh-sane q ask (a .long) drawn spare) (join-spaced q ask (a .long) drawn spare (advance-packed m t i (a .clocked .later) .spaced)) (advance-prompt t p)
-
-    -- A grace that is set makes the two tables one; every other call leaves them apart by the grace alone.
-    abbrev Alike : Step → Step → Type 0
-    Alike s r = (s ≡ regraced d r) ⊎ (s ≡ r)
 
     act-alike : (c : Call) → firstOf (tests m c) ≡ 0 → (timed c ≡ true → NoOverrunAt (clockOf c) (m .pending)) → Alike (act (withGrace m d) c) (act m c)
     unfolding act tests
@@ -184,33 +199,21 @@ module _ (d : ℕ) where
     act-alike (declare c r l) e p = inl refl
     act-alike (setGrace n) e p = inr refl
 
-    tests-alike : (c : Call) → tests (withGrace m d) c ≡ tests m c
-    unfolding tests
-    tests-alike (claim t ask) = refl
-    tests-alike (release t j) = refl
-    tests-alike (withdraw t j) = refl
-    tests-alike (clock t) = refl
-    tests-alike (lookup j) = refl
-    tests-alike (common j l) = refl
-    tests-alike free = refl
-    tests-alike (declare c r l) = refl
-    tests-alike (setGrace n) = refl
-
     step-alike : (c : Call) → (timed c ≡ true → step m c .answer .number ≡ 0 → NoOverrunAt (clockOf c) (m .pending)) → Alike (step (withGrace m d) c) (step m c)
     unfolding step
-    step-alike c p = rw (tests-alike c) (go (firstOf (tests m c)) refl)
+    step-alike c p = rw (tests-alike m c) (go (firstOf (tests m c)) refl)
       where
         go : (n : ℕ) → firstOf (tests m c) ≡ n → Alike (unless (withGrace m d) n (act (withGrace m d) c)) (unless m n (act m c))
         go zero e = act-alike c e (λ z. p z (step-number m c ∙ e))
         go (suc n) e = inl refl
 
 -- ── a run ──
-pub grace-idle : (m : Model) (d : ℕ) (cs : List Call) → Invariant m → Prompt m cs → GraceIdle m d cs
+pub indifferent-from : (m : Model) (d : ℕ) (cs : List Call) → Invariant m → NoOverrunsFrom m cs → GraceIndifferent m d cs
 unfolding answers after
-grace-idle m d [] i p = record { answers-same = refl; pending-same = refl }
-grace-idle m d (c ∷ cs) i p = go (step-alike d m i c (p .0)) (grace-idle (step m c .model) d cs (step-invariant m c i) (p .1))
+indifferent-from m d [] i p = record { answers-same = refl; pending-same = refl }
+indifferent-from m d (c ∷ cs) i p = go (step-alike d m i c (p .0)) (indifferent-from (step m c .model) d cs (step-invariant m c i) (p .1))
   where
-    go : Alike d m i (step (withGrace m d) c) (step m c) → GraceIdle (step m c .model) d cs → GraceIdle m d (c ∷ cs)
+    go : Alike d (step (withGrace m d) c) (step m c) → GraceIndifferent (step m c .model) d cs → GraceIndifferent m d (c ∷ cs)
     go (inl e) h =
         record {
           answers-same = ap (λ (s : Step). s .answer ∷ answers (s .model) cs) e ∙ ap (λ (l : List Answer). step m c .answer ∷ l) (h .answers-same);
@@ -218,6 +221,12 @@ grace-idle m d (c ∷ cs) i p = go (step-alike d m i c (p .0)) (grace-idle (step
         }
     go (inr e) h = record { answers-same = ap (λ (s : Step). s .answer ∷ answers (s .model) cs) e; pending-same = ap (λ (s : Step). after (s .model) cs .pending) e }
 
--- From a new table, with any grace.
-pub grace-indifferent : (g k : ℕ) (alone : Bool) (d : ℕ) (cs : List Call) → Prompt (blank g k alone) cs → GraceIdle (blank g k alone) d cs
-grace-indifferent g k alone d cs p = grace-idle (blank g k alone) d cs (blank-invariant g k alone) p
+pub grace-indifferent : (g k : ℕ) (alone : Bool) (d : ℕ) (cs : List Call) → NoOverrunsFrom (blank g k alone) cs → GraceIndifferent (blank g k alone) d cs
+grace-indifferent g k alone d cs p = indifferent-from (blank g k alone) d cs (blank-invariant g k alone) p
+
+-- So a grace that is set first adds its own answer and changes no other.
+pub set-indifferent : (g k : ℕ) (alone : Bool) (d : ℕ) (cs : List Call) → d ≤ mostGrace → NoOverrunsFrom (blank g k alone) cs
+    → answers (blank g k alone) (setGrace d ∷ cs) ≡ unchanged (blank g k alone) 0 .answer ∷ answers (blank g k alone) cs
+unfolding answers step tests act firstOf
+set-indifferent g k alone d cs h p =
+    rw (le-ltb mostGrace d h) (ap (λ (l : List Answer). unchanged (blank g k alone) 0 .answer ∷ l) (grace-indifferent g k alone d cs p .answers-same))
