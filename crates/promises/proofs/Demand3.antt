@@ -347,7 +347,7 @@ module _ (P : Type 0) (l : Ledger) (m : Model) (s : Story P l m) where
   looks-kept (declare c r k) e = clash e refl
   looks-kept (setGrace n) e = clash e refl
 
-  -- What x would make of y stays y.
+  -- What a call would set to x stays y where the call is refused, or is a lookup, which sets nothing.
   idle-kept : {A : Type 0} (c : Call) (n : ℕ) (x y : A) → Idle c n → (looks c ≡ true → x ≡ y) → cond (eqb n 0) x y ≡ y
   idle-kept c n x y (inl e) h = by-test (eqb n 0) (λ q. rw q (h e)) (λ q. rw q)
   idle-kept c n x y (inr e) h = rw (ne-eqb n 0 e)

@@ -1,6 +1,6 @@
 -- What a plan means to who reads it: every waiting start is at least the end of each conflicting holder. So a cue that stays dark behind one
--- that is running over is planned at least a grace later than the clock, and not for "now" (document 02, P6). Beside demand 3, of the same lists of
--- calls, and by the same ledger. proofs/EndsAwaited has the theorem.
+-- that is running over is planned at least a grace later than the clock, and not for "now" (document 02, P6). Beside demand 3, of the same
+-- lists of calls, and by the same ledger. proofs/EndsAwaited has the theorem.
 use mathlib.Core.Path.{_≡_}
 use mathlib.Core.Bool.{Bool, true}
 use mathlib.Core.List.{List, _++_}

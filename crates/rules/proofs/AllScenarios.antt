@@ -1,6 +1,6 @@
 -- Every scenario of specs/Scenarios comes out as the papers say, by computation from the rules.
 use mathlib.Core.Path.{_≡_, refl}
-use mathlib.Core.List.{map}
+use mathlib.Core.List.{_++_, map}
 use Rattle.groups.specs.Groups.{someFrom, lowestFrom, common, shares, empty, within}
 use Rattle.rules.specs.Lists.{greatest, least, sum, all, any, keep}
 use Rattle.rules.specs.Shares.{shareOf, withShare, pendingOf, unfilled, unfilledByOthers, reservedInAll}
@@ -19,13 +19,9 @@ pub all-scenarios : map outcome scenarios ≡ map expected scenarios
 unfolding someFrom lowestFrom common shares empty within greatest least sum all any keep heldUntil endOf remaining precedes before covers unitsAt used enough spare heldUnits ready startFor moved ahead startWithin packedStart pack clear fits seek place contention startBound takenBefore trulyFree goesWithin goes granted grant grants shareOf pendingOf unfilled unfilledByOthers firstOf tests advance finish join remove admit act step new standingOf after answers scenarios outcome
 all-scenarios = refl
 
-pub all-draws : map drawn draws ≡ map expectedOf draws
-unfolding someFrom lowestFrom common shares empty within greatest least sum all any keep heldUntil endOf remaining precedes before covers unitsAt used enough spare heldUnits freeUnits ready startFor moved ahead startWithin packedStart pack clear fits seek place contention startBound takenBefore trulyFree goesWithin goes granted grant grants shareOf pendingOf unfilled unfilledByOthers firstOf tests advance finish join remove admit act step new standingOf after answers draws drawn
+pub all-draws : map drawn (draws ++ graces) ≡ map expectedOf (draws ++ graces)
+unfolding someFrom lowestFrom common shares empty within greatest least sum all any keep heldUntil endOf remaining precedes before covers unitsAt used enough spare heldUnits freeUnits ready startFor moved ahead startWithin packedStart pack clear fits seek place contention startBound takenBefore trulyFree goesWithin goes granted grant grants shareOf pendingOf unfilled unfilledByOthers firstOf tests advance finish join remove admit act step new standingOf after answers draws graces drawn
 all-draws = refl
-
-pub all-graces : map drawn graces ≡ map expectedOf graces
-unfolding someFrom lowestFrom common shares empty within greatest least sum all any keep heldUntil endOf remaining precedes before covers unitsAt used enough spare heldUnits freeUnits ready startFor moved ahead startWithin packedStart pack clear fits seek place contention startBound takenBefore trulyFree goesWithin goes granted grant grants shareOf pendingOf unfilled unfilledByOthers firstOf tests advance finish join remove admit act step new standingOf after answers graces drawn
-all-graces = refl
 
 pub all-pairs : map toldOf pairs ≡ map (λ p. p .told) pairs
 unfolding someFrom lowestFrom common shares empty within greatest least sum all any keep heldUntil endOf remaining precedes before covers unitsAt used enough spare heldUnits ready startFor moved ahead startWithin packedStart pack clear fits seek place contention startBound takenBefore trulyFree goesWithin goes granted grant grants shareOf pendingOf unfilled unfilledByOthers firstOf tests advance finish join remove admit act step new commonOf after answers pairs toldOf
