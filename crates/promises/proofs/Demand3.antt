@@ -26,7 +26,7 @@ use Rattle.rules.specs.declared.Common.the-variants.{Unknown}
 use Rattle.rules.specs.declared.Standing.the-variants.{Waits, Holds}
 use Rattle.rules.specs.Tests.{named}
 use Rattle.rules.specs.declared.Reply.{Reply}
-use Rattle.rules.specs.Calls.{Model, settingOf, plain, placing, ruled, Call, claim, release, withdraw, clock, lookup, common, free, declare, setGrace, timed, looks, declared, withGrace, Answer, Step, unchanged, advance, finish, join, remove, fresh, admit, step, standing, standingOf, between, commonOf, blank, new, after}
+use Rattle.rules.specs.Calls.{Model, settingOf, plain, placing, ruled, Call, claim, release, withdraw, clock, lookup, common, free, declare, setGrace, timed, looks, declared, withGrace, Answer, Step, unchanged, advance, finish, join, remove, fresh, admit, step, standing, standingOf, between, commonOf, blank, new}
 use Rattle.rules.specs.Plans.{Ascending, NoOverrunAt}
 use Rattle.rules.specs.Invariants.{IsSpaced, Invariant, IsBooked}
 use Rattle.rules.proofs.Bools.{split, by-test, clash, and-i}
@@ -43,7 +43,8 @@ use Rattle.rules.proofs.Booking.{advance-booked, finish-booked, finish-shares, 
 use Rattle.rules.proofs.NoOverrun.{no-overrun-no-later}
 use Rattle.rules.proofs.Lookup.{lookup-absent, none-named, lookup-found, one-named, lookup-waits}
 use Rattle.promises.specs.Ledger.{Turn, turns, tableAfter, Entry, promised, Ledger, opening, issues, without, stay, sharesBy, graceBy, hold, marked, noted, notedAll, NoOverrun, NoOverruns, ruledBy, remainingOf, rivalsOf, boundOn}
-use Rattle.promises.specs.Demand3.{TicketsAscend, Now, Next, tells, Demand3}
+use Rattle.promises.specs.Runs.{tells, Start, Begins, by-new}
+use Rattle.promises.specs.Demand3.{TicketsAscend, Now, Next, Demand3}
 use Rattle.promises.proofs.Matching.{Match, m-nil, m-cons, match-map, match-left, match-weaken, match-snoc, match-none, match-keep, match-length, match-sum, partner, partner-of}
 
 -- A pending claim and its entry. P: no accepted call so far bore a clock past the promised end of a holder.
@@ -535,33 +536,23 @@ story-after (c ∷ cs) P l m s =
     let r = story-after cs (P × NoOverrun l t) (noted l t) (step m c .model) (told P l m s c .1) in
     story-weaken _ (P × (NoOverrun l t × NoOverruns (noted l t) (turns step (step m c .model) cs))) _ _ (λ q. ((q .0, q .1 .0), q .1 .1)) r
 
--- The ledger before any call, by the call that made the table.
-abbrev pub opened : ℕ → ℕ → Bool → Ledger
-opened g k alone = opening k alone (new g k alone .answer)
-
-start : (g k : ℕ) (alone : Bool) → Story (Unit {0}) (opened g k alone) (new g k alone .model)
-start g k alone =
+-- What holds where a run begins.
+begin : (s : Start) → Begins s → Story (Unit {0}) (s .ledger) (s .table)
+begin s (by-new g k alone) =
     new-cases (λ (s : Step). Story (Unit {0}) (opening k alone (s .answer)) (s .model)) g k alone (λ e. blank-story 0 0 1 refl) (λ e. blank-story g k 0 refl)
   where
     blank-story : (r n j : ℕ) → n ≡ cond (eqb j 0) k 0 → Story (Unit {0}) (opening k alone (unchanged (blank r n alone) j .answer)) (blank r n alone)
     blank-story r n j e =
         record { inv = blank-invariant r n alone; booked = first-booked alone; clock = refl; pool = e; issued = refl; grace = refl; shares = refl; match = m-nil }
 
-pub after-calls : (g k : ℕ) (alone : Bool) (cs : List Call)
-    → (let l = opened g k alone in
-    let ts = turns step (new g k alone .model) cs in
-    Story (NoOverruns l ts) (notedAll l ts) (tableAfter step (new g k alone .model) cs))
-after-calls g k alone cs = story-weaken _ _ _ _ (λ q. (tt, q)) (story-after cs (Unit {0}) (opened g k alone) (new g k alone .model) (start g k alone))
-
--- The rules' own name for the table after a list of calls.
-pub table-after : (m : Model) (cs : List Call) → tableAfter step m cs ≡ after m cs
-unfolding tableAfter after
-table-after m [] = refl
-table-after m (c ∷ cs) = table-after (step m c .model) cs
+pub after-calls : (s : Start) → Begins s → (cs : List Call)
+    → (let ts = turns step (s .table) cs in
+    Story (NoOverruns (s .ledger) ts) (notedAll (s .ledger) ts) (tableAfter step (s .table) cs))
+after-calls s b cs = story-weaken _ _ _ _ (λ q. (tt, q)) (story-after cs (Unit {0}) (s .ledger) (s .table) (begin s b))
 
 -- Demand 3, whole.
-pub demand-3 : (rig pool : ℕ) (alone : Bool) (calls : List Call) → Demand3 rig pool alone calls
-demand-3 rig pool alone calls = record {
-  at-any-time = λ before rest e. now-of _ _ _ (after-calls rig pool alone before);
-  at-any-call = λ before c rest e. told _ _ _ (after-calls rig pool alone before) c .0;
+pub demand-3 : (s : Start) → Begins s → (calls : List Call) → Demand3 s calls
+demand-3 s b calls = record {
+  at-any-time = λ before rest e. now-of _ _ _ (after-calls s b before);
+  at-any-call = λ before c rest e. told _ _ _ (after-calls s b before) c .0;
 }

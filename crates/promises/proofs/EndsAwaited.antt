@@ -11,7 +11,7 @@ use Rattle.rules.proofs.Claims.{end-on}
 use Rattle.rules.proofs.Order.{before-on, ascending-same}
 use Rattle.rules.proofs.Lookup.{lookup-waits}
 use Rattle.promises.specs.Ledger.{Ledger, promised, ruledBy}
-use Rattle.promises.specs.Demand3.{tells}
+use Rattle.promises.specs.Runs.{tells, Start, Begins}
 use Rattle.promises.specs.EndsAwaited.{Awaited, EndsAwaited}
 use Rattle.promises.proofs.Matching.{partner}
 use Rattle.promises.proofs.Demand3.{Story, ruled-is, after-calls}
@@ -29,5 +29,5 @@ awaited-of P l m s e f i j h r x w =
     end-on v (a .0) o ∙ ap (heldUntil v) (omega (arith, a .2 .grant o, a .2 .length)) ∙ ap (λ (u : Setting). heldUntil u (promised e)) (ruled-is P l m s (m .clock) ∙ ap (ruledBy l) (s .clock)) in
     omega (arith, end, s .inv .spaced .fit .behind (a .0) (d .0) (a .1) (d .1) (d .3) (before-on (a .0) (d .0) o) rivals, d .4)
 
-pub ends-awaited : (rig pool : ℕ) (alone : Bool) (calls : List Call) → EndsAwaited rig pool alone calls
-ends-awaited rig pool alone calls before rest e = awaited-of _ _ _ (after-calls rig pool alone before)
+pub ends-awaited : (s : Start) → Begins s → (calls : List Call) → EndsAwaited s calls
+ends-awaited s b calls before rest e = awaited-of _ _ _ (after-calls s b before)

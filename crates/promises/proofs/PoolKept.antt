@@ -8,7 +8,7 @@ use Rattle.rules.specs.declared.Claim.{Claim}
 use Rattle.rules.specs.Pool.{heldBy, heldUnits, freeUnits}
 use Rattle.rules.specs.Calls.{Model, Call}
 use Rattle.promises.specs.Ledger.{Entry, Ledger}
-use Rattle.promises.specs.Demand3.{tells}
+use Rattle.promises.specs.Runs.{tells, Start, Begins}
 use Rattle.promises.specs.PoolKept.{Kept, PoolKept}
 use Rattle.promises.proofs.Matching.{match-sum}
 use Rattle.promises.proofs.Demand3.{Tracks, Story, after-calls}
@@ -23,5 +23,5 @@ kept-of P l m s =
     let i = s .inv .spaced .holders .stock in
     record { never-more = omega (arith, s .pool); free-and-held = omega (arith, s .pool) }
 
-pub pool-kept : (rig pool : ℕ) (alone : Bool) (calls : List Call) → PoolKept rig pool alone calls
-pool-kept rig pool alone calls before rest e = kept-of _ _ _ (after-calls rig pool alone before)
+pub pool-kept : (s : Start) → Begins s → (calls : List Call) → PoolKept s calls
+pool-kept s b calls before rest e = kept-of _ _ _ (after-calls s b before)

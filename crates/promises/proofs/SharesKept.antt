@@ -14,6 +14,7 @@ use Rattle.rules.specs.Invariants.{Booked}
 use Rattle.rules.specs.Calls.{Model, clientsOf, Call, step}
 use Rattle.rules.proofs.Booking.{below-never-full}
 use Rattle.promises.specs.Ledger.{Entry, Ledger}
+use Rattle.promises.specs.Runs.{Start, Begins}
 use Rattle.promises.specs.SharesKept.{askers, SharesNow, SharesNext, SharesKept}
 use Rattle.promises.proofs.Matching.{Match, m-nil, m-cons}
 use Rattle.promises.proofs.Demand3.{Tracks, Story, after-calls}
@@ -38,8 +39,8 @@ next-of P l m s c = record {
       subst (λ (d : Call). step m d .answer .number ≢ fullNumber) (sym e) (below-never-full m u ask below);
 }
 
-pub shares-kept : (rig pool : ℕ) (alone : Bool) (calls : List Call) → SharesKept rig pool alone calls
-shares-kept rig pool alone calls = record {
-  at-any-time = λ before rest e. now-of _ _ _ (after-calls rig pool alone before);
-  at-any-call = λ before c rest e. next-of _ _ _ (after-calls rig pool alone before) c;
+pub shares-kept : (s : Start) → Begins s → (calls : List Call) → SharesKept s calls
+shares-kept s b calls = record {
+  at-any-time = λ before rest e. now-of _ _ _ (after-calls s b before);
+  at-any-call = λ before c rest e. next-of _ _ _ (after-calls s b before) c;
 }

@@ -18,7 +18,7 @@ use Rattle.rules.specs.Placing.{place}
 use Rattle.rules.specs.Plans.{Sane, Spare}
 use Rattle.rules.specs.Granting.{goes, granted, grant}
 use Rattle.rules.specs.declared.Reply.{Reply}
-use Rattle.rules.specs.Calls.{Model, settingOf, plain, ruled, Call, claim, release, withdraw, clock, lookup, common, free, declare, setGrace, timed, clockOf, Step, advance, finish, join, fresh, admit, step, new, after}
+use Rattle.rules.specs.Calls.{Model, settingOf, plain, ruled, Call, claim, release, withdraw, clock, lookup, common, free, declare, setGrace, timed, clockOf, Step, advance, finish, join, fresh, admit, step}
 use Rattle.rules.specs.Invariants.{IsSpaced, IsPacked, Still, Invariant}
 use Rattle.rules.proofs.Bools.{clash}
 use Rattle.rules.proofs.Lists.{here, map-e}
@@ -26,8 +26,11 @@ use Rattle.rules.proofs.Order.{precedes-e, precedes-lt}
 use Rattle.rules.proofs.Packing.{moved-phase, pack-precedes}
 use Rattle.rules.proofs.Granting.{goes-wait, goes-at, granted-cases, grant-precedes}
 use Rattle.rules.proofs.Invariants.{spaced-clear, settled-packs}
-use Rattle.rules.proofs.Calls.{Admissible, advance-drawn, placed-fits, advance-packed, finish-invariant, placed, join-spaced, Leaves, by-release, by-withdraw, by-clock, leaves-spaced, Idle, looks-untimed, step-cases, clock-accepted, new-invariant, after-invariant, advance-same, finish-e, finish-clock, leaves-old, leaves-clock, join-old, advance-spare, admit-invariant}
+use Rattle.rules.proofs.Calls.{Admissible, advance-drawn, placed-fits, advance-packed, finish-invariant, placed, join-spaced, Leaves, by-release, by-withdraw, by-clock, leaves-spaced, Idle, looks-untimed, step-cases, clock-accepted, advance-same, finish-e, finish-clock, leaves-old, leaves-clock, join-old, advance-spare, admit-invariant}
 use Rattle.rules.proofs.OnePacking.{advance-still, finish-still, joined, joined-cases, claim-pending, joined-at}
+use Rattle.promises.specs.Ledger.{tableAfter}
+use Rattle.promises.specs.Runs.{Start, Begins}
+use Rattle.promises.proofs.Demand3.{after-calls}
 use Rattle.promises.specs.WholeCalls.{Becomes, TimedCall, Stays, ClaimCall, WholeCalls}
 
 -- ── order ──
@@ -234,6 +237,5 @@ of-claim m i t ask =
 pub whole-calls : (m : Model) → Invariant m → WholeCalls m
 whole-calls m i = record { of-timed = of-timed m i; of-claim = of-claim m i }
 
-pub whole-calls-after : (rig pool : ℕ) (alone : Bool) (calls : List Call) → WholeCalls (after (new rig pool alone .model) calls)
-whole-calls-after rig pool alone calls =
-    whole-calls (after (new rig pool alone .model) calls) (after-invariant (new rig pool alone .model) calls (new-invariant rig pool alone))
+pub whole-calls-after : (s : Start) → Begins s → (calls : List Call) → WholeCalls (tableAfter step (s .table) calls)
+whole-calls-after s b calls = whole-calls (tableAfter step (s .table) calls) (after-calls s b calls .inv)

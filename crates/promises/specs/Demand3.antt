@@ -3,8 +3,8 @@
 -- whoever is declared.
 use mathlib.Core.Path.{_≡_}
 use mathlib.Core.Logic.{_⊎_, _≢_}
-use mathlib.Core.Bool.{Bool, true, false}
-use mathlib.Core.List.{List, _∷_, _++_}
+use mathlib.Core.Bool.{true, false}
+use mathlib.Core.List.{List}
 use Prim.Native.Nat.{ℕ, _+_, _≤_}
 use Rattle.groups.specs.Groups.{common, shares}
 use Rattle.rules.specs.declared.Request.{Request}
@@ -13,8 +13,9 @@ use Rattle.rules.specs.declared.Common.{Common}
 use Rattle.rules.specs.declared.Common.the-variants.{Unknown}
 use Rattle.rules.specs.declared.Standing.{Standing}
 use Rattle.rules.specs.declared.Standing.the-variants.{NotPending, Waits, Holds}
-use Rattle.rules.specs.Calls.{Model, Call, claim, standingOf, shared, commonOf, freeOf, step, new}
-use Rattle.promises.specs.Ledger.{Turn, Steps, turns, tableAfter, Entry, promised, Ledger, opening, noted, notedAll, NoOverrun, NoOverruns, ruledBy, boundOn}
+use Rattle.rules.specs.Calls.{Call, claim, shared, step}
+use Rattle.promises.specs.Ledger.{Turn, Steps, Entry, promised, Ledger, noted, NoOverrun, ruledBy, boundOn}
+use Rattle.promises.specs.Runs.{Told, Start, AtAnyTime, AtAnyCall}
 
 -- "Look, asked after any call of the list, says the same: waiting, on with that promised end, or 8."
 pub record Agrees (l : List Entry) (k : ℕ) (told : Standing) : Type 0 where
@@ -27,12 +28,6 @@ pub record Agrees (l : List Entry) (k : ℕ) (told : Standing) : Type 0 where
 pub record AgreesOnTwo (l : List Entry) (j k : ℕ) (told : Common) : Type 0 where
   pub pending : (e f : Entry) → e ∈ l → f ∈ l → e .ticket ≡ j → f .ticket ≡ k → told ≡ shared (common (e .asked .groups) (f .asked .groups))
   pub unknown : ((e : Entry) → e ∈ l → e .ticket ≢ j) ⊎ ((e : Entry) → e ∈ l → e .ticket ≢ k) → told ≡ Unknown
-
--- What lookup tells: of each ticket, of each two, and of the pool the units free.
-pub record Told : Type 0 where
-  pub one : ℕ → Standing
-  pub two : ℕ → ℕ → Common
-  pub free : ℕ
 
 -- The tickets of the pending claims are in ascending order.
 abbrev pub TicketsAscend : List Entry → Type 0
@@ -61,26 +56,11 @@ pub record Next (P : Type 0) (l : Ledger) (t : Turn) (before after : Told) : Typ
       → ((r : ℕ) → after .one k ≡ Waits r → r ≤ s)
       × ((e : Entry) → e ∈ noted l t .claims → e .ticket ≡ k → e .held ≡ true → e .grant ≤ s)
 
--- What it tells of a table.
-abbrev pub tells : Model → Told
-tells m = record { one = λ k. standingOf k (m .pending); two = λ j k. commonOf j k (m .pending); free = freeOf m }
-
--- "The list begins with the table that the call for a new one gave, whatever the rig", and whatever the pool; client 1 alone is declared at
--- first, or nobody. The calls are run by `step`.
-pub record Demand3Of (step : Steps) (rig pool : ℕ) (alone : Bool) (calls : List Call) : Type 0 where
-  pub at-any-time : (before rest : List Call) → before ++ rest ≡ calls
-      → (let m = new rig pool alone .model in
-      let l = opening pool alone (new rig pool alone .answer) in
-      let ts = turns step m before in
-      Now (NoOverruns l ts) (notedAll l ts) (tells (tableAfter step m before)))
-  pub at-any-call : (before : List Call) (c : Call) (rest : List Call) → before ++ (c ∷ rest) ≡ calls
-      → (let m = new rig pool alone .model in
-      let l = opening pool alone (new rig pool alone .answer) in
-      let ts = turns step m before in
-      let n = tableAfter step m before in
-      let s = step n c in
-      Next (NoOverruns l ts) (notedAll l ts) (record { call = c; answer = s .answer }) (tells n) (tells (s .model)))
+-- Of a run from a start, by `step`.
+pub record Demand3Of (step : Steps) (s : Start) (calls : List Call) : Type 0 where
+  pub at-any-time : AtAnyTime step s calls Now
+  pub at-any-call : AtAnyCall step s calls Next
 
 -- Demand 3 of the rules.
-abbrev pub Demand3 : ℕ → ℕ → Bool → List Call → Type 0
-Demand3 rig pool alone calls = Demand3Of step rig pool alone calls
+abbrev pub Demand3 : Start → List Call → Type 0
+Demand3 s calls = Demand3Of step s calls

@@ -1,4 +1,5 @@
 pub mod Ledger
+pub mod Runs
 pub mod Demand3
 pub mod PoolKept
 pub mod SharesKept

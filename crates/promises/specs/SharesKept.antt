@@ -4,15 +4,15 @@
 -- theorem.
 use mathlib.Core.Path.{_≡_}
 use mathlib.Core.Logic.{_≢_}
-use mathlib.Core.Bool.{Bool}
-use mathlib.Core.List.{List, _∷_, _++_, map}
+use mathlib.Core.List.{List, map}
 use Prim.Native.Nat.{ℕ, _+_, _≤_, _<_}
 use lib.ListN.{length}
 use Rattle.numbers.specs.Numbers.{fullNumber, mostPending}
 use Rattle.rules.specs.declared.Request.{Request}
 use Rattle.rules.specs.Shares.{shareOf, pendingOf, unfilledInAll}
-use Rattle.rules.specs.Calls.{Call, claim, step, new}
-use Rattle.promises.specs.Ledger.{Turn, Steps, turns, tableAfter, Entry, Ledger, opening, notedAll}
+use Rattle.rules.specs.Calls.{Call, claim, step}
+use Rattle.promises.specs.Ledger.{Turn, Steps, Entry, Ledger}
+use Rattle.promises.specs.Runs.{Start, AtAnyTime, AtAnyCall}
 
 -- The clients of the pending claims.
 abbrev pub askers : List Entry → List ℕ
@@ -28,14 +28,9 @@ pub record SharesNext (l : Ledger) (t : Turn) : Type 0 where
   pub never-full : (u : ℕ) (ask : Request) → t .call ≡ claim u ask
       → pendingOf (askers (l .claims)) (ask .client) < shareOf (l .shares) (ask .client) .reserved → t .answer .number ≢ fullNumber
 
-pub record SharesKeptOf (step : Steps) (rig pool : ℕ) (alone : Bool) (calls : List Call) : Type 0 where
-  pub at-any-time : (before rest : List Call) → before ++ rest ≡ calls
-      → (let m = new rig pool alone .model in
-      SharesNow (notedAll (opening pool alone (new rig pool alone .answer)) (turns step m before)))
-  pub at-any-call : (before : List Call) (c : Call) (rest : List Call) → before ++ (c ∷ rest) ≡ calls
-      → (let m = new rig pool alone .model in
-      let n = tableAfter step m before in
-      SharesNext (notedAll (opening pool alone (new rig pool alone .answer)) (turns step m before)) (record { call = c; answer = step n c .answer }))
+pub record SharesKeptOf (step : Steps) (s : Start) (calls : List Call) : Type 0 where
+  pub at-any-time : AtAnyTime step s calls (λ _ l _. SharesNow l)
+  pub at-any-call : AtAnyCall step s calls (λ _ l t _ _. SharesNext l t)
 
-abbrev pub SharesKept : ℕ → ℕ → Bool → List Call → Type 0
-SharesKept rig pool alone calls = SharesKeptOf step rig pool alone calls
+abbrev pub SharesKept : Start → List Call → Type 0
+SharesKept s calls = SharesKeptOf step s calls

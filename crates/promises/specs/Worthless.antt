@@ -8,6 +8,7 @@ use Rattle.rules.specs.declared.Phase.the-variants.{Waiting}
 use Rattle.rules.specs.Claims.{at, withPhase}
 use Rattle.rules.specs.Calls.{asking, Model, withPending, withGrace, Call, clock, setGrace, Answer, Step, step}
 use Rattle.promises.specs.Ledger.{Steps}
+use Rattle.promises.specs.Runs.{newly}
 use Rattle.promises.specs.Demand3.{Demand3Of}
 use Rattle.promises.specs.EndsAwaited.{EndsAwaitedOf}
 
@@ -17,7 +18,7 @@ claim t g n = Call.claim t (asking g n)
 
 -- Demand 3 does not hold of these steps, this rig without a pool, client 1 alone, and these calls.
 abbrev pub Refused : Steps → ℕ → List Call → Type 0
-Refused step rig calls = Demand3Of step rig 0 true calls → ⊥
+Refused step rig calls = Demand3Of step (newly rig 0 true) calls → ⊥
 
 -- "never grants": as the rules, but whoever would go on waits on, and nobody is named.
 unfoldable pub neverGrants : Steps
@@ -58,7 +59,7 @@ showsNow m c = step (withGrace m 0) c
 
 -- Shut out by `EndsAwaited`: at clock 12 the second claim waits with the start 12, and the first ends at 17.
 abbrev pub ShowsNowRefused : Type 0
-ShowsNowRefused = EndsAwaitedOf showsNow 0x1 0 true (setGrace 5 ∷ claim 0 0x1 10 ∷ claim 0 0x1 10 ∷ clock 12 ∷ []) → ⊥
+ShowsNowRefused = EndsAwaitedOf showsNow (newly 0x1 0 true) (setGrace 5 ∷ claim 0 0x1 10 ∷ claim 0 0x1 10 ∷ clock 12 ∷ []) → ⊥
 
 abbrev pub AllRefused : Type 0
 AllRefused = NeverGrantsRefused × UntouchedRefused × EchoesRefused × ShowsNowRefused

@@ -17,4 +17,3 @@ pub mod RemovalLoop
 pub mod Steps
 pub mod Sharing
 pub mod Promised
-pub mod Runs

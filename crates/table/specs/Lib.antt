@@ -8,4 +8,3 @@ pub mod Counts
 pub mod Parts
 pub mod Valid
 pub mod Outcomes
-pub mod Runs

@@ -1,0 +1,49 @@
+-- A run of calls: what it begins with, what lookups tell after any of its calls, and what it means that something holds of a run.
+use mathlib.Core.Path.{_≡_}
+use mathlib.Core.Bool.{Bool}
+use mathlib.Core.List.{List, _∷_, _++_}
+use Prim.Native.Nat.{ℕ}
+use Rattle.rules.specs.declared.Common.{Common}
+use Rattle.rules.specs.declared.Standing.{Standing}
+use Rattle.rules.specs.Calls.{Model, Call, Step, standingOf, commonOf, freeOf, new}
+use Rattle.promises.specs.Ledger.{Turn, Steps, turns, tableAfter, Ledger, opening, notedAll, NoOverruns}
+
+-- What lookup tells: of each ticket, of each two, and of the pool the units free.
+pub record Told : Type 0 where
+  pub one : ℕ → Standing
+  pub two : ℕ → ℕ → Common
+  pub free : ℕ
+
+-- What it tells of a table.
+abbrev pub tells : Model → Told
+tells m = record { one = λ k. standingOf k (m .pending); two = λ j k. commonOf j k (m .pending); free = freeOf m }
+
+-- What a run begins with: a table, and what the call that gave it tells.
+pub record Start : Type 0 where
+  pub table : Model
+  pub ledger : Ledger
+
+-- "The list begins with the table that the call for a new one gave, whatever the rig", and whatever the pool; client 1 alone is declared at
+-- first, or nobody.
+abbrev pub newly : ℕ → ℕ → Bool → Start
+newly rig pool alone =
+    let s : Step = new rig pool alone in
+    record { table = s .model; ledger = opening pool alone (s .answer) }
+
+pub data Begins : Start → Type 0 where
+  by-new : (rig pool : ℕ) (alone : Bool) → Begins (newly rig pool alone)
+
+-- After any number of the calls: Q of whether nobody overran so far, of the ledger, and of what lookups tell.
+abbrev pub AtAnyTime : Steps → Start → List Call → (Type 0 → Ledger → Told → Type 0) → Type 0
+AtAnyTime step s calls Q =
+    (before rest : List Call) → before ++ rest ≡ calls
+    → (let ts = turns step (s .table) before in
+    Q (NoOverruns (s .ledger) ts) (notedAll (s .ledger) ts) (tells (tableAfter step (s .table) before)))
+
+-- Of each call: Q of the same before it, of the call with its answer, and of what lookups tell before and after it.
+abbrev pub AtAnyCall : Steps → Start → List Call → (Type 0 → Ledger → Turn → Told → Told → Type 0) → Type 0
+AtAnyCall step s calls Q =
+    (before : List Call) (c : Call) (rest : List Call) → before ++ (c ∷ rest) ≡ calls
+    → (let ts = turns step (s .table) before in
+    let n = tableAfter step (s .table) before in
+    Q (NoOverruns (s .ledger) ts) (notedAll (s .ledger) ts) (record { call = c; answer = step n c .answer }) (tells n) (tells (step n c .model)))

@@ -1,0 +1,118 @@
+-- Demand 3 holds of the code: a run's answers and tables are those of the rules.
+use mathlib.Core.Path.{_≡_, refl, sym, _∙_, ap, subst}
+use mathlib.Core.List.{List, _∷_}
+use Prim.Native.Nat.{ℕ}
+use Rattle.rules.specs.declared.Table.{Table}
+use Rattle.rules.specs.Calls.{Model, Call, lookup, common, free, Answer, Step, step, standingOf, commonOf, freeOf, new}
+use Rattle.rules.specs.Tables.{model}
+use Rattle.promises.specs.Ledger.{Turn, Ledger, opening, turns, tableAfter}
+use Rattle.promises.specs.Runs.{Told, tells, Start, Begins, by-new as begins-new, AtAnyTime, AtAnyCall}
+use Rattle.promises.specs.Demand3.{Now, Next}
+use Rattle.promises.specs.PoolKept.{Kept}
+use Rattle.promises.specs.SharesKept.{SharesNow, SharesNext}
+use Rattle.promises.specs.EndsAwaited.{Awaited}
+use Rattle.promises.proofs.Demand3.{demand-3}
+use Rattle.promises.proofs.PoolKept.{pool-kept}
+use Rattle.promises.proofs.SharesKept.{shares-kept}
+use Rattle.promises.proofs.EndsAwaited.{ends-awaited}
+use Rattle.promises.specs.WholeCalls.{WholeCalls}
+use Rattle.promises.proofs.WholeCalls.{whole-calls-after}
+use Rattle.table.specs.declared.Outcome.{Outcome}
+use Rattle.table.specs.Outcomes.{outcome}
+use Rattle.table_runs.specs.Runs.{answered, looked, Made, by-outcome, by-lookup, by-common, by-free, Run, done, then, Looks, BeganAs, by-new, CodeAtAnyTime, CodeAtAnyCall, CodeDemand3, CodePoolKept, CodeEndsAwaited, CodeSharesKept, CodeWholeCalls}
+use Rattle.table.proofs.Promised.{outcome-model, outcome-grants}
+use Rattle.table.proofs.Tests.{Looking, of-one, of-two, of-pool, look-answer, look-idle, lookup-told, common-told, free-told}
+
+-- ── one answer ──
+answer-of : (r : Outcome) (s : Step) → r ≡ outcome s → answered r ≡ s .answer
+answer-of r s e =
+    let a = s .answer in
+    ap answered e
+    ∙ ap (λ (g : List ℕ). record { number = a .number; ticket = a .ticket; start = a .start; contention = a .contention; bound = a .bound; grants = g })
+    (outcome-grants (outcome s) s refl)
+
+looked-is : (m : Model) (c : Call) → Looking c → (n : ℕ) → n ≡ step m c .answer .number → looked n ≡ step m c .answer
+looked-is m c h n e = ap looked e ∙ look-answer m c h
+
+-- ── a run is the rules' run ──
+made-is : {t u : Table} {c : Call} {a : Answer} → Made t c a u → (a ≡ step (model t) c .answer) × (model u ≡ step (model t) c .model)
+made-is {t} (by-outcome c h r e) = (answer-of r (step (model t) c) e, outcome-model r (step (model t) c) e)
+made-is {t} (by-lookup k s e) = (looked-is (model t) (lookup k) (of-one k) _ (lookup-told (model t) k s e .1), sym (look-idle (model t) (lookup k) (of-one k)))
+made-is {t} (by-common j k s e) = (looked-is (model t) (common j k) (of-two j k) _ (common-told (model t) j k s e .1), sym (look-idle (model t) (common j k) (of-two j k)))
+made-is {t} (by-free n e) = (looked-is (model t) free of-pool 0 (free-told (model t)), sym (look-idle (model t) free of-pool))
+
+run-is : {t u : Table} {cs : List Call} {ts : List Turn} → Run t cs ts u → (ts ≡ turns step (model t) cs) × (model u ≡ tableAfter step (model t) cs)
+unfolding turns tableAfter
+run-is done = (refl, refl)
+run-is (then {t} {u} {w} {c} {a} {cs} {ts} one p) =
+    let ih = run-is p in
+    let m = made-is one in (
+      ap (λ (x : Answer). record { call = c; answer = x } ∷ ts) (m .0)
+          ∙ ap (λ (l : List Turn). record { call = c; answer = step (model t) c .answer } ∷ l) (ih .0 ∙ ap (λ (x : Model). turns step x cs) (m .1)),
+      ih .1 ∙ ap (λ (x : Model). tableAfter step x cs) (m .1),
+    )
+
+-- What lookup shows of a table is what the rules tell of its model.
+shows-is : (t : Table) (m : Model) (shows : Told) → model t ≡ m → Looks t shows → shows ≡ tells m
+shows-is t m shows e h = λ i. record { one = λ k. one k i; two = λ j k. two j k i; free = spare i }
+  where
+    one : (k : ℕ) → shows .one k ≡ standingOf k (m .pending)
+    one k = h .0 k ∙ ap (λ (x : Model). standingOf k (x .pending)) e
+
+    two : (j k : ℕ) → shows .two j k ≡ commonOf j k (m .pending)
+    two j k = h .1 j k ∙ ap (λ (x : Model). commonOf j k (x .pending)) e
+
+    spare : shows .free ≡ freeOf m
+    spare = h .2 ∙ ap freeOf e
+
+-- Such a start is one of those of `promises`.
+began-is : {t : Table} {s : Start} → BeganAs t s → Begins s × (model t ≡ s .table)
+began-is (by-new rig pool alone first q) = (
+  subst (λ (a : Answer). Begins (record { table = new rig pool alone .model; ledger = opening pool alone a })) (sym (answer-of first (new rig pool alone) q)) (begins-new rig pool alone),
+  outcome-model first (new rig pool alone) q,
+)
+
+-- What holds of every run of the rules holds of every run of the code.
+pub any-time-of-code : (calls : List Call) (Q : Type 0 → Ledger → Told → Type 0) → ((s : Start) → Begins s → AtAnyTime step s calls Q) → CodeAtAnyTime calls Q
+any-time-of-code calls Q h before rest e t s b ts u p shows k =
+    let i = began-is b in
+    let r = run-is p in
+    rw (r .0 ∙ ap (λ (m : Model). turns step m before) (i .1), shows-is u _ shows (r .1 ∙ ap (λ (m : Model). tableAfter step m before) (i .1)) k)
+    (h s (i .0) before rest e)
+
+pub any-call-of-code : (calls : List Call) (Q : Type 0 → Ledger → Turn → Told → Told → Type 0) → ((s : Start) → Begins s → AtAnyCall step s calls Q) → CodeAtAnyCall calls Q
+any-call-of-code calls Q h before c rest e t s b ts u p a w one old new k k′ =
+    let i = began-is b in
+    let r = run-is p in
+    let m : model u ≡ tableAfter step (s .table) before = r .1 ∙ ap (λ (x : Model). tableAfter step x before) (i .1) in
+    let d = made-is one in
+    rw (
+      r .0 ∙ ap (λ (x : Model). turns step x before) (i .1),
+      d .0 ∙ ap (λ (x : Model). step x c .answer) m,
+      shows-is u _ old m k,
+      shows-is w _ new (d .1 ∙ ap (λ (x : Model). step x c .model) m) k′,
+    )
+    (h s (i .0) before c rest e)
+
+pub code-demand-3 : (calls : List Call) → CodeDemand3 calls
+code-demand-3 calls = record {
+  at-any-time = any-time-of-code calls Now (λ s b. demand-3 s b calls .at-any-time);
+  at-any-call = any-call-of-code calls Next (λ s b. demand-3 s b calls .at-any-call);
+}
+
+pub code-pool-kept : (calls : List Call) → CodePoolKept calls
+code-pool-kept calls = any-time-of-code calls (λ _ l told. Kept l told) (λ s b. pool-kept s b calls)
+
+pub code-ends-awaited : (calls : List Call) → CodeEndsAwaited calls
+code-ends-awaited calls = any-time-of-code calls (λ _ l told. Awaited l told) (λ s b. ends-awaited s b calls)
+
+pub code-shares-kept : (calls : List Call) → CodeSharesKept calls
+code-shares-kept calls = record {
+  at-any-time = any-time-of-code calls (λ _ l _. SharesNow l) (λ s b. shares-kept s b calls .at-any-time);
+  at-any-call = any-call-of-code calls (λ _ l t _ _. SharesNext l t) (λ s b. shares-kept s b calls .at-any-call);
+}
+
+pub code-whole-calls : (calls : List Call) → CodeWholeCalls calls
+code-whole-calls calls t s b ts u p =
+    let i = began-is b in
+    subst WholeCalls (sym (run-is p .1 ∙ ap (λ (m : Model). tableAfter step m calls) (i .1))) (whole-calls-after s (i .0) calls)

@@ -1,0 +1,93 @@
+-- Demand 3 of the code: runs of the calls in which each call is known only by its promise.
+use mathlib.Core.Path.{_≡_}
+use mathlib.Core.Bool.{Bool, false}
+use mathlib.Core.List.{List, [], _∷_, _++_}
+use Prim.Native.Nat.{ℕ}
+use lib.ListN.{take}
+use Rattle.rules.specs.declared.Table.{Table}
+use Rattle.rules.specs.declared.Common.{Common}
+use Rattle.rules.specs.declared.Standing.{Standing}
+use Rattle.rules.specs.Calls.{Call, lookup, common, free, looks, Answer, step, standingOf, standingValues, commonOf, commonValues, freeOf, new}
+use Rattle.rules.specs.Tables.{model}
+use Rattle.promises.specs.Ledger.{Turn, Ledger, opening, notedAll, NoOverruns}
+use Rattle.promises.specs.Runs.{Told, Start}
+use Rattle.promises.specs.Demand3.{Now, Next}
+use Rattle.promises.specs.PoolKept.{Kept}
+use Rattle.promises.specs.SharesKept.{SharesNow, SharesNext}
+use Rattle.promises.specs.EndsAwaited.{Awaited}
+use Rattle.promises.specs.WholeCalls.{WholeCalls}
+use Rattle.table.specs.declared.Outcome.{Outcome}
+use Rattle.table.specs.Outcomes.{outcome}
+
+-- The answer in what a call handed back, and in what a lookup told.
+abbrev pub answered : Outcome → Answer
+answered r =
+    record {
+      number = r .number;
+      ticket = r .ticket;
+      start = r .start;
+      contention = r .contention;
+      bound = r .bound;
+      grants = take (r .granted) (r .grants);
+    }
+
+abbrev pub looked : ℕ → Answer
+looked n = record { number = n; ticket = 0; start = 0; contention = 0; bound = 0; grants = [] }
+
+-- A call made of table t, by kind: what the code answers, and the table it leaves. Every call that is no lookup promises an
+-- `outcome (step ..)`, lookup a `standingOf ..`, common a `commonOf ..`, free a `freeOf ..`.
+pub data Made (t : Table) : Call → Answer → Table → Type 0 where
+  by-outcome : (c : Call) → looks c ≡ false → (r : Outcome) → r ≡ outcome (step (model t) c) → Made t c (answered r) (r .table)
+  by-lookup : (k : ℕ) (s : Standing) → s ≡ standingOf k (model t .pending) → Made t (lookup k) (looked (standingValues s .number)) t
+  by-common : (j k : ℕ) (s : Common) → s ≡ commonOf j k (model t .pending) → Made t (common j k) (looked (commonValues s .number)) t
+  by-free : (n : ℕ) → n ≡ freeOf (model t) → Made t free (looked 0) t
+
+-- Calls made one after the other from table t, with their answers, and the table they left.
+pub data Run : Table → List Call → List Turn → Table → Type 0 where
+  done : {t : Table} → Run t [] [] t
+  then : {t u w : Table} {c : Call} {a : Answer} {cs : List Call} {ts : List Turn} → Made t c a u → Run u cs ts w
+      → Run t (c ∷ cs) (record { call = c; answer = a } ∷ ts) w
+
+-- What lookup, common and free answer, asked of table t.
+abbrev pub Looks : Table → Told → Type 0
+Looks t shows =
+    ((k : ℕ) → shows .one k ≡ standingOf k (model t .pending)) × ((j k : ℕ) → shows .two j k ≡ commonOf j k (model t .pending)) × (shows .free ≡ freeOf (model t))
+
+-- A table that a run may begin with, as the code handed it back: what `promises` calls its start.
+pub data BeganAs : Table → Start → Type 0 where
+  by-new : (rig pool : ℕ) (alone : Bool) (first : Outcome) → first ≡ outcome (new rig pool alone)
+      → BeganAs (first .table) (record { table = new rig pool alone .model; ledger = opening pool alone (answered first) })
+
+-- After any number of the calls, run by the code: Q as in `promises`, of the answers given and of what lookups show.
+abbrev pub CodeAtAnyTime : List Call → (Type 0 → Ledger → Told → Type 0) → Type 0
+CodeAtAnyTime calls Q =
+    (before rest : List Call) → before ++ rest ≡ calls
+    → (t : Table) (s : Start) → BeganAs t s → (ts : List Turn) (u : Table) → Run t before ts u → (shows : Told) → Looks u shows
+    → Q (NoOverruns (s .ledger) ts) (notedAll (s .ledger) ts) shows
+
+-- Of each call.
+abbrev pub CodeAtAnyCall : List Call → (Type 0 → Ledger → Turn → Told → Told → Type 0) → Type 0
+CodeAtAnyCall calls Q =
+    (before : List Call) (c : Call) (rest : List Call) → before ++ (c ∷ rest) ≡ calls
+    → (t : Table) (s : Start) → BeganAs t s → (ts : List Turn) (u : Table) → Run t before ts u
+    → (a : Answer) (w : Table) → Made u c a w → (old new : Told) → Looks u old → Looks w new
+    → Q (NoOverruns (s .ledger) ts) (notedAll (s .ledger) ts) (record { call = c; answer = a }) old new
+
+-- What `promises` says of the rules, of the answers given and what lookup shows.
+pub record CodeDemand3 (calls : List Call) : Type 0 where
+  pub at-any-time : CodeAtAnyTime calls Now
+  pub at-any-call : CodeAtAnyCall calls Next
+
+abbrev pub CodePoolKept : List Call → Type 0
+CodePoolKept calls = CodeAtAnyTime calls (λ _ l told. Kept l told)
+
+abbrev pub CodeEndsAwaited : List Call → Type 0
+CodeEndsAwaited calls = CodeAtAnyTime calls (λ _ l told. Awaited l told)
+
+pub record CodeSharesKept (calls : List Call) : Type 0 where
+  pub at-any-time : CodeAtAnyTime calls (λ _ l _. SharesNow l)
+  pub at-any-call : CodeAtAnyCall calls (λ _ l t _ _. SharesNext l t)
+
+-- What `promises` says of whole calls, of every table that such a list of calls left.
+abbrev pub CodeWholeCalls : List Call → Type 0
+CodeWholeCalls calls = (t : Table) (s : Start) → BeganAs t s → (ts : List Turn) (u : Table) → Run t calls ts u → WholeCalls (model u)
