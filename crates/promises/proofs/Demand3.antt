@@ -26,7 +26,7 @@ use Rattle.rules.specs.declared.Common.the-variants.{Unknown}
 use Rattle.rules.specs.declared.Standing.the-variants.{Waits, Holds}
 use Rattle.rules.specs.Tests.{named}
 use Rattle.rules.specs.declared.Reply.{Reply}
-use Rattle.rules.specs.Calls.{Model, settingOf, plain, placing, ruled, Call, claim, release, withdraw, clock, lookup, common, free, declare, setGrace, timed, looks, declared, withGrace, Answer, Step, unchanged, advance, finish, join, remove, fresh, admit, step, standing, standingOf, between, commonOf, blank, new}
+use Rattle.rules.specs.Calls.{Model, withGrace, ruled, settingOf, Call, timed, looks, sets, claim, release, withdraw, clock, declare, setGrace, isTimed, isLook, Answer, Step, unchanged, advance, plain, finish, join, remove, fresh, placing, admit, declared, step, blank, new, standing, standingOf, between, commonOf}
 use Rattle.rules.specs.Plans.{Ascending, NoOverrunAt}
 use Rattle.rules.specs.Invariants.{IsSpaced, Invariant, IsBooked}
 use Rattle.rules.proofs.Bools.{split, by-test, clash, and-i}
@@ -324,9 +324,9 @@ Told P l m c s =
     Next P l t (tells m) (tells (s .model)) × Story (P × NoOverrun l t) (noted l t) (s .model)
 
 module _ (P : Type 0) (l : Ledger) (m : Model) (s : Story P l m) where
-  idle-refused : (c : Call) (n : ℕ) → Idle c n → timed c && eqb n 0 ≡ false
+  idle-refused : (c : Call) (n : ℕ) → Idle c n → isTimed c && eqb n 0 ≡ false
   idle-refused c n (inl e) = rw (looks-untimed c e)
-  idle-refused c n (inr e) = rw (ne-eqb n 0 e) (go (timed c))
+  idle-refused c n (inr e) = rw (ne-eqb n 0 e) (go (isTimed c))
     where
       go : (b : Bool) → b && false ≡ false
       go true = refl
@@ -336,20 +336,14 @@ module _ (P : Type 0) (l : Ledger) (m : Model) (s : Story P l m) where
   still c d ci di e o = omega (arith, ap at (ascending-same (m .pending) (s .inv .spaced .ascending) d c di ci e))
 
   -- Nobody is declared by it, and no grace is set.
-  looks-kept : (c : Call) → looks c ≡ true → (sharesBy c (l .shares) ≡ l .shares) × (graceBy c (l .grace) ≡ l .grace)
+  looks-kept : (c : Call) → isLook c ≡ true → (sharesBy c (l .shares) ≡ l .shares) × (graceBy c (l .grace) ≡ l .grace)
   unfolding sharesBy graceBy
-  looks-kept (claim t ask) e = (refl, refl)
-  looks-kept (release t k) e = (refl, refl)
-  looks-kept (withdraw t k) e = (refl, refl)
-  looks-kept (clock t) e = (refl, refl)
-  looks-kept (lookup k) e = (refl, refl)
-  looks-kept (common j k) e = (refl, refl)
-  looks-kept free e = (refl, refl)
-  looks-kept (declare c r k) e = clash e refl
-  looks-kept (setGrace n) e = clash e refl
+  looks-kept (timed t x) e = (refl, refl)
+  looks-kept (looks q) e = (refl, refl)
+  looks-kept (sets p) e = clash e refl
 
   -- What a call would set to x stays y where the call is refused, or is a lookup, which sets nothing.
-  idle-kept : {A : Type 0} (c : Call) (n : ℕ) (x y : A) → Idle c n → (looks c ≡ true → x ≡ y) → cond (eqb n 0) x y ≡ y
+  idle-kept : {A : Type 0} (c : Call) (n : ℕ) (x y : A) → Idle c n → (isLook c ≡ true → x ≡ y) → cond (eqb n 0) x y ≡ y
   idle-kept c n x y (inl e) h = by-test (eqb n 0) (λ q. rw q (h e)) (λ q. rw q)
   idle-kept c n x y (inr e) h = rw (ne-eqb n 0 e)
 
@@ -357,8 +351,8 @@ module _ (P : Type 0) (l : Ledger) (m : Model) (s : Story P l m) where
   told-idle c n i =
       let z = idle-refused c n i in (
         record {
-          ticket-next = λ t ask q e. clash (and-i (timed c) (eqb n 0) (ap timed q) (eq-eqb n 0 e)) z;
-          start-bounded = λ t ask q e _. clash (and-i (timed c) (eqb n 0) (ap timed q) (eq-eqb n 0 e)) z;
+          ticket-next = λ t ask q e. clash (and-i (isTimed c) (eqb n 0) (ap isTimed q) (eq-eqb n 0 e)) z;
+          start-bounded = λ t ask q e _. clash (and-i (isTimed c) (eqb n 0) (ap isTimed q) (eq-eqb n 0 e)) z;
           never-raised = λ p h k x w. rw z (unraised P (m .pending) (m .pending) (l .claims) (s .match) still k x w);
         },
         record {
@@ -478,12 +472,12 @@ module _ (P : Type 0) (l : Ledger) (m : Model) (s : Story P l m) where
       (next a (by-clock t) (r .0), r .1)
 
   -- A declaration and a grace change no claim.
-  prepared : (c : Call) (q : Model) → timed c ≡ false → q .pending ≡ m .pending → Next P l (record { call = c; answer = unchanged q 0 .answer }) (tells m) (tells q)
+  prepared : (c : Call) (q : Model) → isTimed c ≡ false → q .pending ≡ m .pending → Next P l (record { call = c; answer = unchanged q 0 .answer }) (tells m) (tells q)
   prepared c q h e =
-      let z : timed c && eqb 0 0 ≡ false = rw h in
+      let z : isTimed c && eqb 0 0 ≡ false = rw h in
       record {
-        ticket-next = λ u ask k _. clash (ap timed k) h;
-        start-bounded = λ u ask k _ _. clash (ap timed k) h;
+        ticket-next = λ u ask k _. clash (ap isTimed k) h;
+        start-bounded = λ u ask k _ _. clash (ap isTimed k) h;
         never-raised = λ p n k x w. rw (z, e) (unraised P (m .pending) (m .pending) (l .claims) (s .match) still k x w);
       }
 

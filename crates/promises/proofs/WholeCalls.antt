@@ -18,7 +18,7 @@ use Rattle.rules.specs.Placing.{place}
 use Rattle.rules.specs.Plans.{Sane, Spare}
 use Rattle.rules.specs.Granting.{goes, granted, grant}
 use Rattle.rules.specs.declared.Reply.{Reply}
-use Rattle.rules.specs.Calls.{Model, settingOf, plain, ruled, Call, claim, release, withdraw, clock, lookup, common, free, declare, setGrace, timed, clockOf, Step, advance, finish, join, fresh, admit, step}
+use Rattle.rules.specs.Calls.{Model, ruled, settingOf, claims, releases, withdraws, onlyClock, Call, timed, looks, sets, claim, isTimed, clockOf, Step, advance, plain, finish, join, fresh, admit, step}
 use Rattle.rules.specs.Invariants.{IsSpaced, IsPacked, Still, Invariant}
 use Rattle.rules.proofs.Bools.{clash}
 use Rattle.rules.proofs.Lists.{here, map-e}
@@ -198,13 +198,13 @@ module _ (m : Model) (i : Invariant m) (t : ℕ) (ask : Request) (a : Admissible
     others-same = last-is ∙ ap (λ (s : Step). s .model .pending ++ (w ∷ [])) (sym (clock-accepted m t (a .clocked)));
   }
 
-refused : {A : Type 0} (c : Call) (n : ℕ) → Idle c n → timed c ≡ true → n ≡ 0 → A
+refused : {A : Type 0} (c : Call) (n : ℕ) → Idle c n → isTimed c ≡ true → n ≡ 0 → A
 refused c n (inl e) p q = clash p (looks-untimed c e)
 refused c n (inr e) p q = absurd (e q)
 
-pub of-timed : (m : Model) → Invariant m → (c : Call) → timed c ≡ true → step m c .answer .number ≡ 0 → TimedCall m c (step m c)
+pub of-timed : (m : Model) → Invariant m → (c : Call) → isTimed c ≡ true → step m c .answer .number ≡ 0 → TimedCall m c (step m c)
 of-timed m i =
-    step-cases (λ c s. timed c ≡ true → s .answer .number ≡ 0 → TimedCall m c s) m (λ c n z p q. refused c n z p q)
+    step-cases (λ c s. isTimed c ≡ true → s .answer .number ≡ 0 → TimedCall m c s) m (λ c n z p q. refused c n z p q)
     (λ t ask a p q. claim-timed m i t ask a)
     (λ c t k q o v p e. timed-finish m q c t (plain k t) i (leaves-spaced v (advance-packed m t i (o .later))) (leaves-clock v .0) (leaves-clock v .1)
     (λ x j. inl (leaves-old v x j)))
@@ -212,20 +212,17 @@ of-timed m i =
 
 -- Of a claim; nothing of the other calls.
 OfClaim : Model → Call → Step → Type 0
-OfClaim m (claim t ask) s = ClaimCall m t ask s
-OfClaim m (release t k) s = Unit {0}
-OfClaim m (withdraw t k) s = Unit {0}
-OfClaim m (clock t) s = Unit {0}
-OfClaim m (lookup k) s = Unit {0}
-OfClaim m (common j k) s = Unit {0}
-OfClaim m free s = Unit {0}
-OfClaim m (declare c r l) s = Unit {0}
-OfClaim m (setGrace n) s = Unit {0}
+OfClaim m (timed t (claims ask)) s = ClaimCall m t ask s
+OfClaim m (timed t (releases k)) s = Unit {0}
+OfClaim m (timed t (withdraws k)) s = Unit {0}
+OfClaim m (timed t onlyClock) s = Unit {0}
+OfClaim m (looks q) s = Unit {0}
+OfClaim m (sets p) s = Unit {0}
 
 pub of-claim : (m : Model) → Invariant m → (t : ℕ) (ask : Request) → step m (claim t ask) .answer .number ≡ 0 → ClaimCall m t ask (step m (claim t ask))
 unfolding OfClaim
 of-claim m i t ask =
-    step-cases (λ c s. timed c ≡ true → s .answer .number ≡ 0 → OfClaim m c s) m (λ c k z p q. refused c k z p q)
+    step-cases (λ c s. isTimed c ≡ true → s .answer .number ≡ 0 → OfClaim m c s) m (λ c k z p q. refused c k z p q)
     (λ t ask a p q. claim-whole m i t ask a) (λ c t k q o v p e. none v) (λ c r l d p e. tt) (λ n d p e. tt) (claim t ask) refl
   where
     none : {c : Call} {t k : ℕ} {q : Model} → Leaves m c t k q → OfClaim m c (finish q (plain k t))

@@ -13,7 +13,7 @@ use Rattle.rules.specs.declared.Common.{Common}
 use Rattle.rules.specs.declared.Common.the-variants.{Unknown}
 use Rattle.rules.specs.declared.Standing.{Standing}
 use Rattle.rules.specs.declared.Standing.the-variants.{NotPending, Waits, Holds}
-use Rattle.rules.specs.Calls.{Call, claim, shared, step}
+use Rattle.rules.specs.Calls.{atTicket, atTwo, Call, claim, step, shared}
 use Rattle.promises.specs.Ledger.{Turn, Steps, Entry, promised, Ledger, noted, NoOverrun, ruledBy, boundOn}
 use Rattle.promises.specs.Runs.{Told, Start, AtAnyTime, AtAnyCall}
 
@@ -37,8 +37,8 @@ TicketsAscend l = Ascends (λ (e : Entry). e .ticket) l
 pub record Now (P : Type 0) (l : Ledger) (told : Told) : Type 0 where
   -- A ticket stands once.
   pub tickets-ascend : TicketsAscend (l .claims)
-  pub lookup-agrees : (k : ℕ) → Agrees (l .claims) k (told .one k)
-  pub common-agrees : (j k : ℕ) → AgreesOnTwo (l .claims) j k (told .two j k)
+  pub lookup-agrees : (k : ℕ) → Agrees (l .claims) k (told (atTicket k))
+  pub common-agrees : (j k : ℕ) → AgreesOnTwo (l .claims) j k (told (atTwo j k))
   -- Holders share no group.
   pub holders-apart : (e f : Entry) → e ∈ l .claims → f ∈ l .claims → e .ticket ≢ f .ticket → e .held ≡ true → f .held ≡ true → shares (e .asked .groups) (f .asked .groups) ≡ false
   -- Nobody waits past the first planned start.
@@ -52,8 +52,8 @@ pub record Next (P : Type 0) (l : Ledger) (t : Turn) (before after : Told) : Typ
   pub start-bounded : (u : ℕ) (ask : Request) → t .call ≡ claim u ask → t .answer .number ≡ 0 → ask .units ≡ 0 → t .answer .start ≤ boundOn (ruledBy l u) (l .claims) ask
   -- No start is raised. "A call raises it if the claim waits before the call and after it waits with a greater start, or is on with a
   -- grant greater than that start."
-  pub never-raised : P → NoOverrun l t → (k s : ℕ) → before .one k ≡ Waits s
-      → ((r : ℕ) → after .one k ≡ Waits r → r ≤ s)
+  pub never-raised : P → NoOverrun l t → (k s : ℕ) → before (atTicket k) ≡ Waits s
+      → ((r : ℕ) → after (atTicket k) ≡ Waits r → r ≤ s)
       × ((e : Entry) → e ∈ noted l t .claims → e .ticket ≡ k → e .held ≡ true → e .grant ≤ s)
 
 -- Of a run from a start, by `step`.

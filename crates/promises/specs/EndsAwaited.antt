@@ -9,7 +9,7 @@ use Rattle.groups.specs.Groups.{shares}
 use Rattle.rules.specs.declared.Standing.the-variants.{Waits}
 use Rattle.rules.specs.Lists.{_∈_}
 use Rattle.rules.specs.Claims.{heldUntil}
-use Rattle.rules.specs.Calls.{Call, step}
+use Rattle.rules.specs.Calls.{atTicket, Call, step}
 use Rattle.promises.specs.Ledger.{Steps, Entry, promised, Ledger, ruledBy}
 use Rattle.promises.specs.Runs.{Told, Start, AtAnyTime}
 
@@ -22,7 +22,7 @@ endIn l e = heldUntil (ruledBy l (l .clock)) (promised e)
 abbrev pub Awaited : Ledger → Told → Type 0
 Awaited l told =
     (e f : Entry) → e ∈ l .claims → f ∈ l .claims → e .held ≡ true → shares (e .asked .groups) (f .asked .groups) ≡ true
-    → (s : ℕ) → told .one (f .ticket) ≡ Waits s → endIn l e ≤ s
+    → (s : ℕ) → told (atTicket (f .ticket)) ≡ Waits s → endIn l e ≤ s
 
 abbrev pub EndsAwaitedOf : Steps → Start → List Call → Type 0
 EndsAwaitedOf step s calls = AtAnyTime step s calls (λ _ l told. Awaited l told)

@@ -13,7 +13,7 @@ use Rattle.rules.specs.declared.Setting.{Setting}
 use Rattle.rules.specs.declared.Share.{Share}
 use Rattle.rules.specs.Shares.{share, firstShares, withShare}
 use Rattle.rules.specs.Claims.{heldUntil}
-use Rattle.rules.specs.Calls.{Model, Call, claim, release, withdraw, clock, lookup, common, free, declare, setGrace, timed, clockOf, Answer, Step}
+use Rattle.rules.specs.Calls.{Model, claims, releases, withdraws, onlyClock, clientShare, rigGrace, Call, timed, looks, sets, isTimed, clockOf, Answer, Step}
 
 -- A call with its answer.
 pub record Turn : Type 0 where
@@ -36,7 +36,7 @@ tableAfter step m (c ∷ cs) = tableAfter step (step m c .model) cs
 
 -- An accepted timed call.
 abbrev pub accepted : Turn → Bool
-accepted t = timed (t .call) && eqb (t .answer .number) 0
+accepted t = isTimed (t .call) && eqb (t .answer .number) 0
 
 -- A pending claim. "Its first planned start is the start which that issuing call answers." Held: "on, or held, and a holder"; its grant
 -- counts from then on, and "its promised end [is] grant + length".
@@ -67,54 +67,38 @@ opening k alone a = record { clock = 0; pool = cond (eqb (a .number) 0) k 0; iss
 
 -- "A claim is pending from the accepted call that issued its ticket": what an accepted call issued.
 unfoldable pub issues : Call → Answer → List Entry
-issues (claim t ask) a = record { ticket = a .ticket; asked = ask; first = a .start; held = false; grant = 0 } ∷ []
-issues (release t k) a = []
-issues (withdraw t k) a = []
-issues (clock t) a = []
-issues (lookup k) a = []
-issues (common j k) a = []
-issues free a = []
-issues (declare c r l) a = []
-issues (setGrace n) a = []
+issues (timed t (claims ask)) a = record { ticket = a .ticket; asked = ask; first = a .start; held = false; grant = 0 } ∷ []
+issues (timed t (releases k)) a = []
+issues (timed t (withdraws k)) a = []
+issues (timed t onlyClock) a = []
+issues (looks q) a = []
+issues (sets p) a = []
 
 -- "until an accepted release or withdrawal takes it away": what an accepted call leaves of the pending claims.
 abbrev pub without : ℕ → List Entry → List Entry
 without k l = keep (λ e. not (eqb (e .ticket) k)) l
 
 unfoldable pub stay : Call → List Entry → List Entry
-stay (claim t ask) l = l
-stay (release t k) l = without k l
-stay (withdraw t k) l = without k l
-stay (clock t) l = l
-stay (lookup k) l = l
-stay (common j k) l = l
-stay free l = l
-stay (declare c r l) l′ = l′
-stay (setGrace n) l = l
+stay (timed t (claims ask)) l = l
+stay (timed t (releases k)) l = without k l
+stay (timed t (withdraws k)) l = without k l
+stay (timed t onlyClock) l = l
+stay (looks q) l = l
+stay (sets p) l = l
 
 -- "A desk has a guarantee and a limit, declared before the first claim": the shares after an accepted call (document 02, P4).
 unfoldable pub sharesBy : Call → List Share → List Share
-sharesBy (claim t ask) ss = ss
-sharesBy (release t k) ss = ss
-sharesBy (withdraw t k) ss = ss
-sharesBy (clock t) ss = ss
-sharesBy (lookup k) ss = ss
-sharesBy (common j k) ss = ss
-sharesBy free ss = ss
-sharesBy (declare c r l) ss = withShare ss c (share r l)
-sharesBy (setGrace n) ss = ss
+sharesBy (timed t x) ss = ss
+sharesBy (looks q) ss = ss
+sharesBy (sets (clientShare c r l)) ss = withShare ss c (share r l)
+sharesBy (sets (rigGrace n)) ss = ss
 
 -- "The rig has a grace .. set before the first claim": the grace after an accepted call (document 02, P6).
 unfoldable pub graceBy : Call → ℕ → ℕ
-graceBy (claim t ask) g = g
-graceBy (release t k) g = g
-graceBy (withdraw t k) g = g
-graceBy (clock t) g = g
-graceBy (lookup k) g = g
-graceBy (common j k) g = g
-graceBy free g = g
-graceBy (declare c r l) g = g
-graceBy (setGrace n) g = n
+graceBy (timed t x) g = g
+graceBy (looks q) g = g
+graceBy (sets (clientShare c r l)) g = g
+graceBy (sets (rigGrace n)) g = n
 
 -- "from the call whose answer names its ticket as granted, that call included .. Its grant is that call's clock"
 abbrev pub hold : Entry → ℕ → Entry

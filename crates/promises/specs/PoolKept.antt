@@ -6,7 +6,7 @@ use mathlib.Core.Bool.{cond}
 use mathlib.Core.List.{List}
 use Prim.Native.Nat.{ℕ, _+_, _≤_}
 use Rattle.rules.specs.Lists.{sum}
-use Rattle.rules.specs.Calls.{Call, step}
+use Rattle.rules.specs.Calls.{atPool, Call, step}
 use Rattle.promises.specs.Ledger.{Steps, Entry, Ledger}
 use Rattle.promises.specs.Runs.{Told, Start, AtAnyTime}
 
@@ -16,7 +16,7 @@ unitsHeld l = sum (λ e. cond (e .held) (e .asked .units) 0) l
 
 pub record Kept (l : Ledger) (told : Told) : Type 0 where
   pub never-more : unitsHeld (l .claims) ≤ l .pool
-  pub free-and-held : told .free + unitsHeld (l .claims) ≡ l .pool
+  pub free-and-held : told atPool + unitsHeld (l .claims) ≡ l .pool
 
 abbrev pub PoolKeptOf : Steps → Start → List Call → Type 0
 PoolKeptOf step s calls = AtAnyTime step s calls (λ _ l told. Kept l told)

@@ -5,18 +5,23 @@ use mathlib.Core.List.{List, _∷_, _++_}
 use Prim.Native.Nat.{ℕ}
 use Rattle.rules.specs.declared.Common.{Common}
 use Rattle.rules.specs.declared.Standing.{Standing}
-use Rattle.rules.specs.Calls.{Model, Call, Step, standingOf, commonOf, freeOf, new}
+use Rattle.rules.specs.Calls.{Model, Look, atTicket, atTwo, atPool, Call, Step, new, standingOf, commonOf, freeOf}
 use Rattle.promises.specs.Ledger.{Turn, Steps, turns, tableAfter, Ledger, opening, notedAll, NoOverruns}
 
--- What lookup tells: of each ticket, of each two, and of the pool the units free.
-pub record Told : Type 0 where
-  pub one : ℕ → Standing
-  pub two : ℕ → ℕ → Common
-  pub free : ℕ
+-- What a lookup tells.
+abbrev pub TellsOf : Look → Type 0
+TellsOf (atTicket k) = Standing
+TellsOf (atTwo j k) = Common
+TellsOf atPool = ℕ
+
+abbrev pub Told : Type 0
+Told = (q : Look) → TellsOf q
 
 -- What it tells of a table.
-abbrev pub tells : Model → Told
-tells m = record { one = λ k. standingOf k (m .pending); two = λ j k. commonOf j k (m .pending); free = freeOf m }
+abbrev pub tells : Model → (q : Look) → TellsOf q
+tells m (atTicket k) = standingOf k (m .pending)
+tells m (atTwo j k) = commonOf j k (m .pending)
+tells m atPool = freeOf m
 
 -- What a run begins with: a table, and what the call that gave it tells.
 pub record Start : Type 0 where

@@ -14,7 +14,7 @@ use Rattle.rules.specs.Claims.{on, at, withPhase, rival, endOf}
 use Rattle.rules.specs.Order.{precedes}
 use Rattle.rules.specs.Packing.{Packs}
 use Rattle.rules.specs.Plans.{Spare}
-use Rattle.rules.specs.Calls.{Model, settingOf, ruled, Call, claim, clock, timed, clockOf, Step, advance, step}
+use Rattle.rules.specs.Calls.{Model, ruled, settingOf, Call, claim, clock, isTimed, clockOf, Step, advance, step}
 
 -- The claim c of the table m is the claim d of the table n: tickets tell.
 pub record Becomes (m n : Model) (c d : Claim) : Type 0 where
@@ -63,5 +63,5 @@ pub record ClaimCall (m : Model) (t : ℕ) (ask : Request) (s : Step) : Type 0 w
   pub others-same : s .model .pending ≡ step m (clock t) .model .pending ++ (new ∷ [])
 
 pub record WholeCalls (m : Model) : Type 0 where
-  pub of-timed : (c : Call) → timed c ≡ true → step m c .answer .number ≡ 0 → TimedCall m c (step m c)
+  pub of-timed : (c : Call) → isTimed c ≡ true → step m c .answer .number ≡ 0 → TimedCall m c (step m c)
   pub of-claim : (t : ℕ) (ask : Request) → step m (claim t ask) .answer .number ≡ 0 → ClaimCall m t ask (step m (claim t ask))

@@ -6,7 +6,7 @@ use Prim.Native.Nat.{ℕ}
 use lib.Dec.{eqb}
 use Rattle.rules.specs.declared.Phase.the-variants.{Waiting}
 use Rattle.rules.specs.Claims.{at, withPhase}
-use Rattle.rules.specs.Calls.{asking, Model, withPending, withGrace, Call, clock, setGrace, Answer, Step, step}
+use Rattle.rules.specs.Calls.{Model, withPending, withGrace, asking, claims, Call, timed, clock, setGrace, Answer, Step, step}
 use Rattle.promises.specs.Ledger.{Steps}
 use Rattle.promises.specs.Runs.{newly}
 use Rattle.promises.specs.Demand3.{Demand3Of}
@@ -14,7 +14,7 @@ use Rattle.promises.specs.EndsAwaited.{EndsAwaitedOf}
 
 -- A claim at a clock, of groups (hex) and a length.
 abbrev pub claim : ℕ → ℕ → ℕ → Call
-claim t g n = Call.claim t (asking g n)
+claim t g n = timed t (claims (asking g n))
 
 -- Demand 3 does not hold of these steps, this rig without a pool, client 1 alone, and these calls.
 abbrev pub Refused : Steps → ℕ → List Call → Type 0

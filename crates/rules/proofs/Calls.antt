@@ -23,7 +23,7 @@ use Rattle.rules.specs.Placing.{place}
 use Rattle.rules.specs.Granting.{granted, grant}
 use Rattle.rules.specs.Tests.{Test, firstOf, late, backward, stranger, noClient, nothingAsked, offRig, spots, badLength, begun, overbooked, badGrace, ticketless, named}
 use Rattle.rules.specs.declared.Reply.{Reply}
-use Rattle.rules.specs.Calls.{Model, withGrace, settingOf, fullTo, overOf, ruled, Call, claim, release, withdraw, clock, lookup, common, free, declare, setGrace, timed, clockOf, looks, declared, Step, tests, unchanged, advance, plain, finish, join, remove, fresh, admit, act, unless, step, blank, new, after}
+use Rattle.rules.specs.Calls.{Model, withGrace, ruled, settingOf, claims, releases, withdraws, onlyClock, clientShare, rigGrace, Call, timed, looks, sets, claim, release, withdraw, clock, declare, setGrace, isTimed, clockOf, isLook, Step, fullTo, overOf, tests, unchanged, advance, plain, finish, join, remove, fresh, admit, declared, act, unless, step, blank, new, after}
 use Rattle.rules.specs.Plans.{Fits, Sane}
 use Rattle.rules.specs.Invariants.{Settled, IsSpaced, IsPacked, Invariant}
 use Rattle.rules.proofs.Bools.{by-test, or-fl, or-fr}
@@ -118,15 +118,12 @@ settable m n e =
 -- ── the number of an answer is that of the call's first test that fails ──
 accepted-number : (m : Model) (c : Call) → act m c .answer .number ≡ 0
 unfolding act admit finish
-accepted-number m (claim t ask) = refl
-accepted-number m (release t k) = refl
-accepted-number m (withdraw t k) = refl
-accepted-number m (clock t) = refl
-accepted-number m (lookup k) = refl
-accepted-number m (common j k) = refl
-accepted-number m free = refl
-accepted-number m (declare c r l) = refl
-accepted-number m (setGrace n) = refl
+accepted-number m (timed t (claims ask)) = refl
+accepted-number m (timed t (releases k)) = refl
+accepted-number m (timed t (withdraws k)) = refl
+accepted-number m (timed t onlyClock) = refl
+accepted-number m (looks q) = refl
+accepted-number m (sets p) = refl
 
 pub step-number : (m : Model) (c : Call) → step m c .answer .number ≡ firstOf (tests m c)
 unfolding step
@@ -256,19 +253,13 @@ admit-grace m t ask = refl
 -- ── the cases of a call ──
 -- A call that changes nothing: a lookup, or refused.
 abbrev pub Idle : Call → ℕ → Type 0
-Idle c n = (looks c ≡ true) ⊎ (n ≢ 0)
+Idle c n = (isLook c ≡ true) ⊎ (n ≢ 0)
 
 -- A lookup is no timed call.
-pub looks-untimed : (c : Call) → looks c ≡ true → timed c ≡ false
-looks-untimed (claim t ask) e = sym e
-looks-untimed (release t k) e = sym e
-looks-untimed (withdraw t k) e = sym e
-looks-untimed (clock t) e = sym e
-looks-untimed (lookup k) e = refl
-looks-untimed (common j k) e = refl
-looks-untimed free e = refl
-looks-untimed (declare c r l) e = refl
-looks-untimed (setGrace n) e = refl
+pub looks-untimed : (c : Call) → isLook c ≡ true → isTimed c ≡ false
+looks-untimed (timed t x) e = sym e
+looks-untimed (looks q) e = refl
+looks-untimed (sets p) e = refl
 
 by-tests : (P : Step → Type 0) (m : Model) (n : ℕ) (s : Step) → ((j : ℕ) → P (unchanged m (suc j))) → (n ≡ 0 → P s) → P (unless m n s)
 by-tests P m zero s h k = k refl
@@ -286,15 +277,13 @@ unfolding step act tests
 step-cases P m no! yes-claim yes-left yes-declare yes-grace c = by-tests (P c) m (firstOf (tests m c)) (act m c) (λ j. no! c (suc j) (inr (λ e. omega arith))) (accepted c)
   where
     accepted : (c : Call) → firstOf (tests m c) ≡ 0 → P c (act m c)
-    accepted (claim t ask) e = yes-claim t ask (admissible m t ask e)
-    accepted (release t k) e = yes-left (release t k) t k (remove (advance m t) k) (clock-passes m t _ e .0) (by-release t k)
-    accepted (withdraw t k) e = yes-left (withdraw t k) t k (remove (advance m t) k) (clock-passes m t _ e .0) (by-withdraw t k)
-    accepted (clock t) e = yes-left (clock t) t 0 (advance m t) (clock-passes m t _ e .0) (by-clock t)
-    accepted (lookup k) e = no! (lookup k) 0 (inl refl)
-    accepted (common j k) e = no! (common j k) 0 (inl refl)
-    accepted free e = no! free 0 (inl refl)
-    accepted (declare c r l) e = yes-declare c r l (declarable m c r l e)
-    accepted (setGrace n) e = yes-grace n (settable m n e)
+    accepted (timed t (claims ask)) e = yes-claim t ask (admissible m t ask e)
+    accepted (timed t (releases k)) e = yes-left (release t k) t k (remove (advance m t) k) (clock-passes m t _ e .0) (by-release t k)
+    accepted (timed t (withdraws k)) e = yes-left (withdraw t k) t k (remove (advance m t) k) (clock-passes m t _ e .0) (by-withdraw t k)
+    accepted (timed t onlyClock) e = yes-left (clock t) t 0 (advance m t) (clock-passes m t _ e .0) (by-clock t)
+    accepted (looks q) e = no! (looks q) 0 (inl refl)
+    accepted (sets (clientShare c r l)) e = yes-declare c r l (declarable m c r l e)
+    accepted (sets (rigGrace n)) e = yes-grace n (settable m n e)
 
 -- A clock call whose clock is neither late nor backward is accepted.
 pub clock-accepted : (m : Model) (t : ℕ) → Clocked m t → step m (clock t) ≡ finish (advance m t) (plain 0 t)

@@ -21,7 +21,7 @@ use Rattle.rules.specs.Granting.{trulyFree, goesWithin, goes, granted, g
 use Rattle.rules.specs.Tests.{firstOf}
 use Rattle.rules.specs.Plans.{Ascending, Sane, PromptAt, NoOverrunAt, Spare, Fits}
 use Rattle.rules.specs.Invariants.{IsSpaced, Invariant}
-use Rattle.rules.specs.Calls.{Model, withClock, withPending, withGrace, settingOf, ruled, Call, claim, release, withdraw, clock, lookup, common, free, declare, setGrace, timed, clockOf, Answer, Step, tests, advance, plain, granting, finish, join, remove, fresh, admit, unchanged, act, unless, step, blank, answers, after}
+use Rattle.rules.specs.Calls.{Model, withClock, withPending, withGrace, ruled, settingOf, claims, releases, withdraws, onlyClock, clientShare, rigGrace, Call, timed, looks, sets, setGrace, isTimed, clockOf, Answer, Step, tests, unchanged, advance, plain, granting, finish, join, remove, fresh, admit, act, unless, step, blank, after, answers}
 use Rattle.rules.specs.InTime.{NoOverrunsFrom, GraceIndifferent}
 use Rattle.rules.proofs.Bools.{by-test, clash}
 use Rattle.rules.proofs.Lists.{Each, keep-e, map-each, map-cong, keep-cong, snoc-each, sum-cong}
@@ -150,15 +150,12 @@ module _ (d : ℕ) where
 
   tests-alike : (m : Model) (c : Call) → tests (withGrace m d) c ≡ tests m c
   unfolding tests
-  tests-alike m (claim t ask) = refl
-  tests-alike m (release t j) = refl
-  tests-alike m (withdraw t j) = refl
-  tests-alike m (clock t) = refl
-  tests-alike m (lookup j) = refl
-  tests-alike m (common j l) = refl
-  tests-alike m free = refl
-  tests-alike m (declare c r l) = refl
-  tests-alike m (setGrace n) = refl
+  tests-alike m (timed t (claims ask)) = refl
+  tests-alike m (timed t (releases j)) = refl
+  tests-alike m (timed t (withdraws j)) = refl
+  tests-alike m (timed t onlyClock) = refl
+  tests-alike m (looks q) = refl
+  tests-alike m (sets p) = refl
 
   -- A grace that is set makes the two tables one; every other call leaves them apart by the grace alone.
   abbrev Alike : Step → Step → Type 0
@@ -187,19 +184,17 @@ module _ (d : ℕ) where
         ap (λ (n : Model). admit n ask) (advance-alike m t i (a .clocked .later) p)
         ∙ admit-alike q ask (fresh-sane q ask (a .long) drawn spare) (join-spaced q ask (a .long) drawn spare (advance-packed m t i (a .clocked .later) .spaced)) (advance-prompt t p)
 
-    act-alike : (c : Call) → firstOf (tests m c) ≡ 0 → (timed c ≡ true → NoOverrunAt (clockOf c) (m .pending)) → Alike (act (withGrace m d) c) (act m c)
+    act-alike : (c : Call) → firstOf (tests m c) ≡ 0 → (isTimed c ≡ true → NoOverrunAt (clockOf c) (m .pending)) → Alike (act (withGrace m d) c) (act m c)
     unfolding act tests
-    act-alike (claim t ask) e p = inl (claim-alike t ask (admissible m t ask e) (p refl))
-    act-alike (release t j) e p = inl (leave-alike t j (clock-passes m t _ e .0 .later) (p refl))
-    act-alike (withdraw t j) e p = inl (leave-alike t j (clock-passes m t _ e .0 .later) (p refl))
-    act-alike (clock t) e p = inl (clock-alike t (clock-passes m t _ e .0 .later) (p refl))
-    act-alike (lookup j) e p = inl refl
-    act-alike (common j l) e p = inl refl
-    act-alike free e p = inl refl
-    act-alike (declare c r l) e p = inl refl
-    act-alike (setGrace n) e p = inr refl
+    act-alike (timed t (claims ask)) e p = inl (claim-alike t ask (admissible m t ask e) (p refl))
+    act-alike (timed t (releases j)) e p = inl (leave-alike t j (clock-passes m t _ e .0 .later) (p refl))
+    act-alike (timed t (withdraws j)) e p = inl (leave-alike t j (clock-passes m t _ e .0 .later) (p refl))
+    act-alike (timed t onlyClock) e p = inl (clock-alike t (clock-passes m t _ e .0 .later) (p refl))
+    act-alike (looks q) e p = inl refl
+    act-alike (sets (clientShare c r l)) e p = inl refl
+    act-alike (sets (rigGrace n)) e p = inr refl
 
-    step-alike : (c : Call) → (timed c ≡ true → step m c .answer .number ≡ 0 → NoOverrunAt (clockOf c) (m .pending)) → Alike (step (withGrace m d) c) (step m c)
+    step-alike : (c : Call) → (isTimed c ≡ true → step m c .answer .number ≡ 0 → NoOverrunAt (clockOf c) (m .pending)) → Alike (step (withGrace m d) c) (step m c)
     unfolding step
     step-alike c p = rw (tests-alike m c) (go (firstOf (tests m c)) refl)
       where

@@ -1,18 +1,22 @@
--- What lookup tells, by the pending claim of the ticket.
-use mathlib.Core.Path.{_≡_, refl, sym, ap}
+-- What lookup tells, by the pending claim of the ticket; and what a lookup answers as a call of a run.
+use mathlib.Core.Path.{_≡_, refl, sym, _∙_, ap}
 use mathlib.Core.Logic.{⊎-elim, _≢_}
-use mathlib.Core.Bool.{false}
+use mathlib.Core.Bool.{Bool, true, false, not, _||_, cond}
 use mathlib.Core.List.{List, [], _∷_, List·Memᴰ·cases-cons}
-use Prim.Native.Nat.{ℕ}
+use Prim.Native.Nat.{ℕ, zero, suc}
 use native.Mathlib.Omega.{arith}
 use lib.Dec.{eqb}
 use borrow.Author.Tests.{eqb-true, eqb-false, ne-eqb}
+use Rattle.groups.specs.declared.MaybeGroup.{MaybeGroup}
+use Rattle.groups.specs.declared.MaybeGroup.the-variants.{Group, NoGroup}
 use Rattle.rules.specs.declared.Claim.{Claim}
-use Rattle.rules.specs.Lists.{_∈_, keep}
-use Rattle.rules.specs.Claims.{on, at}
+use Rattle.rules.specs.Lists.{_∈_, any, keep}
+use Rattle.rules.specs.Claims.{on, at, conflicts}
+use Rattle.rules.specs.declared.Common.{Common}
+use Rattle.rules.specs.declared.Standing.{Standing}
 use Rattle.rules.specs.declared.Standing.the-variants.{NotPending, Waits}
-use Rattle.rules.specs.Tests.{named}
-use Rattle.rules.specs.Calls.{standing, standingOf}
+use Rattle.rules.specs.Tests.{firstOf, named}
+use Rattle.rules.specs.Calls.{Model, Look, atTicket, atTwo, atPool, looks, lookup, common, free, Step, tests, unchanged, act, unless, step, standingValues, standing, standingOf, commonValues, shared, between, commonOf}
 use Rattle.rules.specs.Plans.{Ascending}
 use Rattle.rules.proofs.Bools.{by-test}
 use Rattle.rules.proofs.Lists.{Each, here, there, none}
@@ -59,3 +63,66 @@ lookup-waits k s (c ∷ ps) h =
     by-test (named k c)
     (λ e. let r = standing-waits c s (rw e at h) in (c, here, eqb-true _ _ e, r .0, r .1))
     (λ e. let r = lookup-waits k s ps (rw e at h) in (r .0, there (r .1), r .2, r .3, r .4))
+
+-- ── what a lookup answers ──
+-- It changes nothing, and its answer has nothing but the number.
+look-step : (m : Model) (q : Look) → step m (looks q) ≡ unchanged m (firstOf (tests m (looks q)))
+unfolding step act
+look-step m q = idle (firstOf (tests m (looks q)))
+  where
+    idle : (n : ℕ) → unless m n (unchanged m 0) ≡ unchanged m n
+    idle zero = refl
+    idle (suc n) = refl
+
+pub look-idle : (m : Model) (q : Look) → step m (looks q) .model ≡ m
+look-idle m q = ap (λ (s : Step). s .model) (look-step m q)
+
+pub look-answer : (m : Model) (q : Look) → unchanged m (step m (looks q) .answer .number) .answer ≡ step m (looks q) .answer
+look-answer m q = rw (look-step m q)
+
+number-first : (k : ℕ) (ps : List Claim) → standingValues (standingOf k ps) .number ≡ cond (not (any (named k) ps)) 8 0
+unfolding any standingOf
+number-first k [] = refl
+number-first k (c ∷ ps) = by-test (named k c) (λ e. rw e (by-test (on c) (λ o. rw o) (λ o. rw o))) (λ e. rw e (number-first k ps))
+
+pub lookup-told : (m : Model) (k : ℕ) (s : Standing) → s ≡ standingOf k (m .pending)
+    → (s ≡ standingOf k (m .pending)) × (standingValues s .number ≡ step m (lookup k) .answer .number)
+unfolding tests firstOf
+lookup-told m k s e = (e, ap (λ (x : Standing). standingValues x .number) e ∙ number-first k (m .pending) ∙ sym (ap (λ (x : Step). x .answer .number) (look-step m (atTicket k))))
+
+-- A ticket is pending exactly where a claim has it.
+some : List Claim → Bool
+some [] = false
+some (c ∷ cs) = true
+
+any-keep : (k : ℕ) (ps : List Claim) → any (named k) ps ≡ some (keep (named k) ps)
+unfolding any keep some
+any-keep k [] = refl
+any-keep k (c ∷ ps) = go (named k c) (any-keep k ps)
+  where
+    go : (x : Bool) → any (named k) ps ≡ some (keep (named k) ps) → (x || any (named k) ps) ≡ some (cond x (c ∷ keep (named k) ps) (keep (named k) ps))
+    go true ih = refl
+    go false ih = ih
+
+between-number : (cs ds : List Claim) → commonValues (between cs ds) .number ≡ cond (not (some cs)) 8 (cond (not (some ds)) 8 0)
+unfolding some
+between-number [] ds = refl
+between-number (c ∷ cs) [] = refl
+between-number (c ∷ cs) (d ∷ ds) = go (conflicts c d)
+  where
+    go : (g : MaybeGroup) → commonValues (shared g) .number ≡ 0
+    go (Group g) = refl
+    go NoGroup = refl
+
+pub common-told : (m : Model) (j k : ℕ) (s : Common) → s ≡ commonOf j k (m .pending)
+    → (s ≡ commonOf j k (m .pending)) × (commonValues s .number ≡ step m (common j k) .answer .number)
+unfolding tests firstOf commonOf
+common-told m j k s e =
+    let n = between-number (keep (named j) (m .pending)) (keep (named k) (m .pending)) in
+    let t = ap (λ (x : Step). x .answer .number) (look-step m (atTwo j k)) in
+    (e, ap (λ (x : Common). commonValues x .number) e ∙ n ∙ sym (t ∙ rw (any-keep j (m .pending), any-keep k (m .pending))))
+
+-- A lookup of the units free is never refused.
+pub free-told : (m : Model) → 0 ≡ step m free .answer .number
+unfolding tests firstOf
+free-told m = sym (ap (λ (x : Step). x .answer .number) (look-step m atPool))

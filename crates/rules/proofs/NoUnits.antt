@@ -22,7 +22,7 @@ use Rattle.rules.specs.Placing.{clear, fits, place, startBound}
 use Rattle.rules.specs.Granting.{trulyFree, goesWithin, goes, granted, grant, grants}
 use Rattle.rules.specs.Shares.{shareOf}
 use Rattle.rules.specs.Tests.{firstOf, late, backward, stranger, dark, nothingAsked, offRig, spots}
-use Rattle.rules.specs.Calls.{Model, Call, claim, release, withdraw, clock, lookup, common, free, declare, setGrace, Answer, Step, withClock, withPending, ruled, settingOf, tests, advance, plain, granting, finish, join, remove, fresh, admit, act, unless, step, blank, after, answers}
+use Rattle.rules.specs.Calls.{Model, withClock, withPending, ruled, settingOf, claims, releases, withdraws, onlyClock, clientShare, rigGrace, Call, timed, looks, sets, claim, Answer, Step, tests, advance, plain, granting, finish, join, remove, fresh, admit, act, unless, step, blank, after, answers}
 use Rattle.rules.specs.NoUnits.{documentedStart, documentedFits, undrawnTests, drawsNone, DrawsNone, withPool}
 use Rattle.rules.proofs.Bools.{and-l, and-i, both-ways}
 use Rattle.rules.proofs.Lists.{Each, none, greatest-base, greatest-ge, greatest-le, keep-e, keep-i, keep-cong, map-each, map-cong, snoc-each}
@@ -212,27 +212,22 @@ module _ (k : ℕ) where
 
   act-pool : (m : Model) (c : Call) → drawsNone c → IsUndrawn m → act (withPool k m) c ≡ repooled k (act m c)
   unfolding act
-  act-pool m (claim t ask) d u = ap (λ (n : Model). admit n ask) (advance-pool m t u) ∙ admit-pool (advance m t) ask d (advance-undrawn m t u)
-  act-pool m (release t i) d u = leave-pool m t i u
-  act-pool m (withdraw t i) d u = leave-pool m t i u
-  act-pool m (clock t) d u = ap (λ (n : Model). finish n (plain 0 t)) (advance-pool m t u) ∙ finish-pool (advance m t) (plain 0 t) (advance-undrawn m t u)
-  act-pool m (lookup i) d u = refl
-  act-pool m (common i j) d u = refl
-  act-pool m free d u = refl
-  act-pool m (declare c r l) d u = refl
-  act-pool m (setGrace n) d u = refl
+  act-pool m (timed t (claims ask)) d u = ap (λ (n : Model). admit n ask) (advance-pool m t u) ∙ admit-pool (advance m t) ask d (advance-undrawn m t u)
+  act-pool m (timed t (releases i)) d u = leave-pool m t i u
+  act-pool m (timed t (withdraws i)) d u = leave-pool m t i u
+  act-pool m (timed t onlyClock) d u = ap (λ (n : Model). finish n (plain 0 t)) (advance-pool m t u) ∙ finish-pool (advance m t) (plain 0 t) (advance-undrawn m t u)
+  act-pool m (looks q) d u = refl
+  act-pool m (sets (clientShare c r l)) d u = refl
+  act-pool m (sets (rigGrace n)) d u = refl
 
   tests-pool : (m : Model) (c : Call) → drawsNone c → firstOf (tests (withPool k m) c) ≡ firstOf (tests m c)
   unfolding tests firstOf
-  tests-pool m (claim t ask) d = rw (le-ltb k (ask .units) (omega arith), le-ltb (m .pool) (ask .units) (omega arith))
-  tests-pool m (release t i) d = refl
-  tests-pool m (withdraw t i) d = refl
-  tests-pool m (clock t) d = refl
-  tests-pool m (lookup i) d = refl
-  tests-pool m (common i j) d = refl
-  tests-pool m free d = refl
-  tests-pool m (declare c r l) d = refl
-  tests-pool m (setGrace n) d = refl
+  tests-pool m (timed t (claims ask)) d = rw (le-ltb k (ask .units) (omega arith), le-ltb (m .pool) (ask .units) (omega arith))
+  tests-pool m (timed t (releases i)) d = refl
+  tests-pool m (timed t (withdraws i)) d = refl
+  tests-pool m (timed t onlyClock) d = refl
+  tests-pool m (looks q) d = refl
+  tests-pool m (sets p) d = refl
 
   unless-pool : (m : Model) (n : ℕ) (s : Step) → unless (withPool k m) n (repooled k s) ≡ repooled k (unless m n s)
   unless-pool m zero s = refl

@@ -66,54 +66,77 @@ settingOf m = ruled m (m .clock)
 abbrev pub asking : ℕ → ℕ → Request
 asking g n = record { groups = g; length = n; units = 0; client = 1 }
 
--- The calls of a run: clock and what is asked for, clock and ticket, clock, ticket, two tickets, nothing; a client with its guarantee and its
--- limit; a grace. (Document 01: look is our lookup.)
+-- What a timed call does once the clock is set: it claims what is asked for, releases a ticket or withdraws it; or nothing, "Clock only moves
+-- the clock".
+pub data Action : Type 0 where
+  claims : Request → Action
+  releases : ℕ → Action
+  withdraws : ℕ → Action
+  onlyClock : Action
+
+-- What a lookup asks: how a ticket stands, which group two tickets share, the units free. (Document 01: look is our lookup.)
+pub data Look : Type 0 where
+  atTicket : ℕ → Look
+  atTwo : ℕ → ℕ → Look
+  atPool : Look
+
+-- What is set before the first claim: a client with its guarantee and its limit; a grace.
+pub data Setup : Type 0 where
+  clientShare : ℕ → ℕ → ℕ → Setup
+  rigGrace : ℕ → Setup
+
+-- The calls of a run: timed calls, each with its clock; lookups; and what only sets something up.
 pub data Call : Type 0 where
-  claim : ℕ → Request → Call
-  release : ℕ → ℕ → Call
-  withdraw : ℕ → ℕ → Call
-  clock : ℕ → Call
-  lookup : ℕ → Call
-  common : ℕ → ℕ → Call
-  free : Call
-  declare : ℕ → ℕ → ℕ → Call
-  setGrace : ℕ → Call
+  timed : ℕ → Action → Call
+  looks : Look → Call
+  sets : Setup → Call
+
+-- Each by its name: clock and what is asked for, clock and ticket, clock; ticket, two tickets, nothing; a client with its guarantee and its
+-- limit; a grace.
+abbrev pub claim : ℕ → Request → Call
+claim t ask = timed t (claims ask)
+
+abbrev pub release : ℕ → ℕ → Call
+release t k = timed t (releases k)
+
+abbrev pub withdraw : ℕ → ℕ → Call
+withdraw t k = timed t (withdraws k)
+
+abbrev pub clock : ℕ → Call
+clock t = timed t onlyClock
+
+abbrev pub lookup : ℕ → Call
+lookup k = looks (atTicket k)
+
+abbrev pub common : ℕ → ℕ → Call
+common j k = looks (atTwo j k)
+
+abbrev pub free : Call
+free = looks atPool
+
+abbrev pub declare : ℕ → ℕ → ℕ → Call
+declare c r l = sets (clientShare c r l)
+
+abbrev pub setGrace : ℕ → Call
+setGrace n = sets (rigGrace n)
 
 -- "Every accepted timed call (claim, release, withdraw, clock)"
-abbrev pub timed : Call → Bool
-timed (claim t ask) = true
-timed (release t k) = true
-timed (withdraw t k) = true
-timed (clock t) = true
-timed (lookup k) = false
-timed (common j k) = false
-timed free = false
-timed (declare c r l) = false
-timed (setGrace n) = false
+abbrev pub isTimed : Call → Bool
+isTimed (timed t x) = true
+isTimed (looks q) = false
+isTimed (sets p) = false
 
 -- The clock that a timed call bears.
 abbrev pub clockOf : Call → ℕ
-clockOf (claim t ask) = t
-clockOf (release t k) = t
-clockOf (withdraw t k) = t
-clockOf (clock t) = t
-clockOf (lookup k) = 0
-clockOf (common j k) = 0
-clockOf free = 0
-clockOf (declare c r l) = 0
-clockOf (setGrace n) = 0
+clockOf (timed t x) = t
+clockOf (looks q) = 0
+clockOf (sets p) = 0
 
 -- The calls that only tell: they change nothing.
-abbrev pub looks : Call → Bool
-looks (claim t ask) = false
-looks (release t k) = false
-looks (withdraw t k) = false
-looks (clock t) = false
-looks (lookup k) = true
-looks (common j k) = true
-looks free = true
-looks (declare c r l) = false
-looks (setGrace n) = false
+abbrev pub isLook : Call → Bool
+isLook (timed t x) = false
+isLook (looks q) = true
+isLook (sets p) = false
 
 -- What a call answers: 0 or the refusal's number; ticket; start; contention and start bound; "the answer names those tickets".
 pub record Answer : Type 0 where
@@ -139,21 +162,32 @@ fullTo m c =
 abbrev pub overOf : Model → ℕ → Test
 overOf m c = over (shareOf (m .shares) c) (pendingOf (clientsOf (m .pending)) c)
 
--- "A claim is tested in the order 5, 4, 1, 2, 3, 6, 7; a release 5, 4, 8, 9; a withdrawal 5, 4, 8, 10; a clock call 5, 4"; of a claim
--- "16 .. after 2", "17 .. before 1", "18 .. after 6"; a declaration is answered 13 "before 17", and 19 "after 17"; a grace 21.
-unfoldable pub tests : Model → Call → List Test
-tests m (claim t ask) =
-    late t ∷ backward (m .clock) t ∷ stranger (shareOf (m .shares) (ask .client)) ∷ nothingAsked (ask .groups) (ask .units)
+-- "A claim is tested in the order 5, 4, 1, 2, 3, 6, 7; a release 5, 4, 8, 9; a withdrawal 5, 4, 8, 10; a clock call 5, 4": of every timed
+-- call 5 and 4, then these; of a claim "16 .. after 2", "17 .. before 1", "18 .. after 6".
+abbrev pub actionTests : Model → Action → List Test
+actionTests m (claims ask) =
+    stranger (shareOf (m .shares) (ask .client)) ∷ nothingAsked (ask .groups) (ask .units)
     ∷ offRig (m .rig) (ask .groups) ∷ spots (m .pool) (ask .units) ∷ badLength (ask .length)
     ∷ fullTo m (ask .client) ∷ overOf m (ask .client) ∷ ticketless (m .issued) ∷ []
-tests m (release t k) = late t ∷ backward (m .clock) t ∷ unknown (named k) (m .pending) ∷ notYetOn (named k) on (m .pending) ∷ []
-tests m (withdraw t k) = late t ∷ backward (m .clock) t ∷ unknown (named k) (m .pending) ∷ alreadyOn (named k) on (m .pending) ∷ []
-tests m (clock t) = late t ∷ backward (m .clock) t ∷ []
-tests m (lookup k) = unknown (named k) (m .pending) ∷ []
-tests m (common j k) = unknown (named j) (m .pending) ∷ unknown (named k) (m .pending) ∷ []
-tests m free = []
-tests m (declare c r l) = begun (m .issued) ∷ noClient c ∷ overbooked (shareOf (m .shares) c) (reservedInAll (m .shares)) r l ∷ []
-tests m (setGrace n) = badGrace (m .issued) n ∷ []
+actionTests m (releases k) = unknown (named k) (m .pending) ∷ notYetOn (named k) on (m .pending) ∷ []
+actionTests m (withdraws k) = unknown (named k) (m .pending) ∷ alreadyOn (named k) on (m .pending) ∷ []
+actionTests m onlyClock = []
+
+-- "a ticket that isn't pending answers 8"
+abbrev pub lookTests : List Claim → Look → List Test
+lookTests ps (atTicket k) = unknown (named k) ps ∷ []
+lookTests ps (atTwo j k) = unknown (named j) ps ∷ unknown (named k) ps ∷ []
+lookTests ps atPool = []
+
+-- A declaration is answered 13 "before 17", and 19 "after 17"; a grace 21.
+abbrev pub setupTests : ℕ → List Share → Setup → List Test
+setupTests issued ss (clientShare c r l) = begun issued ∷ noClient c ∷ overbooked (shareOf ss c) (reservedInAll ss) r l ∷ []
+setupTests issued ss (rigGrace n) = badGrace issued n ∷ []
+
+unfoldable pub tests : Model → Call → List Test
+tests m (timed t x) = late t ∷ backward (m .clock) t ∷ actionTests m x
+tests m (looks q) = lookTests (m .pending) q
+tests m (sets p) = setupTests (m .issued) (m .shares) p
 
 -- "A call turned down answers its number, with ticket, start, crowd and ceiling 0 and no grants; the table is the one handed in"
 abbrev pub unchanged : Model → ℕ → Step
@@ -207,17 +241,24 @@ admit m ask =
 abbrev pub declared : Model → ℕ → ℕ → ℕ → Model
 declared m c r l = withShares m (withShare (m .shares) c (share r l))
 
--- "Release takes away an on claim; withdraw takes away a waiting one. Clock only moves the clock." Look "changes nothing".
+-- "Release takes away an on claim; withdraw takes away a waiting one. Clock only moves the clock": in a table whose clock is set to t and
+-- which is packed.
+abbrev pub actIn : Model → ℕ → Action → Step
+actIn m t (claims ask) = admit m ask
+actIn m t (releases k) = finish (remove m k) (plain k t)
+actIn m t (withdraws k) = finish (remove m k) (plain k t)
+actIn m t onlyClock = finish m (plain 0 t)
+
+abbrev pub setUp : Model → Setup → Model
+setUp m (clientShare c r l) = declared m c r l
+setUp m (rigGrace n) = withGrace m n
+
+-- "Every accepted timed call .. first sets the clock and packs the waiting claims, then acts, packs again and grants." Look "changes
+-- nothing".
 unfoldable pub act : Model → Call → Step
-act m (claim t ask) = admit (advance m t) ask
-act m (release t k) = finish (remove (advance m t) k) (plain k t)
-act m (withdraw t k) = finish (remove (advance m t) k) (plain k t)
-act m (clock t) = finish (advance m t) (plain 0 t)
-act m (lookup k) = unchanged m 0
-act m (common j k) = unchanged m 0
-act m free = unchanged m 0
-act m (declare c r l) = unchanged (declared m c r l) 0
-act m (setGrace n) = unchanged (withGrace m n) 0
+act m (timed t x) = actIn (advance m t) t x
+act m (looks q) = unchanged m 0
+act m (sets p) = unchanged (setUp m p) 0
 
 -- The call's own step, or the refusal.
 abbrev pub unless : Model → ℕ → Step → Step

@@ -15,7 +15,7 @@ use Rattle.rules.specs.Packing.{moved}
 use Rattle.rules.specs.Placing.{clear}
 use Rattle.rules.specs.Shares.{shareOf}
 use Rattle.rules.specs.Tests.{Test, late, backward, stranger, dark, offRig, badLength, ticketless}
-use Rattle.rules.specs.Calls.{Model, fullTo, overOf, Call, claim, release, withdraw, clock, lookup, common, free, declare, setGrace}
+use Rattle.rules.specs.Calls.{Model, claims, releases, withdraws, onlyClock, Call, timed, looks, sets, fullTo, overOf}
 
 -- ── a claim ──
 -- "Each waiting claim's planned start becomes the greatest of the clock and the ends of the claims that precede it": of the starts f.
@@ -35,15 +35,12 @@ undrawnTests m t ask =
 -- ── a run ──
 -- The call draws no units.
 abbrev pub drawsNone : Call → Type 0
-drawsNone (claim t ask) = ask .units ≡ 0
-drawsNone (release t k) = Unit {0}
-drawsNone (withdraw t k) = Unit {0}
-drawsNone (clock t) = Unit {0}
-drawsNone (lookup k) = Unit {0}
-drawsNone (common j k) = Unit {0}
-drawsNone free = Unit {0}
-drawsNone (declare c r l) = Unit {0}
-drawsNone (setGrace n) = Unit {0}
+drawsNone (timed t (claims ask)) = ask .units ≡ 0
+drawsNone (timed t (releases k)) = Unit {0}
+drawsNone (timed t (withdraws k)) = Unit {0}
+drawsNone (timed t onlyClock) = Unit {0}
+drawsNone (looks q) = Unit {0}
+drawsNone (sets p) = Unit {0}
 
 -- No call of the list does.
 abbrev pub DrawsNone : List Call → Type 0

@@ -12,19 +12,14 @@ use Rattle.rules.specs.declared.Request.{Request}
 use Rattle.rules.specs.Lists.{_∈_}
 use Rattle.rules.specs.Shares.{firstShares}
 use Rattle.rules.specs.Tests.{Test, firstOf, late, backward, dark, nothingAsked, offRig, spots, badLength, full, ticketless}
-use Rattle.rules.specs.Calls.{Model, Call, claim, release, withdraw, clock, lookup, common, free, declare, setGrace, tests, step}
+use Rattle.rules.specs.Calls.{Model, clientShare, rigGrace, Call, timed, looks, sets, claim, tests, step}
 
 -- The call declares nobody.
 abbrev pub declaresNone : Call → Type 0
-declaresNone (claim t ask) = Unit {0}
-declaresNone (release t k) = Unit {0}
-declaresNone (withdraw t k) = Unit {0}
-declaresNone (clock t) = Unit {0}
-declaresNone (lookup k) = Unit {0}
-declaresNone (common j k) = Unit {0}
-declaresNone free = Unit {0}
-declaresNone (declare c r l) = ⊥
-declaresNone (setGrace n) = Unit {0}
+declaresNone (timed t x) = Unit {0}
+declaresNone (looks q) = Unit {0}
+declaresNone (sets (clientShare c r l)) = ⊥
+declaresNone (sets (rigGrace n)) = Unit {0}
 
 -- No call of the list does.
 abbrev pub DeclaresNone : List Call → Type 0

@@ -13,7 +13,7 @@ use Rattle.rules.specs.declared.Phase.the-variants.{On}
 use Rattle.rules.specs.declared.Standing.{Standing}
 use Rattle.rules.specs.declared.Standing.the-variants.{NotPending, Waits, Holds}
 use Rattle.rules.specs.Tests.{firstOf}
-use Rattle.rules.specs.Calls.{asking, Call, release, withdraw, clock, declare, setGrace, Answer, Model, withIssued, withPending, tests, standingOf, freeOf, commonOf, new, after, answers}
+use Rattle.rules.specs.Calls.{Model, withIssued, withPending, asking, claims, Call, timed, release, withdraw, clock, declare, setGrace, Answer, tests, new, standingOf, commonOf, freeOf, after, answers}
 
 -- Calls made before, calls made now, their answers, and what lookup then tells of tickets 1 to 4.
 pub record Scenario : Type 0 where
@@ -34,7 +34,7 @@ refused n = record { number = n; ticket = 0; start = 0; contention = 0; bound = 
 
 -- A claim at a clock, of groups (hex) and a length.
 abbrev pub claim : ℕ → ℕ → ℕ → Call
-claim t g n = Call.claim t (asking g n)
+claim t g n = timed t (claims (asking g n))
 
 -- "S is three claims at clock 0"
 abbrev pub S : List Call
@@ -118,7 +118,7 @@ draw k c a s f = record { pool = k; calls = c; answers = a; standings = s; free 
 
 -- A claim at a clock, of groups (hex), a length and units.
 abbrev pub drawing : ℕ → ℕ → ℕ → ℕ → Call
-drawing t g n u = Call.claim t (record { groups = g; length = n; units = u; client = 1 })
+drawing t g n u = timed t (claims (record { groups = g; length = n; units = u; client = 1 }))
 
 unfoldable pub draws : List Draw
 draws =
@@ -254,10 +254,10 @@ alone d i j c n = record { alone = true; declarations = d; ofOne = i; ofTwo = j;
 
 -- A claim of a client, good in all else; and one for nothing.
 abbrev pub claimBy : ℕ → Call
-claimBy c = Call.claim 0 (record { groups = 0x1; length = 10; units = 0; client = c })
+claimBy c = timed 0 (claims (record { groups = 0x1; length = 10; units = 0; client = c }))
 
 abbrev pub darkBy : ℕ → Call
-darkBy c = Call.claim 0 (record { groups = 0x0; length = 10; units = 0; client = c })
+darkBy c = timed 0 (claims (record { groups = 0x0; length = 10; units = 0; client = c }))
 
 unfoldable pub sharings : List Sharing
 sharings =
@@ -283,7 +283,7 @@ sharings =
     ∷ sharing (declare 1 0 64 ∷ []) 0 0 (darkBy 1) 1
     ∷ sharing (declare 1 0 64 ∷ []) 0 0 (claimBy 0) 17
     ∷ sharing (declare 1 0 64 ∷ []) 0 0 (claimBy 9) 17
-    ∷ sharing [] 0 0 (Call.claim 1000000000001 (asking 0x1 10)) 5
+    ∷ sharing [] 0 0 (timed 1000000000001 (claims (asking 0x1 10))) 5
     -- 19: guarantees of 65 in all, though not of 64; above the limit; a limit over 64; declared twice
     ∷ sharing (declare 1 32 64 ∷ []) 0 0 (declare 2 33 64) 19
     ∷ sharing (declare 1 32 64 ∷ []) 0 0 (declare 2 32 64) 0

@@ -11,17 +11,13 @@ use borrow.Author.Tests.{eqb-true, ne-eqb, le-ltb}
 use Rattle.numbers.specs.Numbers.{mostClock}
 use Rattle.rules.specs.declared.Claim.{Claim}
 use Rattle.rules.specs.declared.Setting.{Setting}
-use Rattle.rules.specs.Lists.{any, keep}
+use Rattle.rules.specs.Lists.{any}
 use Rattle.rules.specs.Packing.{packedStart, moved, pack}
 use Rattle.rules.proofs.Packing.{moved-cases, moved-ticket}
-use Rattle.rules.specs.Claims.{on, at, conflicts}
-use Rattle.groups.specs.declared.MaybeGroup.{MaybeGroup}
-use Rattle.groups.specs.declared.MaybeGroup.the-variants.{Group, NoGroup}
-use Rattle.rules.specs.declared.Common.{Common}
-use Rattle.rules.specs.declared.Standing.{Standing}
+use Rattle.rules.specs.Claims.{on, at}
 use Rattle.rules.specs.declared.Standing.the-variants.{Waits, Holds}
 use Rattle.rules.specs.Tests.{Test, test, firstOf, named, late, backward}
-use Rattle.rules.specs.Calls.{Model, ruled, advance, Call, Step, clock, lookup, tests, unchanged, act, step, unless, standingOf, standingValues, common, free, shared, between, commonOf, commonValues}
+use Rattle.rules.specs.Calls.{Model, ruled, advance, Call, clock, tests, unchanged, act, step, unless, standingOf}
 use Rattle.rules.specs.Plans.{Ascending}
 use Rattle.rules.proofs.Bools.{by-test}
 use Rattle.rules.proofs.Lists.{Each, any-false}
@@ -97,79 +93,6 @@ pub leave-timed : (m : Model) (b : Bool) (t k n : ℕ) → n ≡ timeNumber (m .
 unfolding tests
 leave-timed m true t k n e z = timed-fails m t n _ e z
 leave-timed m false t k n e z = timed-fails m t n _ e z
-
--- The number of a lookup's answer.
-number-first : (k : ℕ) (ps : List Claim) → standingValues (standingOf k ps) .number ≡ cond (not (any (named k) ps)) 8 0
-unfolding any standingOf
-number-first k [] = refl
-number-first k (c ∷ ps) = by-test (named k c) (λ e. rw e (by-test (on c) (λ o. rw o) (λ o. rw o))) (λ e. rw e (number-first k ps))
-
--- Lookups change nothing, and their answer has nothing but the number.
-pub data Looking : Call → Type 0 where
-  of-one : (k : ℕ) → Looking (lookup k)
-  of-two : (j k : ℕ) → Looking (common j k)
-  of-pool : Looking free
-
-look-step : (m : Model) (c : Call) → Looking c → step m c ≡ unchanged m (firstOf (tests m c))
-unfolding step act
-look-step m c h = go h (firstOf (tests m c))
-  where
-    idle : (n : ℕ) → unless m n (unchanged m 0) ≡ unchanged m n
-    idle zero = refl
-    idle (suc n) = refl
-
-    go : {c : Call} → Looking c → (n : ℕ) → unless m n (act m c) ≡ unchanged m n
-    go (of-one k) n = idle n
-    go (of-two j k) n = idle n
-    go of-pool n = idle n
-
-pub look-idle : (m : Model) (c : Call) → Looking c → step m c .model ≡ m
-look-idle m c h = ap (λ (s : Step). s .model) (look-step m c h)
-
-pub look-answer : (m : Model) (c : Call) → Looking c → unchanged m (step m c .answer .number) .answer ≡ step m c .answer
-look-answer m c h = rw (look-step m c h)
-
-pub lookup-told : (m : Model) (k : ℕ) (s : Standing) → s ≡ standingOf k (m .pending)
-    → (s ≡ standingOf k (m .pending)) × (standingValues s .number ≡ step m (lookup k) .answer .number)
-unfolding tests firstOf
-lookup-told m k s e = (e, ap (λ (x : Standing). standingValues x .number) e ∙ number-first k (m .pending) ∙ sym (ap (λ (x : Step). x .answer .number) (look-step m (lookup k) (of-one k))))
-
--- A ticket is pending exactly where a claim has it.
-some : List Claim → Bool
-some [] = false
-some (c ∷ cs) = true
-
-any-keep : (k : ℕ) (ps : List Claim) → any (named k) ps ≡ some (keep (named k) ps)
-unfolding any keep some
-any-keep k [] = refl
-any-keep k (c ∷ ps) = go (named k c) (any-keep k ps)
-  where
-    go : (x : Bool) → any (named k) ps ≡ some (keep (named k) ps) → (x || any (named k) ps) ≡ some (cond x (c ∷ keep (named k) ps) (keep (named k) ps))
-    go true ih = refl
-    go false ih = ih
-
-between-number : (cs ds : List Claim) → commonValues (between cs ds) .number ≡ cond (not (some cs)) 8 (cond (not (some ds)) 8 0)
-unfolding some
-between-number [] ds = refl
-between-number (c ∷ cs) [] = refl
-between-number (c ∷ cs) (d ∷ ds) = go (conflicts c d)
-  where
-    go : (g : MaybeGroup) → commonValues (shared g) .number ≡ 0
-    go (Group g) = refl
-    go NoGroup = refl
-
-pub common-told : (m : Model) (j k : ℕ) (s : Common) → s ≡ commonOf j k (m .pending)
-    → (s ≡ commonOf j k (m .pending)) × (commonValues s .number ≡ step m (common j k) .answer .number)
-unfolding tests firstOf commonOf
-common-told m j k s e =
-    let n = between-number (keep (named j) (m .pending)) (keep (named k) (m .pending)) in
-    let t = ap (λ (x : Step). x .answer .number) (look-step m (common j k) (of-two j k)) in
-    (e, ap (λ (x : Common). commonValues x .number) e ∙ n ∙ sym (t ∙ rw (any-keep j (m .pending), any-keep k (m .pending))))
-
--- A lookup of the units free is never refused.
-pub free-told : (m : Model) → 0 ≡ step m free .answer .number
-unfolding tests firstOf
-free-told m = sym (ap (λ (x : Step). x .answer .number) (look-step m free of-pool))
 
 -- The first packing moves starts and changes no phase, so it may stand before the test of one.
 phase-packed : (b : Bool) (k : ℕ) (v : Setting) (f : Claim → ℕ) (ps : List Claim) → phaseNumber b (standingOf k (map (moved f) ps)) ≡ phaseNumber b (standingOf k ps)

@@ -10,7 +10,7 @@ ghost use Rattle.numbers.specs.Numbers.{mostClock, mostLength, mostPending, mos
 ghost use Rattle.rules.specs.Claims.{at};
 ghost use Rattle.rules.specs.Shares.{shareOf};
 ghost use Rattle.rules.specs.Tests.{firstOf};
-ghost use Rattle.rules.specs.Calls.{Call, step, tests, advance, finish, remove, admit, new, standing, standingOf, standingValues, commonOf, commonValues, freeOf};
+ghost use Rattle.rules.specs.Calls.{claims, releases, withdraws, onlyClock, atTicket, atTwo, atPool, clientShare, rigGrace, timed, looks, sets, tests, advance, finish, remove, admit, step, new, standingValues, standing, standingOf, commonValues, commonOf, freeOf};
 ghost use Rattle.rules.specs.Tables.{encode, model};
 ghost use Rattle.rules.specs.Invariants.{Still};
 ghost use Rattle.table.specs.Valid.{Formed, Valid};
@@ -121,7 +121,7 @@ fn shown(c: Claim) -> Standing
 // How the claim of a ticket stands. Cost: one pass at most.
 pub fn lookup(t: Table, ticket: u16) -> Standing
     requires { ⌜ Valid t ⌝ }
-    ensures { λ r. ⌜ (r ≡ standingOf ticket (model t .pending)) × (standingValues r .number ≡ step (model t) (Call.lookup ticket) .answer .number) ⌝ }
+    ensures { λ r. ⌜ (r ≡ standingOf ticket (model t .pending)) × (standingValues r .number ≡ step (model t) (looks (atTicket ticket)) .answer .number) ⌝ }
 {
     let count = t.count;
     let mut i: usize = 0;
@@ -155,7 +155,7 @@ fn find(t: Table, ticket: u16) -> usize
 // Which group the claims of two tickets share: 8 if either is not pending. Cost: two passes at most.
 pub fn common(t: Table, first: u16, second: u16) -> Common
     requires { ⌜ Valid t ⌝ }
-    ensures { λ r. ⌜ (r ≡ commonOf first second (model t .pending)) × (commonValues r .number ≡ step (model t) (Call.common first second) .answer .number) ⌝ }
+    ensures { λ r. ⌜ (r ≡ commonOf first second (model t .pending)) × (commonValues r .number ≡ step (model t) (looks (atTwo first second)) .answer .number) ⌝ }
 {
     let i = find(t, first);
     let j = find(t, second);
@@ -176,7 +176,7 @@ pub fn common(t: Table, first: u16, second: u16) -> Common
 // The units that no claim holds. Cost: one pass.
 pub fn free(t: Table) -> u16
     requires { ⌜ Valid t ⌝ }
-    ensures { λ r. ⌜ (r ≡ freeOf (model t)) × (0 ≡ step (model t) Call.free .answer .number) ⌝ }
+    ensures { λ r. ⌜ (r ≡ freeOf (model t)) × (0 ≡ step (model t) (looks atPool) .answer .number) ⌝ }
 {
     let count = t.count;
     let mut n = t.pool;
@@ -296,7 +296,7 @@ fn finished(t: Table, r: Reply) -> Outcome
 // Moves the clock. Refused: 5, 4.
 pub fn clock(t: Table, clock: u64) -> Outcome
     requires { ⌜ Valid t ⌝ }
-    ensures { λ r. ⌜ (r ≡ outcome (step (model t) (Call.clock clock))) × Valid (r .table) ⌝ }
+    ensures { λ r. ⌜ (r ≡ outcome (step (model t) (timed clock onlyClock))) × Valid (r .table) ⌝ }
 {
     let n = time_number(t.clock, clock);
     if n != 0 {
@@ -401,7 +401,7 @@ pub fn leave(t: Table, releasing: bool, clock: u64, ticket: u16) -> Outcome
 // Takes away a claim that is on. Refused: 5, 4, 8, 9.
 pub fn release(t: Table, clock: u64, ticket: u16) -> Outcome
     requires { ⌜ Valid t ⌝ }
-    ensures { λ r. ⌜ (r ≡ outcome (step (model t) (Call.release clock ticket))) × Valid (r .table) ⌝ }
+    ensures { λ r. ⌜ (r ≡ outcome (step (model t) (timed clock (releases ticket)))) × Valid (r .table) ⌝ }
 {
     leave(t, true, clock, ticket)
 }
@@ -409,7 +409,7 @@ pub fn release(t: Table, clock: u64, ticket: u16) -> Outcome
 // Takes away a claim that waits. Refused: 5, 4, 8, 10.
 pub fn withdraw(t: Table, clock: u64, ticket: u16) -> Outcome
     requires { ⌜ Valid t ⌝ }
-    ensures { λ r. ⌜ (r ≡ outcome (step (model t) (Call.withdraw clock ticket))) × Valid (r .table) ⌝ }
+    ensures { λ r. ⌜ (r ≡ outcome (step (model t) (timed clock (withdraws ticket)))) × Valid (r .table) ⌝ }
 {
     leave(t, false, clock, ticket)
 }
@@ -419,7 +419,7 @@ pub fn withdraw(t: Table, clock: u64, ticket: u16) -> Outcome
 // The first of its tests that a declaration fails, or 0.
 fn declare_number(t: Table, client: u8, reserved: u8, limit: u8) -> u8
     requires { ⌜ Valid t ⌝ }
-    ensures { λ r. ⌜ r ≡ firstOf (tests (model t) (Call.declare client reserved limit)) ⌝ }
+    ensures { λ r. ⌜ r ≡ firstOf (tests (model t) (sets (clientShare client reserved limit))) ⌝ }
 {
     if refusals::begun(t.issued) {
         return numbers::MISFIT;
@@ -439,7 +439,7 @@ fn declare_number(t: Table, client: u8, reserved: u8, limit: u8) -> u8
 // Declares a client, with its guarantee and its limit. Refused: 13, 17, 19.
 pub fn declare(mut t: Table, client: u8, reserved: u8, limit: u8) -> Outcome
     requires { ⌜ Valid t ⌝ }
-    ensures { λ r. ⌜ (r ≡ outcome (step (model t) (Call.declare client reserved limit))) × Valid (r .table) ⌝ }
+    ensures { λ r. ⌜ (r ≡ outcome (step (model t) (sets (clientShare client reserved limit)))) × Valid (r .table) ⌝ }
 {
     let number = declare_number(t, client, reserved, limit);
     if number == 0 {
@@ -457,7 +457,7 @@ pub fn declare(mut t: Table, client: u8, reserved: u8, limit: u8) -> Outcome
 // Sets the time that a holder past its promised end is expected to need from the clock on. Refused: 21.
 pub fn set_grace(mut t: Table, grace: u32) -> Outcome
     requires { ⌜ Valid t ⌝ }
-    ensures { λ r. ⌜ (r ≡ outcome (step (model t) (Call.setGrace grace))) × Valid (r .table) ⌝ }
+    ensures { λ r. ⌜ (r ≡ outcome (step (model t) (sets (rigGrace grace)))) × Valid (r .table) ⌝ }
 {
     if refusals::bad_grace(t.issued, grace) {
         return unchanged(t, numbers::GRACE);
@@ -481,7 +481,7 @@ fn share_number(t: Table, client: u8) -> u8
 // The first of its tests that a claim fails, or 0. `places` is what `share_number` gives, where the tests 6 and 18 hang on it.
 fn claim_number(t: Table, clock: u64, ask: Request, places: u8) -> u8
     requires { ⌜ Valid t × (places ≡ placesNumber (model t) (ask .client)) ⌝ }
-    ensures { λ r. ⌜ r ≡ firstOf (tests (model t) (Call.claim clock ask)) ⌝ }
+    ensures { λ r. ⌜ r ≡ firstOf (tests (model t) (timed clock (claims ask))) ⌝ }
 {
     let timing = time_number(t.clock, clock);
     if timing != 0 {
@@ -540,7 +540,7 @@ fn admitted(t: Table, ask: Request) -> Outcome
 // `claim_number`: a table handed on is a table copied, so it is handed on only where they have to be counted.
 pub fn claim(t: Table, clock: u64, ask: Request) -> Outcome
     requires { ⌜ Valid t ⌝ }
-    ensures { λ r. ⌜ (r ≡ outcome (step (model t) (Call.claim clock ask))) × Valid (r .table) ⌝ }
+    ensures { λ r. ⌜ (r ≡ outcome (step (model t) (timed clock (claims ask)))) × Valid (r .table) ⌝ }
 {
     let held = t.shares;
     let mut places: u8 = 0;

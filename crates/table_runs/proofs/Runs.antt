@@ -3,10 +3,11 @@ use mathlib.Core.Path.{_≡_, refl, sym, _∙_, ap, subst}
 use mathlib.Core.List.{List, _∷_}
 use Prim.Native.Nat.{ℕ}
 use Rattle.rules.specs.declared.Table.{Table}
-use Rattle.rules.specs.Calls.{Model, Call, lookup, common, free, Answer, Step, step, standingOf, commonOf, freeOf, new}
+use Rattle.rules.specs.Calls.{Model, Look, atTicket, atTwo, atPool, Call, looks, Answer, Step, step, new}
 use Rattle.rules.specs.Tables.{model}
+use Rattle.rules.proofs.Lookup.{look-answer, look-idle, lookup-told, common-told, free-told}
 use Rattle.promises.specs.Ledger.{Turn, Ledger, opening, turns, tableAfter}
-use Rattle.promises.specs.Runs.{Told, tells, Start, Begins, by-new as begins-new, AtAnyTime, AtAnyCall}
+use Rattle.promises.specs.Runs.{TellsOf, Told, tells, Start, Begins, by-new as begins-new, AtAnyTime, AtAnyCall}
 use Rattle.promises.specs.Demand3.{Now, Next}
 use Rattle.promises.specs.PoolKept.{Kept}
 use Rattle.promises.specs.SharesKept.{SharesNow, SharesNext}
@@ -19,9 +20,8 @@ use Rattle.promises.specs.WholeCalls.{WholeCalls}
 use Rattle.promises.proofs.WholeCalls.{whole-calls-after}
 use Rattle.table.specs.declared.Outcome.{Outcome}
 use Rattle.table.specs.Outcomes.{outcome}
-use Rattle.table_runs.specs.Runs.{answered, looked, Made, by-outcome, by-lookup, by-common, by-free, Run, done, then, Looks, BeganAs, by-new, CodeAtAnyTime, CodeAtAnyCall, CodeDemand3, CodePoolKept, CodeEndsAwaited, CodeSharesKept, CodeWholeCalls}
+use Rattle.table_runs.specs.Runs.{answered, looked, Made, by-outcome, by-look, lookNumber, Run, done, then, Looks, BeganAs, by-new, CodeAtAnyTime, CodeAtAnyCall, CodeDemand3, CodePoolKept, CodeEndsAwaited, CodeSharesKept, CodeWholeCalls}
 use Rattle.table.proofs.Promised.{outcome-model, outcome-grants}
-use Rattle.table.proofs.Tests.{Looking, of-one, of-two, of-pool, look-answer, look-idle, lookup-told, common-told, free-told}
 
 -- ── one answer ──
 answer-of : (r : Outcome) (s : Step) → r ≡ outcome s → answered r ≡ s .answer
@@ -31,15 +31,18 @@ answer-of r s e =
     ∙ ap (λ (g : List ℕ). record { number = a .number; ticket = a .ticket; start = a .start; contention = a .contention; bound = a .bound; grants = g })
     (outcome-grants (outcome s) s refl)
 
-looked-is : (m : Model) (c : Call) → Looking c → (n : ℕ) → n ≡ step m c .answer .number → looked n ≡ step m c .answer
-looked-is m c h n e = ap looked e ∙ look-answer m c h
+looked-is : (m : Model) (q : Look) (n : ℕ) → n ≡ step m (looks q) .answer .number → looked n ≡ step m (looks q) .answer
+looked-is m q n e = ap looked e ∙ look-answer m q
+
+look-number : (m : Model) (q : Look) (r : TellsOf q) → r ≡ tells m q → lookNumber q r ≡ step m (looks q) .answer .number
+look-number m (atTicket k) r e = lookup-told m k r e .1
+look-number m (atTwo j k) r e = common-told m j k r e .1
+look-number m atPool r e = free-told m
 
 -- ── a run is the rules' run ──
 made-is : {t u : Table} {c : Call} {a : Answer} → Made t c a u → (a ≡ step (model t) c .answer) × (model u ≡ step (model t) c .model)
 made-is {t} (by-outcome c h r e) = (answer-of r (step (model t) c) e, outcome-model r (step (model t) c) e)
-made-is {t} (by-lookup k s e) = (looked-is (model t) (lookup k) (of-one k) _ (lookup-told (model t) k s e .1), sym (look-idle (model t) (lookup k) (of-one k)))
-made-is {t} (by-common j k s e) = (looked-is (model t) (common j k) (of-two j k) _ (common-told (model t) j k s e .1), sym (look-idle (model t) (common j k) (of-two j k)))
-made-is {t} (by-free n e) = (looked-is (model t) free of-pool 0 (free-told (model t)), sym (look-idle (model t) free of-pool))
+made-is {t} (by-look q r e) = (looked-is (model t) q _ (look-number (model t) q r e), sym (look-idle (model t) q))
 
 run-is : {t u : Table} {cs : List Call} {ts : List Turn} → Run t cs ts u → (ts ≡ turns step (model t) cs) × (model u ≡ tableAfter step (model t) cs)
 unfolding turns tableAfter
@@ -54,16 +57,7 @@ run-is (then {t} {u} {w} {c} {a} {cs} {ts} one p) =
 
 -- What lookup shows of a table is what the rules tell of its model.
 shows-is : (t : Table) (m : Model) (shows : Told) → model t ≡ m → Looks t shows → shows ≡ tells m
-shows-is t m shows e h = λ i. record { one = λ k. one k i; two = λ j k. two j k i; free = spare i }
-  where
-    one : (k : ℕ) → shows .one k ≡ standingOf k (m .pending)
-    one k = h .0 k ∙ ap (λ (x : Model). standingOf k (x .pending)) e
-
-    two : (j k : ℕ) → shows .two j k ≡ commonOf j k (m .pending)
-    two j k = h .1 j k ∙ ap (λ (x : Model). commonOf j k (x .pending)) e
-
-    spare : shows .free ≡ freeOf m
-    spare = h .2 ∙ ap freeOf e
+shows-is t m shows e h = λ i q. (h q ∙ ap (λ (x : Model). tells x q) e) i
 
 -- Such a start is one of those of `promises`.
 began-is : {t : Table} {s : Start} → BeganAs t s → Begins s × (model t ≡ s .table)

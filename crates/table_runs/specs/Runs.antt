@@ -5,12 +5,10 @@ use mathlib.Core.List.{List, [], _∷_, _++_}
 use Prim.Native.Nat.{ℕ}
 use lib.ListN.{take}
 use Rattle.rules.specs.declared.Table.{Table}
-use Rattle.rules.specs.declared.Common.{Common}
-use Rattle.rules.specs.declared.Standing.{Standing}
-use Rattle.rules.specs.Calls.{Call, lookup, common, free, looks, Answer, step, standingOf, standingValues, commonOf, commonValues, freeOf, new}
+use Rattle.rules.specs.Calls.{Look, atTicket, atTwo, atPool, Call, looks, isLook, Answer, step, new, standingValues, commonValues}
 use Rattle.rules.specs.Tables.{model}
 use Rattle.promises.specs.Ledger.{Turn, Ledger, opening, notedAll, NoOverruns}
-use Rattle.promises.specs.Runs.{Told, Start}
+use Rattle.promises.specs.Runs.{TellsOf, Told, tells, Start}
 use Rattle.promises.specs.Demand3.{Now, Next}
 use Rattle.promises.specs.PoolKept.{Kept}
 use Rattle.promises.specs.SharesKept.{SharesNow, SharesNext}
@@ -34,13 +32,17 @@ answered r =
 abbrev pub looked : ℕ → Answer
 looked n = record { number = n; ticket = 0; start = 0; contention = 0; bound = 0; grants = [] }
 
+-- The number of what a lookup tells.
+abbrev pub lookNumber : (q : Look) → TellsOf q → ℕ
+lookNumber (atTicket k) s = standingValues s .number
+lookNumber (atTwo j k) s = commonValues s .number
+lookNumber atPool n = 0
+
 -- A call made of table t, by kind: what the code answers, and the table it leaves. Every call that is no lookup promises an
 -- `outcome (step ..)`, lookup a `standingOf ..`, common a `commonOf ..`, free a `freeOf ..`.
 pub data Made (t : Table) : Call → Answer → Table → Type 0 where
-  by-outcome : (c : Call) → looks c ≡ false → (r : Outcome) → r ≡ outcome (step (model t) c) → Made t c (answered r) (r .table)
-  by-lookup : (k : ℕ) (s : Standing) → s ≡ standingOf k (model t .pending) → Made t (lookup k) (looked (standingValues s .number)) t
-  by-common : (j k : ℕ) (s : Common) → s ≡ commonOf j k (model t .pending) → Made t (common j k) (looked (commonValues s .number)) t
-  by-free : (n : ℕ) → n ≡ freeOf (model t) → Made t free (looked 0) t
+  by-outcome : (c : Call) → isLook c ≡ false → (r : Outcome) → r ≡ outcome (step (model t) c) → Made t c (answered r) (r .table)
+  by-look : (q : Look) (r : TellsOf q) → r ≡ tells (model t) q → Made t (looks q) (looked (lookNumber q r)) t
 
 -- Calls made one after the other from table t, with their answers, and the table they left.
 pub data Run : Table → List Call → List Turn → Table → Type 0 where
@@ -48,10 +50,9 @@ pub data Run : Table → List Call → List Turn → Table → Type 0 where
   then : {t u w : Table} {c : Call} {a : Answer} {cs : List Call} {ts : List Turn} → Made t c a u → Run u cs ts w
       → Run t (c ∷ cs) (record { call = c; answer = a } ∷ ts) w
 
--- What lookup, common and free answer, asked of table t.
+-- What lookups answer, asked of table t.
 abbrev pub Looks : Table → Told → Type 0
-Looks t shows =
-    ((k : ℕ) → shows .one k ≡ standingOf k (model t .pending)) × ((j k : ℕ) → shows .two j k ≡ commonOf j k (model t .pending)) × (shows .free ≡ freeOf (model t))
+Looks t shows = (q : Look) → shows q ≡ tells (model t) q
 
 -- A table that a run may begin with, as the code handed it back: what `promises` calls its start.
 pub data BeganAs : Table → Start → Type 0 where

@@ -4,7 +4,7 @@ use Prim.Native.Nat.{ℕ}
 use lib.ListN.{length}
 use native.Mathlib.Omega.{arith}
 use Rattle.rules.specs.Shares.{shareOf}
-use Rattle.rules.specs.Calls.{Call}
+use Rattle.rules.specs.Calls.{claim as claimCall}
 use Rattle.rules.specs.Tables.{model}
 use Rattle.rules.proofs.Bools.{and-l}
 use Rattle.rules.proofs.Calls.{Admissible, admissible}
@@ -48,7 +48,7 @@ returns : tie.Need-returns
 returns c =
     let n = c .before .before in
     let b = n .before .before .before .before in
-    refused _ (Call.claim _ _) _ _ (b .pre) (c .unchanged .ensures) (sym (n .claim-number .ensures)) (c .before .if2 .taken)
+    refused _ (claimCall _ _) _ _ (b .pre) (c .unchanged .ensures) (sym (n .claim-number .ensures)) (c .before .if2 .taken)
 
 at-clock-requires : tie.Need-at-clock-requires
 at-clock-requires c κs = let h = passed c .clocked in (c .before .before .before .before .before .pre, h .later, h .early)
@@ -67,7 +67,7 @@ returns-2 c =
     let u = c .before in
     let n = u .before .before in
     let b = n .before .before .before .before in
-    accepted (b .args .t) (Call.claim (b .args .clock) (b .args .ask)) _ (b .pre)
+    accepted (b .args .t) (claimCall (b .args .clock) (b .args .ask)) _ (b .pre)
     (claim-is (b .args .t) _ _ _ _ _ (n .claim-number .ensures) (u .before .if2 .left) (u .at-clock .ensures .0) (c .admitted .ensures .0)) (c .admitted .ensures .1)
 
 pub claim-spec : {M : Type 1} → statement M

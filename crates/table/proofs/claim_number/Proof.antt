@@ -9,7 +9,7 @@ use borrow.Author.Needs.{needs}
 use lib.ListN.{drop}
 use Rattle.rules.specs.declared.Share.{Share}
 use Rattle.rules.specs.Shares.{shareOf}
-use Rattle.rules.specs.Calls.{Call, fullTo, overOf, tests}
+use Rattle.rules.specs.Calls.{fullTo, overOf, tests, claim as claimCall}
 use Rattle.rules.specs.Tests.{Test, firstOf, stranger}
 use Rattle.rules.specs.Tables.{model}
 use Rattle.rules.proofs.Tests.{fails-here, past}
@@ -21,7 +21,7 @@ use Rattle.table.proofs.claim_number.Tie as tie
 
 -- The tests; and what is said after the k-th, of what is said of all.
 abbrev all : tie.Start → List Test
-all c = tests (model (c .args .t)) (Call.claim (c .args .clock) (c .args .ask))
+all c = tests (model (c .args .t)) (claimCall (c .args .clock) (c .args .ask))
 
 abbrev Behind : ℕ → tie.Start → Type 0
 Behind k c = (n : ℕ) → n ≡ firstOf (drop k (all c)) → n ≡ firstOf (all c)

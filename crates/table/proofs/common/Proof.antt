@@ -2,7 +2,7 @@
 use mathlib.Core.Path.{sym, _∙_}
 use native.Mathlib.Omega.{arith}
 use borrow.Author.Needs.{needs}
-use Rattle.table.proofs.Tests.{common-told}
+use Rattle.rules.proofs.Lookup.{common-told}
 use Rattle.table.proofs.Finding.{found-place, no-first, no-second, both-found}
 use Rattle.table.proofs.common.Statement.{statement}
 use Rattle.table.proofs.common.Tie as tie

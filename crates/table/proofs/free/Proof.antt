@@ -9,7 +9,7 @@ use Rattle.table.specs.Parts.{ruledIn}
 use Rattle.table.proofs.Rows.{Left, left-start, left-here, left-next, left-end}
 use Rattle.table.proofs.Ranges.{formed-now}
 use Rattle.table.proofs.GrantingLoop.{Freeing, freeing-start, freeing-covers, freeing-more, freeing-end}
-use Rattle.table.proofs.Tests.{free-told}
+use Rattle.rules.proofs.Lookup.{free-told}
 use Rattle.table.proofs.free.Statement.{statement}
 use Rattle.table.proofs.free.Tie as tie
 

@@ -8,7 +8,7 @@ use Rattle.table.specs.Parts.{ruledIn}
 use Rattle.table.proofs.Rows.{row-small, Left, left-start, left-here, left-next, left-end}
 use Rattle.table.proofs.Ranges.{formed-now}
 use Rattle.table.proofs.RemovalLoop.{found, passed-by}
-use Rattle.table.proofs.Tests.{lookup-told}
+use Rattle.rules.proofs.Lookup.{lookup-told}
 use Rattle.table.proofs.lookup.Statement.{statement}
 use Rattle.table.proofs.lookup.Tie as tie
 
