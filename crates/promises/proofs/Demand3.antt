@@ -3,7 +3,7 @@
 use mathlib.Core.Path.{_≡_, refl, sym, _∙_, ap, subst}
 use mathlib.Core.Logic.{_⊎_, inl, inr, _≢_}
 use mathlib.Core.Bool.{Bool, true, false, not, _&&_, cond}
-use mathlib.Core.List.{List, [], _∷_, _++_, map}
+use mathlib.Core.List.{List, [], _∷_, _++_, map, Memᴰ·append-right}
 use Prim.Native.Nat.{ℕ, suc, _+_, _-_, _≤_, _<_}
 use native.Mathlib.Omega.{arith}
 use lib.Dec.{eqb}
@@ -13,7 +13,7 @@ use Rattle.groups.specs.Groups.{shares}
 use Rattle.rules.specs.declared.Claim.{Claim}
 use Rattle.rules.specs.declared.Request.{Request}
 use Rattle.rules.specs.declared.Phase.the-variants.{On}
-use Rattle.rules.specs.Lists.{_∈_, any, keep}
+use Rattle.rules.specs.Lists.{_∈_, any, keep, Ascends}
 use Rattle.rules.specs.declared.Setting.{Setting}
 use Rattle.rules.specs.declared.Share.{Share}
 use Rattle.rules.specs.Shares.{share, withShare}
@@ -30,21 +30,22 @@ use Rattle.rules.specs.Calls.{Model, withGrace, ruled, settingOf, Call, timed, 
 use Rattle.rules.specs.Plans.{Ascending, NoOverrunAt}
 use Rattle.rules.specs.Invariants.{IsSpaced, Invariant, IsBooked}
 use Rattle.rules.proofs.Bools.{split, by-test, clash, and-i}
-use Rattle.rules.proofs.Lists.{named-keep}
+use Rattle.rules.proofs.Lists.{here, none, map-e, keep-e, named-keep}
 use Rattle.rules.proofs.Claims.{end-on}
-use Rattle.rules.proofs.Order.{ascending-same}
-use Rattle.rules.proofs.Packing.{moved-cases, moved-at, moved-phase, pack-no-later}
+use Rattle.rules.proofs.Order.{ascending-same, ascending-keep}
+use Rattle.rules.proofs.Packing.{moved-cases, moved-at, moved-phase, moved-ticket, pack-no-later}
 use Rattle.rules.proofs.StartBound.{place-bound}
-use Rattle.rules.proofs.Granting.{granted-cases, granted-at}
+use Rattle.rules.proofs.Granting.{goes-wait, granted-cases, granted-at}
 use Rattle.rules.proofs.Invariants.{spaced-packs}
-use Rattle.rules.proofs.Calls.{Clocked, Admissible, advance-packed, advance-drawn, advance-spare, finish-invariant, advance-same, finish-e, finish-clock, placed, fresh-sane, join-spaced, Leaves, by-release, by-withdraw, by-clock, leaves-spaced, leaves-old, leaves-clock, join-old, Idle, looks-untimed, Declarable, Settable, finish-grace, leaves-grace, grace-invariant, step-cases, blank-invariant, new-cases}
+use Rattle.rules.proofs.Calls.{Clocked, Admissible, advance-packed, advance-drawn, advance-spare, finish-invariant, advance-same, finish-e, finish-clock, placed, fresh-sane, join-spaced, Leaves, by-release, by-withdraw, by-clock, leaves-spaced, leaves-old, leaves-clock, join-old, Idle, looks-untimed, Declarable, Settable, finish-grace, leaves-grace, grace-invariant, step-cases, blank-invariant, new-cases, admit-invariant}
 use Rattle.rules.proofs.Shares.{first-booked}
 use Rattle.rules.proofs.Booking.{advance-booked, finish-booked, finish-shares, join-booked, leaves-booked, leaves-shares, declare-booked}
 use Rattle.rules.proofs.NoOverrun.{no-overrun-no-later}
 use Rattle.rules.proofs.Lookup.{lookup-absent, none-named, lookup-found, one-named, lookup-waits}
-use Rattle.promises.specs.Ledger.{Turn, turns, tableAfter, Entry, promised, Ledger, opening, issues, without, stay, sharesBy, graceBy, hold, marked, noted, notedAll, NoOverrun, NoOverruns, ruledBy, remainingOf, rivalsOf, boundOn}
+use Rattle.promises.specs.Ledger.{Turn, turns, tableAfter, accepted, Entry, promised, Ledger, opening, issues, without, stay, sharesBy, graceBy, hold, marked, noted, notedAll, NoOverrun, NoOverruns, ruledBy, remainingOf, rivalsOf, boundOn}
 use Rattle.promises.specs.Runs.{tells, Start, Begins, by-new}
-use Rattle.promises.specs.Demand3.{TicketsAscend, Now, Next, Demand3}
+use Rattle.promises.specs.Demand3.{TicketsAscend, Now, OfClaim, OfGrants, Next, Demand3}
+use Rattle.promises.proofs.WholeCalls.{claim-whole}
 use Rattle.promises.proofs.Matching.{Match, m-nil, m-cons, match-map, match-left, match-weaken, match-snoc, match-none, match-keep, match-length, match-sum, partner, partner-of}
 
 -- A pending claim and its entry. P: no accepted call so far bore a clock past the promised end of a holder.
@@ -317,11 +318,65 @@ bound-is P v ps l w ask g n m =
     let rs : Match (Tracks P) (rivals ps w) (rivalsOf l ask) = match-keep (λ c. rival c w) (λ e. shares (e .asked .groups) (ask .groups)) (λ c e r. rw (r .groups, g)) m in
     cc (match-sum (remaining v) (remainingOf v) (remaining-is P v) rs, match-length rs, n)
 
+contention-is : (P : Type 0) (ps : List Claim) (l : List Entry) (w : Claim) (ask : Request) → w .groups ≡ ask .groups → Match (Tracks P) ps l → contention ps w ≡ length (rivalsOf l ask)
+unfolding contention
+contention-is P ps l w ask g m = match-length (match-keep (λ c. rival c w) (λ e. shares (e .asked .groups) (ask .groups)) (λ c e r. rw (r .groups, g)) m)
+
+-- ── grants ──
+tickets-ascend : (l : List Claim) → Ascending l → Ascends (λ (k : ℕ). k) (map (λ c. c .ticket) l)
+tickets-ascend [] u = tt
+tickets-ascend (c ∷ l) u = (λ k i. let r = map-e (λ (x : Claim). x .ticket) l i in omega (arith, u .0 (r .0) (r .1), r .2), tickets-ascend l (u .1))
+
+grants-up : (q : Model) (rep : Reply) → IsSpaced q → Ascends (λ (k : ℕ). k) (finish q rep .answer .grants)
+unfolding finish grants
+grants-up q rep sp =
+    let v : Setting = settingOf q in
+    let ps : List Claim = pack v (q .pending) in
+    tickets-ascend (keep (goes v ps) ps) (ascending-keep (goes v ps) ps (spaced-packs (q .issued) v (q .pending) sp .spaced .ascending))
+
+grants-from : (P : Type 0) (q : Model) (rep : Reply) (es : List Entry) → Match (Tracks P) (q .pending) es → (k : ℕ) → k ∈ finish q rep .answer .grants
+    → (e : Entry) × e ∈ es × (e .ticket ≡ k) × (e .held ≡ false)
+unfolding finish grants pack
+grants-from P q rep es ma k i =
+    let v : Setting = settingOf q in
+    let f = packedStart v (q .pending) in
+    let ps : List Claim = pack v (q .pending) in
+    let r = map-e (λ (x : Claim). x .ticket) (keep (goes v ps) ps) i in
+    let g = keep-e (goes v ps) ps (r .1) in
+    let x = map-e (moved f) (q .pending) (g .0) in
+    let p = partner-of ma (x .1) in
+    let o : on (moved f (x .0)) ≡ false = ap on (sym (x .2)) ∙ goes-wait v ps (r .0) (g .1) in
+    let z : moved f (x .0) .ticket ≡ x .0 .ticket = moved-ticket f (x .0) in
+    (p .0, p .1, omega (arith, p .2 .ticket, z, ap (λ (c : Claim). c .ticket) (x .2), r .2), sym (p .2 .held) ∙ sym (moved-phase f (x .0)) ∙ o)
+
+none-granted : (l : Ledger) (c : Call) (m : Model) (n : ℕ) → OfGrants l (record { call = c; answer = unchanged m n .answer })
+none-granted l c m n = record { grants-ascend = tt; grants-waited = λ k i. none i; others-none = λ z. refl }
+
+-- ── what lookup tells of a new claim ──
+first-told : (m : Model) → Invariant m → (t : ℕ) (ask : Request) → Admissible m t ask
+    → (let s : Step = admit (advance m t) ask in
+    (standingOf (s .answer .ticket) (s .model .pending) ≡ Waits (s .answer .start)) ⊎ (standingOf (s .answer .ticket) (s .model .pending) ≡ Holds (s .answer .start + ask .length)))
+first-told m i t ask a =
+    let s : Step = admit (advance m t) ask in
+    let c = claim-whole m i t ask a in
+    let up = admit-invariant (advance m t) ask (a .long) (advance-drawn m t ask a) (advance-spare m t ask a) (advance-packed m t i (a .clocked .later)) .spaced .ascending in
+    let j : c .new ∈ s .model .pending = subst (λ (l : List Claim). c .new ∈ l) (sym (c .others-same)) (Memᴰ·append-right (step m (clock t) .model .pending) here) in
+    let e : standingOf (s .answer .ticket) (s .model .pending) ≡ standing (c .new) = ap (λ (k : ℕ). standingOf k (s .model .pending)) (sym (c .ticket)) ∙ lookup-found (s .model .pending) up (c .new) j in
+    by-test (on (c .new))
+    (λ o. inr (e ∙ ap (λ (b : Bool). cond b (Holds (at (c .new) + c .new .length)) (Waits (at (c .new)))) o ∙ ap Holds (omega (arith, c .start, c .length))))
+    (λ o. inl (e ∙ ap (λ (b : Bool). cond b (Holds (at (c .new) + c .new .length)) (Waits (at (c .new)))) o ∙ ap Waits (c .start)))
+
+same-claim : (Q : ℕ → Request → Type 0) (t u : ℕ) (ask x : Request) → claim t ask ≡ claim u x → Q t ask → Q u x
+same-claim Q t u ask x e h =
+    let f : t ≡ u = cc in
+    let g : ask ≡ x = cc in
+    subst (λ (n : ℕ). Q n x) f (subst (Q t) g h)
+
 -- ── one call ──
 abbrev Told : Type 0 → Ledger → Model → Call → Step → Type 0
 Told P l m c s =
     let t : Turn = record { call = c; answer = s .answer } in
-    Next P l t (tells m) (tells (s .model)) × Story (P × NoOverrun l t) (noted l t) (s .model)
+    Next l t (tells m) (tells (s .model)) × Story (P × NoOverrun l t) (noted l t) (s .model)
 
 module _ (P : Type 0) (l : Ledger) (m : Model) (s : Story P l m) where
   idle-refused : (c : Call) (n : ℕ) → Idle c n → isTimed c && eqb n 0 ≡ false
@@ -351,9 +406,9 @@ module _ (P : Type 0) (l : Ledger) (m : Model) (s : Story P l m) where
   told-idle c n i =
       let z = idle-refused c n i in (
         record {
-          ticket-next = λ t ask q e. clash (and-i (isTimed c) (eqb n 0) (ap isTimed q) (eq-eqb n 0 e)) z;
-          start-bounded = λ t ask q e _. clash (and-i (isTimed c) (eqb n 0) (ap isTimed q) (eq-eqb n 0 e)) z;
-          never-raised = λ p h k x w. rw z (unraised P (m .pending) (m .pending) (l .claims) (s .match) still k x w);
+          of-claim = λ t ask q e. clash (and-i (isTimed c) (eqb n 0) (ap isTimed q) (eq-eqb n 0 e)) z;
+          of-grants = none-granted l c m n;
+          never-raised = λ h k x w. rw z (unraised P (m .pending) (m .pending) (l .claims) (s .match) still k x w);
         },
         record {
           inv = s .inv;
@@ -379,7 +434,7 @@ module _ (P : Type 0) (l : Ledger) (m : Model) (s : Story P l m) where
       → IsSpaced q → IsBooked q → q .clock ≡ t → q .pool ≡ l .pool → q .issued ≡ j → q .grace ≡ l .grace → q .shares ≡ l .shares
       → ((y : Claim) → y ∈ q .pending → (y ∈ advance m t .pending) ⊎ (m .issued < y .ticket)) → Match (Tracks (P × T)) (q .pending) es
       → (T → Unraised (m .pending) (finish q rep .model .pending) (map (marked t (finish q rep .answer .grants)) es))
-      × Story (P × T) (record { clock = t; pool = l .pool; issued = j; grace = l .grace; shares = l .shares; claims = map (marked t (finish q rep .answer .grants)) es }) (finish q rep .model)
+      × Story (P × T) (record { rig = l .rig; clock = t; pool = l .pool; issued = j; grace = l .grace; shares = l .shares; claims = map (marked t (finish q rep .answer .grants)) es }) (finish q rep .model)
   told-finish t j rep q es T h tm sp bk cl po is gr sh old ma = (
     λ z. unraised (P × T) (m .pending) (finish q rep .model .pending) (map (marked t (finish q rep .answer .grants)) es) done (finish-not-raised m q t rep (s .inv) h (prompt t (tm z)) sp old),
     record { inv = finish-invariant q rep sp; booked = finish-booked q rep bk; clock = finish-clock q rep ∙ cl; pool = finish-pool q rep ∙ po; issued = finish-issued q rep ∙ is; grace = finish-grace q rep ∙ gr; shares = finish-shares q rep ∙ sh; match = done },
@@ -397,12 +452,13 @@ module _ (P : Type 0) (l : Ledger) (m : Model) (s : Story P l m) where
       told-finish t (l .issued + 1) (placing (advance m t) w) q _ T
       (a .clocked .later) (λ z. z refl) spaced (join-booked m t ask a (s .booked)) refl (s .pool) next (s .grace) (s .shares) old (match-snoc _ _ first new) in (
         record {
-          ticket-next = λ t′ ask′ e _. omega (arith, s .issued);
-          start-bounded = λ t′ ask′ e _ z′.
-              let same : boundOn (ruledBy l t) (l .claims) ask ≡ boundOn (ruledBy l t′) (l .claims) ask′ = cc in
-              let z : ask .units ≡ 0 = cc in
-              omega (arith, place-bound v ps w (fresh-sane (advance m t) ask (a .long) (advance-drawn m t ask a) (advance-spare m t ask a)) z, bound-is (P × T) v ps (l .claims) w ask refl refl first, ap (λ (v : Setting). boundOn v (l .claims) ask) (ruled-is t));
-          never-raised = λ _. r .0;
+          of-claim = λ t′ ask′ e _. same-claim (λ u x. OfClaim l u x (admit (advance m t) ask .answer) (tells (admit (advance m t) ask .model))) t t′ ask ask′ e claimed;
+          of-grants = record {
+            grants-ascend = grants-up q (placing (advance m t) w) spaced;
+            grants-waited = grants-from (P × T) q (placing (advance m t) w) _ (match-snoc _ _ first new);
+            others-none = λ z. clash refl z;
+          };
+          never-raised = r .0;
         },
         r .1,
       )
@@ -431,6 +487,18 @@ module _ (P : Type 0) (l : Ledger) (m : Model) (s : Story P l m) where
       spaced : IsSpaced (join (advance m t) (placed (advance m t) ask))
       spaced = join-spaced (advance m t) ask (a .long) (a .drawn) (a .spare) (advance-packed m t (s .inv) (a .clocked .later) .spaced)
 
+      bound : startBound (ruled m t) (advance m t .pending) (fresh (advance m t) ask) ≡ boundOn (ruledBy l t) (l .claims) ask
+      bound = bound-is (P × T) v ps (l .claims) w ask refl refl first ∙ ap (λ (v : Setting). boundOn v (l .claims) ask) (ruled-is t)
+
+      claimed : OfClaim l t ask (admit (advance m t) ask .answer) (tells (admit (advance m t) ask .model))
+      claimed = record {
+        ticket-next = omega (arith, s .issued);
+        first-told = first-told m (s .inv) t ask a;
+        start-bounded = λ z. omega (arith, place-bound v ps w (fresh-sane (advance m t) ask (a .long) (advance-drawn m t ask a) (advance-spare m t ask a)) z, bound);
+        contention-counted = contention-is (P × T) ps (l .claims) w ask refl first;
+        bound-counted = bound;
+      }
+
       new : Tracks (P × T) (placed (advance m t) ask) (record { ticket = suc (m .issued); asked = ask; first = place (ruled m t) (advance m t .pending) (fresh (advance m t) ask); held = false; grant = 0 })
       new = record { ticket = refl; groups = refl; length = refl; units = refl; client = refl; held = refl; grant = λ e. clash e refl; early = λ p o. omega arith }
 
@@ -438,12 +506,20 @@ module _ (P : Type 0) (l : Ledger) (m : Model) (s : Story P l m) where
   left : {c : Call} {t k : ℕ} {q : Model} (a : Answer) (T : Type 0) → Leaves m c t k q → Clocked m t → (T → (e : Entry) → e ∈ l .claims → e .held ≡ true → t ≤ promised e)
       → (let es = map (marked t (finish q (plain k t) .answer .grants)) (stay c (l .claims) ++ issues c a) in
       (T → Unraised (m .pending) (finish q (plain k t) .model .pending) es)
-      × Story (P × T) (record { clock = t; pool = l .pool; issued = l .issued + length (issues c a); grace = l .grace; shares = l .shares; claims = es }) (finish q (plain k t) .model))
+      × Story (P × T) (record { rig = l .rig; clock = t; pool = l .pool; issued = l .issued + length (issues c a); grace = l .grace; shares = l .shares; claims = es }) (finish q (plain k t) .model))
   left {c} {t} {k} {q} a T v o tm =
       told-finish t (l .issued + length (issues c a)) (plain k t) q (stay c (l .claims) ++ issues c a) T (o .later) tm
       (leaves-spaced v (advance-packed m t (s .inv) (o .later))) (leaves-booked v (advance-booked m t (s .booked))) (leaves-clock v .0) (leaves-pool v ∙ s .pool) (omega (arith, leaves-issued a v, s .issued))
       (leaves-grace v ∙ s .grace) (leaves-shares v ∙ s .shares) (λ y i. inl (leaves-old v y i))
       (leaves-match (P × T) (l .claims) a v (advance-match P T (l .claims) m t (s .inv) (o .later) (λ z. prompt t (tm z)) (s .match)))
+
+  left-grants : {c : Call} {t k : ℕ} {q : Model} (a : Answer) → Leaves m c t k q → Clocked m t → a .grants ≡ finish q (plain k t) .answer .grants → accepted (record { call = c; answer = a }) ≡ true → OfGrants l (record { call = c; answer = a })
+  left-grants {c} {t} {k} {q} a v o e z = record {
+    grants-ascend = rw e (grants-up q (plain k t) (leaves-spaced v (advance-packed m t (s .inv) (o .later))));
+    grants-waited = λ j i. grants-from (P × ⊥) q (plain k t) (stay c (l .claims) ++ issues c a)
+        (leaves-match (P × ⊥) (l .claims) a v (advance-match P ⊥ (l .claims) m t (s .inv) (o .later) (λ x. absurd x) (s .match))) j (subst (λ (g : List ℕ). j ∈ g) e i);
+    others-none = λ n. clash z n;
+  }
 
   no-claim : {A : Type 0} {c : Call} {t k : ℕ} {q : Model} {u : ℕ} {ask : Request} → Leaves m c t k q → c ≡ claim u ask → A
   no-claim (by-release t k) e = let z : _≡_ {A = ℕ} 0 1 = cc in absurd (omega arith)
@@ -453,32 +529,32 @@ module _ (P : Type 0) (l : Ledger) (m : Model) (s : Story P l m) where
   next : {c : Call} {t k : ℕ} {q : Model} (a : Answer) → Leaves m c t k q
       → (let turn : Turn = record { call = c; answer = a } in
       let n : Model = finish q (plain k t) .model in
-      (NoOverrun l turn → Unraised (m .pending) (n .pending) (noted l turn .claims)) → Next P l turn (tells m) (tells n))
-  next a v h = record { ticket-next = λ u ask e _. no-claim v e; start-bounded = λ u ask e _ _. no-claim v e; never-raised = λ _. h }
+      OfGrants l turn → (NoOverrun l turn → Unraised (m .pending) (n .pending) (noted l turn .claims)) → Next l turn (tells m) (tells n))
+  next a v g h = record { of-claim = λ u ask e _. no-claim v e; of-grants = g; never-raised = h }
 
   told-left : (c : Call) (t k : ℕ) (q : Model) → Clocked m t → Leaves m c t k q → Told P l m c (finish q (plain k t))
   unfolding finish sharesBy graceBy
   told-left c₀ t₀ k₀ q₀ o (by-release t k) =
       let a : Answer = finish (remove (advance m t) k) (plain k t) .answer in
       let r = left a (NoOverrun l (record { call = release t k; answer = a })) (by-release t k) o (λ z. z refl) in
-      (next a (by-release t k) (r .0), r .1)
+      (next a (by-release t k) (left-grants a (by-release t k) o refl refl) (r .0), r .1)
   told-left c₀ t₀ k₀ q₀ o (by-withdraw t k) =
       let a : Answer = finish (remove (advance m t) k) (plain k t) .answer in
       let r = left a (NoOverrun l (record { call = withdraw t k; answer = a })) (by-withdraw t k) o (λ z. z refl) in
-      (next a (by-withdraw t k) (r .0), r .1)
+      (next a (by-withdraw t k) (left-grants a (by-withdraw t k) o refl refl) (r .0), r .1)
   told-left c₀ t₀ k₀ q₀ o (by-clock t) =
       let a : Answer = finish (advance m t) (plain 0 t) .answer in
       let r = left a (NoOverrun l (record { call = clock t; answer = a })) (by-clock t) o (λ z. z refl) in
-      (next a (by-clock t) (r .0), r .1)
+      (next a (by-clock t) (left-grants a (by-clock t) o refl refl) (r .0), r .1)
 
   -- A declaration and a grace change no claim.
-  prepared : (c : Call) (q : Model) → isTimed c ≡ false → q .pending ≡ m .pending → Next P l (record { call = c; answer = unchanged q 0 .answer }) (tells m) (tells q)
+  prepared : (c : Call) (q : Model) → isTimed c ≡ false → q .pending ≡ m .pending → Next l (record { call = c; answer = unchanged q 0 .answer }) (tells m) (tells q)
   prepared c q h e =
       let z : isTimed c && eqb 0 0 ≡ false = rw h in
       record {
-        ticket-next = λ u ask k _. clash (ap isTimed k) h;
-        start-bounded = λ u ask k _ _. clash (ap isTimed k) h;
-        never-raised = λ p n k x w. rw (z, e) (unraised P (m .pending) (m .pending) (l .claims) (s .match) still k x w);
+        of-claim = λ u ask k _. clash (ap isTimed k) h;
+        of-grants = none-granted l c q 0;
+        never-raised = λ n k x w. rw (z, e) (unraised P (m .pending) (m .pending) (l .claims) (s .match) still k x w);
       }
 
   told-declare : (c r k : ℕ) → Declarable m c r k → Told P l m (declare c r k) (unchanged (declared m c r k) 0)
@@ -533,9 +609,9 @@ story-after (c ∷ cs) P l m s =
 -- What holds where a run begins.
 begin : (s : Start) → Begins s → Story (Unit {0}) (s .ledger) (s .table)
 begin s (by-new g k alone) =
-    new-cases (λ (s : Step). Story (Unit {0}) (opening k alone (s .answer)) (s .model)) g k alone (λ e. blank-story 0 0 1 refl) (λ e. blank-story g k 0 refl)
+    new-cases (λ (s : Step). Story (Unit {0}) (opening g k alone (s .answer)) (s .model)) g k alone (λ e. blank-story 0 0 1 refl) (λ e. blank-story g k 0 refl)
   where
-    blank-story : (r n j : ℕ) → n ≡ cond (eqb j 0) k 0 → Story (Unit {0}) (opening k alone (unchanged (blank r n alone) j .answer)) (blank r n alone)
+    blank-story : (r n j : ℕ) → n ≡ cond (eqb j 0) k 0 → Story (Unit {0}) (opening g k alone (unchanged (blank r n alone) j .answer)) (blank r n alone)
     blank-story r n j e =
         record { inv = blank-invariant r n alone; booked = first-booked alone; clock = refl; pool = e; issued = refl; grace = refl; shares = refl; match = m-nil }
 

@@ -1,7 +1,9 @@
 pub mod Matching
+pub mod WholeCalls
 pub mod Demand3
 pub mod PoolKept
 pub mod SharesKept
 pub mod EndsAwaited
-pub mod WholeCalls
+pub mod NumbersTested
+pub mod HeldUp
 pub mod Worthless

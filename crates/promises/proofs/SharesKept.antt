@@ -19,7 +19,7 @@ use Rattle.promises.specs.SharesKept.{askers, SharesNow, SharesNext, Sha
 use Rattle.promises.proofs.Matching.{Match, m-nil, m-cons}
 use Rattle.promises.proofs.Demand3.{Tracks, Story, after-calls}
 
-askers-are : (P : Type 0) {ps : List Claim} {l : List Entry} → Match (Tracks P) ps l → clientsOf ps ≡ askers l
+pub askers-are : (P : Type 0) {ps : List Claim} {l : List Entry} → Match (Tracks P) ps l → clientsOf ps ≡ askers l
 askers-are P m-nil = refl
 askers-are P (m-cons r m) = rw (r .client, askers-are P m)
 

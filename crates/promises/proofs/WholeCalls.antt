@@ -1,37 +1,41 @@
 -- Whole calls are as document 01 says, in every table that calls can make.
 use mathlib.Core.Path.{_≡_, refl, sym, _∙_, ap, subst}
 use mathlib.Core.Logic.{_⊎_, inl, inr, _≢_}
-use mathlib.Core.Bool.{Bool, true, false}
+use mathlib.Core.Bool.{true, false, not}
 use mathlib.Core.List.{List, [], _∷_, _++_, List·Memᴰ·append-cases, List·Memᴰ·eq-of-singleton, Memᴰ·append-right}
-use Prim.Native.Nat.{ℕ, suc, _≤_, _<_}
+use Prim.Native.Nat.{ℕ, suc, _+_, _-_, _*_, _≤_, _<_}
 use native.Mathlib.Omega.{arith}
+use lib.Dec.{eqb}
+use lib.ListN.{length as count}
+use borrow.Author.Tests.{not-true, eqb-false, ne-eqb}
 use Rattle.numbers.specs.Numbers.{mostTickets}
 use Rattle.rules.specs.declared.Claim.{Claim}
 use Rattle.rules.specs.declared.Request.{Request}
-use Rattle.rules.specs.Lists.{_∈_}
+use Rattle.rules.specs.Lists.{_∈_, sum}
 use Rattle.rules.specs.declared.Setting.{Setting}
-use Rattle.rules.specs.Claims.{on, at, withPhase, rival, endOf}
+use Rattle.rules.specs.Claims.{on, at, withPhase, rival, endOf, remaining}
 use Rattle.rules.specs.declared.Phase.the-variants.{On}
-use Rattle.rules.specs.Order.{precedes}
+use Rattle.rules.specs.Order.{precedes, rivals}
 use Rattle.rules.specs.Packing.{packedStart, moved, pack}
-use Rattle.rules.specs.Placing.{place}
-use Rattle.rules.specs.Plans.{Sane, Spare}
+use Rattle.rules.specs.Placing.{place, contention, startBound}
+use Rattle.rules.specs.Plans.{Sane, Spare, Fits}
 use Rattle.rules.specs.Granting.{goes, granted, grant}
+use Rattle.rules.specs.Tests.{named}
 use Rattle.rules.specs.declared.Reply.{Reply}
-use Rattle.rules.specs.Calls.{Model, ruled, settingOf, claims, releases, withdraws, onlyClock, Call, timed, looks, sets, claim, isTimed, clockOf, Step, advance, plain, finish, join, fresh, admit, step}
+use Rattle.rules.specs.Calls.{Model, ruled, settingOf, claims, releases, withdraws, onlyClock, Call, timed, looks, sets, claim, release, withdraw, isTimed, clockOf, Step, advance, plain, finish, join, remove, fresh, admit, step}
 use Rattle.rules.specs.Invariants.{IsSpaced, IsPacked, Still, Invariant}
 use Rattle.rules.proofs.Bools.{clash}
-use Rattle.rules.proofs.Lists.{here, map-e}
-use Rattle.rules.proofs.Order.{precedes-e, precedes-lt}
-use Rattle.rules.proofs.Packing.{moved-phase, pack-precedes}
-use Rattle.rules.proofs.Granting.{goes-wait, goes-at, granted-cases, grant-precedes}
+use Rattle.rules.proofs.Lists.{here, map-e, map-i, keep-e, keep-i}
+use Rattle.rules.proofs.Order.{precedes-e, precedes-lt, ascending-same}
+use Rattle.rules.proofs.Packing.{moved-phase, moved-at, moved-ticket, pack-precedes, pack-no-later}
+use Rattle.rules.proofs.Placing.{place-low, place-least}
+use Rattle.rules.proofs.Granting.{goes-wait, goes-at, granted-cases, granted-at, grant-precedes}
 use Rattle.rules.proofs.Invariants.{spaced-clear, settled-packs}
-use Rattle.rules.proofs.Calls.{Admissible, advance-drawn, placed-fits, advance-packed, finish-invariant, placed, join-spaced, Leaves, by-release, by-withdraw, by-clock, leaves-spaced, Idle, looks-untimed, step-cases, clock-accepted, advance-same, finish-e, finish-clock, leaves-old, leaves-clock, join-old, advance-spare, admit-invariant}
+use Rattle.rules.proofs.Calls.{Clocked, Admissible, advance-drawn, fresh-sane, placed-fits, advance-packed, finish-invariant, placed, join-spaced, Leaves, by-release, by-withdraw, by-clock, leaves-spaced, remove-spaced, Idle, looks-untimed, step-cases, clock-accepted, new-invariant, step-invariant, advance-same, finish-e, finish-clock, leaves-old, leaves-clock, join-old, advance-spare, admit-invariant}
 use Rattle.rules.proofs.OnePacking.{advance-still, finish-still, joined, joined-cases, claim-pending, joined-at}
 use Rattle.promises.specs.Ledger.{tableAfter}
-use Rattle.promises.specs.Runs.{Start, Begins}
-use Rattle.promises.proofs.Demand3.{after-calls}
-use Rattle.promises.specs.WholeCalls.{Becomes, TimedCall, Stays, ClaimCall, WholeCalls}
+use Rattle.promises.specs.Runs.{Start, Begins, by-new}
+use Rattle.promises.specs.WholeCalls.{Becomes, TimedCall, Stays, ClaimCall, LeaveCall, WholeCalls}
 
 -- ── order ──
 -- Through the first packing.
@@ -182,8 +186,27 @@ module _ (m : Model) (i : Invariant m) (t : ℕ) (ask : Request) (a : Admissible
       fits : Spare (ruled m t) (first .pending) (placed first ask) (place (ruled m t) (first .pending) (fresh first ask))
       fits = placed-fits first ask (a .long) drawn spare .spare
 
-  claim-whole : ClaimCall m t ask (admit first ask)
-  unfolding admit finish
+  -- The least of all numbers that fit.
+  low-at : t ≤ place (ruled m t) (first .pending) (fresh first ask)
+  low-at = place-low (ruled m t) (first .pending) (fresh first ask)
+
+  least-at : (x : ℕ) → t ≤ x → Fits (ruled m t) (first .pending) w x → place (ruled m t) (first .pending) (fresh first ask) ≤ x
+  unfolding advance
+  least-at x h f =
+      place-least (ruled m t) (first .pending) (fresh first ask) (fresh-sane first ask (a .long) drawn spare) x h
+      (joined-cases first ask (λ (y : Claim). Fits (ruled m t) (first .pending) y x → Fits (ruled m t) (first .pending) (fresh first ask) x)
+      (λ f. record { room = f .room; spare = f .spare }) (λ f. record { room = f .room; spare = f .spare }) f)
+
+  contention-at : contention (first .pending) (fresh first ask) ≡ count (rivals (first .pending) w)
+  unfolding contention
+  contention-at = joined-cases first ask (λ (y : Claim). count (rivals (first .pending) (fresh first ask)) ≡ count (rivals (first .pending) y)) refl refl
+
+  bound-at : (let rs = rivals (first .pending) w in startBound (ruled m t) (first .pending) (fresh first ask) ≡ t + sum (remaining (ruled m t)) rs + count rs * (ask .length - 1))
+  unfolding startBound contention
+  bound-at = joined-cases first ask (λ (y : Claim). (let rs = rivals (first .pending) y in startBound (ruled m t) (first .pending) (fresh first ask) ≡ t + sum (remaining (ruled m t)) rs + count rs * (ask .length - 1))) refl refl
+
+  pub claim-whole : ClaimCall m t ask (admit first ask)
+  unfolding admit finish advance
   claim-whole = record {
     new = w;
     groups = joined-cases first ask (λ (x : Claim). x .groups ≡ ask .groups) refl refl;
@@ -194,6 +217,10 @@ module _ (m : Model) (i : Invariant m) (t : ℕ) (ask : Request) (a : Admissible
     start = joined-at first packed still ask (a .long) drawn spare;
     overlaps-none = clear-of;
     units-enough = enough-for;
+    from-clock = low-at;
+    least = least-at;
+    contention-counted = contention-at;
+    bound-counted = bound-at;
     pushes-none = others;
     others-same = last-is ∙ ap (λ (s : Step). s .model .pending ++ (w ∷ [])) (sym (clock-accepted m t (a .clocked)));
   }
@@ -230,9 +257,93 @@ of-claim m i t ask =
     none (by-withdraw t k) = tt
     none (by-clock t) = tt
 
--- In every table that keeps the invariant, and so after any calls from a new table.
+-- ── an accepted release or withdrawal ──
+module _ (m : Model) (i : Invariant m) (t k : ℕ) (o : Clocked m t) where
+  -- The table without the claim, and the one after the call.
+  abbrev q : Model
+  q = remove (advance m t) k
+
+  abbrev done : Model
+  done = finish (remove (advance m t) k) (plain k t) .model
+
+  packed-at : IsPacked (advance m t)
+  packed-at = advance-packed m t i (o .later)
+
+  q-spaced : IsSpaced q
+  q-spaced = remove-spaced (advance m t) k (packed-at .spaced)
+
+  kept : (x : Claim) → x ∈ q .pending → x ∈ advance m t .pending × (x .ticket ≢ k)
+  unfolding remove
+  kept x j = let r = keep-e (λ c. not (named k c)) (advance m t .pending) j in (r .0, eqb-false (x .ticket) k (not-true (eqb (x .ticket) k) (r .1)))
+
+  left-over : (x : Claim) → x ∈ advance m t .pending → x .ticket ≢ k → x ∈ q .pending
+  unfolding remove
+  left-over x j n = keep-i (λ c. not (named k c)) (rw (ne-eqb (x .ticket) k n)) j
+
+  comes : (x : Claim) → x ∈ q .pending → (d : Claim) × d ∈ done .pending × (d .ticket ≡ x .ticket)
+  unfolding finish pack grant
+  comes x j =
+      let v : Setting = settingOf q in
+      let f = packedStart v (q .pending) in
+      let ps : List Claim = pack v (q .pending) in (
+        granted v ps (moved f x),
+        map-i (granted v ps) (map-i (moved f) j),
+        granted-cases (λ (y : Claim). y .ticket ≡ x .ticket) v ps (moved f x) (λ g. moved-ticket f x) (λ g. moved-ticket f x),
+      )
+
+  earlier : (x d : Claim) → x ∈ advance m t .pending → d ∈ done .pending → d .ticket ≡ x .ticket → on x ≡ false → at d ≤ at x
+  earlier x d xi di e h =
+      let v : Setting = settingOf q in
+      let f = packedStart v (q .pending) in
+      let r = finish-e q (plain k t) di in
+      let same : r .0 ≡ x = ascending-same (advance m t .pending) (packed-at .spaced .ascending) (r .0) x (kept (r .0) (r .1) .0) xi (sym (r .2) ∙ e) in
+      let z : on (r .0) ≡ false = ap on same ∙ h in
+      omega (arith, ap at same, ap at (r .3 .1), granted-at v (pack v (q .pending)) (moved f (r .0)), moved-at f (r .0) z, pack-no-later v (q .pending) (λ x k. q-spaced .proper x k .sane) (q-spaced .fit) (q-spaced .low) (r .0) (r .1) z)
+
+  leave-whole : LeaveCall m t k (finish (remove (advance m t) k) (plain k t))
+  leave-whole = record {
+    gone = λ d di e. let r = finish-e q (plain k t) di in kept (r .0) (r .1) .1 (sym (r .2) ∙ e);
+    rest-stays = λ x xi n. comes x (left-over x xi n);
+    pulled-forward = earlier;
+  }
+
+-- Of a release or a withdrawal; nothing of the other calls.
+OfLeave : Model → Call → Step → Type 0
+OfLeave m (timed t (claims ask)) s = Unit {0}
+OfLeave m (timed t (releases k)) s = LeaveCall m t k s
+OfLeave m (timed t (withdraws k)) s = LeaveCall m t k s
+OfLeave m (timed t onlyClock) s = Unit {0}
+OfLeave m (looks q) s = Unit {0}
+OfLeave m (sets p) s = Unit {0}
+
+of-leave : (m : Model) → Invariant m → (c : Call) → isTimed c ≡ true → step m c .answer .number ≡ 0 → OfLeave m c (step m c)
+unfolding OfLeave
+of-leave m i =
+    step-cases (λ c s. isTimed c ≡ true → s .answer .number ≡ 0 → OfLeave m c s) m (λ c k z p q. refused c k z p q)
+    (λ t ask a p q. tt) (λ c t k q o v p e. whole o v) (λ c r l d p e. tt) (λ n d p e. tt)
+  where
+    whole : {c : Call} {t k : ℕ} {q : Model} → Clocked m t → Leaves m c t k q → OfLeave m c (finish q (plain k t))
+    whole o (by-release t k) = leave-whole m i t k o
+    whole o (by-withdraw t k) = leave-whole m i t k o
+    whole o (by-clock t) = tt
+
+-- ── every table that calls can make ──
 pub whole-calls : (m : Model) → Invariant m → WholeCalls m
-whole-calls m i = record { of-timed = of-timed m i; of-claim = of-claim m i }
+unfolding OfLeave
+whole-calls m i = record {
+  of-timed = of-timed m i;
+  of-claim = of-claim m i;
+  of-release = λ t k. of-leave m i (release t k) refl;
+  of-withdraw = λ t k. of-leave m i (withdraw t k) refl;
+}
+
+begins-invariant : (s : Start) → Begins s → Invariant (s .table)
+begins-invariant s (by-new rig pool alone) = new-invariant rig pool alone
+
+calls-invariant : (m : Model) (cs : List Call) → Invariant m → Invariant (tableAfter step m cs)
+unfolding tableAfter
+calls-invariant m [] i = i
+calls-invariant m (c ∷ cs) i = calls-invariant (step m c .model) cs (step-invariant m c i)
 
 pub whole-calls-after : (s : Start) → Begins s → (calls : List Call) → WholeCalls (tableAfter step (s .table) calls)
-whole-calls-after s b calls = whole-calls (tableAfter step (s .table) calls) (after-calls s b calls .inv)
+whole-calls-after s b calls = whole-calls (tableAfter step (s .table) calls) (calls-invariant (s .table) calls (begins-invariant s b))

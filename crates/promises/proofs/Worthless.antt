@@ -35,7 +35,7 @@ all-refused = (
       let z : _≡_ {A = ℕ} 0 1 = cc in
       omega arith,
   λ d.
-      let z : _≡_ {A = ℕ} 1 2 = d .at-any-call (claim 0 0x1 10 ∷ []) (claim 0 0x1 10) [] refl .ticket-next 0 _ refl refl in
+      let z : _≡_ {A = ℕ} 1 2 = d .at-any-call (claim 0 0x1 10 ∷ []) (claim 0 0x1 10) [] refl .of-claim 0 _ refl refl .ticket-next in
       omega arith,
   λ d.
       let z : 17 ≤ 12 = d (setGrace 5 ∷ claim 0 0x1 10 ∷ claim 0 0x1 10 ∷ clock 12 ∷ []) [] refl _ _ here (there here) refl refl 12 refl in

@@ -50,9 +50,10 @@ pub record Entry : Type 0 where
 abbrev pub promised : Entry → ℕ
 promised e = e .grant + e .asked .length
 
--- The table's clock, the units in its pool, the count of claims accepted so far, the grace, the shares of clients 1 to 8, and the pending
--- claims.
+-- The rig, the table's clock, the units in its pool, the count of claims accepted so far, the grace, the shares of clients 1 to 8, and the
+-- pending claims.
 pub record Ledger : Type 0 where
+  pub rig : ℕ
   pub clock : ℕ
   pub pool : ℕ
   pub issued : ℕ
@@ -60,10 +61,12 @@ pub record Ledger : Type 0 where
   pub shares : List Share
   pub claims : List Entry
 
--- Before any call, by the call that made the table: the units that it named, whether client 1 alone is declared, and its answer. The clock is
--- "0 before any"; a table that was refused has no units; the grace is "0 unless set" (document 02, P6).
-abbrev pub opening : ℕ → Bool → Answer → Ledger
-opening k alone a = record { clock = 0; pool = cond (eqb (a .number) 0) k 0; issued = 0; grace = 0; shares = firstShares alone; claims = [] }
+-- Before any call, by the call that made the table: the groups and the units that it named, whether client 1 alone is declared, and its
+-- answer. The clock is "0 before any"; a table that was refused has no groups and no units; the grace is "0 unless set" (document 02, P6).
+abbrev pub opening : ℕ → ℕ → Bool → Answer → Ledger
+opening g k alone a =
+    let made = eqb (a .number) 0 in
+    record { rig = cond made g 0; clock = 0; pool = cond made k 0; issued = 0; grace = 0; shares = firstShares alone; claims = [] }
 
 -- "A claim is pending from the accepted call that issued its ticket": what an accepted call issued.
 unfoldable pub issues : Call → Answer → List Entry
@@ -115,8 +118,8 @@ noted l t =
     let shares = cond (eqb (t .answer .number) 0) (sharesBy (t .call) (l .shares)) (l .shares) in
     let grace = cond (eqb (t .answer .number) 0) (graceBy (t .call) (l .grace)) (l .grace) in
     cond (accepted t)
-    (record { clock = now; pool = l .pool; issued = l .issued + length new; grace = grace; shares = shares; claims = map (marked now (t .answer .grants)) (stay (t .call) (l .claims) ++ new) })
-    (record { clock = l .clock; pool = l .pool; issued = l .issued; grace = grace; shares = shares; claims = l .claims })
+    (record { rig = l .rig; clock = now; pool = l .pool; issued = l .issued + length new; grace = grace; shares = shares; claims = map (marked now (t .answer .grants)) (stay (t .call) (l .claims) ++ new) })
+    (record { rig = l .rig; clock = l .clock; pool = l .pool; issued = l .issued; grace = grace; shares = shares; claims = l .claims })
 
 -- The ledger after these calls.
 unfoldable pub notedAll : Ledger → List Turn → Ledger

@@ -4,5 +4,7 @@ pub mod Demand3
 pub mod PoolKept
 pub mod SharesKept
 pub mod EndsAwaited
+pub mod NumbersTested
+pub mod HeldUp
 pub mod WholeCalls
 pub mod Worthless

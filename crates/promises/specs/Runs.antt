@@ -33,7 +33,7 @@ pub record Start : Type 0 where
 abbrev pub newly : ℕ → ℕ → Bool → Start
 newly rig pool alone =
     let s : Step = new rig pool alone in
-    record { table = s .model; ledger = opening pool alone (s .answer) }
+    record { table = s .model; ledger = opening rig pool alone (s .answer) }
 
 pub data Begins : Start → Type 0 where
   by-new : (rig pool : ℕ) (alone : Bool) → Begins (newly rig pool alone)
@@ -45,10 +45,10 @@ AtAnyTime step s calls Q =
     → (let ts = turns step (s .table) before in
     Q (NoOverruns (s .ledger) ts) (notedAll (s .ledger) ts) (tells (tableAfter step (s .table) before)))
 
--- Of each call: Q of the same before it, of the call with its answer, and of what lookups tell before and after it.
-abbrev pub AtAnyCall : Steps → Start → List Call → (Type 0 → Ledger → Turn → Told → Told → Type 0) → Type 0
+-- Of each call: Q of the ledger before it, of the call with its answer, and of what lookups tell before and after it.
+abbrev pub AtAnyCall : Steps → Start → List Call → (Ledger → Turn → Told → Told → Type 0) → Type 0
 AtAnyCall step s calls Q =
     (before : List Call) (c : Call) (rest : List Call) → before ++ (c ∷ rest) ≡ calls
     → (let ts = turns step (s .table) before in
     let n = tableAfter step (s .table) before in
-    Q (NoOverruns (s .ledger) ts) (notedAll (s .ledger) ts) (record { call = c; answer = step n c .answer }) (tells n) (tells (step n c .model)))
+    Q (notedAll (s .ledger) ts) (record { call = c; answer = step n c .answer }) (tells n) (tells (step n c .model)))

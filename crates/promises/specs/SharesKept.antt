@@ -30,7 +30,7 @@ pub record SharesNext (l : Ledger) (t : Turn) : Type 0 where
 
 pub record SharesKeptOf (step : Steps) (s : Start) (calls : List Call) : Type 0 where
   pub at-any-time : AtAnyTime step s calls (λ _ l _. SharesNow l)
-  pub at-any-call : AtAnyCall step s calls (λ _ l t _ _. SharesNext l t)
+  pub at-any-call : AtAnyCall step s calls (λ l t _ _. SharesNext l t)
 
 abbrev pub SharesKept : Start → List Call → Type 0
 SharesKept s calls = SharesKeptOf step s calls

@@ -4,17 +4,18 @@ use mathlib.Core.Path.{_≡_}
 use mathlib.Core.Logic.{_⊎_, _≢_}
 use mathlib.Core.Bool.{true, false}
 use mathlib.Core.List.{[], _∷_, _++_}
-use Prim.Native.Nat.{ℕ, _≤_, _<_}
+use Prim.Native.Nat.{ℕ, _+_, _-_, _*_, _≤_, _<_}
+use lib.ListN.{length as count}
 use Rattle.rules.specs.declared.Claim.{Claim}
 use Rattle.rules.specs.declared.Phase.the-variants.{On}
 use Rattle.rules.specs.declared.Request.{Request}
-use Rattle.rules.specs.Lists.{_∈_}
+use Rattle.rules.specs.Lists.{_∈_, sum}
 use Rattle.rules.specs.declared.Setting.{Setting}
-use Rattle.rules.specs.Claims.{on, at, withPhase, rival, endOf}
-use Rattle.rules.specs.Order.{precedes}
+use Rattle.rules.specs.Claims.{on, at, withPhase, rival, endOf, remaining}
+use Rattle.rules.specs.Order.{precedes, rivals}
 use Rattle.rules.specs.Packing.{Packs}
-use Rattle.rules.specs.Plans.{Spare}
-use Rattle.rules.specs.Calls.{Model, ruled, settingOf, Call, claim, clock, isTimed, clockOf, Step, advance, step}
+use Rattle.rules.specs.Plans.{Spare, Fits}
+use Rattle.rules.specs.Calls.{Model, ruled, settingOf, Call, claim, release, withdraw, clock, isTimed, clockOf, Step, advance, step}
 
 -- The claim c of the table m is the claim d of the table n: tickets tell.
 pub record Becomes (m n : Model) (c d : Claim) : Type 0 where
@@ -57,11 +58,28 @@ pub record ClaimCall (m : Model) (t : ℕ) (ask : Request) (s : Step) : Type 0 w
       → (let v : Setting = ruled m t in (endOf v d ≤ at new) ⊎ ((on d ≡ false) × (endOf v new ≤ at d)))
   -- "A start must leave, over the whole hold, units enough beside all planned holds."
   pub units-enough : Spare (ruled m t) (advance m t .pending) new (at new)
+  -- "The planned start is the least s, not below the clock, such that ..": of all numbers, and not of the candidates alone.
+  pub from-clock : t ≤ s .answer .start
+  pub least : (x : ℕ) → t ≤ x → Fits (ruled m t) (advance m t .pending) new x → s .answer .start ≤ x
+  -- "Crowd is the number of pending claims that conflict with it. Ceiling is clock + the sum, over those, of remaining time .. + crowd ×
+  -- (length − 1)."
+  pub contention-counted : s .answer .contention ≡ count (rivals (advance m t .pending) new)
+  pub bound-counted : (let rs = rivals (advance m t .pending) new in
+      s .answer .bound ≡ t + sum (remaining (ruled m t)) rs + count rs * (ask .length - 1))
   -- It pushes none back: every other claim is where setting the clock and packing put it, or was granted there,
   pub pushes-none : (d : Claim) → d ∈ s .model .pending → d .ticket ≢ new .ticket → (x : Claim) × x ∈ advance m t .pending × Stays t x d
   -- and all of them stand as after a call that only sets the clock.
   pub others-same : s .model .pending ≡ step m (clock t) .model .pending ++ (new ∷ [])
 
+-- An accepted release or withdrawal of ticket k.
+pub record LeaveCall (m : Model) (t k : ℕ) (s : Step) : Type 0 where
+  pub gone : (d : Claim) → d ∈ s .model .pending → d .ticket ≢ k
+  -- Every other claim is there, and starts no later than setting the clock and packing put it.
+  pub rest-stays : (x : Claim) → x ∈ advance m t .pending → x .ticket ≢ k → (d : Claim) × d ∈ s .model .pending × (d .ticket ≡ x .ticket)
+  pub pulled-forward : (x d : Claim) → x ∈ advance m t .pending → d ∈ s .model .pending → d .ticket ≡ x .ticket → on x ≡ false → at d ≤ at x
+
 pub record WholeCalls (m : Model) : Type 0 where
   pub of-timed : (c : Call) → isTimed c ≡ true → step m c .answer .number ≡ 0 → TimedCall m c (step m c)
   pub of-claim : (t : ℕ) (ask : Request) → step m (claim t ask) .answer .number ≡ 0 → ClaimCall m t ask (step m (claim t ask))
+  pub of-release : (t k : ℕ) → step m (release t k) .answer .number ≡ 0 → LeaveCall m t k (step m (release t k))
+  pub of-withdraw : (t k : ℕ) → step m (withdraw t k) .answer .number ≡ 0 → LeaveCall m t k (step m (withdraw t k))

@@ -28,5 +28,5 @@ unfolding someFrom lowestFrom common shares empty within greatest least sum all 
 all-pairs = refl
 
 pub all-sharings : map numberOf sharings ≡ map (λ x. x .number) sharings
-unfolding someFrom empty within sum keep shareOf withShare pendingOf unfilled unfilledByOthers reservedInAll firstOf tests act step new after sharings numberOf
+unfolding someFrom empty within sum any keep heldUnits pack trulyFree goesWithin goes granted grant grants shareOf withShare pendingOf unfilled unfilledByOthers reservedInAll firstOf tests advance finish act step new after sharings numberOf
 all-sharings = refl

@@ -150,6 +150,10 @@ draws =
     ∷ draw 2 (drawing 5 0x10 10 3 ∷ drawing 5 0x1 0 3 ∷ drawing 5 0x1 0 2 ∷ drawing 5 0x0 10 0 ∷ drawing 5 0x0 10 2 ∷ [])
     (refused 2 ∷ refused 16 ∷ refused 3 ∷ refused 1 ∷ ok 1 5 0 5 (1 ∷ []) ∷ [])
     (Holds 15 ∷ NotPending ∷ NotPending ∷ NotPending ∷ []) 0
+    -- "Packing takes waiting claims by start, then ticket": tickets 3 and 4 at one start, and one unit for both
+    ∷ draw 3 (drawing 0 0x4 10 2 ∷ drawing 5 0x0 10 3 ∷ drawing 6 0x2 5 1 ∷ drawing 8 0x0 10 1 ∷ withdraw 8 2 ∷ [])
+    (ok 1 0 0 0 (1 ∷ []) ∷ ok 2 10 0 5 [] ∷ ok 3 20 0 6 [] ∷ ok 4 20 0 8 [] ∷ ok 2 8 0 0 (3 ∷ []) ∷ [])
+    (Holds 10 ∷ NotPending ∷ Holds 13 ∷ Waits 10 ∷ []) 0
     ∷ []
 
 -- The same with a grace.
@@ -179,6 +183,10 @@ graces =
     ∷ draw 2 (setGrace 5 ∷ drawing 0 0x0 10 2 ∷ drawing 0 0x0 10 1 ∷ clock 12 ∷ drawing 12 0x1 5 1 ∷ release 13 1 ∷ [])
     (ok 0 0 0 0 [] ∷ ok 1 0 0 0 (1 ∷ []) ∷ ok 2 10 0 0 [] ∷ ok 0 12 0 0 [] ∷ ok 3 17 0 12 [] ∷ ok 1 13 0 0 (2 ∷ 3 ∷ []) ∷ [])
     (NotPending ∷ Holds 23 ∷ Holds 18 ∷ NotPending ∷ []) 0
+    -- a release packs before it takes away: ticket 3 goes before ticket 2, which the overrun put off
+    ∷ draw 2 (setGrace 5 ∷ drawing 5 0x0 5 1 ∷ drawing 6 0x3 2 2 ∷ drawing 6 0x0 5 1 ∷ release 11 1 ∷ [])
+    (ok 0 0 0 0 [] ∷ ok 1 5 0 5 (1 ∷ []) ∷ ok 2 10 0 6 [] ∷ ok 3 12 0 6 [] ∷ ok 1 11 0 0 (3 ∷ []) ∷ [])
+    (NotPending ∷ Waits 16 ∷ Holds 16 ∷ NotPending ∷ []) 1
     -- 21: over 60,000, and after an accepted claim, also where nothing is pending any more; a refused claim is none. The last grace counts
     ∷ draw 0 (setGrace 60001 ∷ setGrace 60000 ∷ claim 0 0x0 10 ∷ setGrace 5 ∷ claim 0 0x1 10 ∷ setGrace 7 ∷ claim 12 0x1 10 ∷ withdraw 12 2 ∷ release 12 1 ∷ setGrace 0 ∷ [])
     (refused 21 ∷ ok 0 0 0 0 [] ∷ refused 1 ∷ ok 0 0 0 0 [] ∷ ok 1 0 0 0 (1 ∷ []) ∷ refused 21 ∷ ok 2 17 1 26 [] ∷ ok 2 12 0 0 [] ∷ ok 1 12 0 0 [] ∷ refused 21 ∷ [])
@@ -283,7 +291,7 @@ sharings =
     ∷ sharing (declare 1 0 64 ∷ []) 0 0 (darkBy 1) 1
     ∷ sharing (declare 1 0 64 ∷ []) 0 0 (claimBy 0) 17
     ∷ sharing (declare 1 0 64 ∷ []) 0 0 (claimBy 9) 17
-    ∷ sharing [] 0 0 (timed 1000000000001 (claims (asking 0x1 10))) 5
+    ∷ sharing [] 0 0 (claim 1000000000001 0x1 10) 5
     -- 19: guarantees of 65 in all, though not of 64; above the limit; a limit over 64; declared twice
     ∷ sharing (declare 1 32 64 ∷ []) 0 0 (declare 2 33 64) 19
     ∷ sharing (declare 1 32 64 ∷ []) 0 0 (declare 2 32 64) 0
@@ -297,6 +305,14 @@ sharings =
     -- after a claim 13, with a bad client too
     ∷ sharing (declare 1 0 64 ∷ []) 1 0 (declare 2 0 0) 13
     ∷ sharing (declare 1 0 64 ∷ []) 1 0 (declare 9 0 0) 13
+    -- clocks and lengths at their limits; 4 before 17, before 1 and before 8, 5 before 8, 3 before 6
+    ∷ alone [] 0 0 (claim 1000000000000 0x1 3600000) 0
+    ∷ alone [] 0 0 (claim 0 0x1 3600001) 3
+    ∷ alone (clock 5 ∷ []) 0 0 (claimBy 2) 4
+    ∷ alone (clock 5 ∷ []) 0 0 (darkBy 1) 4
+    ∷ alone (clock 5 ∷ []) 0 0 (release 4 9) 4
+    ∷ alone (clock 5 ∷ []) 0 0 (withdraw 1000000000001 9) 5
+    ∷ alone [] 64 0 (claim 0 0x1 0) 3
     -- client 1 alone: 6 as ever, nobody else is known; another may be declared, but no place is left to reserve
     ∷ alone [] 63 0 (claimBy 1) 0
     ∷ alone [] 64 0 (claimBy 1) 6

@@ -12,15 +12,19 @@ use Rattle.promises.specs.Demand3.{Now, Next}
 use Rattle.promises.specs.PoolKept.{Kept}
 use Rattle.promises.specs.SharesKept.{SharesNow, SharesNext}
 use Rattle.promises.specs.EndsAwaited.{Awaited}
+use Rattle.promises.specs.NumbersTested.{NumberTested}
+use Rattle.promises.specs.HeldUp.{Explained}
 use Rattle.promises.proofs.Demand3.{demand-3}
 use Rattle.promises.proofs.PoolKept.{pool-kept}
 use Rattle.promises.proofs.SharesKept.{shares-kept}
 use Rattle.promises.proofs.EndsAwaited.{ends-awaited}
+use Rattle.promises.proofs.NumbersTested.{numbers-tested}
+use Rattle.promises.proofs.HeldUp.{held-up}
 use Rattle.promises.specs.WholeCalls.{WholeCalls}
 use Rattle.promises.proofs.WholeCalls.{whole-calls-after}
 use Rattle.table.specs.declared.Outcome.{Outcome}
 use Rattle.table.specs.Outcomes.{outcome}
-use Rattle.table_runs.specs.Runs.{answered, looked, Made, by-outcome, by-look, lookNumber, Run, done, then, Looks, BeganAs, by-new, CodeAtAnyTime, CodeAtAnyCall, CodeDemand3, CodePoolKept, CodeEndsAwaited, CodeSharesKept, CodeWholeCalls}
+use Rattle.table_runs.specs.Runs.{answered, looked, Made, by-outcome, by-look, lookNumber, Run, done, then, Looks, BeganAs, by-new, CodeAtAnyTime, CodeAtAnyCall, CodeDemand3, CodePoolKept, CodeEndsAwaited, CodeHeldUp, CodeNumbersTested, CodeSharesKept, CodeWholeCalls}
 use Rattle.table.proofs.Promised.{outcome-model, outcome-grants}
 
 -- ── one answer ──
@@ -62,7 +66,7 @@ shows-is t m shows e h = λ i q. (h q ∙ ap (λ (x : Model). tells x q) e) i
 -- Such a start is one of those of `promises`.
 began-is : {t : Table} {s : Start} → BeganAs t s → Begins s × (model t ≡ s .table)
 began-is (by-new rig pool alone first q) = (
-  subst (λ (a : Answer). Begins (record { table = new rig pool alone .model; ledger = opening pool alone a })) (sym (answer-of first (new rig pool alone) q)) (begins-new rig pool alone),
+  subst (λ (a : Answer). Begins (record { table = new rig pool alone .model; ledger = opening rig pool alone a })) (sym (answer-of first (new rig pool alone) q)) (begins-new rig pool alone),
   outcome-model first (new rig pool alone) q,
 )
 
@@ -74,7 +78,7 @@ any-time-of-code calls Q h before rest e t s b ts u p shows k =
     rw (r .0 ∙ ap (λ (m : Model). turns step m before) (i .1), shows-is u _ shows (r .1 ∙ ap (λ (m : Model). tableAfter step m before) (i .1)) k)
     (h s (i .0) before rest e)
 
-pub any-call-of-code : (calls : List Call) (Q : Type 0 → Ledger → Turn → Told → Told → Type 0) → ((s : Start) → Begins s → AtAnyCall step s calls Q) → CodeAtAnyCall calls Q
+pub any-call-of-code : (calls : List Call) (Q : Ledger → Turn → Told → Told → Type 0) → ((s : Start) → Begins s → AtAnyCall step s calls Q) → CodeAtAnyCall calls Q
 any-call-of-code calls Q h before c rest e t s b ts u p a w one old new k k′ =
     let i = began-is b in
     let r = run-is p in
@@ -100,10 +104,16 @@ code-pool-kept calls = any-time-of-code calls (λ _ l told. Kept l told) (λ s b
 pub code-ends-awaited : (calls : List Call) → CodeEndsAwaited calls
 code-ends-awaited calls = any-time-of-code calls (λ _ l told. Awaited l told) (λ s b. ends-awaited s b calls)
 
+pub code-held-up : (calls : List Call) → CodeHeldUp calls
+code-held-up calls = any-time-of-code calls (λ _ l told. Explained l told) (λ s b. held-up s b calls)
+
+pub code-numbers-tested : (calls : List Call) → CodeNumbersTested calls
+code-numbers-tested calls = any-call-of-code calls (λ l t _ _. NumberTested l t) (λ s b. numbers-tested s b calls)
+
 pub code-shares-kept : (calls : List Call) → CodeSharesKept calls
 code-shares-kept calls = record {
   at-any-time = any-time-of-code calls (λ _ l _. SharesNow l) (λ s b. shares-kept s b calls .at-any-time);
-  at-any-call = any-call-of-code calls (λ _ l t _ _. SharesNext l t) (λ s b. shares-kept s b calls .at-any-call);
+  at-any-call = any-call-of-code calls (λ l t _ _. SharesNext l t) (λ s b. shares-kept s b calls .at-any-call);
 }
 
 pub code-whole-calls : (calls : List Call) → CodeWholeCalls calls

@@ -13,6 +13,8 @@ use Rattle.promises.specs.Demand3.{Now, Next}
 use Rattle.promises.specs.PoolKept.{Kept}
 use Rattle.promises.specs.SharesKept.{SharesNow, SharesNext}
 use Rattle.promises.specs.EndsAwaited.{Awaited}
+use Rattle.promises.specs.NumbersTested.{NumberTested}
+use Rattle.promises.specs.HeldUp.{Explained}
 use Rattle.promises.specs.WholeCalls.{WholeCalls}
 use Rattle.table.specs.declared.Outcome.{Outcome}
 use Rattle.table.specs.Outcomes.{outcome}
@@ -57,7 +59,7 @@ Looks t shows = (q : Look) → shows q ≡ tells (model t) q
 -- A table that a run may begin with, as the code handed it back: what `promises` calls its start.
 pub data BeganAs : Table → Start → Type 0 where
   by-new : (rig pool : ℕ) (alone : Bool) (first : Outcome) → first ≡ outcome (new rig pool alone)
-      → BeganAs (first .table) (record { table = new rig pool alone .model; ledger = opening pool alone (answered first) })
+      → BeganAs (first .table) (record { table = new rig pool alone .model; ledger = opening rig pool alone (answered first) })
 
 -- After any number of the calls, run by the code: Q as in `promises`, of the answers given and of what lookups show.
 abbrev pub CodeAtAnyTime : List Call → (Type 0 → Ledger → Told → Type 0) → Type 0
@@ -67,12 +69,12 @@ CodeAtAnyTime calls Q =
     → Q (NoOverruns (s .ledger) ts) (notedAll (s .ledger) ts) shows
 
 -- Of each call.
-abbrev pub CodeAtAnyCall : List Call → (Type 0 → Ledger → Turn → Told → Told → Type 0) → Type 0
+abbrev pub CodeAtAnyCall : List Call → (Ledger → Turn → Told → Told → Type 0) → Type 0
 CodeAtAnyCall calls Q =
     (before : List Call) (c : Call) (rest : List Call) → before ++ (c ∷ rest) ≡ calls
     → (t : Table) (s : Start) → BeganAs t s → (ts : List Turn) (u : Table) → Run t before ts u
     → (a : Answer) (w : Table) → Made u c a w → (old new : Told) → Looks u old → Looks w new
-    → Q (NoOverruns (s .ledger) ts) (notedAll (s .ledger) ts) (record { call = c; answer = a }) old new
+    → Q (notedAll (s .ledger) ts) (record { call = c; answer = a }) old new
 
 -- What `promises` says of the rules, of the answers given and what lookup shows.
 pub record CodeDemand3 (calls : List Call) : Type 0 where
@@ -85,9 +87,15 @@ CodePoolKept calls = CodeAtAnyTime calls (λ _ l told. Kept l told)
 abbrev pub CodeEndsAwaited : List Call → Type 0
 CodeEndsAwaited calls = CodeAtAnyTime calls (λ _ l told. Awaited l told)
 
+abbrev pub CodeHeldUp : List Call → Type 0
+CodeHeldUp calls = CodeAtAnyTime calls (λ _ l told. Explained l told)
+
+abbrev pub CodeNumbersTested : List Call → Type 0
+CodeNumbersTested calls = CodeAtAnyCall calls (λ l t _ _. NumberTested l t)
+
 pub record CodeSharesKept (calls : List Call) : Type 0 where
   pub at-any-time : CodeAtAnyTime calls (λ _ l _. SharesNow l)
-  pub at-any-call : CodeAtAnyCall calls (λ _ l t _ _. SharesNext l t)
+  pub at-any-call : CodeAtAnyCall calls (λ l t _ _. SharesNext l t)
 
 -- What `promises` says of whole calls, of every table that such a list of calls left.
 abbrev pub CodeWholeCalls : List Call → Type 0

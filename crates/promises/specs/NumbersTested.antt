@@ -1,0 +1,49 @@
+-- "Each number only on its condition": in every list of calls the number of every answer is that of the first of the call's tests that fails,
+-- each asked of what the calls so far and their answers tell; 0 where none does. Beside demand 3, by the same ledger. proofs/NumbersTested
+-- has the theorem.
+use mathlib.Core.Path.{_≡_}
+use mathlib.Core.Bool.{Bool}
+use mathlib.Core.List.{List, [], _∷_}
+use Prim.Native.Nat.{ℕ}
+use lib.Dec.{eqb}
+use lib.ListN.{length}
+use Rattle.rules.specs.Shares.{shareOf, pendingOf, unfilledByOthers}
+use Rattle.rules.specs.Tests.{Test, firstOf, late, backward, stranger, nothingAsked, offRig, spots, badLength, fullFor, over, ticketless, unknown, notYetOn, alreadyOn}
+use Rattle.rules.specs.Calls.{Action, claims, releases, withdraws, onlyClock, Look, atTicket, atTwo, atPool, Call, timed, looks, sets, setupTests, step}
+use Rattle.promises.specs.Ledger.{Turn, Steps, Entry, Ledger}
+use Rattle.promises.specs.Runs.{Start, AtAnyCall}
+use Rattle.promises.specs.SharesKept.{askers}
+
+abbrev pub hasTicket : ℕ → Entry → Bool
+hasTicket k e = eqb (e .ticket) k
+
+-- The tests of the rules (`actionTests`, `lookTests`), of the ledger in place of a table.
+abbrev pub actionTestsBy : Ledger → Action → List Test
+actionTestsBy l (claims ask) =
+    let ks = askers (l .claims) in
+    let s = shareOf (l .shares) (ask .client) in
+    stranger s ∷ nothingAsked (ask .groups) (ask .units) ∷ offRig (l .rig) (ask .groups) ∷ spots (l .pool) (ask .units) ∷ badLength (ask .length)
+    ∷ fullFor s (pendingOf ks (ask .client)) (length (l .claims)) (unfilledByOthers (l .shares) ks (ask .client))
+    ∷ over s (pendingOf ks (ask .client)) ∷ ticketless (l .issued) ∷ []
+actionTestsBy l (releases k) = unknown (hasTicket k) (l .claims) ∷ notYetOn (hasTicket k) (λ e. e .held) (l .claims) ∷ []
+actionTestsBy l (withdraws k) = unknown (hasTicket k) (l .claims) ∷ alreadyOn (hasTicket k) (λ e. e .held) (l .claims) ∷ []
+actionTestsBy l onlyClock = []
+
+abbrev pub lookTestsBy : List Entry → Look → List Test
+lookTestsBy es (atTicket k) = unknown (hasTicket k) es ∷ []
+lookTestsBy es (atTwo j k) = unknown (hasTicket j) es ∷ unknown (hasTicket k) es ∷ []
+lookTestsBy es atPool = []
+
+unfoldable pub testsBy : Ledger → Call → List Test
+testsBy l (timed t x) = late t ∷ backward (l .clock) t ∷ actionTestsBy l x
+testsBy l (looks q) = lookTestsBy (l .claims) q
+testsBy l (sets p) = setupTests (l .issued) (l .shares) p
+
+abbrev pub NumberTested : Ledger → Turn → Type 0
+NumberTested l t = t .answer .number ≡ firstOf (testsBy l (t .call))
+
+abbrev pub NumbersTestedOf : Steps → Start → List Call → Type 0
+NumbersTestedOf step s calls = AtAnyCall step s calls (λ l t _ _. NumberTested l t)
+
+abbrev pub NumbersTested : Start → List Call → Type 0
+NumbersTested s calls = NumbersTestedOf step s calls
