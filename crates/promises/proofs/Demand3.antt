@@ -597,7 +597,7 @@ story-weaken : (P Q : Type 0) (l : Ledger) (m : Model) → (Q → P) → Story P
 story-weaken P Q l m f s =
     record { inv = s .inv; booked = s .booked; clock = s .clock; pool = s .pool; issued = s .issued; grace = s .grace; shares = s .shares; match = match-weaken (λ c e r. tracks-weaken P Q f c e r) (s .match) }
 
-story-after : (cs : List Call) (P : Type 0) (l : Ledger) (m : Model) → Story P l m
+pub story-after : (cs : List Call) (P : Type 0) (l : Ledger) (m : Model) → Story P l m
     → Story (P × NoOverruns l (turns step m cs)) (notedAll l (turns step m cs)) (tableAfter step m cs)
 unfolding turns tableAfter notedAll
 story-after [] P l m s = story-weaken P (P × NoOverruns l []) l m (λ q. q .0) s

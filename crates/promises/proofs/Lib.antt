@@ -6,4 +6,5 @@ pub mod SharesKept
 pub mod EndsAwaited
 pub mod NumbersTested
 pub mod HeldUp
+pub mod NeverOvertaken
 pub mod Worthless

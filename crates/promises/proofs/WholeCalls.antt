@@ -22,7 +22,7 @@ use Rattle.rules.specs.Plans.{Sane, Spare, Fits}
 use Rattle.rules.specs.Granting.{goes, granted, grant}
 use Rattle.rules.specs.Tests.{named}
 use Rattle.rules.specs.declared.Reply.{Reply}
-use Rattle.rules.specs.Calls.{Model, ruled, settingOf, claims, releases, withdraws, onlyClock, Call, timed, looks, sets, claim, release, withdraw, isTimed, clockOf, Step, advance, plain, finish, join, remove, fresh, admit, step}
+use Rattle.rules.specs.Calls.{Model, ruled, settingOf, claims, releases, withdraws, onlyClock, Call, timed, looks, sets, claim, release, withdraw, isTimed, clockOf, declared, withGrace, Step, advance, plain, finish, join, remove, fresh, admit, step}
 use Rattle.rules.specs.Invariants.{IsSpaced, IsPacked, Still, Invariant}
 use Rattle.rules.proofs.Bools.{clash}
 use Rattle.rules.proofs.Lists.{here, map-e, map-i, keep-e, keep-i}
@@ -236,6 +236,20 @@ of-timed m i =
     (λ c t k q o v p e. timed-finish m q c t (plain k t) i (leaves-spaced v (advance-packed m t i (o .later))) (leaves-clock v .0) (leaves-clock v .1)
     (λ x j. inl (leaves-old v x j)))
     (λ c r l d p e. clash p refl) (λ n d p e. clash p refl)
+
+-- What precedes a waiting claim goes on preceding it over every call, accepted or not.
+pub order-holds : (m : Model) → Invariant m → (c : Call) (d d′ w w′ : Claim) → Becomes m (step m c .model) d d′ → Becomes m (step m c .model) w w′ → on w ≡ false → precedes d w ≡ true
+    → (on w′ ≡ false) × (precedes d′ w′ ≡ true)
+order-holds m i =
+    step-cases (λ c s. (d d′ w w′ : Claim) → Becomes m (s .model) d d′ → Becomes m (s .model) w w′ → on w ≡ false → precedes d w ≡ true → (on w′ ≡ false) × (precedes d′ w′ ≡ true)) m
+    (λ c n z. idle m refl) (λ t ask a. claim-timed m i t ask a .none-overtaken)
+    (λ c t k q o v. finish-order m q t (plain k t) i (leaves-spaced v (advance-packed m t i (o .later))) (λ x j. inl (leaves-old v x j)))
+    (λ c r l d. idle (declared m c r l) refl) (λ n d. idle (withGrace m n) refl)
+  where
+    idle : (n : Model) → n .pending ≡ m .pending → (d d′ w w′ : Claim) → Becomes m n d d′ → Becomes m n w w′ → on w ≡ false → precedes d w ≡ true → (on w′ ≡ false) × (precedes d′ w′ ≡ true)
+    idle n e d d′ w w′ f g o p =
+        let same : (c c′ : Claim) → Becomes m n c c′ → c′ ≡ c = λ c c′ b. ascending-same (m .pending) (i .spaced .ascending) c′ c (subst (λ (l : List Claim). c′ ∈ l) e (b .new)) (b .old) (b .same) in
+        (ap on (same w w′ g) ∙ o, ap (λ (x : Claim). precedes x w′) (same d d′ f) ∙ ap (precedes d) (same w w′ g) ∙ p)
 
 -- Of a claim; nothing of the other calls.
 OfClaim : Model → Call → Step → Type 0

@@ -1,6 +1,6 @@
 -- The theorems refuse the worthless versions, by computation on a few calls.
 use mathlib.Core.Path.{_≡_, refl, sym, ap, subst}
-use mathlib.Core.Logic.{inl, inr}
+use mathlib.Core.Logic.{inl, inr, ⊎-elim}
 use mathlib.Core.Bool.{true, false}
 use mathlib.Core.List.{List, [], _∷_, List·Memᴰ·eq-of-singleton}
 use Prim.Native.Nat.{ℕ, _≤_}
@@ -24,7 +24,7 @@ use Rattle.promises.specs.Ledger.{Entry, Ledger, turns, tableAfter, issu
 use Rattle.promises.specs.Runs.{Told, tells, Start, newly}
 use Rattle.promises.specs.NumbersTested.{testsBy}
 use Rattle.promises.specs.HeldUp.{EndsAt, Explained}
-use Rattle.promises.specs.Worthless.{claim, drawing, turnsDown, fixedStart, untouched, echoes, inventsContention, inventsBound, criesFull, neverGrants, overdraws, showsNow, leavesGaps, AllRefused}
+use Rattle.promises.specs.Worthless.{claim, drawing, turnsDown, fixedStart, untouched, echoes, inventsContention, inventsBound, criesFull, neverGrants, overdraws, showsNow, leavesGaps, reverses, AllRefused}
 
 -- Nothing holds up a claim that is pending alone.
 alone-waits : (l : Ledger) (told : Told) (f : Entry) (s : ℕ) → l .claims ≡ f ∷ [] → f .held ≡ false → 1 ≤ f .asked .length → told (atTicket (f .ticket)) ≡ Waits s → Explained l told → ⊥
@@ -40,7 +40,7 @@ alone-waits l told f s e o n w h =
         omega (arith, p .1 .2)
 
 pub all-refused : AllRefused
-unfolding someFrom lowestFrom common shares empty within greatest least sum all any keep heldUntil endOf remaining precedes before covers unitsAt used enough spare heldUnits ready startFor moved ahead startWithin packedStart pack clear fits seek place contention startBound takenBefore trulyFree goesWithin goes granted grant grants shareOf pendingOf unfilled unfilledByOthers firstOf tests advance finish join remove admit act step new standingOf turns tableAfter issues stay sharesBy graceBy marked notedAll boundOn testsBy turnsDown fixedStart untouched echoes inventsContention inventsBound criesFull neverGrants overdraws showsNow leavesGaps
+unfolding someFrom lowestFrom common shares empty within greatest least sum all any keep heldUntil endOf remaining precedes before covers unitsAt used enough spare heldUnits ready startFor moved ahead startWithin packedStart pack clear fits seek place contention startBound takenBefore trulyFree goesWithin goes granted grant grants shareOf pendingOf unfilled unfilledByOthers firstOf tests advance finish join remove admit act step new standingOf turns tableAfter issues stay sharesBy graceBy marked notedAll boundOn testsBy turnsDown fixedStart untouched echoes inventsContention inventsBound criesFull neverGrants overdraws showsNow leavesGaps reverses
 all-refused = (
   λ d.
       let z : _≡_ {A = ℕ} 3 0 = d [] (claim 0 0x1 10) [] refl in
@@ -80,4 +80,16 @@ all-refused = (
       let calls : List Call = claim 0 0x1 10 ∷ claim 0 0x1 10 ∷ release 4 1 ∷ [] in
       let s : Start = newly 0x1 0 true in
       alone-waits (notedAll (s .ledger) (turns leavesGaps (s .table) calls)) (tells (tableAfter leavesGaps (s .table) calls)) _ 10 refl refl (omega arith) refl (d calls [] refl),
+  λ d.
+      let r =
+      d (claim 0 0x1 10 ∷ claim 0 0x1 10 ∷ claim 0 0x1 10 ∷ []) (clock 0 ∷ []) [] refl _ _ (there (there here)) (there here)
+      (record { conflict = refl; waits = refl; sooner = inr (980, 990, refl, refl, omega arith) }) _ _ (there (there here)) (there here) refl refl in
+      ⊎-elim (λ h. clash h refl)
+      (λ w.
+      let a : Waits 990 ≡ Waits (w .0) = w .2 in
+      let b : Waits 980 ≡ Waits (w .1) = w .3 in
+      let x : 990 ≡ w .0 = cc in
+      let y : 980 ≡ w .1 = cc in
+      omega (arith, w .4))
+      (r .sooner),
 )

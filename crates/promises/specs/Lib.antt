@@ -6,5 +6,6 @@ pub mod SharesKept
 pub mod EndsAwaited
 pub mod NumbersTested
 pub mod HeldUp
+pub mod NeverOvertaken
 pub mod WholeCalls
 pub mod Worthless

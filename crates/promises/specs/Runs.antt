@@ -45,6 +45,14 @@ AtAnyTime step s calls Q =
     → (let ts = turns step (s .table) before in
     Q (NoOverruns (s .ledger) ts) (notedAll (s .ledger) ts) (tells (tableAfter step (s .table) before)))
 
+-- At any time and any later one: Q of the ledger and of what lookups tell, then and later.
+abbrev pub AtAnyLater : Steps → Start → List Call → (Ledger → Told → Ledger → Told → Type 0) → Type 0
+AtAnyLater step s calls Q =
+    (before between rest : List Call) → before ++ (between ++ rest) ≡ calls
+    → (let n = tableAfter step (s .table) before in
+    let l = notedAll (s .ledger) (turns step (s .table) before) in
+    Q l (tells n) (notedAll l (turns step n between)) (tells (tableAfter step n between)))
+
 -- Of each call: Q of the ledger before it, of the call with its answer, and of what lookups tell before and after it.
 abbrev pub AtAnyCall : Steps → Start → List Call → (Ledger → Turn → Told → Told → Type 0) → Type 0
 AtAnyCall step s calls Q =

@@ -3,13 +3,13 @@
 -- here.
 use mathlib.Core.Bool.{true, cond}
 use mathlib.Core.List.{List, [], _∷_, map}
-use Prim.Native.Nat.{ℕ, _+_}
+use Prim.Native.Nat.{ℕ, _+_, _-_}
 use lib.Dec.{eqb}
 use lib.ListN.{length}
 use Rattle.numbers.specs.Numbers.{lengthNumber, fullNumber}
 use Rattle.rules.specs.declared.Request.{Request}
 use Rattle.rules.specs.declared.Phase.the-variants.{Waiting}
-use Rattle.rules.specs.Claims.{at, withPhase}
+use Rattle.rules.specs.Claims.{on, at, withPhase}
 use Rattle.rules.specs.Tests.{named}
 use Rattle.rules.specs.NoUnits.{withPool}
 use Rattle.rules.specs.Calls.{Model, withClock, withPending, withGrace, asking, claims, releases, withdraws, onlyClock, Call, timed, looks, sets, release, withdraw, clock, setGrace, Answer, Step, unchanged, remove, step}
@@ -21,6 +21,7 @@ use Rattle.promises.specs.SharesKept.{SharesKeptOf}
 use Rattle.promises.specs.EndsAwaited.{EndsAwaitedOf}
 use Rattle.promises.specs.NumbersTested.{NumbersTestedOf}
 use Rattle.promises.specs.HeldUp.{HeldUpOf}
+use Rattle.promises.specs.NeverOvertaken.{NeverOvertakenOf}
 use Rattle.promises.specs.WholeCalls.{ClaimCall}
 
 -- A claim at a clock, of groups (hex) and a length; and one of units alone.
@@ -169,7 +170,18 @@ leavesGaps m (sets p) = step m (sets p)
 abbrev pub LeavesGapsRefused : Type 0
 LeavesGapsRefused = HeldUpOf leavesGaps (newly 0x1 0 true) (claim 0 0x1 10 ∷ claim 0 0x1 10 ∷ release 4 1 ∷ []) → ⊥
 
+-- A plan turned round at every call: the last comes first.
+unfoldable pub reverses : Steps
+reverses m c =
+    let s : Step = step m c in
+    let n : Model = s .model in
+    record { model = withPending n (map (λ d. cond (on d) d (withPhase d (Waiting (1000 - at d)))) (n .pending)); answer = s .answer }
+
+-- Shut out by `NeverOvertaken`: ticket 3 waits before ticket 2, and at the next call behind it.
+abbrev pub ReversesRefused : Type 0
+ReversesRefused = NeverOvertakenOf reverses (newly 0x1 0 true) (claim 0 0x1 10 ∷ claim 0 0x1 10 ∷ claim 0 0x1 10 ∷ clock 0 ∷ []) → ⊥
+
 abbrev pub AllRefused : Type 0
 AllRefused =
     TurnsDownRefused × FixedStartRefused × UntouchedRefused × EchoesRefused × InventsContentionRefused × InventsBoundRefused × CriesFullRefused × NeverGrantsRefused
-    × OverdrawsRefused × CriesFullBelowGuarantee × ShowsNowRefused × LeavesGapsRefused
+    × OverdrawsRefused × CriesFullBelowGuarantee × ShowsNowRefused × LeavesGapsRefused × ReversesRefused

@@ -7,24 +7,26 @@ use Rattle.rules.specs.Calls.{Model, Look, atTicket, atTwo, atPool, Call, looks
 use Rattle.rules.specs.Tables.{model}
 use Rattle.rules.proofs.Lookup.{look-answer, look-idle, lookup-told, common-told, free-told}
 use Rattle.promises.specs.Ledger.{Turn, Ledger, opening, turns, tableAfter}
-use Rattle.promises.specs.Runs.{TellsOf, Told, tells, Start, Begins, by-new as begins-new, AtAnyTime, AtAnyCall}
+use Rattle.promises.specs.Runs.{TellsOf, Told, tells, Start, Begins, by-new as begins-new, AtAnyTime, AtAnyLater, AtAnyCall}
 use Rattle.promises.specs.Demand3.{Now, Next}
 use Rattle.promises.specs.PoolKept.{Kept}
 use Rattle.promises.specs.SharesKept.{SharesNow, SharesNext}
 use Rattle.promises.specs.EndsAwaited.{Awaited}
 use Rattle.promises.specs.NumbersTested.{NumberTested}
 use Rattle.promises.specs.HeldUp.{Explained}
+use Rattle.promises.specs.NeverOvertaken.{NotOvertaken}
 use Rattle.promises.proofs.Demand3.{demand-3}
 use Rattle.promises.proofs.PoolKept.{pool-kept}
 use Rattle.promises.proofs.SharesKept.{shares-kept}
 use Rattle.promises.proofs.EndsAwaited.{ends-awaited}
 use Rattle.promises.proofs.NumbersTested.{numbers-tested}
 use Rattle.promises.proofs.HeldUp.{held-up}
+use Rattle.promises.proofs.NeverOvertaken.{never-overtaken}
 use Rattle.promises.specs.WholeCalls.{WholeCalls}
 use Rattle.promises.proofs.WholeCalls.{whole-calls-after}
 use Rattle.table.specs.declared.Outcome.{Outcome}
 use Rattle.table.specs.Outcomes.{outcome}
-use Rattle.table_runs.specs.Runs.{answered, looked, Made, by-outcome, by-look, lookNumber, Run, done, then, Looks, BeganAs, by-new, CodeAtAnyTime, CodeAtAnyCall, CodeDemand3, CodePoolKept, CodeEndsAwaited, CodeHeldUp, CodeNumbersTested, CodeSharesKept, CodeWholeCalls}
+use Rattle.table_runs.specs.Runs.{answered, looked, Made, by-outcome, by-look, lookNumber, Run, done, then, Looks, BeganAs, by-new, CodeAtAnyTime, CodeAtAnyLater, CodeAtAnyCall, CodeDemand3, CodePoolKept, CodeEndsAwaited, CodeHeldUp, CodeNeverOvertaken, CodeNumbersTested, CodeSharesKept, CodeWholeCalls}
 use Rattle.table.proofs.Promised.{outcome-model, outcome-grants}
 
 -- ── one answer ──
@@ -78,6 +80,20 @@ any-time-of-code calls Q h before rest e t s b ts u p shows k =
     rw (r .0 ∙ ap (λ (m : Model). turns step m before) (i .1), shows-is u _ shows (r .1 ∙ ap (λ (m : Model). tableAfter step m before) (i .1)) k)
     (h s (i .0) before rest e)
 
+pub any-later-of-code : (calls : List Call) (Q : Ledger → Told → Ledger → Told → Type 0) → ((s : Start) → Begins s → AtAnyLater step s calls Q) → CodeAtAnyLater calls Q
+any-later-of-code calls Q h before between rest e t s b ts u p old k us w q new k′ =
+    let i = began-is b in
+    let r = run-is p in
+    let m : model u ≡ tableAfter step (s .table) before = r .1 ∙ ap (λ (x : Model). tableAfter step x before) (i .1) in
+    let d = run-is q in
+    rw (
+      r .0 ∙ ap (λ (x : Model). turns step x before) (i .1),
+      shows-is u _ old m k,
+      d .0 ∙ ap (λ (x : Model). turns step x between) m,
+      shows-is w _ new (d .1 ∙ ap (λ (x : Model). tableAfter step x between) m) k′,
+    )
+    (h s (i .0) before between rest e)
+
 pub any-call-of-code : (calls : List Call) (Q : Ledger → Turn → Told → Told → Type 0) → ((s : Start) → Begins s → AtAnyCall step s calls Q) → CodeAtAnyCall calls Q
 any-call-of-code calls Q h before c rest e t s b ts u p a w one old new k k′ =
     let i = began-is b in
@@ -106,6 +122,9 @@ code-ends-awaited calls = any-time-of-code calls (λ _ l told. Awaited l told) (
 
 pub code-held-up : (calls : List Call) → CodeHeldUp calls
 code-held-up calls = any-time-of-code calls (λ _ l told. Explained l told) (λ s b. held-up s b calls)
+
+pub code-never-overtaken : (calls : List Call) → CodeNeverOvertaken calls
+code-never-overtaken calls = any-later-of-code calls NotOvertaken (λ s b. never-overtaken s b calls)
 
 pub code-numbers-tested : (calls : List Call) → CodeNumbersTested calls
 code-numbers-tested calls = any-call-of-code calls (λ l t _ _. NumberTested l t) (λ s b. numbers-tested s b calls)

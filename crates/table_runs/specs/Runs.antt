@@ -15,6 +15,7 @@ use Rattle.promises.specs.SharesKept.{SharesNow, SharesNext}
 use Rattle.promises.specs.EndsAwaited.{Awaited}
 use Rattle.promises.specs.NumbersTested.{NumberTested}
 use Rattle.promises.specs.HeldUp.{Explained}
+use Rattle.promises.specs.NeverOvertaken.{NotOvertaken}
 use Rattle.promises.specs.WholeCalls.{WholeCalls}
 use Rattle.table.specs.declared.Outcome.{Outcome}
 use Rattle.table.specs.Outcomes.{outcome}
@@ -68,6 +69,14 @@ CodeAtAnyTime calls Q =
     → (t : Table) (s : Start) → BeganAs t s → (ts : List Turn) (u : Table) → Run t before ts u → (shows : Told) → Looks u shows
     → Q (NoOverruns (s .ledger) ts) (notedAll (s .ledger) ts) shows
 
+-- At any time and any later one.
+abbrev pub CodeAtAnyLater : List Call → (Ledger → Told → Ledger → Told → Type 0) → Type 0
+CodeAtAnyLater calls Q =
+    (before between rest : List Call) → before ++ (between ++ rest) ≡ calls
+    → (t : Table) (s : Start) → BeganAs t s → (ts : List Turn) (u : Table) → Run t before ts u → (old : Told) → Looks u old
+    → (us : List Turn) (w : Table) → Run u between us w → (new : Told) → Looks w new
+    → (let l = notedAll (s .ledger) ts in Q l old (notedAll l us) new)
+
 -- Of each call.
 abbrev pub CodeAtAnyCall : List Call → (Ledger → Turn → Told → Told → Type 0) → Type 0
 CodeAtAnyCall calls Q =
@@ -89,6 +98,9 @@ CodeEndsAwaited calls = CodeAtAnyTime calls (λ _ l told. Awaited l told)
 
 abbrev pub CodeHeldUp : List Call → Type 0
 CodeHeldUp calls = CodeAtAnyTime calls (λ _ l told. Explained l told)
+
+abbrev pub CodeNeverOvertaken : List Call → Type 0
+CodeNeverOvertaken calls = CodeAtAnyLater calls NotOvertaken
 
 abbrev pub CodeNumbersTested : List Call → Type 0
 CodeNumbersTested calls = CodeAtAnyCall calls (λ l t _ _. NumberTested l t)
