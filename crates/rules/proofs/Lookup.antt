@@ -3,7 +3,7 @@ use mathlib.Core.Path.{_≡_, refl, sym, _∙_, ap}
 use mathlib.Core.Logic.{⊎-elim, _≢_}
 use mathlib.Core.Bool.{Bool, true, false, not, _||_, cond}
 use mathlib.Core.List.{List, [], _∷_, List·Memᴰ·cases-cons}
-use Prim.Native.Nat.{ℕ, zero, suc}
+use Prim.Native.Nat.{ℕ, zero, suc, _+_}
 use native.Mathlib.Omega.{arith}
 use lib.Dec.{eqb}
 use borrow.Author.Tests.{eqb-true, eqb-false, ne-eqb}
@@ -16,7 +16,7 @@ use Rattle.rules.specs.declared.Common.{Common}
 use Rattle.rules.specs.declared.Standing.{Standing}
 use Rattle.rules.specs.declared.Standing.the-variants.{NotPending, Waits}
 use Rattle.rules.specs.Tests.{firstOf, named}
-use Rattle.rules.specs.Calls.{Model, Look, atTicket, atTwo, atPool, looks, lookup, common, free, Step, tests, unchanged, act, unless, step, standingValues, standing, standingOf, commonValues, shared, between, commonOf}
+use Rattle.rules.specs.Calls.{Model, Look, atTicket, atTwo, atPool, looks, lookup, common, free, Step, tests, unchanged, act, unless, step, StandingValues, standingValues, standing, standingOf, ofTicket, lookupValues, commonValues, shared, between, commonOf, groupIn, groupsBetween, pairValues}
 use Rattle.rules.specs.Plans.{Ascending}
 use Rattle.rules.proofs.Bools.{by-test}
 use Rattle.rules.proofs.Lists.{Each, here, there, none}
@@ -80,15 +80,18 @@ look-idle m q = ap (λ (s : Step). s .model) (look-step m q)
 pub look-answer : (m : Model) (q : Look) → unchanged m (step m (looks q) .answer .number) .answer ≡ step m (looks q) .answer
 look-answer m q = rw (look-step m q)
 
-number-first : (k : ℕ) (ps : List Claim) → standingValues (standingOf k ps) .number ≡ cond (not (any (named k) ps)) 8 0
-unfolding any standingOf
-number-first k [] = refl
-number-first k (c ∷ ps) = by-test (named k c) (λ e. rw e (by-test (on c) (λ o. rw o) (λ o. rw o))) (λ e. rw e (number-first k ps))
+-- The numbers of a standing, number n put in place of its own.
+abbrev valuesFirst : ℕ → ℕ → List Claim → StandingValues
+valuesFirst n k ps = record { number = n; start = ofTicket (λ c. cond (on c) 0 (at c)) k ps; end = ofTicket (λ c. cond (on c) (at c + c .length) 0) k ps }
 
-pub lookup-told : (m : Model) (k : ℕ) (s : Standing) → s ≡ standingOf k (m .pending)
-    → (s ≡ standingOf k (m .pending)) × (standingValues s .number ≡ step m (lookup k) .answer .number)
+values-first : (k : ℕ) (ps : List Claim) → standingValues (standingOf k ps) ≡ valuesFirst (cond (not (any (named k) ps)) 8 0) k ps
+unfolding any standingOf ofTicket
+values-first k [] = refl
+values-first k (c ∷ ps) = by-test (named k c) (λ e. rw e (by-test (on c) (λ o. rw o) (λ o. rw o))) (λ e. rw e (values-first k ps))
+
+pub lookup-told : (m : Model) (k : ℕ) (s : Standing) → s ≡ standingOf k (m .pending) → (s ≡ standingOf k (m .pending)) × (standingValues s ≡ lookupValues m k)
 unfolding tests firstOf
-lookup-told m k s e = (e, ap (λ (x : Standing). standingValues x .number) e ∙ number-first k (m .pending) ∙ sym (ap (λ (x : Step). x .answer .number) (look-step m (atTicket k))))
+lookup-told m k s e = (e, ap standingValues e ∙ values-first k (m .pending) ∙ ap (λ (n : ℕ). valuesFirst n k (m .pending)) (sym (ap (λ (x : Step). x .answer .number) (look-step m (atTicket k)))))
 
 -- A ticket is pending exactly where a claim has it.
 some : List Claim → Bool
@@ -104,23 +107,23 @@ any-keep k (c ∷ ps) = go (named k c) (any-keep k ps)
     go true ih = refl
     go false ih = ih
 
-between-number : (cs ds : List Claim) → commonValues (between cs ds) .number ≡ cond (not (some cs)) 8 (cond (not (some ds)) 8 0)
+between-values : (cs ds : List Claim) → commonValues (between cs ds) ≡ record { number = cond (not (some cs)) 8 (cond (not (some ds)) 8 0); groups = groupsBetween cs ds }
 unfolding some
-between-number [] ds = refl
-between-number (c ∷ cs) [] = refl
-between-number (c ∷ cs) (d ∷ ds) = go (conflicts c d)
+between-values [] ds = refl
+between-values (c ∷ cs) [] = refl
+between-values (c ∷ cs) (d ∷ ds) = go (conflicts c d)
   where
-    go : (g : MaybeGroup) → commonValues (shared g) .number ≡ 0
+    go : (g : MaybeGroup) → commonValues (shared g) ≡ record { number = 0; groups = groupIn g }
     go (Group g) = refl
     go NoGroup = refl
 
-pub common-told : (m : Model) (j k : ℕ) (s : Common) → s ≡ commonOf j k (m .pending)
-    → (s ≡ commonOf j k (m .pending)) × (commonValues s .number ≡ step m (common j k) .answer .number)
+pub common-told : (m : Model) (j k : ℕ) (s : Common) → s ≡ commonOf j k (m .pending) → (s ≡ commonOf j k (m .pending)) × (commonValues s ≡ pairValues m j k)
 unfolding tests firstOf commonOf
 common-told m j k s e =
-    let n = between-number (keep (named j) (m .pending)) (keep (named k) (m .pending)) in
+    let cs = keep (named j) (m .pending) in
+    let ds = keep (named k) (m .pending) in
     let t = ap (λ (x : Step). x .answer .number) (look-step m (atTwo j k)) in
-    (e, ap (λ (x : Common). commonValues x .number) e ∙ n ∙ sym (t ∙ rw (any-keep j (m .pending), any-keep k (m .pending))))
+    (e, ap commonValues e ∙ between-values cs ds ∙ ap (λ (n : ℕ). record { number = n; groups = groupsBetween cs ds }) (sym (t ∙ rw (any-keep j (m .pending), any-keep k (m .pending)))))
 
 -- A lookup of the units free is never refused.
 pub free-told : (m : Model) → 0 ≡ step m free .answer .number

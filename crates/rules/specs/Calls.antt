@@ -297,6 +297,20 @@ unfoldable pub standingOf : ℕ → List Claim → Standing
 standingOf k [] = NotPending
 standingOf k (c ∷ cs) = cond (named k c) (standing c) (standingOf k cs)
 
+-- f of the first of the claims that has ticket k; 0 where none has.
+unfoldable pub ofTicket : (Claim → ℕ) → ℕ → List Claim → ℕ
+ofTicket f k [] = 0
+ofTicket f k (c ∷ cs) = cond (named k c) (f c) (ofTicket f k cs)
+
+-- What a lookup of ticket k gives in numbers, by the table: the number of its tests, and the values of the claim.
+abbrev pub lookupValues : Model → ℕ → StandingValues
+lookupValues m k =
+    record {
+      number = step m (lookup k) .answer .number;
+      start = ofTicket (λ c. cond (on c) 0 (at c)) k (m .pending);
+      end = ofTicket (λ c. cond (on c) (at c + c .length) 0) k (m .pending);
+    }
+
 -- "A new look takes two tickets and gives that group; a ticket that isn't pending answers 8."
 -- In numbers: the refusal's, 0 for none; the lowest group that both claims have, where there is one.
 pub record CommonValues : Type 0 where
@@ -320,6 +334,20 @@ between [] ds = Unknown
 
 unfoldable pub commonOf : ℕ → ℕ → List Claim → Common
 commonOf j k ps = between (keep (named j) ps) (keep (named k) ps)
+
+-- The same of two tickets: the group that their claims share, where they share one.
+abbrev pub groupIn : MaybeGroup → List ℕ
+groupIn (Group g) = g ∷ []
+groupIn NoGroup = []
+
+abbrev pub groupsBetween : List Claim → List Claim → List ℕ
+groupsBetween (c ∷ cs) (d ∷ ds) = groupIn (conflicts c d)
+groupsBetween (c ∷ cs) [] = []
+groupsBetween [] ds = []
+
+abbrev pub pairValues : Model → ℕ → ℕ → CommonValues
+pairValues m j k =
+    record { number = step m (common j k) .answer .number; groups = groupsBetween (keep (named j) (m .pending)) (keep (named k) (m .pending)) }
 
 -- "A look gives the units free": of the whole table.
 abbrev pub freeOf : Model → ℕ

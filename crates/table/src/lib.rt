@@ -10,7 +10,7 @@ ghost use Rattle.numbers.specs.Numbers.{mostClock, mostLength, mostPending, mos
 ghost use Rattle.rules.specs.Claims.{at};
 ghost use Rattle.rules.specs.Shares.{shareOf};
 ghost use Rattle.rules.specs.Tests.{firstOf};
-ghost use Rattle.rules.specs.Calls.{claims, releases, withdraws, onlyClock, atTicket, atTwo, atPool, clientShare, rigGrace, timed, looks, sets, tests, advance, finish, remove, admit, step, new, standingValues, standing, standingOf, commonValues, commonOf, freeOf};
+ghost use Rattle.rules.specs.Calls.{claims, releases, withdraws, onlyClock, atPool, clientShare, rigGrace, timed, looks, sets, tests, advance, finish, remove, admit, step, new, standingValues, standing, standingOf, lookupValues, commonValues, commonOf, pairValues, freeOf};
 ghost use Rattle.rules.specs.Tables.{encode, model};
 ghost use Rattle.rules.specs.Invariants.{Still};
 ghost use Rattle.table.specs.Valid.{Formed, Valid};
@@ -121,7 +121,7 @@ fn shown(c: Claim) -> Standing
 // How the claim of a ticket stands. Cost: one pass at most.
 pub fn lookup(t: Table, ticket: u16) -> Standing
     requires { ⌜ Valid t ⌝ }
-    ensures { λ r. ⌜ (r ≡ standingOf ticket (model t .pending)) × (standingValues r .number ≡ step (model t) (looks (atTicket ticket)) .answer .number) ⌝ }
+    ensures { λ r. ⌜ (r ≡ standingOf ticket (model t .pending)) × (standingValues r ≡ lookupValues (model t) ticket) ⌝ }
 {
     let count = t.count;
     let mut i: usize = 0;
@@ -155,7 +155,7 @@ fn find(t: Table, ticket: u16) -> usize
 // Which group the claims of two tickets share: 8 if either is not pending. Cost: two passes at most.
 pub fn common(t: Table, first: u16, second: u16) -> Common
     requires { ⌜ Valid t ⌝ }
-    ensures { λ r. ⌜ (r ≡ commonOf first second (model t .pending)) × (commonValues r .number ≡ step (model t) (looks (atTwo first second)) .answer .number) ⌝ }
+    ensures { λ r. ⌜ (r ≡ commonOf first second (model t .pending)) × (commonValues r ≡ pairValues (model t) first second) ⌝ }
 {
     let i = find(t, first);
     let j = find(t, second);

@@ -19,6 +19,7 @@ use Rattle.promises.specs.NeverOvertaken.{NotOvertaken}
 use Rattle.promises.specs.WholeCalls.{WholeCalls}
 use Rattle.table.specs.declared.Outcome.{Outcome}
 use Rattle.table.specs.Outcomes.{outcome}
+use Rattle.table.specs.Valid.{Valid}
 
 -- The answer in what a call handed back, and in what a lookup told.
 abbrev pub answered : Outcome → Answer
@@ -41,11 +42,12 @@ lookNumber (atTicket k) s = standingValues s .number
 lookNumber (atTwo j k) s = commonValues s .number
 lookNumber atPool n = 0
 
--- A call made of table t, by kind: what the code answers, and the table it leaves. Every call that is no lookup promises an
--- `outcome (step ..)`, lookup a `standingOf ..`, common a `commonOf ..`, free a `freeOf ..`.
+-- A call made of table t, by kind: what the code answers, and the table it leaves. It is known only by its promise, which asks that t is
+-- valid: of every call that is no lookup an `outcome (step ..)` with a valid table, of lookup a `standingOf ..`, of common a `commonOf ..`,
+-- of free a `freeOf ..`.
 pub data Made (t : Table) : Call → Answer → Table → Type 0 where
-  by-outcome : (c : Call) → isLook c ≡ false → (r : Outcome) → r ≡ outcome (step (model t) c) → Made t c (answered r) (r .table)
-  by-look : (q : Look) (r : TellsOf q) → r ≡ tells (model t) q → Made t (looks q) (looked (lookNumber q r)) t
+  by-outcome : (c : Call) → isLook c ≡ false → (r : Outcome) → (Valid t → (r ≡ outcome (step (model t) c)) × Valid (r .table)) → Made t c (answered r) (r .table)
+  by-look : (q : Look) (r : TellsOf q) → (Valid t → r ≡ tells (model t) q) → Made t (looks q) (looked (lookNumber q r)) t
 
 -- Calls made one after the other from table t, with their answers, and the table they left.
 pub data Run : Table → List Call → List Turn → Table → Type 0 where
@@ -55,11 +57,11 @@ pub data Run : Table → List Call → List Turn → Table → Type 0 where
 
 -- What lookups answer, asked of table t.
 abbrev pub Looks : Table → Told → Type 0
-Looks t shows = (q : Look) → shows q ≡ tells (model t) q
+Looks t shows = (q : Look) → Valid t → shows q ≡ tells (model t) q
 
 -- A table that a run may begin with, as the code handed it back: what `promises` calls its start.
 pub data BeganAs : Table → Start → Type 0 where
-  by-new : (rig pool : ℕ) (alone : Bool) (first : Outcome) → first ≡ outcome (new rig pool alone)
+  by-new : (rig pool : ℕ) (alone : Bool) (first : Outcome) → (first ≡ outcome (new rig pool alone)) × Valid (first .table)
       → BeganAs (first .table) (record { table = new rig pool alone .model; ledger = opening rig pool alone (answered first) })
 
 -- After any number of the calls, run by the code: Q as in `promises`, of the answers given and of what lookups show.
@@ -84,6 +86,10 @@ CodeAtAnyCall calls Q =
     → (t : Table) (s : Start) → BeganAs t s → (ts : List Turn) (u : Table) → Run t before ts u
     → (a : Answer) (w : Table) → Made u c a w → (old new : Told) → Looks u old → Looks w new
     → Q (notedAll (s .ledger) ts) (record { call = c; answer = a }) old new
+
+-- Every table of a run is valid: what the calls ask of it always holds.
+abbrev pub RunValid : List Call → Type 0
+RunValid calls = (t : Table) (s : Start) → BeganAs t s → (ts : List Turn) (u : Table) → Run t calls ts u → Valid u
 
 -- What `promises` says of the rules, of the answers given and what lookup shows.
 pub record CodeDemand3 (calls : List Call) : Type 0 where
