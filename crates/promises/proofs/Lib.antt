@@ -1,4 +1,5 @@
 pub mod Matching
+pub mod Replies
 pub mod WholeCalls
 pub mod Demand3
 pub mod PoolKept
@@ -7,4 +8,7 @@ pub mod EndsAwaited
 pub mod NumbersTested
 pub mod HeldUp
 pub mod NeverOvertaken
+pub mod TableKept
+pub mod LeastStart
+pub mod PlansApart
 pub mod Worthless

@@ -6,13 +6,13 @@ use Prim.Native.Nat.{ℕ}
 use lib.Dec.{eqb}
 use Rattle.rules.specs.Claims.{on}
 use Rattle.rules.specs.Lists.{any}
-use Rattle.rules.specs.Tests.{firstOf, named}
+use Rattle.rules.specs.Tests.{firstOf, dark, named}
 use Rattle.rules.specs.Calls.{Model, claims, releases, withdraws, onlyClock, atTicket, atTwo, atPool, Call, timed, looks, sets, Step, tests, advance, finish, join, remove, admit, step}
 use Rattle.rules.proofs.Bools.{by-test}
 use Rattle.rules.proofs.Calls.{step-number, step-cases, Leaves, by-release, by-withdraw, by-clock, new-cases}
 use Rattle.promises.specs.Ledger.{Turn, turns, tableAfter, accepted, Ledger, opening, noted, notedAll}
 use Rattle.promises.specs.Runs.{Start, Begins, by-new}
-use Rattle.promises.specs.NumbersTested.{hasTicket, testsBy, NumbersTested}
+use Rattle.promises.specs.NumbersTested.{hasTicket, testsBy, NumbersTested, NewTested}
 use Rattle.promises.proofs.Matching.{Match, m-nil, m-cons, match-length}
 use Rattle.promises.proofs.Demand3.{Story, after-calls}
 use Rattle.promises.proofs.SharesKept.{askers-are}
@@ -71,3 +71,7 @@ pub numbers-tested : (s : Start) → Begins s → (calls : List Call) → Number
 numbers-tested s b calls before c rest e =
     step-number (tableAfter step (s .table) before) c
     ∙ ap firstOf (tests-are _ _ _ (after-calls s b before) (rig-after (s .ledger) (s .table) before (begins-rig s b)) c)
+
+pub new-tested : NewTested
+unfolding firstOf
+new-tested rig pool alone = new-cases (λ (s : Step). s .answer .number ≡ firstOf (dark rig ∷ [])) rig pool alone (λ e. rw e) (λ e. rw e)

@@ -1,41 +1,42 @@
 -- Whole calls are as document 01 says, in every table that calls can make.
 use mathlib.Core.Path.{_≡_, refl, sym, _∙_, ap, subst}
 use mathlib.Core.Logic.{_⊎_, inl, inr, _≢_}
-use mathlib.Core.Bool.{true, false, not}
-use mathlib.Core.List.{List, [], _∷_, _++_, List·Memᴰ·append-cases, List·Memᴰ·eq-of-singleton, Memᴰ·append-right}
+use mathlib.Core.Bool.{Bool, true, false, not, _&&_, _||_}
+use mathlib.Core.List.{List, [], _∷_, _++_, map, List·Memᴰ·append-cases, List·Memᴰ·eq-of-singleton, Memᴰ·append-right}
 use Prim.Native.Nat.{ℕ, suc, _+_, _-_, _*_, _≤_, _<_}
 use native.Mathlib.Omega.{arith}
-use lib.Dec.{eqb}
+use lib.Dec.{eqb, ltb, leb}
 use lib.ListN.{length as count}
-use borrow.Author.Tests.{not-true, eqb-false, ne-eqb}
+use borrow.Author.Tests.{not-true, eqb-false, ne-eqb, eq-eqb, leb-false, ltb-true, le-ltb}
 use Rattle.numbers.specs.Numbers.{mostTickets}
 use Rattle.rules.specs.declared.Claim.{Claim}
 use Rattle.rules.specs.declared.Request.{Request}
-use Rattle.rules.specs.Lists.{_∈_, sum}
+use Rattle.rules.specs.Lists.{_∈_, sum, any, keep}
 use Rattle.rules.specs.declared.Setting.{Setting}
 use Rattle.rules.specs.Claims.{on, at, withPhase, rival, endOf, remaining}
 use Rattle.rules.specs.declared.Phase.the-variants.{On}
 use Rattle.rules.specs.Order.{precedes, rivals}
-use Rattle.rules.specs.Packing.{packedStart, moved, pack}
+use Rattle.rules.specs.Packing.{packedStart, moved, pack, Packs}
 use Rattle.rules.specs.Placing.{place, contention, startBound}
-use Rattle.rules.specs.Plans.{Sane, Spare, Fits}
-use Rattle.rules.specs.Granting.{goes, granted, grant}
+use Rattle.rules.specs.Plans.{Ascending, Sane, Spare, Fits}
+use Rattle.rules.specs.Granting.{takenBefore, trulyFree, goes, granted, grant, grants}
+use Rattle.rules.specs.Pool.{heldBy, heldUnits}
 use Rattle.rules.specs.Tests.{named}
 use Rattle.rules.specs.declared.Reply.{Reply}
-use Rattle.rules.specs.Calls.{Model, ruled, settingOf, claims, releases, withdraws, onlyClock, Call, timed, looks, sets, claim, release, withdraw, isTimed, clockOf, declared, withGrace, Step, advance, plain, finish, join, remove, fresh, admit, step}
+use Rattle.rules.specs.Calls.{Model, ruled, settingOf, claims, releases, withdraws, onlyClock, Call, timed, looks, sets, claim, release, withdraw, clock, isTimed, clockOf, declared, withGrace, Step, advance, plain, finish, join, remove, fresh, admit, step}
 use Rattle.rules.specs.Invariants.{IsSpaced, IsPacked, Still, Invariant}
-use Rattle.rules.proofs.Bools.{clash}
-use Rattle.rules.proofs.Lists.{here, map-e, map-i, keep-e, keep-i}
+use Rattle.rules.proofs.Bools.{clash, by-test, or-fr}
+use Rattle.rules.proofs.Lists.{here, map-e, map-i, keep-e, keep-i, any-some, named-keep, sum-map, sum-le, sum-both}
 use Rattle.rules.proofs.Order.{precedes-e, precedes-lt, ascending-same}
 use Rattle.rules.proofs.Packing.{moved-phase, moved-at, moved-ticket, pack-precedes, pack-no-later}
 use Rattle.rules.proofs.Placing.{place-low, place-least}
-use Rattle.rules.proofs.Granting.{goes-wait, goes-at, granted-cases, granted-at, grant-precedes}
-use Rattle.rules.proofs.Invariants.{spaced-clear, settled-packs}
-use Rattle.rules.proofs.Calls.{Clocked, Admissible, advance-drawn, fresh-sane, placed-fits, advance-packed, finish-invariant, placed, join-spaced, Leaves, by-release, by-withdraw, by-clock, leaves-spaced, remove-spaced, Idle, looks-untimed, step-cases, clock-accepted, new-invariant, step-invariant, advance-same, finish-e, finish-clock, leaves-old, leaves-clock, join-old, advance-spare, admit-invariant}
+use Rattle.rules.proofs.Granting.{goes-eq, taken-ticket, goes-wait, goes-at, granted-cases, granted-at, grant-precedes}
+use Rattle.rules.proofs.Invariants.{spaced-clear, settled-packs, spaced-packs}
+use Rattle.rules.proofs.Calls.{Clocked, Admissible, advance-drawn, fresh-sane, placed-fits, advance-packed, finish-invariant, placed, join-spaced, Leaves, by-release, by-withdraw, by-clock, leaves-spaced, remove-spaced, Idle, looks-untimed, step-cases, clock-accepted, new-invariant, step-invariant, advance-same, finish-e, finish-clock, leaves-old, leaves-clock, join-old, advance-spare, admit-invariant, packs-as-documented}
 use Rattle.rules.proofs.OnePacking.{advance-still, finish-still, joined, joined-cases, claim-pending, joined-at}
 use Rattle.promises.specs.Ledger.{tableAfter}
 use Rattle.promises.specs.Runs.{Start, Begins, by-new}
-use Rattle.promises.specs.WholeCalls.{Becomes, TimedCall, Stays, ClaimCall, LeaveCall, WholeCalls}
+use Rattle.promises.specs.WholeCalls.{Becomes, keptFrom, TimedCall, FirstPacking, ClockCall, Stays, ClaimCall, LeaveCall, WholeCalls}
 
 -- ── order ──
 -- Through the first packing.
@@ -85,6 +86,73 @@ finish-order m q t rep i sp old d d′ w w′ f g o p =
     mine d di x e (inl j) = j
     mine d di x e (inr l) = absurd (omega (arith, i .spaced .proper d di .issued))
 
+-- ── who stays for want of units ──
+data Why (v : Setting) (ps : List Claim) (w : Claim) : Type 0 where
+  preceded : (d : Claim) → d ∈ ps → precedes d w ≡ true → Why v ps w
+  unspared : v .pool < heldUnits ps + sum (takenBefore (goes v ps) w) ps + w .units → Why v ps w
+
+why : (v : Setting) (ps : List Claim) (w : Claim) → goes v ps w ≡ false → on w ≡ false → at w ≡ v .clock → Why v ps w
+unfolding trulyFree
+why v ps w e o c =
+    let f : (not (any (λ d. precedes d w) ps) && trulyFree v ps (goes v ps) w) ≡ false = simp (o, eq-eqb (at w) (v .clock) c) at (sym (goes-eq v ps w) ∙ e) in
+    by-test (any (λ d. precedes d w) ps)
+    (λ q. let r = any-some (λ x. precedes x w) ps q in preceded (r .0) (r .1) (r .2))
+    (λ q.
+    let h : (eqb (w .units) 0 || leb (heldUnits ps + sum (takenBefore (goes v ps) w) ps + w .units) (v .pool)) ≡ false = rw q at f in
+    unspared (leb-false _ _ (or-fr (eqb (w .units) 0) _ h)))
+
+and-no : (b : Bool) → b && false ≡ false
+and-no true = refl
+and-no false = refl
+
+module _ (v : Setting) (ps : List Claim) (sane : (c : Claim) → c ∈ ps → Sane v c) (up : Ascending ps) (w : Claim) (wi : w ∈ ps) (due : at w ≡ v .clock) where
+  kept-each : (c : Claim) → c ∈ ps → heldBy c + takenBefore (goes v ps) w c ≤ keptFrom (grants v ps) w (granted v ps c)
+  unfolding grants
+  kept-each c k =
+      let names : any (λ j. eqb j (c .ticket)) (map (λ x. x .ticket) (keep (goes v ps) ps)) ≡ goes v ps c = named-keep (λ (x : Claim). x .ticket) (goes v ps) ps (ascending-same ps up) c k in
+      let taken = taken-ticket v ps w c (sane c k) (sane w wi) due in
+      granted-cases (λ (x : Claim). heldBy c + takenBefore (goes v ps) w c ≤ keptFrom (map (λ x. x .ticket) (keep (goes v ps) ps)) w x) v ps c
+      (λ g. rw (goes-wait v ps c g, taken, names, g) (by-test (ltb (c .ticket) (w .ticket))
+      (λ l. rw (l, le-ltb (w .ticket) (c .ticket) (omega (arith, ltb-true (c .ticket) (w .ticket) l))) (omega arith))
+      (λ l. rw l (omega arith))))
+      (λ g. rw (taken, names, g, and-no (ltb (w .ticket) (c .ticket))) (omega arith))
+
+  kept-sum : heldUnits ps + sum (takenBefore (goes v ps) w) ps ≤ sum (keptFrom (grants v ps) w) (grant v ps)
+  unfolding heldUnits grant
+  kept-sum =
+      omega (
+        arith,
+        sum-map (keptFrom (grants v ps) w) (granted v ps) ps,
+        sum-le (λ c. heldBy c + takenBefore (goes v ps) w c) (λ c. keptFrom (grants v ps) w (granted v ps c)) ps kept-each,
+        sum-both heldBy (takenBefore (goes v ps) w) ps,
+      )
+
+  wanting-at : on w ≡ false → goes v ps w ≡ false → ((d : Claim) → d ∈ grant v ps → precedes d w ≡ false) → v .pool < sum (keptFrom (grants v ps) w) (grant v ps) + w .units
+  unfolding grant
+  wanting-at o g none = go (why v ps w g o due)
+    where
+      go : Why v ps w → v .pool < sum (keptFrom (grants v ps) w) (grant v ps) + w .units
+      go (preceded d di p) = clash (grant-precedes v ps d w di p .1) (none (granted v ps d) (map-i (granted v ps) di))
+      go (unspared l) = omega (arith, kept-sum)
+
+finish-wanting : (q : Model) (rep : Reply) → IsSpaced q → (w : Claim) → w ∈ finish q rep .model .pending → on w ≡ false → at w ≡ q .clock
+    → ((d : Claim) → d ∈ finish q rep .model .pending → precedes d w ≡ false)
+    → finish q rep .model .pool < sum (keptFrom (finish q rep .answer .grants) w) (finish q rep .model .pending) + w .units
+unfolding finish
+finish-wanting q rep sp w wi o a none =
+    let v : Setting = settingOf q in
+    let ps : List Claim = pack v (q .pending) in
+    let s = spaced-packs (q .issued) v (q .pending) sp .spaced in
+    let r = finish-e q rep wi in
+    let y : Claim = moved (packedStart v (q .pending)) (r .0) in
+    let g : goes v ps y ≡ false = by-test (goes v ps y) (λ h. clash (ap on (granted-on v ps y h)) (sym (ap on (r .3 .1)) ∙ o)) (λ h. h) in
+    let same : w ≡ y = r .3 .1 ∙ granted-cases (λ (x : Claim). x ≡ y) v ps y (λ h. clash h g) (λ h. refl) in
+    let wp : w ∈ ps = subst (λ (x : Claim). x ∈ ps) (sym same) (r .3 .0) in
+    wanting-at v ps (λ c k. s .proper c k .sane) (s .ascending) w wp a o (ap (goes v ps) same ∙ g) none
+  where
+    granted-on : (v : Setting) (ps : List Claim) (c : Claim) → goes v ps c ≡ true → granted v ps c ≡ withPhase c (On (v .clock))
+    granted-on v ps c h = granted-cases (λ (x : Claim). x ≡ withPhase c (On (v .clock))) v ps c (λ g. refl) (λ g. clash h g)
+
 -- ── every accepted timed call ──
 timed-finish : (m q : Model) (c : Call) (t : ℕ) (rep : Reply) → Invariant m → IsSpaced q → q .clock ≡ t → clockOf c ≡ t
     → ((x : Claim) → x ∈ q .pending → (x ∈ advance m t .pending) ⊎ (m .issued < x .ticket)) → TimedCall m c (finish q rep)
@@ -95,6 +163,7 @@ timed-finish m q c t rep i sp e h old = record {
       let r = finish-order m q t rep i sp old d d′ w w′ f g ow (precedes-lt d w x l) in
       smaller d′ w′ od′ (precedes-e d′ w′ (r .1));
   none-overtaken = finish-order m q t rep i sp old;
+  units-wanting = λ w wi o a none. finish-wanting q rep sp w wi o (a ∙ h ∙ sym e) none;
 }
   where
     smaller : (d w : Claim) → on d ≡ false → (on d ≡ true) ⊎ (at d < at w) → at d < at w
@@ -314,11 +383,27 @@ module _ (m : Model) (i : Invariant m) (t k : ℕ) (o : Clocked m t) where
       let z : on (r .0) ≡ false = ap on same ∙ h in
       omega (arith, ap at same, ap at (r .3 .1), granted-at v (pack v (q .pending)) (moved f (r .0)), moved-at f (r .0) z, pack-no-later v (q .pending) (λ x k. q-spaced .proper x k .sane) (q-spaced .fit) (q-spaced .low) (r .0) (r .1) z)
 
+  again : (f : Claim → ℕ) × Packs (ruled m t) (q .pending) f
+      × ((x d : Claim) → x ∈ advance m t .pending → d ∈ done .pending → d .ticket ≡ x .ticket → on x ≡ false → at d ≡ f x)
+  unfolding remove advance
+  again = (
+    packedStart (ruled m t) (q .pending),
+    packs-as-documented q q-spaced t .0,
+    λ x d xi di e h.
+        let v : Setting = settingOf q in
+        let f = packedStart v (q .pending) in
+        let r = finish-e q (plain k t) di in
+        let same : r .0 ≡ x = ascending-same (advance m t .pending) (packed-at .spaced .ascending) (r .0) x (kept (r .0) (r .1) .0) xi (sym (r .2) ∙ e) in
+        let z : on (r .0) ≡ false = ap on same ∙ h in
+        ap at (r .3 .1) ∙ granted-at v (pack v (q .pending)) (moved f (r .0)) ∙ moved-at f (r .0) z ∙ ap f same,
+  )
+
   leave-whole : LeaveCall m t k (finish (remove (advance m t) k) (plain k t))
   leave-whole = record {
     gone = λ d di e. let r = finish-e q (plain k t) di in kept (r .0) (r .1) .1 (sym (r .2) ∙ e);
     rest-stays = λ x xi n. comes x (left-over x xi n);
     pulled-forward = earlier;
+    packed-again = again;
   }
 
 -- Of a release or a withdrawal; nothing of the other calls.
@@ -341,10 +426,53 @@ of-leave m i =
     whole o (by-withdraw t k) = leave-whole m i t k o
     whole o (by-clock t) = tt
 
+-- ── the first packing, and a clock call ──
+first-packing : (m : Model) → Invariant m → (t : ℕ) → FirstPacking m t
+unfolding advance pack
+first-packing m i t = record { starts = packedStart (ruled m t) (m .pending); packs = packs-as-documented m (i .spaced) t .0; packed = refl }
+
+module _ (m : Model) (i : Invariant m) (t : ℕ) where
+  clocked-is : finish (advance m t) (plain 0 t) .model .pending ≡ grant (ruled m t) (advance m t .pending)
+  unfolding advance
+  clocked-is = ap (λ (s : Step). s .model .pending) (finish-still (advance m t) (plain 0 t) (advance-still m t (sane-at m t i) (i .spaced .ascending) (i .spaced .holders .stock)))
+
+  one-stays : (x : Claim) → Stays t x (granted (ruled m t) (advance m t .pending) x)
+  one-stays x = granted-cases (Stays t x) (ruled m t) (advance m t .pending) x (λ e. inr (goes-wait (ruled m t) (advance m t .pending) x e, goes-at (ruled m t) (advance m t .pending) x e, refl)) (λ e. inl refl)
+
+  pub clock-whole : ClockCall m t (finish (advance m t) (plain 0 t))
+  unfolding grant
+  clock-whole = record {
+    all-stay = λ x xi. (granted (ruled m t) (advance m t .pending) x, subst (λ (l : List Claim). granted (ruled m t) (advance m t .pending) x ∈ l) (sym clocked-is) (map-i (granted (ruled m t) (advance m t .pending)) xi), one-stays x);
+    none-new = λ d di. let r = map-e (granted (ruled m t) (advance m t .pending)) (advance m t .pending) (subst (λ (l : List Claim). d ∈ l) clocked-is di) in
+        (r .0, r .1, subst (Stays t (r .0)) (sym (r .2)) (one-stays (r .0)));
+  }
+
+-- Of a clock call; nothing of the other calls.
+OfClock : Model → Call → Step → Type 0
+OfClock m (timed t (claims ask)) s = Unit {0}
+OfClock m (timed t (releases k)) s = Unit {0}
+OfClock m (timed t (withdraws k)) s = Unit {0}
+OfClock m (timed t onlyClock) s = ClockCall m t s
+OfClock m (looks q) s = Unit {0}
+OfClock m (sets p) s = Unit {0}
+
+of-clock : (m : Model) → Invariant m → (c : Call) → isTimed c ≡ true → step m c .answer .number ≡ 0 → OfClock m c (step m c)
+unfolding OfClock
+of-clock m i =
+    step-cases (λ c s. isTimed c ≡ true → s .answer .number ≡ 0 → OfClock m c s) m (λ c k z p q. refused c k z p q)
+    (λ t ask a p q. tt) (λ c t k q o v p e. whole v) (λ c r l d p e. tt) (λ n d p e. tt)
+  where
+    whole : {c : Call} {t k : ℕ} {q : Model} → Leaves m c t k q → OfClock m c (finish q (plain k t))
+    whole (by-release t k) = tt
+    whole (by-withdraw t k) = tt
+    whole (by-clock t) = clock-whole m i t
+
 -- ── every table that calls can make ──
 pub whole-calls : (m : Model) → Invariant m → WholeCalls m
-unfolding OfLeave
+unfolding OfLeave OfClock
 whole-calls m i = record {
+  of-packing = first-packing m i;
+  of-clock = λ t. of-clock m i (clock t) refl;
   of-timed = of-timed m i;
   of-claim = of-claim m i;
   of-release = λ t k. of-leave m i (release t k) refl;

@@ -1,20 +1,22 @@
 -- The theorems refuse the worthless versions, by computation on a few calls.
 use mathlib.Core.Path.{_≡_, refl, sym, ap, subst}
-use mathlib.Core.Logic.{inl, inr, ⊎-elim}
+use mathlib.Core.Logic.{_⊎_, inl, inr, ⊎-elim}
 use mathlib.Core.Bool.{true, false}
-use mathlib.Core.List.{List, [], _∷_, List·Memᴰ·eq-of-singleton}
-use Prim.Native.Nat.{ℕ, _≤_}
+use mathlib.Core.List.{List, [], _∷_, List·Memᴰ·eq-of-singleton, List·Memᴰ·cases-cons}
+use Prim.Native.Nat.{ℕ, _≤_, _<_}
 use native.Mathlib.Omega.{arith}
 use Rattle.groups.specs.Groups.{someFrom, lowestFrom, common, shares, empty, within}
+use Rattle.rules.specs.declared.Claim.{Claim}
 use Rattle.rules.specs.Lists.{_∈_, greatest, least, sum, all, any, keep}
 use Rattle.rules.specs.Shares.{shareOf, pendingOf, unfilled, unfilledByOthers}
 use Rattle.rules.specs.Claims.{heldUntil, endOf, remaining}
 use Rattle.rules.specs.Order.{precedes, before}
-use Rattle.rules.specs.Pool.{covers, unitsAt, used, enough, spare, heldUnits}
+use Rattle.rules.specs.Pool.{covers, unitsAt, used, enough, spare, heldUnits, freeUnits}
 use Rattle.rules.specs.Seeking.{seek}
 use Rattle.rules.specs.Packing.{ready, startFor, moved, ahead, startWithin, packedStart, pack}
 use Rattle.rules.specs.Placing.{clear, fits, place, contention, startBound}
 use Rattle.rules.specs.Granting.{takenBefore, trulyFree, goesWithin, goes, granted, grant, grants}
+use Rattle.rules.specs.declared.Phase.the-variants.{Waiting, On}
 use Rattle.rules.specs.declared.Standing.the-variants.{NotPending, Waits, Holds}
 use Rattle.rules.specs.Tests.{firstOf}
 use Rattle.rules.specs.Calls.{atTicket, Call, release, clock, setGrace, tests, advance, finish, join, remove, admit, act, step, new, standingOf}
@@ -24,7 +26,7 @@ use Rattle.promises.specs.Ledger.{Entry, Ledger, turns, tableAfter, issu
 use Rattle.promises.specs.Runs.{Told, tells, Start, newly}
 use Rattle.promises.specs.NumbersTested.{testsBy}
 use Rattle.promises.specs.HeldUp.{EndsAt, Explained}
-use Rattle.promises.specs.Worthless.{claim, drawing, turnsDown, fixedStart, untouched, echoes, inventsContention, inventsBound, criesFull, neverGrants, overdraws, showsNow, leavesGaps, reverses, AllRefused}
+use Rattle.promises.specs.Worthless.{claim, drawing, turnsDown, fixedStart, untouched, echoes, inventsContention, inventsBound, criesFull, neverGrants, overdraws, showsNow, leavesGaps, reverses, keepsUnitsBack, mumbles, AllRefused}
 
 -- Nothing holds up a claim that is pending alone.
 alone-waits : (l : Ledger) (told : Told) (f : Entry) (s : ℕ) → l .claims ≡ f ∷ [] → f .held ≡ false → 1 ≤ f .asked .length → told (atTicket (f .ticket)) ≡ Waits s → Explained l told → ⊥
@@ -39,8 +41,23 @@ alone-waits l told f s e o n w h =
         let z : s ≡ p .1 .0 = cc (w, p .1 .1) in
         omega (arith, p .1 .2)
 
+-- Two claims of units alone: the first is on, long overdue, and the second waits at clock 5.
+abbrev first : Claim
+first = record { groups = 0; phase = On 0; length = 1; ticket = 1; units = 2; client = 1 }
+
+abbrev second : Claim
+second = record { groups = 0; phase = Waiting 5; length = 8; ticket = 2; units = 1; client = 1 }
+
+none-before : (c : Claim) → c ∈ (first ∷ second ∷ []) → precedes c second ≡ false
+unfolding precedes shares common lowestFrom someFrom
+none-before c i = go (List·Memᴰ·cases-cons i)
+  where
+    go : (c ≡ first) ⊎ (c ∈ (second ∷ [])) → precedes c second ≡ false
+    go (inl e) = ap (λ (x : Claim). precedes x second) e
+    go (inr j) = ap (λ (x : Claim). precedes x second) (List·Memᴰ·eq-of-singleton j)
+
 pub all-refused : AllRefused
-unfolding someFrom lowestFrom common shares empty within greatest least sum all any keep heldUntil endOf remaining precedes before covers unitsAt used enough spare heldUnits ready startFor moved ahead startWithin packedStart pack clear fits seek place contention startBound takenBefore trulyFree goesWithin goes granted grant grants shareOf pendingOf unfilled unfilledByOthers firstOf tests advance finish join remove admit act step new standingOf turns tableAfter issues stay sharesBy graceBy marked notedAll boundOn testsBy turnsDown fixedStart untouched echoes inventsContention inventsBound criesFull neverGrants overdraws showsNow leavesGaps reverses
+unfolding someFrom lowestFrom common shares empty within greatest least sum all any keep heldUntil endOf remaining precedes before covers unitsAt used enough spare heldUnits ready startFor moved ahead startWithin packedStart pack clear fits seek place contention startBound takenBefore trulyFree goesWithin goes granted grant grants shareOf pendingOf unfilled unfilledByOthers firstOf tests advance finish join remove admit act step new standingOf turns tableAfter issues stay sharesBy graceBy marked notedAll boundOn testsBy turnsDown fixedStart untouched echoes inventsContention inventsBound criesFull neverGrants overdraws showsNow leavesGaps reverses keepsUnitsBack mumbles freeUnits
 all-refused = (
   λ d.
       let z : _≡_ {A = ℕ} 3 0 = d [] (claim 0 0x1 10) [] refl in
@@ -92,4 +109,13 @@ all-refused = (
       let y : 980 ≡ w .1 = cc in
       omega (arith, w .4))
       (r .sooner),
+  λ d.
+      let z : 3 < 3 = d .units-wanting second (there {y = first} here) refl refl none-before in
+      omega arith,
+  λ d.
+      let z : _≡_ {A = ℕ} 0 1 = d (claim 0 0x1 10 ∷ []) (release 4 1) [] refl .three-plain refl refl .ticket-is in
+      omega arith,
+  λ d.
+      let z : 1000 ≤ 0 = d [] (claim 0 0x1 10) [] refl 0 _ refl refl refl 0 (omega arith) (λ e i n. absurd (n (ap (λ (x : Entry). x .ticket) (List·Memᴰ·eq-of-singleton i)))) in
+      omega arith,
 )

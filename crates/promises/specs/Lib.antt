@@ -7,5 +7,9 @@ pub mod EndsAwaited
 pub mod NumbersTested
 pub mod HeldUp
 pub mod NeverOvertaken
+pub mod TableKept
+pub mod LeastStart
+pub mod PlansApart
+pub mod Replies
 pub mod WholeCalls
 pub mod Worthless

@@ -8,8 +8,8 @@ use Prim.Native.Nat.{ℕ}
 use lib.Dec.{eqb}
 use lib.ListN.{length}
 use Rattle.rules.specs.Shares.{shareOf, pendingOf, unfilledByOthers}
-use Rattle.rules.specs.Tests.{Test, firstOf, late, backward, stranger, nothingAsked, offRig, spots, badLength, fullFor, over, ticketless, unknown, notYetOn, alreadyOn}
-use Rattle.rules.specs.Calls.{Action, claims, releases, withdraws, onlyClock, Look, atTicket, atTwo, atPool, Call, timed, looks, sets, setupTests, step}
+use Rattle.rules.specs.Tests.{Test, firstOf, late, backward, dark, stranger, nothingAsked, offRig, spots, badLength, fullFor, over, ticketless, unknown, notYetOn, alreadyOn}
+use Rattle.rules.specs.Calls.{Action, claims, releases, withdraws, onlyClock, Look, atTicket, atTwo, atPool, Call, timed, looks, sets, setupTests, step, new}
 use Rattle.promises.specs.Ledger.{Turn, Steps, Entry, Ledger}
 use Rattle.promises.specs.Runs.{Start, AtAnyCall}
 use Rattle.promises.specs.SharesKept.{askers}
@@ -47,3 +47,7 @@ NumbersTestedOf step s calls = AtAnyCall step s calls (λ l t _ _. NumberTested 
 
 abbrev pub NumbersTested : Start → List Call → Type 0
 NumbersTested s calls = NumbersTestedOf step s calls
+
+-- "dark: no group .. in a new rig": a new table is refused on this condition alone.
+abbrev pub NewTested : Type 0
+NewTested = (rig pool : ℕ) (alone : Bool) → new rig pool alone .answer .number ≡ firstOf (dark rig ∷ [])

@@ -1,19 +1,20 @@
 -- Document 01's "Worthless versions and their undoing", as steps run in place of the rules', each with a short list of calls at which a theorem
 -- is false of it; and one step more for each theorem beside demand 3. proofs/Worthless has the proofs; each goes by the clause that is named
 -- here.
-use mathlib.Core.Bool.{true, cond}
+use mathlib.Core.Bool.{true, not, _&&_, cond}
 use mathlib.Core.List.{List, [], _∷_, map}
 use Prim.Native.Nat.{ℕ, _+_, _-_}
-use lib.Dec.{eqb}
+use lib.Dec.{eqb, ltb}
 use lib.ListN.{length}
 use Rattle.numbers.specs.Numbers.{lengthNumber, fullNumber}
 use Rattle.rules.specs.declared.Request.{Request}
 use Rattle.rules.specs.declared.Phase.the-variants.{Waiting}
+use Rattle.rules.specs.Lists.{any, keep}
 use Rattle.rules.specs.Claims.{on, at, withPhase}
 use Rattle.rules.specs.Tests.{named}
 use Rattle.rules.specs.NoUnits.{withPool}
-use Rattle.rules.specs.Calls.{Model, withClock, withPending, withGrace, asking, claims, releases, withdraws, onlyClock, Call, timed, looks, sets, release, withdraw, clock, setGrace, Answer, Step, unchanged, remove, step}
-use Rattle.promises.specs.Ledger.{Steps}
+use Rattle.rules.specs.Calls.{Model, withClock, withPending, withGrace, asking, claims, releases, withdraws, onlyClock, Call, timed, looks, sets, release, withdraw, clock, setGrace, Answer, Step, unchanged, remove, step, freeOf}
+use Rattle.promises.specs.Ledger.{Steps, tableAfter}
 use Rattle.promises.specs.Runs.{newly}
 use Rattle.promises.specs.Demand3.{Demand3Of}
 use Rattle.promises.specs.PoolKept.{PoolKeptOf}
@@ -22,7 +23,9 @@ use Rattle.promises.specs.EndsAwaited.{EndsAwaitedOf}
 use Rattle.promises.specs.NumbersTested.{NumbersTestedOf}
 use Rattle.promises.specs.HeldUp.{HeldUpOf}
 use Rattle.promises.specs.NeverOvertaken.{NeverOvertakenOf}
-use Rattle.promises.specs.WholeCalls.{ClaimCall}
+use Rattle.promises.specs.WholeCalls.{TimedCall, ClaimCall}
+use Rattle.promises.specs.Replies.{isClaim, RepliesOf}
+use Rattle.promises.specs.LeastStart.{LeastStartOf}
 
 -- A claim at a clock, of groups (hex) and a length; and one of units alone.
 abbrev pub claim : ℕ → ℕ → ℕ → Call
@@ -181,7 +184,40 @@ reverses m c =
 abbrev pub ReversesRefused : Type 0
 ReversesRefused = NeverOvertakenOf reverses (newly 0x1 0 true) (claim 0 0x1 10 ∷ claim 0 0x1 10 ∷ claim 0 0x1 10 ∷ clock 0 ∷ []) → ⊥
 
+-- Units that are free and stay in the cupboard: while units are held, whoever draws waits on, and nobody is named.
+unfoldable pub keepsUnitsBack : Steps
+keepsUnitsBack m c =
+    let s : Step = step m c in
+    let n : Model = s .model in
+    let a : Answer = s .answer in
+    cond (eqb (freeOf m) (m .pool)) s
+    (record {
+      model = withPending n (map (λ d. cond (any (λ k. eqb k (d .ticket)) (a .grants) && ltb 0 (d .units)) (withPhase d (Waiting (at d))) d) (n .pending));
+      answer = record { number = a .number; ticket = a .ticket; start = a .start; contention = a .contention; bound = a .bound; grants = keep (λ k. not (eqb k (a .ticket))) (a .grants) };
+    })
+
+-- Shut out by `units-wanting`: two units are held, long overdue, one of three is free, and the second claim, which asks for one, waits.
+abbrev pub KeepsUnitsBackRefused : Type 0
+KeepsUnitsBackRefused =
+    (let m = tableAfter keepsUnitsBack (newly 0x1 3 true .table) (drawing 0 1 2 ∷ []) in
+    TimedCall m (drawing 5 8 1) (keepsUnitsBack m (drawing 5 8 1)) → ⊥)
+
+-- A release that answers no ticket.
+unfoldable pub mumbles : Steps
+mumbles m c =
+    let s : Step = step m c in
+    let a : Answer = s .answer in
+    record { model = s .model; answer = record { number = a .number; ticket = cond (isClaim c) (a .ticket) 0; start = a .start; contention = a .contention; bound = a .bound; grants = a .grants } }
+
+-- Shut out by `three-plain`.
+abbrev pub MumblesRefused : Type 0
+MumblesRefused = RepliesOf mumbles (newly 0x1 0 true) (claim 0 0x1 10 ∷ release 4 1 ∷ []) → ⊥
+
+-- One fixed start again, over a run: shut out by `LeastStart`.
+abbrev pub FixedStartRefusedInRuns : Type 0
+FixedStartRefusedInRuns = LeastStartOf fixedStart (newly 0x1 0 true) (claim 0 0x1 10 ∷ []) → ⊥
+
 abbrev pub AllRefused : Type 0
 AllRefused =
     TurnsDownRefused × FixedStartRefused × UntouchedRefused × EchoesRefused × InventsContentionRefused × InventsBoundRefused × CriesFullRefused × NeverGrantsRefused
-    × OverdrawsRefused × CriesFullBelowGuarantee × ShowsNowRefused × LeavesGapsRefused × ReversesRefused
+    × OverdrawsRefused × CriesFullBelowGuarantee × ShowsNowRefused × LeavesGapsRefused × ReversesRefused × KeepsUnitsBackRefused × MumblesRefused × FixedStartRefusedInRuns

@@ -22,12 +22,18 @@ use Rattle.promises.proofs.EndsAwaited.{ends-awaited}
 use Rattle.promises.proofs.NumbersTested.{numbers-tested}
 use Rattle.promises.proofs.HeldUp.{held-up}
 use Rattle.promises.proofs.NeverOvertaken.{never-overtaken}
+use Rattle.promises.specs.Replies.{Replies}
+use Rattle.promises.specs.LeastStart.{Least}
+use Rattle.promises.specs.PlansApart.{Apart}
+use Rattle.promises.proofs.Replies.{replies}
+use Rattle.promises.proofs.LeastStart.{least-start}
+use Rattle.promises.proofs.PlansApart.{plans-apart}
 use Rattle.promises.specs.WholeCalls.{WholeCalls}
 use Rattle.promises.proofs.WholeCalls.{whole-calls-after}
 use Rattle.table.specs.declared.Outcome.{Outcome}
 use Rattle.table.specs.Outcomes.{outcome}
 use Rattle.table.specs.Valid.{Valid}
-use Rattle.table_runs.specs.Runs.{answered, looked, Made, by-outcome, by-look, lookNumber, Run, done, then, Looks, BeganAs, by-new, RunValid, CodeAtAnyTime, CodeAtAnyLater, CodeAtAnyCall, CodeDemand3, CodePoolKept, CodeEndsAwaited, CodeHeldUp, CodeNeverOvertaken, CodeNumbersTested, CodeSharesKept, CodeWholeCalls}
+use Rattle.table_runs.specs.Runs.{answered, looked, Made, by-outcome, by-look, lookNumber, Run, done, then, Looks, BeganAs, by-new, RunValid, CodeAtAnyTime, CodeAtAnyLater, CodeAtAnyCall, CodeDemand3, CodePoolKept, CodeEndsAwaited, CodeHeldUp, CodeNeverOvertaken, CodeNumbersTested, CodeSharesKept, CodeWholeCalls, CodeSteps, CodeReplies, CodeLeastStart, CodePlansApart}
 use Rattle.table.proofs.Promised.{outcome-model, outcome-grants}
 
 -- ── one answer ──
@@ -145,3 +151,15 @@ pub code-whole-calls : (calls : List Call) → CodeWholeCalls calls
 code-whole-calls calls t s b ts u p =
     let i = began-is b in
     subst WholeCalls (sym (run-is (i .2) p .1 ∙ ap (λ (m : Model). tableAfter step m calls) (i .1))) (whole-calls-after s (i .0) calls)
+
+pub code-steps : (calls : List Call) → CodeSteps calls
+code-steps calls t s b ts u p c a w one = let r = made-is (run-valid calls t s b ts u p) one in (r .0, r .1)
+
+pub code-replies : (calls : List Call) → CodeReplies calls
+code-replies calls = any-call-of-code calls (λ _ t old new. Replies t old new) (λ s b. replies s b calls)
+
+pub code-least-start : (calls : List Call) → CodeLeastStart calls
+code-least-start calls = any-call-of-code calls (λ l t _ new. Least l t new) (λ s b. least-start s b calls)
+
+pub code-plans-apart : (calls : List Call) → CodePlansApart calls
+code-plans-apart calls = any-time-of-code calls (λ _ l told. Apart l told) (λ s b. plans-apart s b calls)

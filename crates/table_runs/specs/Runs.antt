@@ -16,6 +16,9 @@ use Rattle.promises.specs.EndsAwaited.{Awaited}
 use Rattle.promises.specs.NumbersTested.{NumberTested}
 use Rattle.promises.specs.HeldUp.{Explained}
 use Rattle.promises.specs.NeverOvertaken.{NotOvertaken}
+use Rattle.promises.specs.Replies.{Replies}
+use Rattle.promises.specs.LeastStart.{Least}
+use Rattle.promises.specs.PlansApart.{Apart}
 use Rattle.promises.specs.WholeCalls.{WholeCalls}
 use Rattle.table.specs.declared.Outcome.{Outcome}
 use Rattle.table.specs.Outcomes.{outcome}
@@ -118,3 +121,18 @@ pub record CodeSharesKept (calls : List Call) : Type 0 where
 -- What `promises` says of whole calls, of every table that such a list of calls left.
 abbrev pub CodeWholeCalls : List Call → Type 0
 CodeWholeCalls calls = (t : Table) (s : Start) → BeganAs t s → (ts : List Turn) (u : Table) → Run t calls ts u → WholeCalls (model u)
+
+-- What a call of the code did is the rules' step: what `WholeCalls` says of it is said of the code.
+abbrev pub CodeSteps : List Call → Type 0
+CodeSteps calls =
+    (t : Table) (s : Start) → BeganAs t s → (ts : List Turn) (u : Table) → Run t calls ts u → (c : Call) (a : Answer) (w : Table) → Made u c a w
+    → (a ≡ step (model u) c .answer) × (model w ≡ step (model u) c .model)
+
+abbrev pub CodeReplies : List Call → Type 0
+CodeReplies calls = CodeAtAnyCall calls (λ _ t old new. Replies t old new)
+
+abbrev pub CodeLeastStart : List Call → Type 0
+CodeLeastStart calls = CodeAtAnyCall calls (λ l t _ new. Least l t new)
+
+abbrev pub CodePlansApart : List Call → Type 0
+CodePlansApart calls = CodeAtAnyTime calls (λ _ l told. Apart l told)
