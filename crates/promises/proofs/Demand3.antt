@@ -26,7 +26,7 @@ use Rattle.rules.specs.declared.Common.the-variants.{Unknown}
 use Rattle.rules.specs.declared.Standing.the-variants.{Waits, Holds}
 use Rattle.rules.specs.Tests.{named}
 use Rattle.rules.specs.declared.Reply.{Reply}
-use Rattle.rules.specs.Calls.{Model, withGrace, ruled, settingOf, Call, timed, looks, sets, claim, release, withdraw, clock, declare, setGrace, isTimed, isLook, Answer, Step, unchanged, advance, plain, finish, join, remove, fresh, placing, admit, declared, step, blank, new, standing, standingOf, between, commonOf}
+use Rattle.rules.specs.Calls.{Model, withGrace, ruled, settingOf, Call, timed, looks, setsUp, claim, release, withdraw, clock, declare, setGrace, isTimed, isLook, Answer, Step, unchanged, advance, plain, finish, join, remove, fresh, placing, admit, declared, step, blank, new, standing, standingOf, between, commonOf}
 use Rattle.rules.specs.Plans.{Ascending, NoOverrunAt}
 use Rattle.rules.specs.Invariants.{IsSpaced, Invariant, IsBooked}
 use Rattle.rules.proofs.Bools.{split, by-test, clash, and-i}
@@ -44,7 +44,7 @@ use Rattle.rules.proofs.NoOverrun.{no-overrun-no-later}
 use Rattle.rules.proofs.Lookup.{lookup-absent, none-named, lookup-found, one-named, lookup-waits}
 use Rattle.promises.specs.Ledger.{Turn, turns, tableAfter, accepted, Entry, promised, Ledger, opening, issues, without, stay, sharesBy, graceBy, hold, marked, noted, notedAll, NoOverrun, NoOverruns, ruledBy, remainingOf, rivalsOf, boundOn}
 use Rattle.promises.specs.Runs.{tells, Start, Begins, by-new}
-use Rattle.promises.specs.Demand3.{TicketsAscend, Now, OfClaim, OfGrants, Next, Demand3}
+use Rattle.promises.specs.Demand3.{TicketsAscend, Now, NoWaitPast, OfClaim, OfGrants, Next, Demand3}
 use Rattle.promises.proofs.WholeCalls.{claim-whole}
 use Rattle.promises.proofs.Matching.{Match, m-nil, m-cons, match-map, match-left, match-weaken, match-snoc, match-none, match-keep, match-length, match-sum, partner, partner-of}
 
@@ -62,6 +62,7 @@ pub record Tracks (P : Type 0) (c : Claim) (e : Entry) : Type 0 where
 pub record Story (P : Type 0) (l : Ledger) (m : Model) : Type 0 where
   pub inv : Invariant m
   pub booked : IsBooked m
+  pub rig : m .rig ≡ l .rig
   pub clock : m .clock ≡ l .clock
   pub pool : m .pool ≡ l .pool
   pub issued : m .issued ≡ l .issued
@@ -82,7 +83,7 @@ no-second : (cs : List Claim) → between cs [] ≡ Unknown
 no-second [] = refl
 no-second (c ∷ cs) = refl
 
-now-of : (P : Type 0) (l : Ledger) (m : Model) → Story P l m → Now P l (tells m)
+now-of : (P : Type 0) (l : Ledger) (m : Model) → Story P l m → Now l (tells m)
 unfolding commonOf
 now-of P l m s = record {
   tickets-ascend = entries-ascend P (s .match) (s .inv .spaced .ascending);
@@ -104,10 +105,6 @@ now-of P l m s = record {
     unknown = λ h. either j k h;
   };
   holders-apart = λ e f i j n p q. apart e f i j n p q (split (shares (e .asked .groups) (f .asked .groups)));
-  no-wait-past = λ p e i o.
-      let r = partner (s .match) i in
-      let z : on (r .0) ≡ false = r .2 .held ∙ o in
-      omega (arith, s .inv .spaced .low (r .0) (r .1) z, r .2 .early p z, s .clock);
 }
   where
     found : (k : ℕ) (e : Entry) (i : e ∈ l .claims) → e .ticket ≡ k → standingOf k (m .pending) ≡ standing (partner (s .match) i .0)
@@ -136,6 +133,12 @@ now-of P l m s = record {
         absurd
         (s .inv .spaced .holders .apart (a .0) (b .0) (a .1) (b .1) (λ z. n (sym (a .2 .ticket) ∙ z ∙ b .2 .ticket)) (cc (a .2 .groups, b .2 .groups))
         (a .2 .held ∙ p) (b .2 .held ∙ q))
+
+no-wait-of : (P : Type 0) (l : Ledger) (m : Model) → Story P l m → P → NoWaitPast l (tells m)
+no-wait-of P l m s p e i o =
+    let r = partner (s .match) i in
+    let z : on (r .0) ≡ false = r .2 .held ∙ o in
+    omega (arith, s .inv .spaced .low (r .0) (r .1) z, r .2 .early p z, s .clock)
 
 -- ── the parts of a call, side by side with the ledger ──
 pack-tracks : (P : Type 0) (v : Setting) (ps : List Claim) (c : Claim) (e : Entry) → Tracks P c e → (P → on c ≡ false → packedStart v ps c ≤ at c) → Tracks P (moved (packedStart v ps) c) e
@@ -202,7 +205,7 @@ finish-match P l m r i ma =
     ps = pack (settingOf m) (m .pending)
 
 -- What release, withdraw and clock leave of the ledger.
-match-without : (P : Type 0) (k : ℕ) {ps : List Claim} {l : List Entry} → Match (Tracks P) ps l → Match (Tracks P) (keep (λ c. not (named k c)) ps) (without k l)
+pub match-without : (P : Type 0) (k : ℕ) {ps : List Claim} {l : List Entry} → Match (Tracks P) ps l → Match (Tracks P) (keep (λ c. not (named k c)) ps) (without k l)
 match-without P k ma = match-keep (λ c. not (named k c)) (λ e. not (eqb (e .ticket) k)) (λ c e r. ap (λ (x : ℕ). not (eqb x k)) (r .ticket)) ma
 
 leaves-match : (P : Type 0) (l : List Entry) (a : Answer) {m : Model} {c : Call} {t k : ℕ} {q : Model} → Leaves m c t k q
@@ -225,6 +228,16 @@ finish-issued m r = refl
 finish-pool : (m : Model) (r : Reply) → finish m r .model .pool ≡ m .pool
 unfolding finish
 finish-pool m r = refl
+
+finish-rig : (m : Model) (r : Reply) → finish m r .model .rig ≡ m .rig
+unfolding finish
+finish-rig m r = refl
+
+leaves-rig : {m : Model} {c : Call} {t k : ℕ} {q : Model} → Leaves m c t k q → q .rig ≡ m .rig
+unfolding remove advance
+leaves-rig (by-release t k) = refl
+leaves-rig (by-withdraw t k) = refl
+leaves-rig (by-clock t) = refl
 
 leaves-pool : {m : Model} {c : Call} {t k : ℕ} {q : Model} → Leaves m c t k q → q .pool ≡ m .pool
 unfolding remove advance
@@ -316,7 +329,7 @@ bound-is : (P : Type 0) (v : Setting) (ps : List Claim) (l : List Entry) (w : Cl
 unfolding startBound contention boundOn
 bound-is P v ps l w ask g n m =
     let rs : Match (Tracks P) (rivals ps w) (rivalsOf l ask) = match-keep (λ c. rival c w) (λ e. shares (e .asked .groups) (ask .groups)) (λ c e r. rw (r .groups, g)) m in
-    cc (match-sum (remaining v) (remainingOf v) (remaining-is P v) rs, match-length rs, n)
+    cc (match-sum (remaining v) (remainingOf v) (λ c e _. remaining-is P v c e) rs, match-length rs, n)
 
 contention-is : (P : Type 0) (ps : List Claim) (l : List Entry) (w : Claim) (ask : Request) → w .groups ≡ ask .groups → Match (Tracks P) ps l → contention ps w ≡ length (rivalsOf l ask)
 unfolding contention
@@ -366,7 +379,7 @@ first-told m i t ask a =
     (λ o. inr (e ∙ ap (λ (b : Bool). cond b (Holds (at (c .new) + c .new .length)) (Waits (at (c .new)))) o ∙ ap Holds (omega (arith, c .start, c .length))))
     (λ o. inl (e ∙ ap (λ (b : Bool). cond b (Holds (at (c .new) + c .new .length)) (Waits (at (c .new)))) o ∙ ap Waits (c .start)))
 
-same-claim : (Q : ℕ → Request → Type 0) (t u : ℕ) (ask x : Request) → claim t ask ≡ claim u x → Q t ask → Q u x
+pub same-claim : (Q : ℕ → Request → Type 0) (t u : ℕ) (ask x : Request) → claim t ask ≡ claim u x → Q t ask → Q u x
 same-claim Q t u ask x e h =
     let f : t ≡ u = cc in
     let g : ask ≡ x = cc in
@@ -395,7 +408,7 @@ module _ (P : Type 0) (l : Ledger) (m : Model) (s : Story P l m) where
   unfolding sharesBy graceBy
   looks-kept (timed t x) e = (refl, refl)
   looks-kept (looks q) e = (refl, refl)
-  looks-kept (sets p) e = clash e refl
+  looks-kept (setsUp p) e = clash e refl
 
   -- What a call would set to x stays y where the call is refused, or is a lookup, which sets nothing.
   idle-kept : {A : Type 0} (c : Call) (n : ℕ) (x y : A) → Idle c n → (isLook c ≡ true → x ≡ y) → cond (eqb n 0) x y ≡ y
@@ -413,6 +426,7 @@ module _ (P : Type 0) (l : Ledger) (m : Model) (s : Story P l m) where
         record {
           inv = s .inv;
           booked = s .booked;
+          rig = rw z (s .rig);
           clock = rw z (s .clock);
           pool = rw z (s .pool);
           issued = rw z (s .issued);
@@ -431,13 +445,13 @@ module _ (P : Type 0) (l : Ledger) (m : Model) (s : Story P l m) where
 
   -- What the accepted timed calls have in common: q is what they leave before they pack again and grant, es the same of the ledger.
   told-finish : (t j : ℕ) (rep : Reply) (q : Model) (es : List Entry) (T : Type 0) → m .clock ≤ t → (T → (e : Entry) → e ∈ l .claims → e .held ≡ true → t ≤ promised e)
-      → IsSpaced q → IsBooked q → q .clock ≡ t → q .pool ≡ l .pool → q .issued ≡ j → q .grace ≡ l .grace → q .shares ≡ l .shares
+      → IsSpaced q → IsBooked q → q .rig ≡ l .rig → q .clock ≡ t → q .pool ≡ l .pool → q .issued ≡ j → q .grace ≡ l .grace → q .shares ≡ l .shares
       → ((y : Claim) → y ∈ q .pending → (y ∈ advance m t .pending) ⊎ (m .issued < y .ticket)) → Match (Tracks (P × T)) (q .pending) es
       → (T → Unraised (m .pending) (finish q rep .model .pending) (map (marked t (finish q rep .answer .grants)) es))
       × Story (P × T) (record { rig = l .rig; clock = t; pool = l .pool; issued = j; grace = l .grace; shares = l .shares; claims = map (marked t (finish q rep .answer .grants)) es }) (finish q rep .model)
-  told-finish t j rep q es T h tm sp bk cl po is gr sh old ma = (
+  told-finish t j rep q es T h tm sp bk ri cl po is gr sh old ma = (
     λ z. unraised (P × T) (m .pending) (finish q rep .model .pending) (map (marked t (finish q rep .answer .grants)) es) done (finish-not-raised m q t rep (s .inv) h (prompt t (tm z)) sp old),
-    record { inv = finish-invariant q rep sp; booked = finish-booked q rep bk; clock = finish-clock q rep ∙ cl; pool = finish-pool q rep ∙ po; issued = finish-issued q rep ∙ is; grace = finish-grace q rep ∙ gr; shares = finish-shares q rep ∙ sh; match = done },
+    record { inv = finish-invariant q rep sp; booked = finish-booked q rep bk; rig = finish-rig q rep ∙ ri; clock = finish-clock q rep ∙ cl; pool = finish-pool q rep ∙ po; issued = finish-issued q rep ∙ is; grace = finish-grace q rep ∙ gr; shares = finish-shares q rep ∙ sh; match = done },
   )
     where
       done : Match (Tracks (P × T)) (finish q rep .model .pending) (map (marked t (finish q rep .answer .grants)) es)
@@ -450,7 +464,7 @@ module _ (P : Type 0) (l : Ledger) (m : Model) (s : Story P l m) where
       let next : suc (m .issued) ≡ l .issued + 1 = omega (arith, s .issued) in
       let r =
       told-finish t (l .issued + 1) (placing (advance m t) w) q _ T
-      (a .clocked .later) (λ z. z refl) spaced (join-booked m t ask a (s .booked)) refl (s .pool) next (s .grace) (s .shares) old (match-snoc _ _ first new) in (
+      (a .clocked .later) (λ z. z refl) spaced (join-booked m t ask a (s .booked)) (s .rig) refl (s .pool) next (s .grace) (s .shares) old (match-snoc _ _ first new) in (
         record {
           of-claim = λ t′ ask′ e _. same-claim (λ u x. OfClaim l u x (admit (advance m t) ask .answer) (tells (admit (advance m t) ask .model))) t t′ ask ask′ e claimed;
           of-grants = record {
@@ -509,7 +523,7 @@ module _ (P : Type 0) (l : Ledger) (m : Model) (s : Story P l m) where
       × Story (P × T) (record { rig = l .rig; clock = t; pool = l .pool; issued = l .issued + length (issues c a); grace = l .grace; shares = l .shares; claims = es }) (finish q (plain k t) .model))
   left {c} {t} {k} {q} a T v o tm =
       told-finish t (l .issued + length (issues c a)) (plain k t) q (stay c (l .claims) ++ issues c a) T (o .later) tm
-      (leaves-spaced v (advance-packed m t (s .inv) (o .later))) (leaves-booked v (advance-booked m t (s .booked))) (leaves-clock v .0) (leaves-pool v ∙ s .pool) (omega (arith, leaves-issued a v, s .issued))
+      (leaves-spaced v (advance-packed m t (s .inv) (o .later))) (leaves-booked v (advance-booked m t (s .booked))) (leaves-rig v ∙ s .rig) (leaves-clock v .0) (leaves-pool v ∙ s .pool) (omega (arith, leaves-issued a v, s .issued))
       (leaves-grace v ∙ s .grace) (leaves-shares v ∙ s .shares) (λ y i. inl (leaves-old v y i))
       (leaves-match (P × T) (l .claims) a v (advance-match P T (l .claims) m t (s .inv) (o .later) (λ z. prompt t (tm z)) (s .match)))
 
@@ -564,6 +578,7 @@ module _ (P : Type 0) (l : Ledger) (m : Model) (s : Story P l m) where
     record {
       inv = s .inv;
       booked = declare-booked m (s .inv) c r k d (s .booked);
+      rig = s .rig;
       clock = s .clock;
       pool = s .pool;
       issued = s .issued;
@@ -580,6 +595,7 @@ module _ (P : Type 0) (l : Ledger) (m : Model) (s : Story P l m) where
     record {
       inv = grace-invariant m n (s .inv) (d .unissued);
       booked = s .booked;
+      rig = s .rig;
       clock = s .clock;
       pool = s .pool;
       issued = s .issued;
@@ -595,7 +611,7 @@ module _ (P : Type 0) (l : Ledger) (m : Model) (s : Story P l m) where
 -- ── the run ──
 story-weaken : (P Q : Type 0) (l : Ledger) (m : Model) → (Q → P) → Story P l m → Story Q l m
 story-weaken P Q l m f s =
-    record { inv = s .inv; booked = s .booked; clock = s .clock; pool = s .pool; issued = s .issued; grace = s .grace; shares = s .shares; match = match-weaken (λ c e r. tracks-weaken P Q f c e r) (s .match) }
+    record { inv = s .inv; booked = s .booked; rig = s .rig; clock = s .clock; pool = s .pool; issued = s .issued; grace = s .grace; shares = s .shares; match = match-weaken (λ c e r. tracks-weaken P Q f c e r) (s .match) }
 
 pub story-after : (cs : List Call) (P : Type 0) (l : Ledger) (m : Model) → Story P l m
     → Story (P × NoOverruns l (turns step m cs)) (notedAll l (turns step m cs)) (tableAfter step m cs)
@@ -609,11 +625,11 @@ story-after (c ∷ cs) P l m s =
 -- What holds where a run begins.
 begin : (s : Start) → Begins s → Story (Unit {0}) (s .ledger) (s .table)
 begin s (by-new g k alone) =
-    new-cases (λ (s : Step). Story (Unit {0}) (opening g k alone (s .answer)) (s .model)) g k alone (λ e. blank-story 0 0 1 refl) (λ e. blank-story g k 0 refl)
+    new-cases (λ (s : Step). Story (Unit {0}) (opening g k alone (s .answer)) (s .model)) g k alone (λ e. blank-story 0 0 1 refl refl) (λ e. blank-story g k 0 refl refl)
   where
-    blank-story : (r n j : ℕ) → n ≡ cond (eqb j 0) k 0 → Story (Unit {0}) (opening g k alone (unchanged (blank r n alone) j .answer)) (blank r n alone)
-    blank-story r n j e =
-        record { inv = blank-invariant r n alone; booked = first-booked alone; clock = refl; pool = e; issued = refl; grace = refl; shares = refl; match = m-nil }
+    blank-story : (r n j : ℕ) → r ≡ cond (eqb j 0) g 0 → n ≡ cond (eqb j 0) k 0 → Story (Unit {0}) (opening g k alone (unchanged (blank r n alone) j .answer)) (blank r n alone)
+    blank-story r n j o e =
+        record { inv = blank-invariant r n alone; booked = first-booked alone; rig = o; clock = refl; pool = e; issued = refl; grace = refl; shares = refl; match = m-nil }
 
 pub after-calls : (s : Start) → Begins s → (cs : List Call)
     → (let ts = turns step (s .table) cs in
@@ -624,5 +640,6 @@ after-calls s b cs = story-weaken _ _ _ _ (λ q. (tt, q)) (story-after cs (Unit 
 pub demand-3 : (s : Start) → Begins s → (calls : List Call) → Demand3 s calls
 demand-3 s b calls = record {
   at-any-time = λ before rest e. now-of _ _ _ (after-calls s b before);
+  no-wait-past = λ before rest e. no-wait-of _ _ _ (after-calls s b before);
   at-any-call = λ before c rest e. told _ _ _ (after-calls s b before) c .0;
 }

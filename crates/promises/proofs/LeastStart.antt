@@ -1,63 +1,50 @@
--- The start of an accepted claim is the least that fits beside the others, as lookups tell them.
+-- The start of an accepted claim is the least that fits beside the others, as ledger and lookups tell them: what fits beside them in the table
+-- that the first packing gave fits beside them after the call, and the other way round.
 use mathlib.Core.Path.{_≡_, refl, sym, _∙_, ap, subst}
 use mathlib.Core.Logic.{_⊎_, inl, inr, _≢_}
-use mathlib.Core.Bool.{Bool, true, false, cond}
+use mathlib.Core.Bool.{true, false, not}
 use mathlib.Core.List.{List, [], _∷_, _++_, Memᴰ·append-left}
 use Prim.Native.Nat.{ℕ, suc, _+_, _≤_, _<_}
 use native.Mathlib.Omega.{arith}
+use lib.Dec.{eqb}
+use borrow.Author.Tests.{eq-eqb, ne-eqb}
 use Rattle.groups.specs.Groups.{shares}
 use Rattle.rules.specs.declared.Claim.{Claim}
 use Rattle.rules.specs.declared.Request.{Request}
 use Rattle.rules.specs.declared.Setting.{Setting}
-use Rattle.rules.specs.declared.Phase.the-variants.{On}
-use Rattle.rules.specs.declared.Standing.the-variants.{Waits, Holds}
-use Rattle.rules.specs.Lists.{_∈_}
-use Rattle.rules.specs.Claims.{on, at, withPhase, rival, heldUntil, endOf}
+use Rattle.rules.specs.declared.Standing.the-variants.{Waits}
+use Rattle.rules.specs.Lists.{_∈_, keep}
+use Rattle.rules.specs.Claims.{on, at, rival, endOf}
+use Rattle.rules.specs.Granting.{goes, granted, grant}
 use Rattle.rules.specs.Plans.{Room, Fits}
+use Rattle.rules.specs.Pool.{used}
+use Rattle.rules.specs.Tests.{named}
 use Rattle.rules.specs.Invariants.{Invariant}
-use Rattle.rules.specs.Calls.{Model, ruled, settingOf, atTicket, Call, claim, clock, isTimed, isLook, Step, advance, plain, finish, join, admit, step, standingOf}
+use Rattle.rules.specs.Calls.{Model, ruled, settingOf, atTicket, Call, claim, standing, isTimed, isLook, Step, advance, finish, join, admit, step}
 use Rattle.rules.proofs.Bools.{clash, by-test}
-use Rattle.rules.proofs.Claims.{end-on, end-wait, end-no-overrun}
-use Rattle.rules.proofs.Order.{ascending-same}
+use Rattle.rules.proofs.Lists.{map-e, map-i, keep-snoc, keep-all}
+use Rattle.rules.proofs.Granting.{granted-cases, granted-ticket, goes-at, end-granted, granted-on, grant-uses}
 use Rattle.rules.proofs.Calls.{Admissible, advance-e, clock-accepted, Leaves, by-release, by-withdraw, by-clock, Idle, step-cases}
-use Rattle.rules.proofs.Lookup.{lookup-found, lookup-waits}
-use Rattle.promises.specs.Ledger.{Turn, turns, tableAfter, Ledger, Entry, promised, noted, notedAll, NoOverrun, ruledBy}
+use Rattle.promises.specs.Ledger.{Turn, turns, tableAfter, Ledger, Entry, without, noted, notedAll, NoOverrun}
 use Rattle.promises.specs.Runs.{tells, Start, Begins}
-use Rattle.promises.specs.EndsAwaited.{endIn}
-use Rattle.promises.specs.HeldUp.{EndsAt}
-use Rattle.promises.specs.WholeCalls.{Stays, ClaimCall, ClockCall, WholeCalls}
-use Rattle.promises.specs.LeastStart.{FitsBeside, Least, LeastStart}
-use Rattle.promises.proofs.Matching.{partner, partner-of}
-use Rattle.promises.proofs.WholeCalls.{claim-whole, clock-whole}
-use Rattle.promises.proofs.Demand3.{Tracks, Story, ruled-is, story-after, after-calls}
+use Rattle.promises.specs.Plan.{endTold, plannedUse}
+use Rattle.promises.specs.WholeCalls.{ClaimCall}
+use Rattle.promises.specs.LeastStart.{FitsBeside, LeastOf, Least, LeastStart}
+use Rattle.promises.proofs.Matching.{Match, partner, partner-of}
+use Rattle.promises.proofs.WholeCalls.{claim-whole, clocked-is}
+use Rattle.promises.proofs.Demand3.{Tracks, Story, match-without, same-claim, story-after, after-calls}
+use Rattle.promises.proofs.Plan.{told-is, waits-at, end-is, use-is, standing-wait}
 
--- What lookup and ledger tell of a claim's end.
-ends-of : (P : Type 0) (l : Ledger) (m : Model) (st : Story P l m) (c : Claim) (e : Entry) → c ∈ m .pending → Tracks P c e → EndsAt l (tells m) e (endOf (settingOf m) c)
-ends-of P l m st c e j r =
-    by-test (on c)
-    (λ o. inl (
-      sym (r .held) ∙ o,
-      sym (end-on (settingOf m) c o ∙ ap (heldUntil (settingOf m)) (omega (arith, r .grant o, r .length)) ∙ ap (λ (u : Setting). heldUntil u (promised e)) (ruled-is P l m st (m .clock) ∙ ap (ruledBy l) (st .clock))),
-    ))
-    (λ o. inr (
-      sym (r .held) ∙ o,
-      (
-        at c,
-        ap (λ (k : ℕ). standingOf k (m .pending)) (sym (r .ticket)) ∙ lookup-found (m .pending) (st .inv .spaced .ascending) c j ∙ ap (λ (b : Bool). cond b (Holds (at c + c .length)) (Waits (at c))) o,
-        omega (arith, end-wait (settingOf m) c o, r .length),
-      ),
-    ))
-
--- A claim of which lookup tells that it waits.
-waiting-at : (P : Type 0) (l : Ledger) (m : Model) (st : Story P l m) (c : Claim) (e : Entry) → c ∈ m .pending → Tracks P c e → (s : ℕ) → tells m (atTicket (e .ticket)) ≡ Waits s → (on c ≡ false) × (at c ≡ s)
-waiting-at P l m st c e j r s w =
-    let d = lookup-waits (e .ticket) s (m .pending) w in
-    let same : d .0 ≡ c = ascending-same (m .pending) (st .inv .spaced .ascending) (d .0) c (d .1) j (d .2 ∙ sym (r .ticket)) in
-    (sym (ap on same) ∙ d .3, sym (ap at same) ∙ d .4)
-
-module _ (Q : Type 0) (l′ : Ledger) (m : Model) (i : Invariant m) (t : ℕ) (ask : Request) (a : Admissible m t ask) (st : Story Q l′ (admit (advance m t) ask .model)) where
+module _ (Q : Type 0) (l : Ledger) (m : Model) (i : Invariant m) (t : ℕ) (ask : Request) (a : Admissible m t ask) (st : Story Q l (admit (advance m t) ask .model)) where
   abbrev n : Model
   n = admit (advance m t) ask .model
+
+  abbrev ps : List Claim
+  ps = advance m t .pending
+
+  -- The ticket of the new claim.
+  abbrev k : ℕ
+  k = suc (m .issued)
 
   whole : ClaimCall m t ask (admit (advance m t) ask)
   whole = claim-whole m i t ask a
@@ -66,69 +53,126 @@ module _ (Q : Type 0) (l′ : Ledger) (m : Model) (i : Invariant m) (t : ℕ) (a
   unfolding admit finish join advance
   same-rules = refl
 
-  next-ticket : admit (advance m t) ask .answer .ticket ≡ suc (m .issued)
+  next-ticket : admit (advance m t) ask .answer .ticket ≡ k
   unfolding admit finish join advance
   next-ticket = refl
 
-  room : (x : ℕ) → FitsBeside l′ (tells n) ask (admit (advance m t) ask .answer .ticket) x → (c : Claim) → c ∈ advance m t .pending → rival c (whole .new) ≡ true → Room (ruled m t) (whole .new) x c
-  room x f c ci r = by (y .2)
-    where
-      y : (d : Claim) × d ∈ finish (advance m t) (plain 0 t) .model .pending × Stays t c d
-      y = clock-whole m i t .all-stay c ci
+  -- The others after the call, and theirs in the ledger.
+  all-is : n .pending ≡ grant (ruled m t) ps ++ (whole .new ∷ [])
+  all-is =
+      whole .others-same ∙ ap (λ (s : Step). s .model .pending ++ (whole .new ∷ [])) (clock-accepted m t (a .clocked))
+      ∙ ap (λ (x : List Claim). x ++ (whole .new ∷ [])) (clocked-is m i t)
 
-      d : Claim
-      d = y .0
+  old : (c : Claim) → c ∈ ps → c .ticket ≢ k
+  old c ci e = let z = advance-e m t ci in omega (arith, z .2, i .spaced .proper (z .0) (z .1) .issued)
 
-      di : d ∈ n .pending
-      di =
-          subst (λ (k : List Claim). d ∈ k) (sym (whole .others-same))
-          (Memᴰ·append-left _ (subst (λ (s : Step). d ∈ s .model .pending) (sym (clock-accepted m t (a .clocked))) (y .1)))
+  others-are : keep (λ c. not (named k c)) (n .pending) ≡ grant (ruled m t) ps
+  unfolding grant
+  others-are =
+      ap (keep (λ c. not (named k c))) all-is
+      ∙ keep-snoc (λ c. not (named k c)) (grant (ruled m t) ps) (whole .new) (rw (eq-eqb (whole .new .ticket) k (whole .ticket ∙ next-ticket)))
+      ∙ keep-all (λ c. not (named k c)) (grant (ruled m t) ps) (λ d di.
+      let r = map-e (granted (ruled m t) ps) ps di in
+      rw (ne-eqb (d .ticket) k (λ e. old (r .0) (r .1) (sym (granted-ticket (ruled m t) ps (r .0)) ∙ sym (ap (λ (x : Claim). x .ticket) (r .2)) ∙ e))))
 
-      e : (e : Entry) × e ∈ l′ .claims × Tracks Q d e
-      e = partner-of (st .match) di
+  matched : Match (Tracks Q) (grant (ruled m t) ps) (without k (l .claims))
+  matched = subst (λ (x : List Claim). Match (Tracks Q) x (without k (l .claims))) others-are (match-without Q k (st .match))
 
-      alike : Stays t c d → (d .ticket ≡ c .ticket) × (d .groups ≡ c .groups)
-      alike (inl q) = (ap (λ (z : Claim). z .ticket) q, ap (λ (z : Claim). z .groups) q)
-      alike (inr q) = (ap (λ (z : Claim). z .ticket) (q .2), ap (λ (z : Claim). z .groups) (q .2))
+  pending : (d : Claim) → d ∈ grant (ruled m t) ps → d ∈ n .pending
+  pending d di = subst (λ (x : List Claim). d ∈ x) (sym all-is) (Memᴰ·append-left _ di)
 
-      other : e .0 .ticket ≢ admit (advance m t) ask .answer .ticket
-      other h =
-          let z = advance-e m t ci in
-          omega (arith, h, next-ticket, e .2 .ticket, alike (y .2) .0, z .2, i .spaced .proper (z .0) (z .1) .issued)
+  -- ── a claim that the first packing gave, and its entry ──
+  abbrev after : Claim → Claim
+  after c = granted (ruled m t) ps c
 
-      shared : shares (e .0 .asked .groups) (ask .groups) ≡ true
-      shared = cc (e .2 .groups, alike (y .2) .1, whole .groups, r)
+  Of : Claim → Entry → Type 0
+  Of c e = after c ∈ n .pending × Tracks Q (after c) e
 
-      told : (endOf (settingOf n) d ≤ x) ⊎ ((s : ℕ) × (tells n (atTicket (e .0 .ticket)) ≡ Waits s) × (x + ask .length ≤ s))
-      told = f (e .0) (e .1) other shared (endOf (settingOf n) d) (ends-of Q l′ n st d (e .0) di (e .2))
+  entry-of : (c : Claim) → c ∈ ps → (e : Entry) × e ∈ without k (l .claims) × Of c e
+  unfolding grant Of
+  entry-of c ci = let j = map-i (granted (ruled m t) ps) ci in let r = partner-of matched j in (r .0, r .1, (pending (after c) j, r .2))
 
-      by : Stays t c d → Room (ruled m t) (whole .new) x c
-      by (inl q) = go told
-        where
-          go : (endOf (settingOf n) d ≤ x) ⊎ ((s : ℕ) × (tells n (atTicket (e .0 .ticket)) ≡ Waits s) × (x + ask .length ≤ s)) → Room (ruled m t) (whole .new) x c
-          go (inl h) = inl (omega (arith, h, ap (λ (v : Setting). endOf v d) same-rules, ap (endOf (ruled m t)) q))
-          go (inr h) =
-              let z = waiting-at Q l′ n st d (e .0) di (e .2) (h .0) (h .1) in
-              inr (sym (ap on q) ∙ z .0, omega (arith, h .2, whole .length, z .1, ap at q))
-      by (inr q) = go told
-        where
-          end : endOf (ruled m t) d ≡ endOf (ruled m t) c
-          end =
-              ap (endOf (ruled m t)) (q .2)
-              ∙ omega (arith, end-no-overrun (ruled m t) (withPhase c (On t)) refl (omega arith), end-wait (ruled m t) c (q .0), q .1)
+  claim-of : (e : Entry) → e ∈ without k (l .claims) → (c : Claim) × c ∈ ps × Of c e
+  unfolding grant Of
+  claim-of e ei =
+      let r = partner matched ei in
+      let c = map-e (granted (ruled m t) ps) ps (r .1) in
+      (c .0, c .1, (subst (λ (x : Claim). x ∈ n .pending) (c .2) (pending (r .0) (r .1)), subst (λ (x : Claim). Tracks Q x e) (c .2) (r .2)))
 
-          go : (endOf (settingOf n) d ≤ x) ⊎ ((s : ℕ) × (tells n (atTicket (e .0 .ticket)) ≡ Waits s) × (x + ask .length ≤ s)) → Room (ruled m t) (whole .new) x c
-          go (inl h) = inl (omega (arith, h, ap (λ (v : Setting). endOf v d) same-rules, end))
-          go (inr h) = let z = waiting-at Q l′ n st d (e .0) di (e .2) (h .0) (h .1) in clash (ap on (q .2)) (z .0)
+  end-same : (c : Claim) (e : Entry) → Of c e → endTold l (tells n) e ≡ endOf (ruled m t) c
+  unfolding Of
+  end-same c e r =
+      end-is Q l n st (after c) e (r .0) (r .1) ∙ ap (λ (v : Setting). endOf v (after c)) same-rules
+      ∙ granted-cases (λ (x : Claim). endOf (ruled m t) x ≡ endOf (ruled m t) c) (ruled m t) ps c (end-granted (ruled m t) ps c) (λ g. refl)
 
-  least-at : ask .units ≡ 0 → (x : ℕ) → t ≤ x → FitsBeside l′ (tells n) ask (admit (advance m t) ask .answer .ticket) x → admit (advance m t) ask .answer .start ≤ x
-  least-at z x h f = whole .least x h (record { room = room x f; spare = λ k. absurd (omega (arith, k, whole .units, z)) })
+  shared-same : (c : Claim) (e : Entry) → Of c e → shares (e .asked .groups) (ask .groups) ≡ rival c (whole .new)
+  unfolding Of
+  shared-same c e r =
+      ap (λ (g : ℕ). shares g (ask .groups)) (sym (r .1 .groups)) ∙ ap (shares (after c .groups)) (sym (whole .groups))
+      ∙ (granted-cases (λ (x : Claim). rival x (whole .new) ≡ rival c (whole .new)) (ruled m t) ps c (λ g. refl) (λ g. refl))
+
+  -- Room in the plan as it is told, and in the table.
+  abbrev RoomTold : ℕ → Entry → Type 0
+  RoomTold x e = (endTold l (tells n) e ≤ x) ⊎ ((s : ℕ) × (tells n (atTicket (e .ticket)) ≡ Waits s) × (x + ask .length ≤ s))
+
+  room-told : (x : ℕ) → t ≤ x → (c : Claim) (e : Entry) → Of c e → Room (ruled m t) (whole .new) x c → RoomTold x e
+  unfolding Of
+  room-told x h c e r (inl z) = inl (omega (arith, end-same c e r))
+  room-told x h c e r (inr z) =
+      by-test (goes (ruled m t) ps c)
+      (λ g. absurd (omega (arith, goes-at (ruled m t) ps c g, z .1, whole .length, a .long)))
+      (λ g.
+      let same : after c ≡ c = granted-cases (λ (y : Claim). y ≡ c) (ruled m t) ps c (λ q. clash q g) (λ q. refl) in
+      inr (at c, told-is Q l n st (after c) e (r .0) (r .1) ∙ ap standing same ∙ standing-wait c (z .0), omega (arith, z .1, whole .length)))
+
+  room-of : (x : ℕ) → (c : Claim) (e : Entry) → Of c e → RoomTold x e → Room (ruled m t) (whole .new) x c
+  unfolding Of
+  room-of x c e r (inl z) = inl (omega (arith, end-same c e r))
+  room-of x c e r (inr z) =
+      let w = waits-at Q l n st (after c) e (r .0) (r .1) (z .0) (z .1) in
+      by-test (goes (ruled m t) ps c)
+      (λ g. clash (ap on (granted-on (ruled m t) ps c g)) (w .0))
+      (λ g.
+      let same : after c ≡ c = granted-cases (λ (y : Claim). y ≡ c) (ruled m t) ps c (λ q. clash q g) (λ q. refl) in
+      inr (sym (ap on same) ∙ w .0, omega (arith, ap at same, w .1, z .2, whole .length)))
+
+  use-same : (y : ℕ) → t ≤ y → plannedUse l (tells n) y (without k (l .claims)) ≡ used (ruled m t) y ps
+  use-same y h =
+      sym (use-is Q l n st y (grant (ruled m t) ps) (without k (l .claims)) pending matched) ∙ ap (λ (v : Setting). used v y (grant (ruled m t) ps)) same-rules
+      ∙ grant-uses (ruled m t) ps y h
+
+  pool-same : l .pool ≡ m .pool
+  unfolding admit finish join advance
+  pool-same = sym (st .pool)
+
+  fits-told : (x : ℕ) → t ≤ x → Fits (ruled m t) ps (whole .new) x → FitsBeside l (tells n) (without k (l .claims)) ask x
+  fits-told x h f = record {
+    room = λ e ei z.
+        let c = claim-of e ei in
+        room-told x h (c .0) e (c .2) (f .room (c .0) (c .1) (sym (shared-same (c .0) e (c .2)) ∙ z));
+    spare = λ z y p q. omega (arith, f .spare (omega (arith, whole .units, z)) y p (omega (arith, whole .length, q)), use-same y (omega (arith, h, p)), whole .units, pool-same);
+  }
+
+  fits-of : (x : ℕ) → t ≤ x → FitsBeside l (tells n) (without k (l .claims)) ask x → Fits (ruled m t) ps (whole .new) x
+  fits-of x h f = record {
+    room = λ c ci z.
+        let e = entry-of c ci in
+        room-of x c (e .0) (e .2) (f .room (e .0) (e .1) (shared-same c (e .0) (e .2) ∙ z));
+    spare = λ z y p q. omega (arith, f .spare (omega (arith, whole .units, z)) y p (omega (arith, whole .length, q)), use-same y (omega (arith, h, p)), whole .units, pool-same);
+  }
+
+  least-of : LeastOf l (tells n) t ask (admit (advance m t) ask .answer)
+  least-of = record {
+    from-clock = whole .from-clock;
+    fits = rw next-ticket (fits-told _ (whole .from-clock) (whole .fits));
+    least = λ x h f. whole .least x h (fits-of x h (rw next-ticket at f));
+  }
 
 -- Of a call and its step, where the ledger after it is that of the table after it.
-abbrev LeastIn : Type 0 → Ledger → Call → Step → Type 0
-LeastIn P l c s =
+abbrev LeastIn : Type 0 → Ledger → Model → Call → Step → Type 0
+LeastIn P l m c s =
     let t : Turn = record { call = c; answer = s .answer } in
-    Story (P × (NoOverrun l t × Unit {0})) (noted l t) (s .model) → Least l t (tells (s .model))
+    Story (P × (NoOverrun l t × Unit {0})) (noted l t) (s .model) → Least l t (tells m) (tells (s .model))
 
 no-claim : {A : Type 0} {m : Model} {c : Call} {t k : ℕ} {q : Model} {u : ℕ} {ask : Request} → Leaves m c t k q → c ≡ claim u ask → A
 no-claim (by-release t k) e = let z : _≡_ {A = ℕ} 0 1 = cc in absurd (omega arith)
@@ -139,20 +183,13 @@ idle : (c : Call) (k : ℕ) → Idle c k → (u : ℕ) (ask : Request) → c ≡
 idle c k (inl e) u ask q z = clash e (ap isLook q)
 idle c k (inr e) u ask q z = e z
 
-same-claim : (Q : ℕ → Request → Type 0) (t u : ℕ) (ask x : Request) → claim t ask ≡ claim u x → Q t ask → Q u x
-same-claim Q t u ask x e h =
-    let f : t ≡ u = cc in
-    let g : ask ≡ x = cc in
-    subst (λ (n : ℕ). Q n x) f (subst (Q t) g h)
-
-least-in : (P : Type 0) (l : Ledger) (m : Model) → Invariant m → (c : Call) → LeastIn P l c (step m c)
+least-in : (P : Type 0) (l : Ledger) (m : Model) → Invariant m → (c : Call) → LeastIn P l m c (step m c)
 least-in P l m i =
-    step-cases (LeastIn P l) m
+    step-cases (LeastIn P l m) m
     (λ c k z st u ask q n. absurd (idle c k z u ask q n))
     (λ t ask a st u x q n. same-claim
-    (λ v y. y .units ≡ 0 → (z : ℕ) → v ≤ z → FitsBeside (noted l (record { call = claim t ask; answer = admit (advance m t) ask .answer })) (tells (admit (advance m t) ask .model)) y (admit (advance m t) ask .answer .ticket) z
-    → admit (advance m t) ask .answer .start ≤ z)
-    t u ask x q (least-at _ _ m i t ask a st))
+    (λ v y. LeastOf (noted l (record { call = claim t ask; answer = admit (advance m t) ask .answer })) (tells (admit (advance m t) ask .model)) v y (admit (advance m t) ask .answer))
+    t u ask x q (least-of _ _ m i t ask a st))
     (λ c t k q o v st u ask e n. no-claim v e)
     (λ c r k d st u ask e n. clash (ap isTimed e) refl)
     (λ k d st u ask e n. clash (ap isTimed e) refl)

@@ -56,10 +56,10 @@ module _ {A B : Type 0} {R : A → B → Type 0} where
   match-length m-nil = refl
   match-length (m-cons r m) = omega (arith, match-length m)
 
-  pub match-sum : (f : A → ℕ) (g : B → ℕ) {k : List A} {l : List B} → ((x : A) (y : B) → R x y → f x ≡ g y) → Match R k l → sum f k ≡ sum g l
+  pub match-sum : (f : A → ℕ) (g : B → ℕ) {k : List A} {l : List B} → ((x : A) (y : B) → x ∈ k → R x y → f x ≡ g y) → Match R k l → sum f k ≡ sum g l
   unfolding sum
   match-sum f g h m-nil = refl
-  match-sum f g h (m-cons {x} {y} r m) = omega (arith, h x y r, match-sum f g h m)
+  match-sum f g h (m-cons {x} {y} r m) = omega (arith, h x y here r, match-sum f g (λ z w i. h z w (there i)) m)
 
   -- The partner of an element.
   pub partner : {k : List A} {l : List B} {y : B} → Match R k l → y ∈ l → (x : A) × x ∈ k × R x y

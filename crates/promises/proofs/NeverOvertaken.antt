@@ -1,27 +1,24 @@
 -- Nobody is overtaken: what one call keeps of the order, call by call. A ticket that is pending later was pending all the while.
 use mathlib.Core.Path.{_≡_, refl, sym, _∙_, ap}
-use mathlib.Core.Logic.{inl, inr, ⊎-elim}
-use mathlib.Core.Bool.{Bool, true, false, cond}
+use mathlib.Core.Logic.{⊎-elim}
+use mathlib.Core.Bool.{true, false}
 use mathlib.Core.List.{List, [], _∷_}
-use Prim.Native.Nat.{ℕ, _+_, _≤_}
+use Prim.Native.Nat.{ℕ, _≤_}
 use native.Mathlib.Omega.{arith}
 use Rattle.rules.specs.declared.Claim.{Claim}
-use Rattle.rules.specs.declared.Standing.the-variants.{Waits, Holds}
 use Rattle.rules.specs.Lists.{_∈_}
-use Rattle.rules.specs.Claims.{on, at, rival}
+use Rattle.rules.specs.Claims.{on}
 use Rattle.rules.specs.Order.{precedes}
 use Rattle.rules.specs.Invariants.{Invariant}
-use Rattle.rules.specs.Calls.{Model, atTicket, Call, advance, plain, finish, join, remove, admit, step, standingOf}
-use Rattle.rules.proofs.Bools.{by-test, clash}
-use Rattle.rules.proofs.Order.{ascending-same, precedes-conflicts, precedes-e, precedes-on, precedes-lt}
+use Rattle.rules.specs.Calls.{Model, Call, advance, plain, finish, join, remove, admit, step}
+use Rattle.rules.proofs.Order.{ascending-same}
 use Rattle.rules.proofs.Calls.{advance-e, finish-e, join-old, leaves-old, placed, Leaves, by-release, by-withdraw, by-clock, step-cases, step-invariant}
-use Rattle.rules.proofs.Lookup.{lookup-found, lookup-waits}
-use Rattle.promises.specs.Ledger.{Entry, Ledger, tableAfter}
-use Rattle.promises.specs.Runs.{tells, Start, Begins}
-use Rattle.promises.specs.NeverOvertaken.{Precedes, NeverOvertaken}
-use Rattle.promises.proofs.Matching.{partner}
-use Rattle.promises.proofs.WholeCalls.{order-holds}
-use Rattle.promises.proofs.Demand3.{Tracks, Story, story-after, after-calls}
+use Rattle.rules.proofs.Lookup.{lookup-known}
+use Rattle.promises.specs.Ledger.{tableAfter}
+use Rattle.promises.specs.Runs.{Start, Begins}
+use Rattle.promises.specs.NeverOvertaken.{NeverOvertaken}
+use Rattle.promises.proofs.WholeCalls.{order-holds, begins-invariant, calls-invariant}
+use Rattle.promises.proofs.Plan.{precedes-of, precedes-told}
 
 -- ── a ticket that was issued comes back to nobody ──
 leaves-issues : {m : Model} {c : Call} {t k : ℕ} {q : Model} → Leaves m c t k q → q .issued ≡ m .issued
@@ -73,45 +70,14 @@ order-after m i (c ∷ cs) d w di wi o p d′ w′ dj wj e f =
     let r = order-holds m i c d (x .0) w (y .0) (record { old = di; new = x .1; same = x .2 }) (record { old = wi; new = y .1; same = y .2 }) o p in
     order-after n (step-invariant m c i) cs (x .0) (y .0) (x .1) (y .1) (r .0) (r .1) d′ w′ dj wj (e ∙ sym (x .2)) (f ∙ sym (y .2))
 
--- ── by ledger and lookup ──
-module _ (P : Type 0) (l : Ledger) (m : Model) (s : Story P l m) where
-  -- The claim of an entry.
-  claim-of : (e : Entry) → e ∈ l .claims → (c : Claim) × c ∈ m .pending × Tracks P c e
-  claim-of e i = partner (s .match) i
-
-  waits-at : (e : Entry) (c : Claim) → c ∈ m .pending → Tracks P c e → (r : ℕ) → tells m (atTicket (e .ticket)) ≡ Waits r → at c ≡ r
-  waits-at e c i t r w =
-      let x = lookup-waits (e .ticket) r (m .pending) w in
-      ap at (ascending-same (m .pending) (s .inv .spaced .ascending) c (x .0) i (x .1) (t .ticket ∙ sym (x .2))) ∙ x .4
-
-  told-at : (e : Entry) (c : Claim) → c ∈ m .pending → Tracks P c e → on c ≡ false → tells m (atTicket (e .ticket)) ≡ Waits (at c)
-  told-at e c i t o =
-      ap (λ (k : ℕ). standingOf k (m .pending)) (sym (t .ticket)) ∙ lookup-found (m .pending) (s .inv .spaced .ascending) c i
-      ∙ ap (λ (b : Bool). cond b (Holds (at c + c .length)) (Waits (at c))) o
-
-  precedes-of : (e f : Entry) (c d : Claim) → c ∈ m .pending → d ∈ m .pending → Tracks P c e → Tracks P d f → Precedes (tells m) e f → (on d ≡ false) × (precedes c d ≡ true)
-  precedes-of e f c d i j t u p =
-      let x : rival c d ≡ true = rw (t .groups, u .groups) (p .conflict) in (
-        u .held ∙ p .waits,
-        ⊎-elim (λ h. precedes-on c d x (t .held ∙ h)) (λ w. precedes-lt c d x (omega (arith, waits-at e c i t (w .0) (w .2), waits-at f d j u (w .1) (w .3), w .4))) (p .sooner),
-      )
-
-  precedes-in : (e f : Entry) (c d : Claim) → c ∈ m .pending → d ∈ m .pending → Tracks P c e → Tracks P d f → on d ≡ false → precedes c d ≡ true → Precedes (tells m) e f
-  precedes-in e f c d i j t u o p = record {
-    conflict = rw (sym (t .groups), sym (u .groups)) (precedes-conflicts c d p);
-    waits = sym (u .held) ∙ o;
-    sooner = by-test (on c) (λ h. inl (sym (t .held) ∙ h)) (λ h. inr (at c, at d, told-at e c i t h, told-at f d j u o, ⊎-elim (λ q. clash q h) (λ q. q) (precedes-e c d p)));
-  }
-
+-- ── by lookups ──
 pub never-overtaken : (s : Start) → Begins s → (calls : List Call) → NeverOvertaken s calls
-never-overtaken s b calls before between rest q e f i j p e′ f′ i′ j′ g h =
-    let st = after-calls s b before in
-    let later = story-after between _ _ _ st in
-    let c = claim-of _ _ _ st e i in
-    let d = claim-of _ _ _ st f j in
-    let c′ = claim-of _ _ _ later e′ i′ in
-    let d′ = claim-of _ _ _ later f′ j′ in
-    let was = precedes-of _ _ _ st e f (c .0) (d .0) (c .1) (d .1) (c .2) (d .2) p in
-    let is = order-after (tableAfter step (s .table) before) (st .inv) between (c .0) (d .0) (c .1) (d .1) (was .0) (was .1) (c′ .0) (d′ .0) (c′ .1) (d′ .1)
-    (c′ .2 .ticket ∙ g ∙ sym (c .2 .ticket)) (d′ .2 .ticket ∙ h ∙ sym (d .2 .ticket)) in
-    precedes-in _ _ _ later e′ f′ (c′ .0) (d′ .0) (c′ .1) (d′ .1) (c′ .2) (d′ .2) (is .0) (is .1)
+never-overtaken s b calls before between rest q j k p one other =
+    let m : Model = tableAfter step (s .table) before in
+    let n : Model = tableAfter step m between in
+    let i = calls-invariant (s .table) before (begins-invariant s b) in
+    let x = precedes-of m (i .spaced .ascending) p in
+    let c = lookup-known j (n .pending) one in
+    let d = lookup-known k (n .pending) other in
+    let is = order-after m i between (x .one) (x .other) (x .one-in) (x .other-in) (x .waits) (x .before) (c .0) (d .0) (c .1) (d .1) (c .2 ∙ sym (x .one-is)) (d .2 ∙ sym (x .other-is)) in
+    rw (sym (c .2), sym (d .2)) (precedes-told n (calls-invariant m between i .spaced .ascending) (c .0) (d .0) (c .1) (d .1) (is .0) (is .1))

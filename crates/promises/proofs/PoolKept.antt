@@ -19,7 +19,7 @@ held-is P c e r = ap (λ (b : Bool). cond b (c .units) 0) (r .held) ∙ ap (λ (
 kept-of : (P : Type 0) (l : Ledger) (m : Model) → Story P l m → Kept l (tells m)
 unfolding heldUnits freeUnits
 kept-of P l m s =
-    let h = match-sum heldBy (λ (e : Entry). cond (e .held) (e .asked .units) 0) (held-is P) (s .match) in
+    let h = match-sum heldBy (λ (e : Entry). cond (e .held) (e .asked .units) 0) (λ c e _. held-is P c e) (s .match) in
     let i = s .inv .spaced .holders .stock in
     record { never-more = omega (arith, s .pool); free-and-held = omega (arith, s .pool) }
 

@@ -1,22 +1,21 @@
 -- Every call of a run replies as document 01 says.
-use mathlib.Core.Path.{_≡_, refl, sym, _∙_, ap, subst}
-use mathlib.Core.Logic.{_⊎_, inl, inr, _≢_}
+use mathlib.Core.Path.{_≡_, refl}
+use mathlib.Core.Logic.{inl, inr}
 use mathlib.Core.Bool.{Bool, true, false, _&&_}
 use mathlib.Core.List.{List}
 use Prim.Native.Nat.{ℕ}
 use lib.Dec.{eqb}
 use borrow.Author.Tests.{ne-eqb}
 use Rattle.rules.specs.declared.Request.{Request}
-use Rattle.rules.specs.Pool.{freeUnits}
 use Rattle.rules.specs.Calls.{Model, Look, atTicket, atTwo, atPool, Call, claim, isTimed, Step, unchanged, advance, plain, finish, admit, step}
 use Rattle.rules.proofs.Bools.{clash}
 use Rattle.rules.proofs.Calls.{Leaves, by-release, by-withdraw, by-clock, Idle, looks-untimed, step-cases}
-use Rattle.promises.specs.Ledger.{tableAfter}
+use Rattle.promises.specs.Ledger.{tableAfter, Ledger}
 use Rattle.promises.specs.Runs.{tells, Start, Begins}
-use Rattle.promises.specs.Replies.{Plainly, Replies, RepliesOf}
+use Rattle.promises.specs.Replies.{Replied, Replies}
 
-abbrev Reply : Model → Call → Step → Type 0
-Reply m c s = Replies (record { call = c; answer = s .answer }) (tells m) (tells (s .model))
+abbrev Reply : Ledger → Model → Call → Step → Type 0
+Reply l m c s = Replied l (record { call = c; answer = s .answer }) (tells m) (tells (s .model))
 
 and-no : (b : Bool) → b && false ≡ false
 and-no true = refl
@@ -31,27 +30,27 @@ same-tells m n e p (atTicket k) = rw e
 same-tells m n e p (atTwo j k) = rw e
 same-tells m n e p atPool = rw (e, p)
 
-untimed : (m n : Model) (c : Call) (k : ℕ) → n .pending ≡ m .pending → n .pool ≡ m .pool → isTimed c && eqb k 0 ≡ false → Reply m c (unchanged n k)
-untimed m n c k e p z = record {
+untimed : (l : Ledger) (m n : Model) (c : Call) (k : ℕ) → n .pending ≡ m .pending → n .pool ≡ m .pool → isTimed c && eqb k 0 ≡ false → Reply l m c (unchanged n k)
+untimed l m n c k e p z = record {
   three-plain = λ h _. clash h z;
   others-plain = λ h. record { ticket-is = refl; start-is = refl; contention-none = refl; bound-none = refl };
   others-still = λ h q. same-tells m n e p q;
 }
 
-claimed : (m : Model) (t : ℕ) (ask : Request) → Reply m (claim t ask) (admit (advance m t) ask)
+claimed : (l : Ledger) (m : Model) (t : ℕ) (ask : Request) → Reply l m (claim t ask) (admit (advance m t) ask)
 unfolding admit finish
-claimed m t ask = record { three-plain = λ h n. clash refl n; others-plain = λ h. clash refl h; others-still = λ h. clash refl h }
+claimed l m t ask = record { three-plain = λ h n. clash refl n; others-plain = λ h. clash refl h; others-still = λ h. clash refl h }
 
-left : {m : Model} {c : Call} {t k : ℕ} {q : Model} → Leaves m c t k q → Reply m c (finish q (plain k t))
+left : (l : Ledger) {m : Model} {c : Call} {t k : ℕ} {q : Model} → Leaves m c t k q → Reply l m c (finish q (plain k t))
 unfolding finish
-left (by-release t k) = record { three-plain = λ h n. record { ticket-is = refl; start-is = refl; contention-none = refl; bound-none = refl }; others-plain = λ h. clash refl h; others-still = λ h. clash refl h }
-left (by-withdraw t k) = record { three-plain = λ h n. record { ticket-is = refl; start-is = refl; contention-none = refl; bound-none = refl }; others-plain = λ h. clash refl h; others-still = λ h. clash refl h }
-left (by-clock t) = record { three-plain = λ h n. record { ticket-is = refl; start-is = refl; contention-none = refl; bound-none = refl }; others-plain = λ h. clash refl h; others-still = λ h. clash refl h }
+left l (by-release t k) = record { three-plain = λ h n. record { ticket-is = refl; start-is = refl; contention-none = refl; bound-none = refl }; others-plain = λ h. clash refl h; others-still = λ h. clash refl h }
+left l (by-withdraw t k) = record { three-plain = λ h n. record { ticket-is = refl; start-is = refl; contention-none = refl; bound-none = refl }; others-plain = λ h. clash refl h; others-still = λ h. clash refl h }
+left l (by-clock t) = record { three-plain = λ h n. record { ticket-is = refl; start-is = refl; contention-none = refl; bound-none = refl }; others-plain = λ h. clash refl h; others-still = λ h. clash refl h }
 
-reply-of : (m : Model) (c : Call) → Reply m c (step m c)
-reply-of m =
-    step-cases (Reply m) m (λ c n z. untimed m m c n refl refl (never c n z)) (λ t ask a. claimed m t ask) (λ c t k q o v. left v)
-    (λ c r l d. untimed m _ _ 0 refl refl refl) (λ n d. untimed m _ _ 0 refl refl refl)
+reply-of : (l : Ledger) (m : Model) (c : Call) → Reply l m c (step m c)
+reply-of l m =
+    step-cases (Reply l m) m (λ c n z. untimed l m m c n refl refl (never c n z)) (λ t ask a. claimed l m t ask) (λ c t k q o v. left l v)
+    (λ c r k d. untimed l m _ _ 0 refl refl refl) (λ n d. untimed l m _ _ 0 refl refl refl)
 
-pub replies : (s : Start) → Begins s → (calls : List Call) → RepliesOf step s calls
-replies s b calls before c rest e = reply-of (tableAfter step (s .table) before) c
+pub replies : (s : Start) → Begins s → (calls : List Call) → Replies s calls
+replies s b calls before c rest e = reply-of _ (tableAfter step (s .table) before) c

@@ -14,7 +14,7 @@ use Rattle.rules.specs.Invariants.{Booked}
 use Rattle.rules.specs.Calls.{Model, clientsOf, Call, step}
 use Rattle.rules.proofs.Booking.{below-never-full}
 use Rattle.promises.specs.Ledger.{Entry, Ledger}
-use Rattle.promises.specs.Runs.{Start, Begins}
+use Rattle.promises.specs.Runs.{tells, Start, Begins}
 use Rattle.promises.specs.SharesKept.{askers, SharesNow, SharesNext, SharesKept}
 use Rattle.promises.proofs.Matching.{Match, m-nil, m-cons}
 use Rattle.promises.proofs.Demand3.{Tracks, Story, after-calls}
@@ -27,12 +27,12 @@ askers-are P (m-cons r m) = rw (r .client, askers-are P m)
 booked-of : (P : Type 0) (l : Ledger) (m : Model) → Story P l m → Booked (l .shares) (askers (l .claims))
 booked-of P l m s = subst (λ (ss : List Share). Booked ss (askers (l .claims))) (s .shares) (subst (Booked (m .shares)) (askers-are P (s .match)) (s .booked))
 
-now-of : (P : Type 0) (l : Ledger) (m : Model) → Story P l m → SharesNow l
+now-of : (P : Type 0) (l : Ledger) (m : Model) → Story P l m → SharesNow l (tells m)
 now-of P l m s =
     let b = booked-of P l m s in
     record { within-limit = b .within; room-kept = omega (arith, b .room, length-map (l .claims) (λ (e : Entry). e .asked .client)) }
 
-next-of : (P : Type 0) (l : Ledger) (m : Model) → Story P l m → (c : Call) → SharesNext l (record { call = c; answer = step m c .answer })
+next-of : (P : Type 0) (l : Ledger) (m : Model) → Story P l m → (c : Call) → SharesNext l (record { call = c; answer = step m c .answer }) (tells m) (tells (step m c .model))
 next-of P l m s c = record {
   never-full = λ u ask e h.
       let below : pendingOf (clientsOf (m .pending)) (ask .client) < shareOf (m .shares) (ask .client) .reserved = rw (askers-are P (s .match), s .shares) h in

@@ -23,20 +23,20 @@ use Rattle.rules.specs.Granting.{takenBefore, trulyFree, goes, granted, grant, 
 use Rattle.rules.specs.Pool.{heldBy, heldUnits}
 use Rattle.rules.specs.Tests.{named}
 use Rattle.rules.specs.declared.Reply.{Reply}
-use Rattle.rules.specs.Calls.{Model, ruled, settingOf, claims, releases, withdraws, onlyClock, Call, timed, looks, sets, claim, release, withdraw, clock, isTimed, clockOf, declared, withGrace, Step, advance, plain, finish, join, remove, fresh, admit, step}
+use Rattle.rules.specs.Calls.{Model, ruled, settingOf, claims, releases, withdraws, movesClock, Call, timed, looks, setsUp, claim, release, withdraw, clock, isTimed, clockOf, declared, withGrace, Step, advance, plain, finish, join, remove, fresh, admit, step}
 use Rattle.rules.specs.Invariants.{IsSpaced, IsPacked, Still, Invariant}
 use Rattle.rules.proofs.Bools.{clash, by-test, or-fr}
 use Rattle.rules.proofs.Lists.{here, map-e, map-i, keep-e, keep-i, any-some, named-keep, sum-map, sum-le, sum-both}
 use Rattle.rules.proofs.Order.{precedes-e, precedes-lt, ascending-same}
 use Rattle.rules.proofs.Packing.{moved-phase, moved-at, moved-ticket, pack-precedes, pack-no-later}
 use Rattle.rules.proofs.Placing.{place-low, place-least}
-use Rattle.rules.proofs.Granting.{goes-eq, taken-ticket, goes-wait, goes-at, granted-cases, granted-at, grant-precedes}
+use Rattle.rules.proofs.Granting.{goes-eq, taken-ticket, goes-wait, goes-at, granted-cases, granted-on, granted-at, grant-precedes}
 use Rattle.rules.proofs.Invariants.{spaced-clear, settled-packs, spaced-packs}
 use Rattle.rules.proofs.Calls.{Clocked, Admissible, advance-drawn, fresh-sane, placed-fits, advance-packed, finish-invariant, placed, join-spaced, Leaves, by-release, by-withdraw, by-clock, leaves-spaced, remove-spaced, Idle, looks-untimed, step-cases, clock-accepted, new-invariant, step-invariant, advance-same, finish-e, finish-clock, leaves-old, leaves-clock, join-old, advance-spare, admit-invariant, packs-as-documented}
 use Rattle.rules.proofs.OnePacking.{advance-still, finish-still, joined, joined-cases, claim-pending, joined-at}
 use Rattle.promises.specs.Ledger.{tableAfter}
 use Rattle.promises.specs.Runs.{Start, Begins, by-new}
-use Rattle.promises.specs.WholeCalls.{Becomes, keptFrom, TimedCall, FirstPacking, ClockCall, Stays, ClaimCall, LeaveCall, WholeCalls}
+use Rattle.promises.specs.WholeCalls.{Becomes, keptFrom, TimedCall, FirstPacking, Stays, ClaimCall, LeaveCall, ClockCall, Acts, WholeCalls}
 
 -- ── order ──
 -- Through the first packing.
@@ -149,29 +149,20 @@ finish-wanting q rep sp w wi o a none =
     let same : w ≡ y = r .3 .1 ∙ granted-cases (λ (x : Claim). x ≡ y) v ps y (λ h. clash h g) (λ h. refl) in
     let wp : w ∈ ps = subst (λ (x : Claim). x ∈ ps) (sym same) (r .3 .0) in
     wanting-at v ps (λ c k. s .proper c k .sane) (s .ascending) w wp a o (ap (goes v ps) same ∙ g) none
-  where
-    granted-on : (v : Setting) (ps : List Claim) (c : Claim) → goes v ps c ≡ true → granted v ps c ≡ withPhase c (On (v .clock))
-    granted-on v ps c h = granted-cases (λ (x : Claim). x ≡ withPhase c (On (v .clock))) v ps c (λ g. refl) (λ g. clash h g)
 
 -- ── every accepted timed call ──
-timed-finish : (m q : Model) (c : Call) (t : ℕ) (rep : Reply) → Invariant m → IsSpaced q → q .clock ≡ t → clockOf c ≡ t
-    → ((x : Claim) → x ∈ q .pending → (x ∈ advance m t .pending) ⊎ (m .issued < x .ticket)) → TimedCall m c (finish q rep)
-timed-finish m q c t rep i sp e h old = record {
-  clock-set = finish-clock q rep ∙ e ∙ sym h;
-  starts-packed = settled-packs (r .issued) (settingOf r) (r .pending) (finish-invariant q rep sp);
-  order-kept = λ d d′ w w′ f g x od ow od′ ow′ l.
-      let r = finish-order m q t rep i sp old d d′ w w′ f g ow (precedes-lt d w x l) in
-      smaller d′ w′ od′ (precedes-e d′ w′ (r .1));
+timed-finish : (m q : Model) (t : ℕ) (rep : Reply) → Invariant m → IsSpaced q → q .clock ≡ t
+    → ((x : Claim) → x ∈ q .pending → (x ∈ advance m t .pending) ⊎ (m .issued < x .ticket)) → TimedCall m t (finish q rep)
+timed-finish m q t rep i sp e old = record {
+  clock-set = finish-clock q rep ∙ e;
+  starts-packed = let r : Model = finish q rep .model in settled-packs (r .issued) (settingOf r) (r .pending) (finish-invariant q rep sp);
   none-overtaken = finish-order m q t rep i sp old;
-  units-wanting = λ w wi o a none. finish-wanting q rep sp w wi o (a ∙ h ∙ sym e) none;
+  units-wanting = λ w wi o a none. finish-wanting q rep sp w wi o (a ∙ sym e) none;
 }
-  where
-    smaller : (d w : Claim) → on d ≡ false → (on d ≡ true) ⊎ (at d < at w) → at d < at w
-    smaller d w o (inl p) = clash p o
-    smaller d w o (inr l) = l
 
-    r : Model
-    r = finish q rep .model
+-- A claim stays or is granted at its start.
+granted-stays : (v : Setting) (ps : List Claim) (x : Claim) → Stays (v .clock) x (granted v ps x)
+granted-stays v ps x = granted-cases (Stays (v .clock) x) v ps x (λ e. inr (goes-wait v ps x e, goes-at v ps x e, refl)) (λ e. inl refl)
 
 -- ── an accepted claim ──
 module _ (m : Model) (i : Invariant m) (t : ℕ) (ask : Request) (a : Admissible m t ask) where
@@ -197,63 +188,21 @@ module _ (m : Model) (i : Invariant m) (t : ℕ) (ask : Request) (a : Admissible
   drawn : ask .units ≤ first .pool
   drawn = advance-drawn m t ask a
 
-  claim-timed : TimedCall m (claim t ask) (admit first ask)
+  claim-timed : TimedCall m t (admit first ask)
   unfolding admit join advance
   claim-timed =
-      timed-finish m (join first (placed first ask)) (claim t ask) t _ i (join-spaced first ask (a .long) drawn spare (packed .spaced)) refl refl
-      (join-old first (placed first ask) refl)
+      timed-finish m (join first (placed first ask)) t _ i (join-spaced first ask (a .long) drawn spare (packed .spaced)) refl (join-old first (placed first ask) refl)
 
   -- The others, as after a clock call, and the new one.
   last-is : last ≡ finish first (plain 0 t) .model .pending ++ (w ∷ [])
   last-is = claim-pending first packed still ask (a .long) drawn spare (plain 0 t)
 
-  new-last : w ∈ last
-  new-last = subst (λ (l : List Claim). w ∈ l) (sym last-is) (Memᴰ·append-right (finish first (plain 0 t) .model .pending) here)
-
-  -- Where nothing moves, a claim stays or is granted at its start.
-  stays : (d : Claim) → d ∈ finish first (plain 0 t) .model .pending → (x : Claim) × x ∈ first .pending × Stays t x d
-  unfolding grant advance
-  stays d j =
-      let e = ap (λ (s : Step). s .model .pending) (finish-still first (plain 0 t) still) in
-      let r = map-e (granted v ps) ps (subst (λ (l : List Claim). d ∈ l) e j) in
-      (r .0, r .1, subst (Stays t (r .0)) (sym (r .2)) (granted-cases (Stays t (r .0)) v ps (r .0) (went (r .0)) (λ e. inl refl)))
-    where
-      v : Setting
-      v = ruled m t
-
-      ps : List Claim
-      ps = advance m t .pending
-
-      went : (x : Claim) → goes v ps x ≡ true → Stays t x (withPhase x (On t))
-      went x e = inr (goes-wait v ps x e, goes-at v ps x e, refl)
-
-  others : (d : Claim) → d ∈ last → d .ticket ≢ w .ticket → (x : Claim) × x ∈ first .pending × Stays t x d
-  others d j ne = go (List·Memᴰ·append-cases (finish first (plain 0 t) .model .pending) (subst (λ (l : List Claim). d ∈ l) last-is j))
-    where
-      go : (d ∈ finish first (plain 0 t) .model .pending) ⊎ (d ∈ (w ∷ [])) → (x : Claim) × x ∈ first .pending × Stays t x d
-      go (inl k) = stays d k
-      go (inr k) = absurd (ne (ap (λ (c : Claim). c .ticket) (List·Memᴰ·eq-of-singleton k)))
-
-  clear-of : (d : Claim) → d ∈ last → d .ticket ≢ w .ticket → rival d w ≡ true
-      → (let v : Setting = ruled m t in (endOf v d ≤ at w) ⊎ ((on d ≡ false) × (endOf v w ≤ at d)))
-  unfolding admit finish join advance
-  clear-of d j ne h = go (spaced-clear _ v _ (admit-invariant first ask (a .long) drawn spare packed .spaced) d w j new-last ne h)
-    where
-      v : Setting
-      v = ruled m t
-
-      go : ((on w ≡ false) × (endOf v d ≤ at w)) ⊎ ((on d ≡ false) × (endOf v w ≤ at d)) → (endOf v d ≤ at w) ⊎ ((on d ≡ false) × (endOf v w ≤ at d))
-      go (inl r) = inl (r .1)
-      go (inr r) = inr r
-
-  enough-for : Spare (ruled m t) (first .pending) w (at w)
+  fits-at : Fits (ruled m t) (first .pending) w (place (ruled m t) (first .pending) (fresh first ask))
   unfolding advance
-  enough-for =
-      subst (Spare (ruled m t) (first .pending) w) (sym (joined-at first packed still ask (a .long) drawn spare))
-      (joined-cases first ask (λ (x : Claim). Spare (ruled m t) (first .pending) x (place (ruled m t) (first .pending) (fresh first ask))) fits fits)
-    where
-      fits : Spare (ruled m t) (first .pending) (placed first ask) (place (ruled m t) (first .pending) (fresh first ask))
-      fits = placed-fits first ask (a .long) drawn spare .spare
+  fits-at =
+      joined-cases first ask (λ (x : Claim). Fits (ruled m t) (first .pending) x (place (ruled m t) (first .pending) (fresh first ask)))
+      (record { room = placed-fits first ask (a .long) drawn spare .room; spare = placed-fits first ask (a .long) drawn spare .spare })
+      (record { room = placed-fits first ask (a .long) drawn spare .room; spare = placed-fits first ask (a .long) drawn spare .spare })
 
   -- The least of all numbers that fit.
   low-at : t ≤ place (ruled m t) (first .pending) (fresh first ask)
@@ -284,27 +233,17 @@ module _ (m : Model) (i : Invariant m) (t : ℕ) (ask : Request) (a : Admissible
     client = joined-cases first ask (λ (x : Claim). x .client ≡ ask .client) refl refl;
     ticket = joined-cases first ask (λ (x : Claim). x .ticket ≡ suc (first .issued)) refl refl;
     start = joined-at first packed still ask (a .long) drawn spare;
-    overlaps-none = clear-of;
-    units-enough = enough-for;
     from-clock = low-at;
+    fits = fits-at;
     least = least-at;
     contention-counted = contention-at;
     bound-counted = bound-at;
-    pushes-none = others;
     others-same = last-is ∙ ap (λ (s : Step). s .model .pending ++ (w ∷ [])) (sym (clock-accepted m t (a .clocked)));
   }
 
 refused : {A : Type 0} (c : Call) (n : ℕ) → Idle c n → isTimed c ≡ true → n ≡ 0 → A
 refused c n (inl e) p q = clash p (looks-untimed c e)
 refused c n (inr e) p q = absurd (e q)
-
-pub of-timed : (m : Model) → Invariant m → (c : Call) → isTimed c ≡ true → step m c .answer .number ≡ 0 → TimedCall m c (step m c)
-of-timed m i =
-    step-cases (λ c s. isTimed c ≡ true → s .answer .number ≡ 0 → TimedCall m c s) m (λ c n z p q. refused c n z p q)
-    (λ t ask a p q. claim-timed m i t ask a)
-    (λ c t k q o v p e. timed-finish m q c t (plain k t) i (leaves-spaced v (advance-packed m t i (o .later))) (leaves-clock v .0) (leaves-clock v .1)
-    (λ x j. inl (leaves-old v x j)))
-    (λ c r l d p e. clash p refl) (λ n d p e. clash p refl)
 
 -- What precedes a waiting claim goes on preceding it over every call, accepted or not.
 pub order-holds : (m : Model) → Invariant m → (c : Call) (d d′ w w′ : Claim) → Becomes m (step m c .model) d d′ → Becomes m (step m c .model) w w′ → on w ≡ false → precedes d w ≡ true
@@ -319,26 +258,6 @@ order-holds m i =
     idle n e d d′ w w′ f g o p =
         let same : (c c′ : Claim) → Becomes m n c c′ → c′ ≡ c = λ c c′ b. ascending-same (m .pending) (i .spaced .ascending) c′ c (subst (λ (l : List Claim). c′ ∈ l) e (b .new)) (b .old) (b .same) in
         (ap on (same w w′ g) ∙ o, ap (λ (x : Claim). precedes x w′) (same d d′ f) ∙ ap (precedes d) (same w w′ g) ∙ p)
-
--- Of a claim; nothing of the other calls.
-OfClaim : Model → Call → Step → Type 0
-OfClaim m (timed t (claims ask)) s = ClaimCall m t ask s
-OfClaim m (timed t (releases k)) s = Unit {0}
-OfClaim m (timed t (withdraws k)) s = Unit {0}
-OfClaim m (timed t onlyClock) s = Unit {0}
-OfClaim m (looks q) s = Unit {0}
-OfClaim m (sets p) s = Unit {0}
-
-pub of-claim : (m : Model) → Invariant m → (t : ℕ) (ask : Request) → step m (claim t ask) .answer .number ≡ 0 → ClaimCall m t ask (step m (claim t ask))
-unfolding OfClaim
-of-claim m i t ask =
-    step-cases (λ c s. isTimed c ≡ true → s .answer .number ≡ 0 → OfClaim m c s) m (λ c k z p q. refused c k z p q)
-    (λ t ask a p q. claim-whole m i t ask a) (λ c t k q o v p e. none v) (λ c r l d p e. tt) (λ n d p e. tt) (claim t ask) refl
-  where
-    none : {c : Call} {t k : ℕ} {q : Model} → Leaves m c t k q → OfClaim m c (finish q (plain k t))
-    none (by-release t k) = tt
-    none (by-withdraw t k) = tt
-    none (by-clock t) = tt
 
 -- ── an accepted release or withdrawal ──
 module _ (m : Model) (i : Invariant m) (t k : ℕ) (o : Clocked m t) where
@@ -363,68 +282,43 @@ module _ (m : Model) (i : Invariant m) (t k : ℕ) (o : Clocked m t) where
   unfolding remove
   left-over x j n = keep-i (λ c. not (named k c)) (rw (ne-eqb (x .ticket) k n)) j
 
-  comes : (x : Claim) → x ∈ q .pending → (d : Claim) × d ∈ done .pending × (d .ticket ≡ x .ticket)
-  unfolding finish pack grant
-  comes x j =
-      let v : Setting = settingOf q in
-      let f = packedStart v (q .pending) in
-      let ps : List Claim = pack v (q .pending) in (
-        granted v ps (moved f x),
-        map-i (granted v ps) (map-i (moved f) j),
-        granted-cases (λ (y : Claim). y .ticket ≡ x .ticket) v ps (moved f x) (λ g. moved-ticket f x) (λ g. moved-ticket f x),
-      )
+  -- The starts that the second packing gives, and where a claim comes from and goes to.
+  abbrev starts : Claim → ℕ
+  starts = packedStart (ruled m t) (q .pending)
 
-  earlier : (x d : Claim) → x ∈ advance m t .pending → d ∈ done .pending → d .ticket ≡ x .ticket → on x ≡ false → at d ≤ at x
-  earlier x d xi di e h =
-      let v : Setting = settingOf q in
-      let f = packedStart v (q .pending) in
-      let r = finish-e q (plain k t) di in
-      let same : r .0 ≡ x = ascending-same (advance m t .pending) (packed-at .spaced .ascending) (r .0) x (kept (r .0) (r .1) .0) xi (sym (r .2) ∙ e) in
-      let z : on (r .0) ≡ false = ap on same ∙ h in
-      omega (arith, ap at same, ap at (r .3 .1), granted-at v (pack v (q .pending)) (moved f (r .0)), moved-at f (r .0) z, pack-no-later v (q .pending) (λ x k. q-spaced .proper x k .sane) (q-spaced .fit) (q-spaced .low) (r .0) (r .1) z)
+  abbrev after : Claim → Claim
+  after x = granted (ruled m t) (pack (ruled m t) (q .pending)) (moved starts x)
 
-  again : (f : Claim → ℕ) × Packs (ruled m t) (q .pending) f
-      × ((x d : Claim) → x ∈ advance m t .pending → d ∈ done .pending → d .ticket ≡ x .ticket → on x ≡ false → at d ≡ f x)
+  stays-at : (x : Claim) → Stays t (moved starts x) (after x)
+  stays-at x = granted-stays (ruled m t) (pack (ruled m t) (q .pending)) (moved starts x)
+
+  comes : (x : Claim) → x ∈ q .pending → after x ∈ done .pending
+  unfolding finish pack grant remove advance
+  comes x j = map-i (granted (ruled m t) (pack (ruled m t) (q .pending))) (map-i (moved starts) j)
+
+  came : (d : Claim) → d ∈ done .pending → (x : Claim) × x ∈ q .pending × (d ≡ after x)
   unfolding remove advance
-  again = (
-    packedStart (ruled m t) (q .pending),
-    packs-as-documented q q-spaced t .0,
-    λ x d xi di e h.
-        let v : Setting = settingOf q in
-        let f = packedStart v (q .pending) in
-        let r = finish-e q (plain k t) di in
-        let same : r .0 ≡ x = ascending-same (advance m t .pending) (packed-at .spaced .ascending) (r .0) x (kept (r .0) (r .1) .0) xi (sym (r .2) ∙ e) in
-        let z : on (r .0) ≡ false = ap on same ∙ h in
-        ap at (r .3 .1) ∙ granted-at v (pack v (q .pending)) (moved f (r .0)) ∙ moved-at f (r .0) z ∙ ap f same,
-  )
+  came d di = let r = finish-e q (plain k t) di in (r .0, r .1, r .3 .1)
+
+  earlier : (x : Claim) → x ∈ q .pending → on x ≡ false → starts x ≤ at x
+  unfolding remove advance
+  earlier x j o = pack-no-later (ruled m t) (q .pending) (λ x k. q-spaced .proper x k .sane) (q-spaced .fit) (q-spaced .low) x j o
+
+  packs-again : Packs (ruled m t) (q .pending) starts
+  unfolding remove advance
+  packs-again = packs-as-documented q q-spaced t .0
 
   leave-whole : LeaveCall m t k (finish (remove (advance m t) k) (plain k t))
   leave-whole = record {
-    gone = λ d di e. let r = finish-e q (plain k t) di in kept (r .0) (r .1) .1 (sym (r .2) ∙ e);
-    rest-stays = λ x xi n. comes x (left-over x xi n);
-    pulled-forward = earlier;
-    packed-again = again;
+    starts = starts;
+    packs = packs-again;
+    pulled-forward = λ x xi n o. earlier x (left-over x xi n) o;
+    all-stay = λ x xi n. (after x, comes x (left-over x xi n), stays-at x);
+    none-else = λ d di.
+        let r = came d di in
+        let o = kept (r .0) (r .1) in
+        (r .0, o .0, o .1, subst (Stays t (moved starts (r .0))) (sym (r .2)) (stays-at (r .0)));
   }
-
--- Of a release or a withdrawal; nothing of the other calls.
-OfLeave : Model → Call → Step → Type 0
-OfLeave m (timed t (claims ask)) s = Unit {0}
-OfLeave m (timed t (releases k)) s = LeaveCall m t k s
-OfLeave m (timed t (withdraws k)) s = LeaveCall m t k s
-OfLeave m (timed t onlyClock) s = Unit {0}
-OfLeave m (looks q) s = Unit {0}
-OfLeave m (sets p) s = Unit {0}
-
-of-leave : (m : Model) → Invariant m → (c : Call) → isTimed c ≡ true → step m c .answer .number ≡ 0 → OfLeave m c (step m c)
-unfolding OfLeave
-of-leave m i =
-    step-cases (λ c s. isTimed c ≡ true → s .answer .number ≡ 0 → OfLeave m c s) m (λ c k z p q. refused c k z p q)
-    (λ t ask a p q. tt) (λ c t k q o v p e. whole o v) (λ c r l d p e. tt) (λ n d p e. tt)
-  where
-    whole : {c : Call} {t k : ℕ} {q : Model} → Clocked m t → Leaves m c t k q → OfLeave m c (finish q (plain k t))
-    whole o (by-release t k) = leave-whole m i t k o
-    whole o (by-withdraw t k) = leave-whole m i t k o
-    whole o (by-clock t) = tt
 
 -- ── the first packing, and a clock call ──
 first-packing : (m : Model) → Invariant m → (t : ℕ) → FirstPacking m t
@@ -432,57 +326,51 @@ unfolding advance pack
 first-packing m i t = record { starts = packedStart (ruled m t) (m .pending); packs = packs-as-documented m (i .spaced) t .0; packed = refl }
 
 module _ (m : Model) (i : Invariant m) (t : ℕ) where
-  clocked-is : finish (advance m t) (plain 0 t) .model .pending ≡ grant (ruled m t) (advance m t .pending)
+  pub clocked-is : finish (advance m t) (plain 0 t) .model .pending ≡ grant (ruled m t) (advance m t .pending)
   unfolding advance
   clocked-is = ap (λ (s : Step). s .model .pending) (finish-still (advance m t) (plain 0 t) (advance-still m t (sane-at m t i) (i .spaced .ascending) (i .spaced .holders .stock)))
 
-  one-stays : (x : Claim) → Stays t x (granted (ruled m t) (advance m t .pending) x)
-  one-stays x = granted-cases (Stays t x) (ruled m t) (advance m t .pending) x (λ e. inr (goes-wait (ruled m t) (advance m t .pending) x e, goes-at (ruled m t) (advance m t .pending) x e, refl)) (λ e. inl refl)
-
   pub clock-whole : ClockCall m t (finish (advance m t) (plain 0 t))
   unfolding grant
-  clock-whole = record {
-    all-stay = λ x xi. (granted (ruled m t) (advance m t .pending) x, subst (λ (l : List Claim). granted (ruled m t) (advance m t .pending) x ∈ l) (sym clocked-is) (map-i (granted (ruled m t) (advance m t .pending)) xi), one-stays x);
-    none-new = λ d di. let r = map-e (granted (ruled m t) (advance m t .pending)) (advance m t .pending) (subst (λ (l : List Claim). d ∈ l) clocked-is di) in
-        (r .0, r .1, subst (Stays t (r .0)) (sym (r .2)) (one-stays (r .0)));
-  }
+  clock-whole =
+      let v : Setting = ruled m t in
+      let ps : List Claim = advance m t .pending in
+      record {
+        all-stay = λ x xi. (granted v ps x, subst (λ (l : List Claim). granted v ps x ∈ l) (sym clocked-is) (map-i (granted v ps) xi), granted-stays v ps x);
+        none-else = λ d di.
+            let r = map-e (granted v ps) ps (subst (λ (l : List Claim). d ∈ l) clocked-is di) in
+            (r .0, r .1, subst (Stays t (r .0)) (sym (r .2)) (granted-stays v ps (r .0)));
+      }
 
--- Of a clock call; nothing of the other calls.
-OfClock : Model → Call → Step → Type 0
-OfClock m (timed t (claims ask)) s = Unit {0}
-OfClock m (timed t (releases k)) s = Unit {0}
-OfClock m (timed t (withdraws k)) s = Unit {0}
-OfClock m (timed t onlyClock) s = ClockCall m t s
-OfClock m (looks q) s = Unit {0}
-OfClock m (sets p) s = Unit {0}
+-- ── every accepted call ──
+OfCall : Model → Call → Step → Type 0
+OfCall m (timed t x) s = TimedCall m t s × Acts m t x s
+OfCall m (looks q) s = Unit {0}
+OfCall m (setsUp p) s = Unit {0}
 
-of-clock : (m : Model) → Invariant m → (c : Call) → isTimed c ≡ true → step m c .answer .number ≡ 0 → OfClock m c (step m c)
-unfolding OfClock
-of-clock m i =
-    step-cases (λ c s. isTimed c ≡ true → s .answer .number ≡ 0 → OfClock m c s) m (λ c k z p q. refused c k z p q)
-    (λ t ask a p q. tt) (λ c t k q o v p e. whole v) (λ c r l d p e. tt) (λ n d p e. tt)
+of-call : (m : Model) → Invariant m → (c : Call) → isTimed c ≡ true → step m c .answer .number ≡ 0 → OfCall m c (step m c)
+unfolding OfCall
+of-call m i =
+    step-cases (λ c s. isTimed c ≡ true → s .answer .number ≡ 0 → OfCall m c s) m (λ c k z p q. refused c k z p q)
+    (λ t ask a p q. (claim-timed m i t ask a, claim-whole m i t ask a)) (λ c t k q o v p e. left o v) (λ c r l d p e. tt) (λ n d p e. tt)
   where
-    whole : {c : Call} {t k : ℕ} {q : Model} → Leaves m c t k q → OfClock m c (finish q (plain k t))
-    whole (by-release t k) = tt
-    whole (by-withdraw t k) = tt
-    whole (by-clock t) = clock-whole m i t
+    timed-left : {c : Call} {t k : ℕ} {q : Model} → Clocked m t → Leaves m c t k q → TimedCall m t (finish q (plain k t))
+    timed-left {c} {t} {k} {q} o v = timed-finish m q t (plain k t) i (leaves-spaced v (advance-packed m t i (o .later))) (leaves-clock v .0) (λ x j. inl (leaves-old v x j))
+
+    left : {c : Call} {t k : ℕ} {q : Model} → Clocked m t → Leaves m c t k q → OfCall m c (finish q (plain k t))
+    left o (by-release t k) = (timed-left o (by-release t k), leave-whole m i t k o)
+    left o (by-withdraw t k) = (timed-left o (by-withdraw t k), leave-whole m i t k o)
+    left o (by-clock t) = (timed-left o (by-clock t), clock-whole m i t)
 
 -- ── every table that calls can make ──
 pub whole-calls : (m : Model) → Invariant m → WholeCalls m
-unfolding OfLeave OfClock
-whole-calls m i = record {
-  of-packing = first-packing m i;
-  of-clock = λ t. of-clock m i (clock t) refl;
-  of-timed = of-timed m i;
-  of-claim = of-claim m i;
-  of-release = λ t k. of-leave m i (release t k) refl;
-  of-withdraw = λ t k. of-leave m i (withdraw t k) refl;
-}
+unfolding OfCall
+whole-calls m i = record { of-packing = first-packing m i; of-timed = λ t x. of-call m i (timed t x) refl }
 
-begins-invariant : (s : Start) → Begins s → Invariant (s .table)
+pub begins-invariant : (s : Start) → Begins s → Invariant (s .table)
 begins-invariant s (by-new rig pool alone) = new-invariant rig pool alone
 
-calls-invariant : (m : Model) (cs : List Call) → Invariant m → Invariant (tableAfter step m cs)
+pub calls-invariant : (m : Model) (cs : List Call) → Invariant m → Invariant (tableAfter step m cs)
 unfolding tableAfter
 calls-invariant m [] i = i
 calls-invariant m (c ∷ cs) i = calls-invariant (step m c .model) cs (step-invariant m c i)

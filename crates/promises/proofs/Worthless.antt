@@ -1,15 +1,17 @@
--- The theorems refuse the worthless versions, by computation on a few calls.
+-- The theorems refuse the wrong tables, by computation on a few calls.
 use mathlib.Core.Path.{_≡_, refl, sym, ap, subst}
 use mathlib.Core.Logic.{_⊎_, inl, inr, ⊎-elim}
-use mathlib.Core.Bool.{true, false}
+use mathlib.Core.Bool.{Bool, true, false, _&&_, cond}
 use mathlib.Core.List.{List, [], _∷_, List·Memᴰ·eq-of-singleton, List·Memᴰ·cases-cons}
-use Prim.Native.Nat.{ℕ, _≤_, _<_}
+use Prim.Native.Nat.{ℕ, _+_, _≤_, _<_}
 use native.Mathlib.Omega.{arith}
+use lib.Dec.{leb, ltb}
 use Rattle.groups.specs.Groups.{someFrom, lowestFrom, common, shares, empty, within}
 use Rattle.rules.specs.declared.Claim.{Claim}
+use Rattle.rules.specs.declared.Phase.{Phase}
 use Rattle.rules.specs.Lists.{_∈_, greatest, least, sum, all, any, keep}
 use Rattle.rules.specs.Shares.{shareOf, pendingOf, unfilled, unfilledByOthers}
-use Rattle.rules.specs.Claims.{heldUntil, endOf, remaining}
+use Rattle.rules.specs.Claims.{on, at, heldUntil, endOf, remaining}
 use Rattle.rules.specs.Order.{precedes, before}
 use Rattle.rules.specs.Pool.{covers, unitsAt, used, enough, spare, heldUnits, freeUnits}
 use Rattle.rules.specs.Seeking.{seek}
@@ -19,103 +21,190 @@ use Rattle.rules.specs.Granting.{takenBefore, trulyFree, goesWithin, goes, gran
 use Rattle.rules.specs.declared.Phase.the-variants.{Waiting, On}
 use Rattle.rules.specs.declared.Standing.the-variants.{NotPending, Waits, Holds}
 use Rattle.rules.specs.Tests.{firstOf}
-use Rattle.rules.specs.Calls.{atTicket, Call, release, clock, setGrace, tests, advance, finish, join, remove, admit, act, step, new, standingOf}
+use Rattle.rules.specs.Calls.{asking, atTicket, Call, release, clock, setGrace, lookup, tests, advance, finish, join, remove, admit, act, step, new, standingOf, commonOf}
 use Rattle.rules.proofs.Bools.{clash}
 use Rattle.rules.proofs.Lists.{here, there, none}
-use Rattle.promises.specs.Ledger.{Entry, Ledger, turns, tableAfter, issues, stay, sharesBy, graceBy, marked, notedAll, boundOn}
-use Rattle.promises.specs.Runs.{Told, tells, Start, newly}
+use Rattle.promises.specs.Ledger.{Entry, turns, tableAfter, issues, stay, sharesBy, graceBy, marked, notedAll, boundOn}
+use Rattle.promises.specs.Runs.{Start, newly, ledgerAfter, toldAfter}
+use Rattle.promises.specs.Plan.{endTold}
 use Rattle.promises.specs.NumbersTested.{testsBy}
-use Rattle.promises.specs.HeldUp.{EndsAt, Explained}
-use Rattle.promises.specs.Worthless.{claim, drawing, turnsDown, fixedStart, untouched, echoes, inventsContention, inventsBound, criesFull, neverGrants, overdraws, showsNow, leavesGaps, reverses, keepsUnitsBack, mumbles, AllRefused}
+use Rattle.promises.specs.WaitsExplained.{inCommon}
+use Rattle.promises.specs.TableKept.{Has}
+use Rattle.promises.specs.WholeCalls.{Stays}
+use Rattle.promises.specs.Worthless.{claim, drawing, turnsDown, fixedStart, untouched, echoes, inventsContention, inventsBound, criesFull, neverGrants, tellsLate, renews, namesBackward, stopsGranting, fidgets, mumbles, blurts, noRig, ignoresGaps, skipsPacking, oneDrawer, crowds, showsNow, leavesGaps, reverses, overdraws, keepsUnitsBack, lastFirst, losesUnits, AllRefused}
 
--- Nothing holds up a claim that is pending alone.
-alone-waits : (l : Ledger) (told : Told) (f : Entry) (s : ℕ) → l .claims ≡ f ∷ [] → f .held ≡ false → 1 ≤ f .asked .length → told (atTicket (f .ticket)) ≡ Waits s → Explained l told → ⊥
-alone-waits l told f s e o n w h =
-    let r = h f (subst (λ (x : List Entry). f ∈ x) (sym e) here) s w in
-    let i : r .0 ≡ f = List·Memᴰ·eq-of-singleton (subst (λ (x : List Entry). r .0 ∈ x) e (r .1)) in
-    go (subst (λ (x : Entry). EndsAt l told x s) i (r .3))
-  where
-    go : EndsAt l told f s → ⊥
-    go (inl p) = clash (p .0) o
-    go (inr p) =
-        let z : s ≡ p .1 .0 = cc (w, p .1 .1) in
-        omega (arith, p .1 .2)
+-- Of what holds of each, in a list of two and of three.
+module _ {A : Type 0} (P : A → Type 0) where
+  of-two : (x y z : A) → P x → P y → z ∈ (x ∷ y ∷ []) → P z
+  of-two x y z p q i = ⊎-elim (λ e. subst P (sym e) p) (λ j. subst P (sym (List·Memᴰ·eq-of-singleton j)) q) (List·Memᴰ·cases-cons i)
 
--- Two claims of units alone: the first is on, long overdue, and the second waits at clock 5.
-abbrev first : Claim
-first = record { groups = 0; phase = On 0; length = 1; ticket = 1; units = 2; client = 1 }
+  of-three : (w x y z : A) → P w → P x → P y → z ∈ (w ∷ x ∷ y ∷ []) → P z
+  of-three w x y z o p q i = ⊎-elim (λ e. subst P (sym e) o) (of-two x y z p q) (List·Memᴰ·cases-cons i)
 
-abbrev second : Claim
-second = record { groups = 0; phase = Waiting 5; length = 8; ticket = 2; units = 1; client = 1 }
+-- What a lookup told is one thing.
+waits-once : (a b : ℕ) → Waits a ≡ Waits b → a ≡ b
+waits-once a b e = cc
 
-none-before : (c : Claim) → c ∈ (first ∷ second ∷ []) → precedes c second ≡ false
-unfolding precedes shares common lowestFrom someFrom
-none-before c i = go (List·Memᴰ·cases-cons i)
-  where
-    go : (c ≡ first) ⊎ (c ∈ (second ∷ [])) → precedes c second ≡ false
-    go (inl e) = ap (λ (x : Claim). precedes x second) e
-    go (inr j) = ap (λ (x : Claim). precedes x second) (List·Memᴰ·eq-of-singleton j)
+waits-not-on : (a b : ℕ) → Waits a ≡ Holds b → ⊥
+waits-not-on a b e = let z : _≡_ {A = ℕ} 0 1 = cc in omega arith
+
+waits-pending : (a : ℕ) → Waits a ≡ NotPending → ⊥
+waits-pending a e = let z : _≡_ {A = ℕ} 0 1 = cc in omega arith
+
+-- A claim of units alone, and its entry; an entry of groups alone.
+abbrev drawer : ℕ → Phase → ℕ → ℕ → Claim
+drawer k p n u = record { groups = 0; phase = p; length = n; ticket = k; units = u; client = 1 }
+
+abbrev drawerEntry : ℕ → ℕ → ℕ → Bool → Entry
+drawerEntry k n s h = record { ticket = k; asked = record { groups = 0; length = n; units = 1; client = 1 }; first = s; held = h; grant = 0 }
+
+abbrev entry : ℕ → ℕ → ℕ → ℕ → Bool → Entry
+entry k g n s h = record { ticket = k; asked = asking g n; first = s; held = h; grant = 0 }
+
+-- A unit or none, and one more, of two.
+two-of-two : (b : Bool) → cond b 1 0 + 0 + 1 ≤ 2
+two-of-two true = omega arith
+two-of-two false = omega arith
+
+-- Ticket 3 of the last case: it stays at 15, whatever start it was given.
+abbrev later : Claim
+later = drawer 3 (Waiting 20) 10 1
+
+passed-over : (f : Claim → ℕ) (d : Claim) → d ∈ (drawer 1 (On 0) 20 1 ∷ drawer 3 (Waiting 15) 10 1 ∷ drawer 4 (On 5) 10 1 ∷ []) → Stays 5 (moved f later) d → f later ≤ 5 → ⊥
+unfolding moved
+passed-over f d = of-three (λ (y : Claim). Stays 5 (moved f later) y → f later ≤ 5 → ⊥) (drawer 1 (On 0) 20 1) (drawer 3 (Waiting 15) 10 1) (drawer 4 (On 5) 10 1) d
+    (λ s l. ⊎-elim (λ e. (let z : _≡_ {A = ℕ} 1 3 = ap (λ (c : Claim). c .ticket) e in omega arith)) (λ e. (let z : _≡_ {A = ℕ} 1 3 = ap (λ (c : Claim). c .ticket) (e .2) in omega arith)) s)
+    (λ s l. ⊎-elim (λ e. (let z : 15 ≡ f later = ap at e in omega arith)) (λ e. clash (ap on (e .2)) refl) s)
+    (λ s l. ⊎-elim (λ e. (let z : _≡_ {A = ℕ} 4 3 = ap (λ (c : Claim). c .ticket) e in omega arith)) (λ e. (let z : _≡_ {A = ℕ} 4 3 = ap (λ (c : Claim). c .ticket) (e .2) in omega arith)) s)
 
 pub all-refused : AllRefused
-unfolding someFrom lowestFrom common shares empty within greatest least sum all any keep heldUntil endOf remaining precedes before covers unitsAt used enough spare heldUnits ready startFor moved ahead startWithin packedStart pack clear fits seek place contention startBound takenBefore trulyFree goesWithin goes granted grant grants shareOf pendingOf unfilled unfilledByOthers firstOf tests advance finish join remove admit act step new standingOf turns tableAfter issues stay sharesBy graceBy marked notedAll boundOn testsBy turnsDown fixedStart untouched echoes inventsContention inventsBound criesFull neverGrants overdraws showsNow leavesGaps reverses keepsUnitsBack mumbles freeUnits
-all-refused = (
-  λ d.
+unfolding someFrom lowestFrom common shares empty within greatest least sum all any keep heldUntil endOf remaining precedes before covers unitsAt used enough spare heldUnits ready startFor moved ahead startWithin packedStart pack clear fits seek place contention startBound takenBefore trulyFree goesWithin goes granted grant grants shareOf pendingOf unfilled unfilledByOthers firstOf tests advance finish join remove admit act step new standingOf commonOf turns tableAfter issues stay sharesBy graceBy marked notedAll boundOn testsBy freeUnits turnsDown fixedStart untouched echoes inventsContention inventsBound criesFull neverGrants tellsLate renews namesBackward stopsGranting fidgets mumbles blurts noRig ignoresGaps skipsPacking oneDrawer crowds showsNow leavesGaps reverses overdraws keepsUnitsBack lastFirst losesUnits
+all-refused = record {
+  turns-down = λ d.
       let z : _≡_ {A = ℕ} 3 0 = d [] (claim 0 0x1 10) [] refl in
-      omega arith,
-  λ d.
-      let z : 1000 ≤ 0 = d .least 0 (omega arith) (record { room = λ c i. none i; spare = λ u. absurd (omega (arith, d .units)) }) in
-      omega arith,
-  λ d.
+      omega arith;
+  fixed-start = λ d.
+      let z : 1000 ≤ 0 = d [] (claim 0 0x1 10) [] refl 0 _ refl refl .least 0 (omega arith) (record { room = λ e i. none i; spare = λ u. absurd (omega arith) }) in
+      omega arith;
+  untouched-table = λ d.
       let e : NotPending ≡ Holds 10 = d .at-any-time (claim 0 0x1 10 ∷ []) [] refl .lookup-agrees 1 .held _ here refl refl in
       let z : _≡_ {A = ℕ} 0 1 = cc in
-      omega arith,
-  λ d.
+      omega arith;
+  echoed = λ d.
       let z : _≡_ {A = ℕ} 1 2 = d .at-any-call (claim 0 0x1 10 ∷ []) (claim 0 0x1 10) [] refl .of-claim 0 _ refl refl .ticket-next in
-      omega arith,
-  λ d.
+      omega arith;
+  invented-contention = λ d.
       let z : _≡_ {A = ℕ} 1 0 = d .at-any-call [] (claim 0 0x1 10) [] refl .of-claim 0 _ refl refl .contention-counted in
-      omega arith,
-  λ d.
+      omega arith;
+  invented-bound = λ d.
       let z : _≡_ {A = ℕ} 1 0 = d .at-any-call [] (claim 0 0x1 10) [] refl .of-claim 0 _ refl refl .bound-counted in
-      omega arith,
-  λ d.
+      omega arith;
+  full-with-places = λ d.
       let z : _≡_ {A = ℕ} 6 0 = d (claim 0 0x1 10 ∷ []) (claim 0 0x1 10) [] refl in
-      omega arith,
-  λ d.
+      omega arith;
+  full-below-guarantee = λ d. d .at-any-call (claim 0 0x1 10 ∷ []) (claim 0 0x1 10) [] refl .never-full 0 _ refl (omega arith) refl;
+  never-granted = λ d.
       let calls : List Call = claim 0 0x1 10 ∷ clock 1 ∷ [] in
       let held : (e : Entry) → e ∈ _ → e .held ≡ false = λ e i. ap (λ (x : Entry). x .held) (List·Memᴰ·eq-of-singleton i) in
-      let z : 1 ≤ 0 = d .at-any-time calls [] refl .no-wait-past (λ _ e i. none i, (λ _ e i o. clash o (held e i), tt)) _ here refl in
-      omega arith,
-  λ d.
-      let z : 2 ≤ 1 = d (drawing 0 10 1 ∷ drawing 0 10 1 ∷ []) [] refl .never-more in
-      omega arith,
-  λ d. d .at-any-call (claim 0 0x1 10 ∷ []) (claim 0 0x1 10) [] refl .never-full 0 _ refl (omega arith) refl,
-  λ d.
-      let z : 17 ≤ 12 = d (setGrace 5 ∷ claim 0 0x1 10 ∷ claim 0 0x1 10 ∷ clock 12 ∷ []) [] refl _ _ here (there here) refl refl 12 refl in
-      omega arith,
-  λ d.
+      let z : 1 ≤ 0 = d .no-wait-past calls [] refl (λ _ e i. none i, (λ _ e i o. clash o (held e i), tt)) _ here refl in
+      omega arith;
+  told-late = λ d.
+      ⊎-elim
+      (λ h. (let z = waits-once 1010 10 h in omega arith)) (waits-not-on 1010 20)
+      (d .at-any-call (claim 0 0x1 10 ∷ []) (claim 0 0x1 10) [] refl .of-claim 0 _ refl refl .first-told);
+  renewed = λ d.
+      let r = d .at-any-call (claim 0 0x1 10 ∷ []) (clock 5) [] refl .of-grants .grants-waited 1 here in
+      clash (ap (λ (x : Entry). x .held) (List·Memᴰ·eq-of-singleton (r .1))) (r .3);
+  named-backward = λ d.
+      let z : 3 < 2 = d .at-any-call (claim 0 0x3 10 ∷ claim 0 0x1 10 ∷ claim 0 0x2 10 ∷ []) (release 5 1) [] refl .of-grants .grants-ascend .0 2 here in
+      omega arith;
+  granting-stopped = λ d.
+      let calls : List Call = claim 0 0x1 5 ∷ claim 10 0x2 5 ∷ [] in
+      let s : Start = newly 0x3 0 true in
+      let e : Entry = entry 2 0x2 5 10 false in
+      let r = d calls [] refl e (there here) 10 refl in
+      of-two (λ (x : Entry). inCommon x e ≡ true → endTold (ledgerAfter stopsGranting s calls) (toldAfter stopsGranting s calls) x ≡ 10 → ⊥) (entry 1 0x1 5 0 true) e (r .0)
+      (λ h _. clash h refl) (λ _ (h : _≡_ {A = ℕ} 15 10). omega arith) (r .1) (r .2) (r .3);
+  fidgeted = λ d.
+      let z = waits-once 11 10 (d (claim 0 0x1 10 ∷ claim 0 0x1 10 ∷ []) (lookup 1) [] refl .others-still refl (atTicket 2)) in
+      omega arith;
+  mumbled = λ d.
+      let z : _≡_ {A = ℕ} 0 1 = d (claim 0 0x1 10 ∷ []) (release 4 1) [] refl .three-plain refl refl .ticket-is in
+      omega arith;
+  blurted = λ d.
+      let z : _≡_ {A = ℕ} 7 0 = d [] (release 4 9) [] refl .others-plain refl .ticket-is in
+      omega arith;
+  no-rig = λ d.
+      let z : _≡_ {A = ℕ} 1 0 = d 0x1 0 true in
+      omega arith;
+  gaps-ignored = λ d.
+      let calls : List Call = claim 0 0x8 10 ∷ claim 0 0xC 10 ∷ claim 0 0x6 11 ∷ [] in
+      let s : Start = newly 0xF 0 true in
+      let all : List Call = claim 0 0x8 10 ∷ claim 0 0xC 10 ∷ claim 0 0x6 11 ∷ claim 0 0x3 20 ∷ [] in
+      let z : 31 ≤ 0 = d calls (claim 0 0x3 20) [] refl 0 _ refl refl .least 0 (omega arith) (record {
+        room = λ e i. of-three
+            (λ (x : Entry). shares (x .asked .groups) 0x3 ≡ true → (endTold (ledgerAfter ignoresGaps s all) (toldAfter ignoresGaps s all) x ≤ 0) ⊎ ((r : ℕ) × (toldAfter ignoresGaps s all (atTicket (x .ticket)) ≡ Waits r) × (0 + 20 ≤ r)))
+            (entry 1 0x8 10 0 true) (entry 2 0xC 10 10 false) (entry 3 0x6 11 20 false) e
+            (λ h. clash h refl) (λ h. clash h refl) (λ h. inr (20, refl, omega arith)) i;
+        spare = λ u. absurd (omega arith);
+      }) in
+      omega arith;
+  packing-skipped = λ d.
+      ⊎-elim
+      (λ h. (let z = waits-once 25 20 h in omega arith)) (waits-not-on 25 23)
+      (d .at-any-call (claim 0 0x1 10 ∷ claim 0 0x3 10 ∷ []) (claim 15 0x2 3) [] refl .of-claim 15 _ refl refl .first-told);
+  one-drawer = λ d.
+      let z : 10 ≤ 0 = d (drawing 0 10 1 ∷ []) (drawing 0 10 1) [] refl 0 _ refl refl .least 0 (omega arith) (record {
+        room = λ e i h. clash h (ap (λ (x : Entry). shares (x .asked .groups) 0) (List·Memᴰ·eq-of-singleton i));
+        spare = λ u y p q. two-of-two (leb 0 y && ltb y 10);
+      }) in
+      omega arith;
+  crowded = λ d.
+      let z : 24 ≤ 15 = d (claim 0 0x1 10 ∷ claim 0 0x1 10 ∷ claim 0 0x1 10 ∷ clock 12 ∷ []) [] refl .ends-awaited _ (there here) 3
+      (record { group = 0; start = 15; conflict = refl; waits = refl; sooner = inr (14, refl, omega arith) }) in
+      omega arith;
+  shown-now = λ d.
+      let z : 17 ≤ 12 = d (setGrace 5 ∷ claim 0 0x1 10 ∷ claim 0 0x1 10 ∷ clock 12 ∷ []) [] refl .ends-awaited _ here 2
+      (record { group = 0; start = 12; conflict = refl; waits = refl; sooner = inl (10, refl) }) in
+      omega arith;
+  gaps-left = λ d.
       let calls : List Call = claim 0 0x1 10 ∷ claim 0 0x1 10 ∷ release 4 1 ∷ [] in
       let s : Start = newly 0x1 0 true in
-      alone-waits (notedAll (s .ledger) (turns leavesGaps (s .table) calls)) (tells (tableAfter leavesGaps (s .table) calls)) _ 10 refl refl (omega arith) refl (d calls [] refl),
-  λ d.
+      let e : Entry = entry 2 0x1 10 10 false in
+      let r = d calls [] refl e here 10 refl in
+      let z : _≡_ {A = ℕ} 20 10 = subst (λ (x : Entry). endTold (ledgerAfter leavesGaps s calls) (toldAfter leavesGaps s calls) x ≡ 10) (List·Memᴰ·eq-of-singleton (r .1)) (r .3) in
+      omega arith;
+  reversed = λ d.
       let r =
-      d (claim 0 0x1 10 ∷ claim 0 0x1 10 ∷ claim 0 0x1 10 ∷ []) (clock 0 ∷ []) [] refl _ _ (there (there here)) (there here)
-      (record { conflict = refl; waits = refl; sooner = inr (980, 990, refl, refl, omega arith) }) _ _ (there (there here)) (there here) refl refl in
-      ⊎-elim (λ h. clash h refl)
-      (λ w.
-      let a : Waits 990 ≡ Waits (w .0) = w .2 in
-      let b : Waits 980 ≡ Waits (w .1) = w .3 in
-      let x : 990 ≡ w .0 = cc in
-      let y : 980 ≡ w .1 = cc in
-      omega (arith, w .4))
-      (r .sooner),
-  λ d.
-      let z : 3 < 3 = d .units-wanting second (there {y = first} here) refl refl none-before in
-      omega arith,
-  λ d.
-      let z : _≡_ {A = ℕ} 0 1 = d (claim 0 0x1 10 ∷ []) (release 4 1) [] refl .three-plain refl refl .ticket-is in
-      omega arith,
-  λ d.
-      let z : 1000 ≤ 0 = d [] (claim 0 0x1 10) [] refl 0 _ refl refl refl 0 (omega arith) (λ e i n. absurd (n (ap (λ (x : Entry). x .ticket) (List·Memᴰ·eq-of-singleton i)))) in
-      omega arith,
-)
+      d (claim 0 0x1 10 ∷ claim 0 0x1 10 ∷ claim 0 0x1 10 ∷ []) (clock 0 ∷ []) [] refl 3 2
+      (record { group = 0; start = 990; conflict = refl; waits = refl; sooner = inr (980, refl, omega arith) }) (waits-pending 990) (waits-pending 980) in
+      ⊎-elim (λ h. waits-not-on 990 (h .0) (h .1)) (λ h. omega (arith, waits-once 990 (h .0) (h .1), waits-once 980 (r .start) (r .waits), h .2)) (r .sooner);
+  overdrawn = λ d.
+      let z : 2 ≤ 1 = d (drawing 0 10 1 ∷ drawing 0 10 1 ∷ []) [] refl .never-more in
+      omega arith;
+  overplanned = λ d.
+      let z : 2 ≤ 1 = d (drawing 0 10 1 ∷ drawing 0 10 1 ∷ []) [] refl .units-enough 0 (omega arith) in
+      omega arith;
+  units-kept-back = λ d.
+      let w : Claim = drawer 2 (Waiting 5) 8 1 in
+      let z : 3 < 3 = d .units-wanting w (there {y = drawer 1 (On 0) 1 2} here) refl refl
+      (λ c. of-two (λ (x : Claim). precedes x w ≡ false) (drawer 1 (On 0) 1 2) w c refl refl) in
+      omega arith;
+  last-granted = λ d.
+      let w : Claim = drawer 3 (Waiting 10) 10 1 in
+      let z : 2 < 2 = d .units-wanting w (there {y = drawer 2 (On 0) 5 1} here) refl refl
+      (λ c. of-three (λ (x : Claim). precedes x w ≡ false) (drawer 2 (On 0) 5 1) w (drawer 4 (On 10) 10 1) c refl refl refl) in
+      omega arith;
+  last-packed = λ d.
+      let x = d .all-stay later (there {y = drawer 1 (On 0) 20 1} (there {y = drawer 2 (On 0) 20 1} (here {l = drawer 4 (Waiting 20) 10 1 ∷ []}))) (λ (e : _≡_ {A = ℕ} 3 2). omega arith) in
+      let z : d .starts later ≤ 5 = d .packs later (there {y = drawer 1 (On 0) 20 1} here) refl .1 5 (record {
+        from-clock = omega arith;
+        after = λ c i p. absurd (of-three (λ (y : Claim). precedes y later ≡ true → ⊥) (drawer 1 (On 0) 20 1) later (drawer 4 (Waiting 20) 10 1) c (λ q. clash q refl) (λ q. clash q refl) (λ q. clash q refl) i p);
+        spare = λ u y p q. two-of-two (ltb y 20);
+      }) in
+      passed-over (d .starts) (x .0) (x .1) (x .2) z;
+  units-lost = λ d.
+      let r = d .every-entry (drawerEntry 2 10 10 false) (there {y = drawerEntry 1 10 0 true} here) in
+      of-two (λ (x : Claim). Has x (drawerEntry 2 10 10 false) → ⊥) (drawer 1 (On 0) 10 1) (drawer 2 (Waiting 10) 10 0) (r .0)
+      (λ h. (let z : _≡_ {A = ℕ} 1 2 = h .ticket in omega arith)) (λ h. (let z : _≡_ {A = ℕ} 0 1 = h .units in omega arith)) (r .1) (r .2);
+}

@@ -3,7 +3,7 @@
 use mathlib.Core.Path.{_≡_}
 use mathlib.Core.Logic.{_⊎_, _≢_}
 use mathlib.Core.Bool.{true, false}
-use mathlib.Core.List.{List, [], _++_}
+use mathlib.Core.List.{List, []}
 use Prim.Native.Nat.{ℕ, _+_, _≤_}
 use lib.ListN.{length}
 use Rattle.groups.specs.Groups.{common, shares}
@@ -14,8 +14,8 @@ use Rattle.rules.specs.declared.Common.the-variants.{Unknown}
 use Rattle.rules.specs.declared.Standing.{Standing}
 use Rattle.rules.specs.declared.Standing.the-variants.{NotPending, Waits, Holds}
 use Rattle.rules.specs.Calls.{atTicket, atTwo, Call, claim, Answer, step, shared}
-use Rattle.promises.specs.Ledger.{Turn, Steps, accepted, Entry, promised, Ledger, issues, stay, noted, NoOverrun, ruledBy, rivalsOf, boundOn}
-use Rattle.promises.specs.Runs.{Told, Start, AtAnyTime, AtAnyCall}
+use Rattle.promises.specs.Ledger.{Turn, Steps, accepted, Entry, promised, Ledger, afterActing, noted, NoOverrun, ruledBy, rivalsOf, boundOn}
+use Rattle.promises.specs.Runs.{Told, Start, AtAnyTime, WhileNobodyOverruns, AtAnyCall}
 
 -- "Look, asked after any call of the list, says the same: waiting, on with that promised end, or 8."
 pub record Agrees (l : List Entry) (k : ℕ) (told : Standing) : Type 0 where
@@ -33,16 +33,18 @@ pub record AgreesOnTwo (l : List Entry) (j k : ℕ) (told : Common) : Type 0 whe
 abbrev pub TicketsAscend : List Entry → Type 0
 TicketsAscend l = Ascends (λ (e : Entry). e .ticket) l
 
--- After any number of the calls. P: so far no accepted call bore a clock past the promised end of a claim held when it came.
-pub record Now (P : Type 0) (l : Ledger) (told : Told) : Type 0 where
+-- After any number of the calls.
+pub record Now (l : Ledger) (told : Told) : Type 0 where
   -- A ticket stands once.
   pub tickets-ascend : TicketsAscend (l .claims)
   pub lookup-agrees : (k : ℕ) → Agrees (l .claims) k (told (atTicket k))
   pub common-agrees : (j k : ℕ) → AgreesOnTwo (l .claims) j k (told (atTwo j k))
   -- Holders share no group.
   pub holders-apart : (e f : Entry) → e ∈ l .claims → f ∈ l .claims → e .ticket ≢ f .ticket → e .held ≡ true → f .held ≡ true → shares (e .asked .groups) (f .asked .groups) ≡ false
-  -- Nobody waits past the first planned start.
-  pub no-wait-past : P → (e : Entry) → e ∈ l .claims → e .held ≡ false → l .clock ≤ e .first
+
+-- Nobody waits past the first planned start.
+abbrev pub NoWaitPast : Ledger → Told → Type 0
+NoWaitPast l told = (e : Entry) → e ∈ l .claims → e .held ≡ false → l .clock ≤ e .first
 
 -- Of an accepted claim at clock u, with its answer and what lookup tells after it.
 pub record OfClaim (l : Ledger) (u : ℕ) (ask : Request) (a : Answer) (after : Told) : Type 0 where
@@ -61,7 +63,7 @@ pub record OfGrants (l : Ledger) (t : Turn) : Type 0 where
   pub grants-ascend : Ascends (λ (k : ℕ). k) (t .answer .grants)
   -- Each is that of a claim that waited, or that the call issued.
   pub grants-waited : (k : ℕ) → k ∈ t .answer .grants
-      → (e : Entry) × e ∈ (stay (t .call) (l .claims) ++ issues (t .call) (t .answer)) × (e .ticket ≡ k) × (e .held ≡ false)
+      → (e : Entry) × e ∈ afterActing t (l .claims) × (e .ticket ≡ k) × (e .held ≡ false)
   -- Only an accepted timed call names any.
   pub others-none : accepted t ≡ false → t .answer .grants ≡ []
 
@@ -78,6 +80,7 @@ pub record Next (l : Ledger) (t : Turn) (before after : Told) : Type 0 where
 -- Of a run from a start, by `step`.
 pub record Demand3Of (step : Steps) (s : Start) (calls : List Call) : Type 0 where
   pub at-any-time : AtAnyTime step s calls Now
+  pub no-wait-past : WhileNobodyOverruns step s calls NoWaitPast
   pub at-any-call : AtAnyCall step s calls Next
 
 -- Demand 3 of the rules.

@@ -13,7 +13,7 @@ use Rattle.rules.specs.declared.Setting.{Setting}
 use Rattle.rules.specs.declared.Share.{Share}
 use Rattle.rules.specs.Shares.{share, firstShares, withShare}
 use Rattle.rules.specs.Claims.{heldUntil}
-use Rattle.rules.specs.Calls.{Model, claims, releases, withdraws, onlyClock, clientShare, rigGrace, Call, timed, looks, sets, isTimed, clockOf, Answer, Step}
+use Rattle.rules.specs.Calls.{Model, claims, releases, withdraws, movesClock, declares, setsGrace, Call, timed, looks, setsUp, isTimed, clockOf, Answer, Step}
 
 -- A call with its answer.
 pub record Turn : Type 0 where
@@ -50,6 +50,9 @@ pub record Entry : Type 0 where
 abbrev pub promised : Entry → ℕ
 promised e = e .grant + e .asked .length
 
+abbrev pub hasTicket : ℕ → Entry → Bool
+hasTicket k e = eqb (e .ticket) k
+
 -- The rig, the table's clock, the units in its pool, the count of claims accepted so far, the grace, the shares of clients 1 to 8, and the
 -- pending claims.
 pub record Ledger : Type 0 where
@@ -73,35 +76,39 @@ unfoldable pub issues : Call → Answer → List Entry
 issues (timed t (claims ask)) a = record { ticket = a .ticket; asked = ask; first = a .start; held = false; grant = 0 } ∷ []
 issues (timed t (releases k)) a = []
 issues (timed t (withdraws k)) a = []
-issues (timed t onlyClock) a = []
+issues (timed t movesClock) a = []
 issues (looks q) a = []
-issues (sets p) a = []
+issues (setsUp p) a = []
 
 -- "until an accepted release or withdrawal takes it away": what an accepted call leaves of the pending claims.
 abbrev pub without : ℕ → List Entry → List Entry
-without k l = keep (λ e. not (eqb (e .ticket) k)) l
+without k l = keep (λ e. not (hasTicket k e)) l
 
 unfoldable pub stay : Call → List Entry → List Entry
 stay (timed t (claims ask)) l = l
 stay (timed t (releases k)) l = without k l
 stay (timed t (withdraws k)) l = without k l
-stay (timed t onlyClock) l = l
+stay (timed t movesClock) l = l
 stay (looks q) l = l
-stay (sets p) l = l
+stay (setsUp p) l = l
+
+-- What is pending once an accepted call has acted: who stays, and who is new.
+abbrev pub afterActing : Turn → List Entry → List Entry
+afterActing t l = stay (t .call) l ++ issues (t .call) (t .answer)
 
 -- "A desk has a guarantee and a limit, declared before the first claim": the shares after an accepted call (document 02, P4).
 unfoldable pub sharesBy : Call → List Share → List Share
 sharesBy (timed t x) ss = ss
 sharesBy (looks q) ss = ss
-sharesBy (sets (clientShare c r l)) ss = withShare ss c (share r l)
-sharesBy (sets (rigGrace n)) ss = ss
+sharesBy (setsUp (declares c r l)) ss = withShare ss c (share r l)
+sharesBy (setsUp (setsGrace n)) ss = ss
 
 -- "The rig has a grace .. set before the first claim": the grace after an accepted call (document 02, P6).
 unfoldable pub graceBy : Call → ℕ → ℕ
 graceBy (timed t x) g = g
 graceBy (looks q) g = g
-graceBy (sets (clientShare c r l)) g = g
-graceBy (sets (rigGrace n)) g = n
+graceBy (setsUp (declares c r l)) g = g
+graceBy (setsUp (setsGrace n)) g = n
 
 -- "from the call whose answer names its ticket as granted, that call included .. Its grant is that call's clock"
 abbrev pub hold : Entry → ℕ → Entry
@@ -114,11 +121,10 @@ marked t ks e = elim (any (λ k. eqb k (e .ticket)) ks) [ true ↦ hold e t | fa
 abbrev pub noted : Ledger → Turn → Ledger
 noted l t =
     let now = clockOf (t .call) in
-    let new = issues (t .call) (t .answer) in
     let shares = cond (eqb (t .answer .number) 0) (sharesBy (t .call) (l .shares)) (l .shares) in
     let grace = cond (eqb (t .answer .number) 0) (graceBy (t .call) (l .grace)) (l .grace) in
     cond (accepted t)
-    (record { rig = l .rig; clock = now; pool = l .pool; issued = l .issued + length new; grace = grace; shares = shares; claims = map (marked now (t .answer .grants)) (stay (t .call) (l .claims) ++ new) })
+    (record { rig = l .rig; clock = now; pool = l .pool; issued = l .issued + length (issues (t .call) (t .answer)); grace = grace; shares = shares; claims = map (marked now (t .answer .grants)) (afterActing t (l .claims)) })
     (record { rig = l .rig; clock = l .clock; pool = l .pool; issued = l .issued; grace = grace; shares = shares; claims = l .claims })
 
 -- The ledger after these calls.

@@ -5,17 +5,13 @@ use mathlib.Core.Path.{_≡_}
 use mathlib.Core.Bool.{Bool}
 use mathlib.Core.List.{List, [], _∷_}
 use Prim.Native.Nat.{ℕ}
-use lib.Dec.{eqb}
 use lib.ListN.{length}
 use Rattle.rules.specs.Shares.{shareOf, pendingOf, unfilledByOthers}
 use Rattle.rules.specs.Tests.{Test, firstOf, late, backward, dark, stranger, nothingAsked, offRig, spots, badLength, fullFor, over, ticketless, unknown, notYetOn, alreadyOn}
-use Rattle.rules.specs.Calls.{Action, claims, releases, withdraws, onlyClock, Look, atTicket, atTwo, atPool, Call, timed, looks, sets, setupTests, step, new}
-use Rattle.promises.specs.Ledger.{Turn, Steps, Entry, Ledger}
-use Rattle.promises.specs.Runs.{Start, AtAnyCall}
+use Rattle.rules.specs.Calls.{Action, claims, releases, withdraws, movesClock, Look, atTicket, atTwo, atPool, Call, timed, looks, setsUp, Step, setupTests, step, new}
+use Rattle.promises.specs.Ledger.{Turn, Steps, Entry, hasTicket, Ledger}
+use Rattle.promises.specs.Runs.{Told, Start, AtAnyCall}
 use Rattle.promises.specs.SharesKept.{askers}
-
-abbrev pub hasTicket : ℕ → Entry → Bool
-hasTicket k e = eqb (e .ticket) k
 
 -- The tests of the rules (`actionTests`, `lookTests`), of the ledger in place of a table.
 abbrev pub actionTestsBy : Ledger → Action → List Test
@@ -27,7 +23,7 @@ actionTestsBy l (claims ask) =
     ∷ over s (pendingOf ks (ask .client)) ∷ ticketless (l .issued) ∷ []
 actionTestsBy l (releases k) = unknown (hasTicket k) (l .claims) ∷ notYetOn (hasTicket k) (λ e. e .held) (l .claims) ∷ []
 actionTestsBy l (withdraws k) = unknown (hasTicket k) (l .claims) ∷ alreadyOn (hasTicket k) (λ e. e .held) (l .claims) ∷ []
-actionTestsBy l onlyClock = []
+actionTestsBy l movesClock = []
 
 abbrev pub lookTestsBy : List Entry → Look → List Test
 lookTestsBy es (atTicket k) = unknown (hasTicket k) es ∷ []
@@ -37,17 +33,20 @@ lookTestsBy es atPool = []
 unfoldable pub testsBy : Ledger → Call → List Test
 testsBy l (timed t x) = late t ∷ backward (l .clock) t ∷ actionTestsBy l x
 testsBy l (looks q) = lookTestsBy (l .claims) q
-testsBy l (sets p) = setupTests (l .issued) (l .shares) p
+testsBy l (setsUp p) = setupTests (l .issued) (l .shares) p
 
-abbrev pub NumberTested : Ledger → Turn → Type 0
-NumberTested l t = t .answer .number ≡ firstOf (testsBy l (t .call))
+abbrev pub NumberTested : Ledger → Turn → Told → Told → Type 0
+NumberTested l t before after = t .answer .number ≡ firstOf (testsBy l (t .call))
 
 abbrev pub NumbersTestedOf : Steps → Start → List Call → Type 0
-NumbersTestedOf step s calls = AtAnyCall step s calls (λ l t _ _. NumberTested l t)
+NumbersTestedOf step s calls = AtAnyCall step s calls NumberTested
 
 abbrev pub NumbersTested : Start → List Call → Type 0
 NumbersTested s calls = NumbersTestedOf step s calls
 
--- "dark: no group .. in a new rig": a new table is refused on this condition alone.
+-- "dark: no group .. in a new rig": a call for a new table is refused on this condition alone.
+abbrev pub NewTestedOf : (ℕ → ℕ → Bool → Step) → Type 0
+NewTestedOf new = (rig pool : ℕ) (alone : Bool) → new rig pool alone .answer .number ≡ firstOf (dark rig ∷ [])
+
 abbrev pub NewTested : Type 0
-NewTested = (rig pool : ℕ) (alone : Bool) → new rig pool alone .answer .number ≡ firstOf (dark rig ∷ [])
+NewTested = NewTestedOf new

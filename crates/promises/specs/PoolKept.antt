@@ -19,7 +19,7 @@ pub record Kept (l : Ledger) (told : Told) : Type 0 where
   pub free-and-held : told atPool + unitsHeld (l .claims) ≡ l .pool
 
 abbrev pub PoolKeptOf : Steps → Start → List Call → Type 0
-PoolKeptOf step s calls = AtAnyTime step s calls (λ _ l told. Kept l told)
+PoolKeptOf step s calls = AtAnyTime step s calls Kept
 
 abbrev pub PoolKept : Start → List Call → Type 0
 PoolKept s calls = PoolKeptOf step s calls

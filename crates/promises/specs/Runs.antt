@@ -8,17 +8,17 @@ use Rattle.rules.specs.declared.Standing.{Standing}
 use Rattle.rules.specs.Calls.{Model, Look, atTicket, atTwo, atPool, Call, Step, new, standingOf, commonOf, freeOf}
 use Rattle.promises.specs.Ledger.{Turn, Steps, turns, tableAfter, Ledger, opening, notedAll, NoOverruns}
 
--- What a lookup tells.
-abbrev pub TellsOf : Look → Type 0
-TellsOf (atTicket k) = Standing
-TellsOf (atTwo j k) = Common
-TellsOf atPool = ℕ
+-- What a lookup tells, and what all of them tell.
+abbrev pub Telling : Look → Type 0
+Telling (atTicket k) = Standing
+Telling (atTwo j k) = Common
+Telling atPool = ℕ
 
 abbrev pub Told : Type 0
-Told = (q : Look) → TellsOf q
+Told = (q : Look) → Telling q
 
--- What it tells of a table.
-abbrev pub tells : Model → (q : Look) → TellsOf q
+-- What they tell of a table.
+abbrev pub tells : Model → (q : Look) → Telling q
 tells m (atTicket k) = standingOf k (m .pending)
 tells m (atTwo j k) = commonOf j k (m .pending)
 tells m atPool = freeOf m
@@ -38,25 +38,33 @@ newly rig pool alone =
 pub data Begins : Start → Type 0 where
   by-new : (rig pool : ℕ) (alone : Bool) → Begins (newly rig pool alone)
 
--- After any number of the calls: Q of whether nobody overran so far, of the ledger, and of what lookups tell.
-abbrev pub AtAnyTime : Steps → Start → List Call → (Type 0 → Ledger → Told → Type 0) → Type 0
-AtAnyTime step s calls Q =
-    (before rest : List Call) → before ++ rest ≡ calls
-    → (let ts = turns step (s .table) before in
-    Q (NoOverruns (s .ledger) ts) (notedAll (s .ledger) ts) (tells (tableAfter step (s .table) before)))
+-- ── what holds of a run ──
+-- The ledger after the calls, and what lookups then tell.
+abbrev pub ledgerAfter : Steps → Start → List Call → Ledger
+ledgerAfter step s calls = notedAll (s .ledger) (turns step (s .table) calls)
 
--- At any time and any later one: Q of the ledger and of what lookups tell, then and later.
-abbrev pub AtAnyLater : Steps → Start → List Call → (Ledger → Told → Ledger → Told → Type 0) → Type 0
+abbrev pub toldAfter : Steps → Start → List Call → Told
+toldAfter step s calls = tells (tableAfter step (s .table) calls)
+
+-- After any number of the calls: Q of the ledger and of what lookups tell.
+abbrev pub AtAnyTime : Steps → Start → List Call → (Ledger → Told → Type 0) → Type 0
+AtAnyTime step s calls Q = (before rest : List Call) → before ++ rest ≡ calls → Q (ledgerAfter step s before) (toldAfter step s before)
+
+-- The same for as long as nobody overruns: no accepted call so far bore a clock past the promised end of a claim held when it came.
+abbrev pub WhileNobodyOverruns : Steps → Start → List Call → (Ledger → Told → Type 0) → Type 0
+WhileNobodyOverruns step s calls Q =
+    (before rest : List Call) → before ++ rest ≡ calls → NoOverruns (s .ledger) (turns step (s .table) before)
+    → Q (ledgerAfter step s before) (toldAfter step s before)
+
+-- At any time and any later one: Q of what lookups tell, then and later.
+abbrev pub AtAnyLater : Steps → Start → List Call → (Told → Told → Type 0) → Type 0
 AtAnyLater step s calls Q =
     (before between rest : List Call) → before ++ (between ++ rest) ≡ calls
-    → (let n = tableAfter step (s .table) before in
-    let l = notedAll (s .ledger) (turns step (s .table) before) in
-    Q l (tells n) (notedAll l (turns step n between)) (tells (tableAfter step n between)))
+    → (let m = tableAfter step (s .table) before in Q (tells m) (tells (tableAfter step m between)))
 
 -- Of each call: Q of the ledger before it, of the call with its answer, and of what lookups tell before and after it.
 abbrev pub AtAnyCall : Steps → Start → List Call → (Ledger → Turn → Told → Told → Type 0) → Type 0
 AtAnyCall step s calls Q =
     (before : List Call) (c : Call) (rest : List Call) → before ++ (c ∷ rest) ≡ calls
-    → (let ts = turns step (s .table) before in
-    let n = tableAfter step (s .table) before in
-    Q (notedAll (s .ledger) ts) (record { call = c; answer = step n c .answer }) (tells n) (tells (step n c .model)))
+    → (let m = tableAfter step (s .table) before in
+    Q (ledgerAfter step s before) (record { call = c; answer = step m c .answer }) (tells m) (tells (step m c .model)))

@@ -1,86 +1,104 @@
--- Document 01's "Worthless versions and their undoing", as steps run in place of the rules', each with a short list of calls at which a theorem
--- is false of it; and one step more for each theorem beside demand 3. proofs/Worthless has the proofs; each goes by the clause that is named
--- here.
-use mathlib.Core.Bool.{true, not, _&&_, cond}
-use mathlib.Core.List.{List, [], _∷_, map}
+-- Wrong tables, as steps run in place of the rules', each with a short list of calls at which a theorem is false of it: document 01's "Worthless
+-- versions and their undoing", and tables that keep some of the promises and break another. proofs/Worthless has the proofs; each goes by the
+-- clause that is named here.
+use mathlib.Core.Bool.{Bool, true, not, _&&_, cond}
+use mathlib.Core.List.{List, [], _∷_, _++_, map}
 use Prim.Native.Nat.{ℕ, _+_, _-_}
 use lib.Dec.{eqb, ltb}
 use lib.ListN.{length}
-use Rattle.numbers.specs.Numbers.{lengthNumber, fullNumber}
+use Rattle.numbers.specs.Numbers.{darkNumber, lengthNumber, fullNumber}
+use Rattle.rules.specs.declared.Claim.{Claim}
+use Rattle.rules.specs.declared.Reply.{Reply}
 use Rattle.rules.specs.declared.Request.{Request}
-use Rattle.rules.specs.declared.Phase.the-variants.{Waiting}
-use Rattle.rules.specs.Lists.{any, keep}
-use Rattle.rules.specs.Claims.{on, at, withPhase}
-use Rattle.rules.specs.Tests.{named}
+use Rattle.rules.specs.declared.Phase.the-variants.{Waiting, On}
+use Rattle.rules.specs.Lists.{any, keep, greatest}
+use Rattle.rules.specs.Claims.{on, at, withPhase, endOf}
+use Rattle.rules.specs.Order.{rivals}
+use Rattle.rules.specs.Packing.{moved}
 use Rattle.rules.specs.NoUnits.{withPool}
-use Rattle.rules.specs.Calls.{Model, withClock, withPending, withGrace, asking, claims, releases, withdraws, onlyClock, Call, timed, looks, sets, release, withdraw, clock, setGrace, Answer, Step, unchanged, remove, step, freeOf}
+use Rattle.rules.specs.Calls.{Model, withClock, withPending, withGrace, settingOf, asking, Action, claims, releases, withdraws, movesClock, Call, timed, looks, setsUp, release, clock, lookup, setGrace, isLook, Answer, Step, unchanged, advance, plain, finish, join, remove, fresh, placing, admit, step, blank, freeOf}
 use Rattle.promises.specs.Ledger.{Steps, tableAfter}
 use Rattle.promises.specs.Runs.{newly}
 use Rattle.promises.specs.Demand3.{Demand3Of}
-use Rattle.promises.specs.PoolKept.{PoolKeptOf}
-use Rattle.promises.specs.SharesKept.{SharesKeptOf}
-use Rattle.promises.specs.EndsAwaited.{EndsAwaitedOf}
-use Rattle.promises.specs.NumbersTested.{NumbersTestedOf}
-use Rattle.promises.specs.HeldUp.{HeldUpOf}
-use Rattle.promises.specs.NeverOvertaken.{NeverOvertakenOf}
-use Rattle.promises.specs.WholeCalls.{TimedCall, ClaimCall}
+use Rattle.promises.specs.NumbersTested.{NumbersTestedOf, NewTestedOf}
 use Rattle.promises.specs.Replies.{isClaim, RepliesOf}
 use Rattle.promises.specs.LeastStart.{LeastStartOf}
+use Rattle.promises.specs.PlansApart.{PlansApartOf}
+use Rattle.promises.specs.WaitsExplained.{WaitsExplainedOf}
+use Rattle.promises.specs.NeverOvertaken.{NeverOvertakenOf}
+use Rattle.promises.specs.PoolKept.{PoolKeptOf}
+use Rattle.promises.specs.SharesKept.{SharesKeptOf}
+use Rattle.promises.specs.TableKept.{TableKeptOf}
+use Rattle.promises.specs.WholeCalls.{TimedCall, LeaveCall}
 
--- A claim at a clock, of groups (hex) and a length; and one of units alone.
+-- A claim at a clock, of groups (hex) and a length; and one of a length and units alone.
 abbrev pub claim : ℕ → ℕ → ℕ → Call
 claim t g n = timed t (claims (asking g n))
 
 abbrev pub drawing : ℕ → ℕ → ℕ → Call
 drawing t n u = timed t (claims (record { groups = 0; length = n; units = u; client = 1 }))
 
--- Demand 3 does not hold of these steps, this rig without a pool, client 1 alone, and these calls.
-abbrev pub Refused : Steps → ℕ → List Call → Type 0
-Refused step rig calls = Demand3Of step (newly rig 0 true) calls → ⊥
+-- ── how a step is changed ──
+-- As the rules, but for these actions.
+abbrev pub actsBy : (Model → ℕ → Action → Step) → Steps
+actsBy f m (timed t x) = f m t x
+actsBy f m (looks q) = step m (looks q)
+actsBy f m (setsUp p) = step m (setsUp p)
 
--- As the rules, but for claims.
-abbrev pub claimsBy : (Model → ℕ → Request → Step) → Steps
-claimsBy f m (timed t (claims ask)) = f m t ask
-claimsBy f m (timed t (releases k)) = step m (release t k)
-claimsBy f m (timed t (withdraws k)) = step m (withdraw t k)
-claimsBy f m (timed t onlyClock) = step m (clock t)
-claimsBy f m (looks q) = step m (looks q)
-claimsBy f m (sets p) = step m (sets p)
+abbrev pub claimsBy : (Model → ℕ → Request → Step) → Model → ℕ → Action → Step
+claimsBy f m t (claims ask) = f m t ask
+claimsBy f m t (releases k) = step m (timed t (releases k))
+claimsBy f m t (withdraws k) = step m (timed t (withdraws k))
+claimsBy f m t movesClock = step m (clock t)
 
--- ── the seven rows of document 01 ──
--- "turns every claim down"
+abbrev pub releasesBy : (Model → ℕ → ℕ → Step) → Model → ℕ → Action → Step
+releasesBy f m t (claims ask) = step m (timed t (claims ask))
+releasesBy f m t (releases k) = f m t k
+releasesBy f m t (withdraws k) = step m (timed t (withdraws k))
+releasesBy f m t movesClock = step m (clock t)
+
+-- A table whose claims are others; one whose waiting claims have other starts; an answer with another ticket, start, counts or grants.
+abbrev pub claimsAs : (Claim → Claim) → Model → Model
+claimsAs f m = withPending m (map f (m .pending))
+
+abbrev pub startsAs : (Claim → ℕ) → Model → Model
+startsAs f m = claimsAs (moved f) m
+
+abbrev pub told : Answer → ℕ → ℕ → Answer
+told a k s = record { number = a .number; ticket = k; start = s; contention = a .contention; bound = a .bound; grants = a .grants }
+
+abbrev pub counting : Answer → ℕ → ℕ → Answer
+counting a i j = record { number = a .number; ticket = a .ticket; start = a .start; contention = i; bound = j; grants = a .grants }
+
+abbrev pub naming : Answer → List ℕ → Answer
+naming a ks = record { number = a .number; ticket = a .ticket; start = a .start; contention = a .contention; bound = a .bound; grants = ks }
+
+abbrev pub named : List ℕ → Claim → Bool
+named ks d = any (λ k. eqb k (d .ticket)) ks
+
+-- A claim that waits on where it would have gone on.
+abbrev pub waitsOn : Claim → Claim
+waitsOn d = withPhase d (Waiting (at d))
+
+-- Somebody is on past the promised end.
+abbrev pub overrun : Model → Bool
+overrun m = any (λ d. on d && ltb (at d + d .length) (m .clock)) (m .pending)
+
+-- ── document 01's seven rows ──
+-- "turns every claim down", and every other call.
 unfoldable pub turnsDown : Steps
-turnsDown = claimsBy (λ m t ask. unchanged m lengthNumber)
-
--- Shut out by `NumbersTested`: 3, and the length is 10.
-abbrev pub TurnsDownRefused : Type 0
-TurnsDownRefused = NumbersTestedOf turnsDown (newly 0x1 0 true) (claim 0 0x1 10 ∷ []) → ⊥
+turnsDown m c = unchanged m lengthNumber
 
 -- "sets every claim at one fixed start": where it waits until then.
 unfoldable pub fixedStart : Steps
 fixedStart =
-    claimsBy (λ m t ask.
+    actsBy (claimsBy (λ m t ask.
     let s : Step = step m (timed t (claims ask)) in
-    let n : Model = s .model in
-    let a : Answer = s .answer in
-    record {
-      model = withPending n (map (λ d. cond (named (a .ticket) d) (withPhase d (Waiting 1000)) d) (n .pending));
-      answer = record { number = a .number; ticket = a .ticket; start = 1000; contention = a .contention; bound = a .bound; grants = [] };
-    })
-
--- Shut out by `least`: 0 fits, in an empty table.
-abbrev pub FixedStartRefused : Type 0
-FixedStartRefused =
-    (let m = newly 0x1 0 true .table in
-    ClaimCall m 0 (asking 0x1 10) (fixedStart m (claim 0 0x1 10)) → ⊥)
+    record { model = startsAs (λ d. 1000) (claimsAs waitsOn (s .model)); answer = naming (told (s .answer) (s .answer .ticket) 1000) [] }))
 
 -- "hands the table back untouched": the rules' answers.
 unfoldable pub untouched : Steps
 untouched m c = record { model = m; answer = step m c .answer }
-
--- Shut out by `lookup-agrees`: the claim is granted, and lookup does not know it.
-abbrev pub UntouchedRefused : Type 0
-UntouchedRefused = Refused untouched 0x1 (claim 0 0x1 10 ∷ [])
 
 -- "places the first claim rightly, then echoes": every later call gets the first answer again.
 unfoldable pub echoes : Steps
@@ -88,136 +106,189 @@ echoes m c =
     cond (eqb (m .issued) 0) (step m c)
     (record { model = m; answer = record { number = 0; ticket = 1; start = 0; contention = 0; bound = 0; grants = 1 ∷ [] } })
 
--- Shut out by `ticket-next`: the second claim is told ticket 1.
-abbrev pub EchoesRefused : Type 0
-EchoesRefused = Refused echoes 0x1 (claim 0 0x1 10 ∷ claim 0 0x1 10 ∷ [])
-
 -- "invents crowd or ceiling": one more than there is.
-abbrev pub inventing : ℕ → ℕ → Steps
-inventing i j m c =
-    let s : Step = step m c in
-    let a : Answer = s .answer in
-    record {
-      model = s .model;
-      answer = record { number = a .number; ticket = a .ticket; start = a .start; contention = a .contention + i; bound = a .bound + j; grants = a .grants };
-    }
-
 unfoldable pub inventsContention : Steps
-inventsContention = inventing 1 0
+inventsContention m c = let s : Step = step m c in record { model = s .model; answer = counting (s .answer) (s .answer .contention + 1) (s .answer .bound) }
 
 unfoldable pub inventsBound : Steps
-inventsBound = inventing 0 1
-
--- Shut out by `contention-counted`: 1 in an empty table; and by `bound-counted`: 1 at clock 0.
-abbrev pub InventsContentionRefused : Type 0
-InventsContentionRefused = Refused inventsContention 0x1 (claim 0 0x1 10 ∷ [])
-
-abbrev pub InventsBoundRefused : Type 0
-InventsBoundRefused = Refused inventsBound 0x1 (claim 0 0x1 10 ∷ [])
+inventsBound m c = let s : Step = step m c in record { model = s .model; answer = counting (s .answer) (s .answer .contention) (s .answer .bound + 1) }
 
 -- "cries full with places free": as soon as one is pending.
 unfoldable pub criesFull : Steps
-criesFull = claimsBy (λ m t ask. cond (eqb (length (m .pending)) 0) (step m (timed t (claims ask))) (unchanged m fullNumber))
+criesFull = actsBy (claimsBy (λ m t ask. cond (eqb (length (m .pending)) 0) (step m (timed t (claims ask))) (unchanged m fullNumber)))
 
--- Shut out by `NumbersTested`: 6, and one is pending; and by `never-full`: client 1 has 64 places.
-abbrev pub CriesFullRefused : Type 0
-CriesFullRefused = NumbersTestedOf criesFull (newly 0x1 0 true) (claim 0 0x1 10 ∷ claim 0 0x1 10 ∷ []) → ⊥
-
-abbrev pub CriesFullBelowGuarantee : Type 0
-CriesFullBelowGuarantee = SharesKeptOf criesFull (newly 0x1 0 true) (claim 0 0x1 10 ∷ claim 0 0x1 10 ∷ []) → ⊥
-
--- "never grants": as the rules, but whoever would go on waits on, and nobody is named.
+-- "never grants": whoever would go on waits on, and nobody is named.
 unfoldable pub neverGrants : Steps
-neverGrants m c =
-    let s : Step = step m c in
-    let n : Model = s .model in
-    let a : Answer = s .answer in
+neverGrants m c = let s : Step = step m c in record { model = claimsAs waitsOn (s .model); answer = naming (s .answer) [] }
+
+-- ── lookups, answers and grants ──
+-- A lookup tells every waiting start a thousand ticks late; the table knows better.
+unfoldable pub tellsLate : Steps
+tellsLate m c =
+    let s : Step = step (startsAs (λ d. at d - 1000) m) c in
+    record { model = startsAs (λ d. at d + 1000) (s .model); answer = s .answer }
+
+-- Every timed call grants the holders anew, and so puts off their promised ends.
+unfoldable pub renews : Steps
+renews =
+    actsBy (λ m t x.
+    let s : Step = step m (timed t x) in
+    record { model = claimsAs (λ d. cond (on d) (withPhase d (On t)) d) (s .model); answer = naming (s .answer) (map (λ d. d .ticket) (keep (λ d. on d) (s .model .pending))) })
+
+-- "Naming grants in the order that their planned starts had, and not by ticket", or in any other.
+unfoldable pub namesBackward : Steps
+namesBackward m c = let s : Step = step m c in record { model = s .model; answer = naming (s .answer) (backward (s .answer .grants)) }
+  where
+    backward : List ℕ → List ℕ
+    backward [] = []
+    backward (k ∷ ks) = backward ks ++ (k ∷ [])
+
+-- While somebody overruns, nobody goes on.
+unfoldable pub stopsGranting : Steps
+stopsGranting m c = let s : Step = step m c in cond (overrun (s .model)) (record { model = claimsAs (λ d. cond (named (s .answer .grants) d) (waitsOn d) d) (s .model); answer = naming (s .answer) [] }) s
+
+-- A lookup pushes everybody back.
+unfoldable pub fidgets : Steps
+fidgets m c = cond (isLook c) (record { model = startsAs (λ d. at d + 1) m; answer = step m c .answer }) (step m c)
+
+-- A release answers no ticket; and a refused call answers one.
+unfoldable pub mumbles : Steps
+mumbles m c = let s : Step = step m c in record { model = s .model; answer = told (s .answer) (cond (isClaim c) (s .answer .ticket) 0) (s .answer .start) }
+
+unfoldable pub blurts : Steps
+blurts m c = let s : Step = step m c in record { model = s .model; answer = cond (eqb (s .answer .number) 0) (s .answer) (told (s .answer) 7 0) }
+
+-- A call for a new table that is never satisfied.
+unfoldable pub noRig : ℕ → ℕ → Bool → Step
+noRig rig pool alone = unchanged (blank 0 0 alone) darkNumber
+
+-- ── starts ──
+-- "Placing behind the last conflicting claim and never trying the gaps."
+unfoldable pub ignoresGaps : Steps
+ignoresGaps =
+    actsBy (claimsBy (λ m t ask.
+    let n : Model = advance m t in
+    let w : Claim = fresh n ask in
+    let s = greatest (endOf (settingOf n)) (n .clock) (rivals (n .pending) w) in
+    let r : Reply = placing n w in
+    finish (join n (withPhase w (Waiting s))) (record { ticket = r .ticket; start = s; contention = r .contention; bound = r .bound })))
+
+-- The first packing left out: a claim is placed beside starts that are past.
+unfoldable pub skipsPacking : Steps
+skipsPacking = actsBy (claimsBy (λ m t ask. admit (withClock m t) ask))
+
+-- One drawer at a time: the pool as a single lamp.
+unfoldable pub oneDrawer : Steps
+oneDrawer =
+    actsBy (claimsBy (λ m t ask.
+    let s : Step = step m (timed t (claims (record { groups = ask .groups; length = ask .length; units = cond (ltb 0 (ask .units)) (m .pool) 0; client = ask .client }))) in
     record {
-      model = withPending n (map (λ d. withPhase d (Waiting (at d))) (n .pending));
-      answer = record { number = a .number; ticket = a .ticket; start = a .start; contention = a .contention; bound = a .bound; grants = [] };
-    }
+      model = claimsAs (λ d. cond (eqb (d .ticket) (s .answer .ticket)) (record { groups = d .groups; phase = d .phase; length = d .length; ticket = d .ticket; units = ask .units; client = d .client }) d) (s .model);
+      answer = s .answer;
+    }))
 
--- Shut out by `no-wait-past`: at clock 1 the claim still waits, and its first planned start was 0.
-abbrev pub NeverGrantsRefused : Type 0
-NeverGrantsRefused = Refused neverGrants 0x1 (claim 0 0x1 10 ∷ clock 1 ∷ [])
-
--- ── the theorems beside demand 3 ──
--- A pool that is not looked at: "on claims never hold more than k together" (document 02, P3).
-unfoldable pub overdraws : Steps
-overdraws m c =
-    let s : Step = step (withPool 100 m) c in
-    record { model = withPool (m .pool) (s .model); answer = s .answer }
-
--- Shut out by `never-more`: two units held of one.
-abbrev pub OverdrawsRefused : Type 0
-OverdrawsRefused = PoolKeptOf overdraws (newly 0x1 1 true) (drawing 0 10 1 ∷ drawing 0 10 1 ∷ []) → ⊥
+-- While somebody overruns, all wait for a moment after the clock, one on top of the other.
+unfoldable pub crowds : Steps
+crowds m c = let s : Step = step m c in cond (overrun (s .model)) (record { model = startsAs (λ d. s .model .clock + d .ticket) (s .model); answer = s .answer }) s
 
 -- A grace that is taken and not looked at: "Plots show "now" for a cue that stays dark because an older one is running over" (document 02, P6).
 unfoldable pub showsNow : Steps
 showsNow m c = step (withGrace m 0) c
 
--- Shut out by `EndsAwaited`: at clock 12 the second claim waits with the start 12, and the first ends at 17.
-abbrev pub ShowsNowRefused : Type 0
-ShowsNowRefused = EndsAwaitedOf showsNow (newly 0x1 0 true) (setGrace 5 ∷ claim 0 0x1 10 ∷ claim 0 0x1 10 ∷ clock 12 ∷ []) → ⊥
-
 -- A release that moves nobody up: the others wait on for the starts they had.
 unfoldable pub leavesGaps : Steps
-leavesGaps m (timed t (claims ask)) = step m (timed t (claims ask))
-leavesGaps m (timed t (releases k)) = record { model = remove (withClock m t) k; answer = record { number = 0; ticket = k; start = t; contention = 0; bound = 0; grants = [] } }
-leavesGaps m (timed t (withdraws k)) = step m (withdraw t k)
-leavesGaps m (timed t onlyClock) = step m (clock t)
-leavesGaps m (looks q) = step m (looks q)
-leavesGaps m (sets p) = step m (sets p)
-
--- Shut out by `HeldUp`: at clock 4 the second claim waits for 10, and nothing else is pending.
-abbrev pub LeavesGapsRefused : Type 0
-LeavesGapsRefused = HeldUpOf leavesGaps (newly 0x1 0 true) (claim 0 0x1 10 ∷ claim 0 0x1 10 ∷ release 4 1 ∷ []) → ⊥
+leavesGaps = actsBy (releasesBy (λ m t k. record { model = remove (withClock m t) k; answer = record { number = 0; ticket = k; start = t; contention = 0; bound = 0; grants = [] } }))
 
 -- A plan turned round at every call: the last comes first.
 unfoldable pub reverses : Steps
-reverses m c =
-    let s : Step = step m c in
-    let n : Model = s .model in
-    record { model = withPending n (map (λ d. cond (on d) d (withPhase d (Waiting (1000 - at d)))) (n .pending)); answer = s .answer }
+reverses m c = let s : Step = step m c in record { model = startsAs (λ d. 1000 - at d) (s .model); answer = s .answer }
 
--- Shut out by `NeverOvertaken`: ticket 3 waits before ticket 2, and at the next call behind it.
-abbrev pub ReversesRefused : Type 0
-ReversesRefused = NeverOvertakenOf reverses (newly 0x1 0 true) (claim 0 0x1 10 ∷ claim 0 0x1 10 ∷ claim 0 0x1 10 ∷ clock 0 ∷ []) → ⊥
+-- ── units ──
+-- A pool that is not looked at.
+unfoldable pub overdraws : Steps
+overdraws m c = let s : Step = step (withPool 100 m) c in record { model = withPool (m .pool) (s .model); answer = s .answer }
 
 -- Units that are free and stay in the cupboard: while units are held, whoever draws waits on, and nobody is named.
 unfoldable pub keepsUnitsBack : Steps
 keepsUnitsBack m c =
     let s : Step = step m c in
-    let n : Model = s .model in
-    let a : Answer = s .answer in
     cond (eqb (freeOf m) (m .pool)) s
     (record {
-      model = withPending n (map (λ d. cond (any (λ k. eqb k (d .ticket)) (a .grants) && ltb 0 (d .units)) (withPhase d (Waiting (at d))) d) (n .pending));
-      answer = record { number = a .number; ticket = a .ticket; start = a .start; contention = a .contention; bound = a .bound; grants = keep (λ k. not (eqb k (a .ticket))) (a .grants) };
+      model = claimsAs (λ d. cond (named (s .answer .grants) d && ltb 0 (d .units)) (waitsOn d) d) (s .model);
+      answer = naming (s .answer) (keep (λ k. not (eqb k (s .answer .ticket))) (s .answer .grants));
     })
 
--- Shut out by `units-wanting`: two units are held, long overdue, one of three is free, and the second claim, which asks for one, waits.
-abbrev pub KeepsUnitsBackRefused : Type 0
-KeepsUnitsBackRefused =
-    (let m = tableAfter keepsUnitsBack (newly 0x1 3 true .table) (drawing 0 1 2 ∷ []) in
-    TimedCall m (drawing 5 8 1) (keepsUnitsBack m (drawing 5 8 1)) → ⊥)
+-- What a release sets free goes to the last comer first: in packing and in granting the higher ticket has the turn.
+unfoldable pub lastFirst : Steps
+lastFirst =
+    actsBy (releasesBy (λ m t k.
+    let s : Step = finish (claimsAs mirrored (remove (advance m t) k)) (plain k t) in
+    record { model = claimsAs mirrored (s .model); answer = naming (s .answer) (map (λ j. 1000 - j) (s .answer .grants)) }))
+  where
+    mirrored : Claim → Claim
+    mirrored d = record { groups = d .groups; phase = d .phase; length = d .length; ticket = 1000 - d .ticket; units = d .units; client = d .client }
 
--- A release that answers no ticket.
-unfoldable pub mumbles : Steps
-mumbles m c =
+-- Waiting claims that draw nothing until they go on.
+unfoldable pub losesUnits : Steps
+losesUnits m c =
     let s : Step = step m c in
-    let a : Answer = s .answer in
-    record { model = s .model; answer = record { number = a .number; ticket = cond (isClaim c) (a .ticket) 0; start = a .start; contention = a .contention; bound = a .bound; grants = a .grants } }
+    record { model = claimsAs (λ d. cond (on d) d (record { groups = d .groups; phase = d .phase; length = d .length; ticket = d .ticket; units = 0; client = d .client })) (s .model); answer = s .answer }
 
--- Shut out by `three-plain`.
-abbrev pub MumblesRefused : Type 0
-MumblesRefused = RepliesOf mumbles (newly 0x1 0 true) (claim 0 0x1 10 ∷ release 4 1 ∷ []) → ⊥
-
--- One fixed start again, over a run: shut out by `LeastStart`.
-abbrev pub FixedStartRefusedInRuns : Type 0
-FixedStartRefusedInRuns = LeastStartOf fixedStart (newly 0x1 0 true) (claim 0 0x1 10 ∷ []) → ⊥
-
-abbrev pub AllRefused : Type 0
-AllRefused =
-    TurnsDownRefused × FixedStartRefused × UntouchedRefused × EchoesRefused × InventsContentionRefused × InventsBoundRefused × CriesFullRefused × NeverGrantsRefused
-    × OverdrawsRefused × CriesFullBelowGuarantee × ShowsNowRefused × LeavesGapsRefused × ReversesRefused × KeepsUnitsBackRefused × MumblesRefused × FixedStartRefusedInRuns
+-- ── each is refused ──
+pub record AllRefused : Type 0 where
+  -- By `NumberTested`: 3, and the length is 10.
+  pub turns-down : NumbersTestedOf turnsDown (newly 0x1 0 true) (claim 0 0x1 10 ∷ []) → ⊥
+  -- By `least`: 0 fits, in an empty table.
+  pub fixed-start : LeastStartOf fixedStart (newly 0x1 0 true) (claim 0 0x1 10 ∷ []) → ⊥
+  -- By `lookup-agrees`: the claim is granted, and lookup does not know it.
+  pub untouched-table : Demand3Of untouched (newly 0x1 0 true) (claim 0 0x1 10 ∷ []) → ⊥
+  -- By `ticket-next`: the second claim is told ticket 1.
+  pub echoed : Demand3Of echoes (newly 0x1 0 true) (claim 0 0x1 10 ∷ claim 0 0x1 10 ∷ []) → ⊥
+  -- By `contention-counted`: 1 in an empty table; and by `bound-counted`: 1 at clock 0.
+  pub invented-contention : Demand3Of inventsContention (newly 0x1 0 true) (claim 0 0x1 10 ∷ []) → ⊥
+  pub invented-bound : Demand3Of inventsBound (newly 0x1 0 true) (claim 0 0x1 10 ∷ []) → ⊥
+  -- By `NumberTested`: 6, and one is pending; and by `never-full`: client 1 has 64 places.
+  pub full-with-places : NumbersTestedOf criesFull (newly 0x1 0 true) (claim 0 0x1 10 ∷ claim 0 0x1 10 ∷ []) → ⊥
+  pub full-below-guarantee : SharesKeptOf criesFull (newly 0x1 0 true) (claim 0 0x1 10 ∷ claim 0 0x1 10 ∷ []) → ⊥
+  -- By `no-wait-past`: at clock 1 the claim still waits, and its first planned start was 0.
+  pub never-granted : Demand3Of neverGrants (newly 0x1 0 true) (claim 0 0x1 10 ∷ clock 1 ∷ []) → ⊥
+  -- By `first-told`: the second claim is answered the start 10, and lookup tells 1010.
+  pub told-late : Demand3Of tellsLate (newly 0x1 0 true) (claim 0 0x1 10 ∷ claim 0 0x1 10 ∷ []) → ⊥
+  -- By `grants-waited`: ticket 1 was on before.
+  pub renewed : Demand3Of renews (newly 0x1 0 true) (claim 0 0x1 10 ∷ clock 5 ∷ []) → ⊥
+  -- By `grants-ascend`: 3, then 2.
+  pub named-backward : Demand3Of namesBackward (newly 0x3 0 true) (claim 0 0x3 10 ∷ claim 0 0x1 10 ∷ claim 0 0x2 10 ∷ release 5 1 ∷ []) → ⊥
+  -- By `Explained`: ticket 2 has nothing in common with ticket 1, and waits.
+  pub granting-stopped : WaitsExplainedOf stopsGranting (newly 0x3 0 true) (claim 0 0x1 5 ∷ claim 10 0x2 5 ∷ []) → ⊥
+  -- By `others-still`: ticket 2 waits for 10, and after a lookup for 11.
+  pub fidgeted : RepliesOf fidgets (newly 0x1 0 true) (claim 0 0x1 10 ∷ claim 0 0x1 10 ∷ lookup 1 ∷ []) → ⊥
+  -- By `three-plain` and `others-plain`.
+  pub mumbled : RepliesOf mumbles (newly 0x1 0 true) (claim 0 0x1 10 ∷ release 4 1 ∷ []) → ⊥
+  pub blurted : RepliesOf blurts (newly 0x1 0 true) (release 4 9 ∷ []) → ⊥
+  -- By its condition: group 0 is no dark rig.
+  pub no-rig : NewTestedOf noRig → ⊥
+  -- By `least`: document 01's case 5, which fits at 0.
+  pub gaps-ignored : LeastStartOf ignoresGaps (newly 0xF 0 true) (claim 0 0x8 10 ∷ claim 0 0xC 10 ∷ claim 0 0x6 11 ∷ claim 0 0x3 20 ∷ []) → ⊥
+  -- By `first-told`: at clock 15 ticket 2 is still planned for 10, so that ticket 3 is answered 20; lookup tells 25.
+  pub packing-skipped : Demand3Of skipsPacking (newly 0x3 0 true) (claim 0 0x1 10 ∷ claim 0 0x3 10 ∷ claim 15 0x2 3 ∷ []) → ⊥
+  -- By `least`: one of two units is free at 0, and one is asked for.
+  pub one-drawer : LeastStartOf oneDrawer (newly 0x1 2 true) (drawing 0 10 1 ∷ drawing 0 10 1 ∷ []) → ⊥
+  -- By `ends-awaited`: ticket 2 waits for 14, and ticket 3 for 15.
+  pub crowded : PlansApartOf crowds (newly 0x1 0 true) (claim 0 0x1 10 ∷ claim 0 0x1 10 ∷ claim 0 0x1 10 ∷ clock 12 ∷ []) → ⊥
+  -- By `ends-awaited`: at clock 12 ticket 2 waits for 12, and ticket 1 ends at 17.
+  pub shown-now : PlansApartOf showsNow (newly 0x1 0 true) (setGrace 5 ∷ claim 0 0x1 10 ∷ claim 0 0x1 10 ∷ clock 12 ∷ []) → ⊥
+  -- By `Explained`: at clock 4 ticket 2 waits for 10, and nothing else is pending.
+  pub gaps-left : WaitsExplainedOf leavesGaps (newly 0x1 0 true) (claim 0 0x1 10 ∷ claim 0 0x1 10 ∷ release 4 1 ∷ []) → ⊥
+  -- By `NotOvertaken`: ticket 3 waits before ticket 2, and at the next call behind it.
+  pub reversed : NeverOvertakenOf reverses (newly 0x1 0 true) (claim 0 0x1 10 ∷ claim 0 0x1 10 ∷ claim 0 0x1 10 ∷ clock 0 ∷ []) → ⊥
+  -- By `never-more`: two units held of one; and by `units-enough`: two planned in use.
+  pub overdrawn : PoolKeptOf overdraws (newly 0x1 1 true) (drawing 0 10 1 ∷ drawing 0 10 1 ∷ []) → ⊥
+  pub overplanned : PlansApartOf overdraws (newly 0x1 1 true) (drawing 0 10 1 ∷ drawing 0 10 1 ∷ []) → ⊥
+  -- By `units-wanting`: two units are held, long overdue, one of three is free, and ticket 2, which asks for one, waits.
+  pub units-kept-back : (let m = tableAfter keepsUnitsBack (newly 0x1 3 true .table) (drawing 0 1 2 ∷ []) in TimedCall m 5 (keepsUnitsBack m (drawing 5 8 1)) → ⊥)
+  -- By `units-wanting`: both holders are overdue and one is released; ticket 4 has the unit, and ticket 3 waits.
+  pub last-granted : (let m = tableAfter step (newly 0x1 2 true .table) (drawing 0 5 1 ∷ drawing 0 5 1 ∷ drawing 10 10 1 ∷ drawing 10 10 1 ∷ []) in TimedCall m 10 (lastFirst m (release 10 1)) → ⊥)
+  -- By `packs` of a release: at 5 ticket 4 goes on, and ticket 3, which is before it, waits for 15.
+  pub last-packed : (let m = tableAfter step (newly 0x1 2 true .table) (drawing 0 20 1 ∷ drawing 0 20 1 ∷ drawing 0 10 1 ∷ drawing 0 10 1 ∷ []) in LeaveCall m 5 2 (lastFirst m (release 5 2)) → ⊥)
+  -- By `units` of what the table has: ticket 2 asked for one.
+  pub units-lost : TableKeptOf losesUnits (newly 0x1 1 true) (drawing 0 10 1 ∷ drawing 0 10 1 ∷ []) → ⊥

@@ -23,7 +23,7 @@ use Rattle.rules.specs.Placing.{place}
 use Rattle.rules.specs.Granting.{granted, grant}
 use Rattle.rules.specs.Tests.{Test, firstOf, late, backward, stranger, noClient, nothingAsked, offRig, spots, badLength, begun, overbooked, badGrace, ticketless, named}
 use Rattle.rules.specs.declared.Reply.{Reply}
-use Rattle.rules.specs.Calls.{Model, withGrace, ruled, settingOf, claims, releases, withdraws, onlyClock, clientShare, rigGrace, Call, timed, looks, sets, claim, release, withdraw, clock, declare, setGrace, isTimed, clockOf, isLook, Step, fullTo, overOf, tests, unchanged, advance, plain, finish, join, remove, fresh, admit, declared, act, unless, step, blank, new, after}
+use Rattle.rules.specs.Calls.{Model, withGrace, ruled, settingOf, claims, releases, withdraws, movesClock, declares, setsGrace, Call, timed, looks, setsUp, claim, release, withdraw, clock, declare, setGrace, isTimed, clockOf, isLook, Step, fullTo, overOf, tests, unchanged, advance, plain, finish, join, remove, fresh, admit, declared, act, unless, step, blank, new, after}
 use Rattle.rules.specs.Plans.{Fits, Sane}
 use Rattle.rules.specs.Invariants.{Settled, IsSpaced, IsPacked, Invariant}
 use Rattle.rules.proofs.Bools.{by-test, or-fl, or-fr}
@@ -121,9 +121,9 @@ unfolding act admit finish
 accepted-number m (timed t (claims ask)) = refl
 accepted-number m (timed t (releases k)) = refl
 accepted-number m (timed t (withdraws k)) = refl
-accepted-number m (timed t onlyClock) = refl
+accepted-number m (timed t movesClock) = refl
 accepted-number m (looks q) = refl
-accepted-number m (sets p) = refl
+accepted-number m (setsUp p) = refl
 
 pub step-number : (m : Model) (c : Call) → step m c .answer .number ≡ firstOf (tests m c)
 unfolding step
@@ -259,7 +259,7 @@ Idle c n = (isLook c ≡ true) ⊎ (n ≢ 0)
 pub looks-untimed : (c : Call) → isLook c ≡ true → isTimed c ≡ false
 looks-untimed (timed t x) e = sym e
 looks-untimed (looks q) e = refl
-looks-untimed (sets p) e = refl
+looks-untimed (setsUp p) e = refl
 
 by-tests : (P : Step → Type 0) (m : Model) (n : ℕ) (s : Step) → ((j : ℕ) → P (unchanged m (suc j))) → (n ≡ 0 → P s) → P (unless m n s)
 by-tests P m zero s h k = k refl
@@ -280,10 +280,10 @@ step-cases P m no! yes-claim yes-left yes-declare yes-grace c = by-tests (P c) m
     accepted (timed t (claims ask)) e = yes-claim t ask (admissible m t ask e)
     accepted (timed t (releases k)) e = yes-left (release t k) t k (remove (advance m t) k) (clock-passes m t _ e .0) (by-release t k)
     accepted (timed t (withdraws k)) e = yes-left (withdraw t k) t k (remove (advance m t) k) (clock-passes m t _ e .0) (by-withdraw t k)
-    accepted (timed t onlyClock) e = yes-left (clock t) t 0 (advance m t) (clock-passes m t _ e .0) (by-clock t)
+    accepted (timed t movesClock) e = yes-left (clock t) t 0 (advance m t) (clock-passes m t _ e .0) (by-clock t)
     accepted (looks q) e = no! (looks q) 0 (inl refl)
-    accepted (sets (clientShare c r l)) e = yes-declare c r l (declarable m c r l e)
-    accepted (sets (rigGrace n)) e = yes-grace n (settable m n e)
+    accepted (setsUp (declares c r l)) e = yes-declare c r l (declarable m c r l e)
+    accepted (setsUp (setsGrace n)) e = yes-grace n (settable m n e)
 
 -- A clock call whose clock is neither late nor backward is accepted.
 pub clock-accepted : (m : Model) (t : ℕ) → Clocked m t → step m (clock t) ≡ finish (advance m t) (plain 0 t)

@@ -157,6 +157,9 @@ grant-precedes v ps c w m p = (
   granted-cases (λ (x : Claim). precedes x w ≡ true) v ps c (λ g. precedes-on (withPhase c (On (v .clock))) w (precedes-conflicts c w p) refl) (λ g. p),
 )
 
+pub granted-on : (v : Setting) (ps : List Claim) (c : Claim) → goes v ps c ≡ true → granted v ps c ≡ withPhase c (On (v .clock))
+granted-on v ps c h = granted-cases (λ (x : Claim). x ≡ withPhase c (On (v .clock))) v ps c (λ g. refl) (λ g. clash h g)
+
 -- Its end is not changed by going on.
 pub end-granted : (v : Setting) (ps : List Claim) (c : Claim) → goes v ps c ≡ true → endOf v (withPhase c (On (v .clock))) ≡ endOf v c
 end-granted v ps c e = omega (arith, end-no-overrun v (withPhase c (On (v .clock))) refl (omega arith), end-wait v c (goes-wait v ps c e), goes-at v ps c e)
@@ -172,6 +175,10 @@ granted-uses v ps x l c =
       units-mono v v x x c (withPhase c (On (v .clock))) refl (λ k z. record { begun = λ o. clash refl o; going = omega (arith, k .going, end-granted v ps c g) }),
     ))
     (λ g. refl)
+
+pub grant-uses : (v : Setting) (ps : List Claim) (x : ℕ) → v .clock ≤ x → used v x (grant v ps) ≡ used v x ps
+unfolding grant used
+grant-uses v ps x l = sum-map (unitsAt v x) (granted v ps) ps ∙ sum-cong (λ c. unitsAt v x (granted v ps c)) (unitsAt v x) ps (λ c m. granted-uses v ps x l c)
 
 -- ── who goes on, in the order of tickets ──
 -- All that go on start at the clock, so those before w, which starts there too, are those of smaller tickets.
@@ -513,12 +520,9 @@ module _ (v : Setting) (ps : List Claim) (holders : Apart v ps) (fit : Separated
         (λ a b e. rw (end-granted v ps c a) (more c w m k a p q e (same? (c .ticket) (w .ticket))))
         (λ a b e. fit .behind c w m k q b e)))
         c w mc mw o b p;
-    supplied = λ x l. omega (arith, fit .supplied x l, planned x l);
+    supplied = λ x l. omega (arith, fit .supplied x l, grant-uses v ps x l);
   }
     where
-      planned : (x : ℕ) → v .clock ≤ x → used v x (map (granted v ps) ps) ≡ used v x ps
-      planned x l = sum-map (unitsAt v x) (granted v ps) ps ∙ sum-cong (λ c. unitsAt v x (granted v ps c)) (unitsAt v x) ps (λ c m. granted-uses v ps x l c)
-
       more : (c w : Claim) → c ∈ ps → w ∈ ps → goes v ps c ≡ true → goes v ps w ≡ false → on w ≡ false → rival c w ≡ true
           → (c .ticket ≡ w .ticket) ⊎ (c .ticket ≢ w .ticket) → endOf v c ≤ at w
       more c w m k a p q h (inl e) = clash (subst (λ (x : Claim). goes v ps x ≡ true) (ascending-same ps ascending c w m k e) a) p

@@ -21,7 +21,7 @@ use Rattle.rules.specs.Granting.{trulyFree, goesWithin, goes, granted, g
 use Rattle.rules.specs.Tests.{firstOf}
 use Rattle.rules.specs.Plans.{Ascending, Sane, PromptAt, NoOverrunAt, Spare, Fits}
 use Rattle.rules.specs.Invariants.{IsSpaced, Invariant}
-use Rattle.rules.specs.Calls.{Model, withClock, withPending, withGrace, ruled, settingOf, claims, releases, withdraws, onlyClock, clientShare, rigGrace, Call, timed, looks, sets, setGrace, isTimed, clockOf, Answer, Step, tests, unchanged, advance, plain, granting, finish, join, remove, fresh, admit, act, unless, step, blank, after, answers}
+use Rattle.rules.specs.Calls.{Model, withClock, withPending, withGrace, ruled, settingOf, claims, releases, withdraws, movesClock, declares, setsGrace, Call, timed, looks, setsUp, setGrace, isTimed, clockOf, Answer, Step, tests, unchanged, advance, plain, granting, finish, join, remove, fresh, admit, act, unless, step, blank, after, answers}
 use Rattle.rules.specs.InTime.{NoOverrunsFrom, GraceIndifferent}
 use Rattle.rules.proofs.Bools.{by-test, clash}
 use Rattle.rules.proofs.Lists.{Each, keep-e, map-each, map-cong, keep-cong, snoc-each, sum-cong}
@@ -153,9 +153,9 @@ module _ (d : ℕ) where
   tests-alike m (timed t (claims ask)) = refl
   tests-alike m (timed t (releases j)) = refl
   tests-alike m (timed t (withdraws j)) = refl
-  tests-alike m (timed t onlyClock) = refl
+  tests-alike m (timed t movesClock) = refl
   tests-alike m (looks q) = refl
-  tests-alike m (sets p) = refl
+  tests-alike m (setsUp p) = refl
 
   -- A grace that is set makes the two tables one; every other call leaves them apart by the grace alone.
   abbrev Alike : Step → Step → Type 0
@@ -189,10 +189,10 @@ module _ (d : ℕ) where
     act-alike (timed t (claims ask)) e p = inl (claim-alike t ask (admissible m t ask e) (p refl))
     act-alike (timed t (releases j)) e p = inl (leave-alike t j (clock-passes m t _ e .0 .later) (p refl))
     act-alike (timed t (withdraws j)) e p = inl (leave-alike t j (clock-passes m t _ e .0 .later) (p refl))
-    act-alike (timed t onlyClock) e p = inl (clock-alike t (clock-passes m t _ e .0 .later) (p refl))
+    act-alike (timed t movesClock) e p = inl (clock-alike t (clock-passes m t _ e .0 .later) (p refl))
     act-alike (looks q) e p = inl refl
-    act-alike (sets (clientShare c r l)) e p = inl refl
-    act-alike (sets (rigGrace n)) e p = inr refl
+    act-alike (setsUp (declares c r l)) e p = inl refl
+    act-alike (setsUp (setsGrace n)) e p = inr refl
 
     step-alike : (c : Call) → (isTimed c ≡ true → step m c .answer .number ≡ 0 → NoOverrunAt (clockOf c) (m .pending)) → Alike (step (withGrace m d) c) (step m c)
     unfolding step

@@ -179,6 +179,11 @@ module _ {A : Type 0} where
   keep-cong p q [] h = refl
   keep-cong p q (x ∷ l) h = rw (h x here, keep-cong p q l (λ y m. h y (there m)))
 
+  pub keep-all : (p : A → Bool) (l : List A) → Each (λ x. p x ≡ true) l → keep p l ≡ l
+  unfolding keep
+  keep-all p [] h = refl
+  keep-all p (x ∷ l) h = rw (h x here, keep-all p l (λ y m. h y (there m)))
+
   -- An element more that fails adds nothing.
   pub keep-snoc : (p : A → Bool) (l : List A) (w : A) → p w ≡ false → keep p (l ++ (w ∷ [])) ≡ keep p l
   unfolding keep

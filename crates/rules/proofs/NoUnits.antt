@@ -22,7 +22,7 @@ use Rattle.rules.specs.Placing.{clear, fits, place, startBound}
 use Rattle.rules.specs.Granting.{trulyFree, goesWithin, goes, granted, grant, grants}
 use Rattle.rules.specs.Shares.{shareOf}
 use Rattle.rules.specs.Tests.{firstOf, late, backward, stranger, dark, nothingAsked, offRig, spots}
-use Rattle.rules.specs.Calls.{Model, withClock, withPending, ruled, settingOf, claims, releases, withdraws, onlyClock, clientShare, rigGrace, Call, timed, looks, sets, claim, Answer, Step, tests, advance, plain, granting, finish, join, remove, fresh, admit, act, unless, step, blank, after, answers}
+use Rattle.rules.specs.Calls.{Model, withClock, withPending, ruled, settingOf, claims, releases, withdraws, movesClock, declares, setsGrace, Call, timed, looks, setsUp, claim, Answer, Step, tests, advance, plain, granting, finish, join, remove, fresh, admit, act, unless, step, blank, after, answers}
 use Rattle.rules.specs.NoUnits.{documentedStart, documentedFits, undrawnTests, drawsNone, DrawsNone, withPool}
 use Rattle.rules.proofs.Bools.{and-l, and-i, both-ways}
 use Rattle.rules.proofs.Lists.{Each, none, greatest-base, greatest-ge, greatest-le, keep-e, keep-i, keep-cong, map-each, map-cong, snoc-each}
@@ -215,19 +215,19 @@ module _ (k : ℕ) where
   act-pool m (timed t (claims ask)) d u = ap (λ (n : Model). admit n ask) (advance-pool m t u) ∙ admit-pool (advance m t) ask d (advance-undrawn m t u)
   act-pool m (timed t (releases i)) d u = leave-pool m t i u
   act-pool m (timed t (withdraws i)) d u = leave-pool m t i u
-  act-pool m (timed t onlyClock) d u = ap (λ (n : Model). finish n (plain 0 t)) (advance-pool m t u) ∙ finish-pool (advance m t) (plain 0 t) (advance-undrawn m t u)
+  act-pool m (timed t movesClock) d u = ap (λ (n : Model). finish n (plain 0 t)) (advance-pool m t u) ∙ finish-pool (advance m t) (plain 0 t) (advance-undrawn m t u)
   act-pool m (looks q) d u = refl
-  act-pool m (sets (clientShare c r l)) d u = refl
-  act-pool m (sets (rigGrace n)) d u = refl
+  act-pool m (setsUp (declares c r l)) d u = refl
+  act-pool m (setsUp (setsGrace n)) d u = refl
 
   tests-pool : (m : Model) (c : Call) → drawsNone c → firstOf (tests (withPool k m) c) ≡ firstOf (tests m c)
   unfolding tests firstOf
   tests-pool m (timed t (claims ask)) d = rw (le-ltb k (ask .units) (omega arith), le-ltb (m .pool) (ask .units) (omega arith))
   tests-pool m (timed t (releases i)) d = refl
   tests-pool m (timed t (withdraws i)) d = refl
-  tests-pool m (timed t onlyClock) d = refl
+  tests-pool m (timed t movesClock) d = refl
   tests-pool m (looks q) d = refl
-  tests-pool m (sets p) d = refl
+  tests-pool m (setsUp p) d = refl
 
   unless-pool : (m : Model) (n : ℕ) (s : Step) → unless (withPool k m) n (repooled k s) ≡ repooled k (unless m n s)
   unless-pool m zero s = refl

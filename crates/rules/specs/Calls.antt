@@ -72,7 +72,7 @@ pub data Action : Type 0 where
   claims : Request → Action
   releases : ℕ → Action
   withdraws : ℕ → Action
-  onlyClock : Action
+  movesClock : Action
 
 -- What a lookup asks: how a ticket stands, which group two tickets share, the units free. (Document 01: look is our lookup.)
 pub data Look : Type 0 where
@@ -82,14 +82,14 @@ pub data Look : Type 0 where
 
 -- What is set before the first claim: a client with its guarantee and its limit; a grace.
 pub data Setup : Type 0 where
-  clientShare : ℕ → ℕ → ℕ → Setup
-  rigGrace : ℕ → Setup
+  declares : ℕ → ℕ → ℕ → Setup
+  setsGrace : ℕ → Setup
 
 -- The calls of a run: timed calls, each with its clock; lookups; and what only sets something up.
 pub data Call : Type 0 where
   timed : ℕ → Action → Call
   looks : Look → Call
-  sets : Setup → Call
+  setsUp : Setup → Call
 
 -- Each by its name: clock and what is asked for, clock and ticket, clock; ticket, two tickets, nothing; a client with its guarantee and its
 -- limit; a grace.
@@ -103,7 +103,7 @@ abbrev pub withdraw : ℕ → ℕ → Call
 withdraw t k = timed t (withdraws k)
 
 abbrev pub clock : ℕ → Call
-clock t = timed t onlyClock
+clock t = timed t movesClock
 
 abbrev pub lookup : ℕ → Call
 lookup k = looks (atTicket k)
@@ -115,28 +115,28 @@ abbrev pub free : Call
 free = looks atPool
 
 abbrev pub declare : ℕ → ℕ → ℕ → Call
-declare c r l = sets (clientShare c r l)
+declare c r l = setsUp (declares c r l)
 
 abbrev pub setGrace : ℕ → Call
-setGrace n = sets (rigGrace n)
+setGrace n = setsUp (setsGrace n)
 
 -- "Every accepted timed call (claim, release, withdraw, clock)"
 abbrev pub isTimed : Call → Bool
 isTimed (timed t x) = true
 isTimed (looks q) = false
-isTimed (sets p) = false
+isTimed (setsUp p) = false
 
 -- The clock that a timed call bears.
 abbrev pub clockOf : Call → ℕ
 clockOf (timed t x) = t
 clockOf (looks q) = 0
-clockOf (sets p) = 0
+clockOf (setsUp p) = 0
 
 -- The calls that only tell: they change nothing.
 abbrev pub isLook : Call → Bool
 isLook (timed t x) = false
 isLook (looks q) = true
-isLook (sets p) = false
+isLook (setsUp p) = false
 
 -- What a call answers: 0 or the refusal's number; ticket; start; contention and start bound; "the answer names those tickets".
 pub record Answer : Type 0 where
@@ -171,7 +171,7 @@ actionTests m (claims ask) =
     ∷ fullTo m (ask .client) ∷ overOf m (ask .client) ∷ ticketless (m .issued) ∷ []
 actionTests m (releases k) = unknown (named k) (m .pending) ∷ notYetOn (named k) on (m .pending) ∷ []
 actionTests m (withdraws k) = unknown (named k) (m .pending) ∷ alreadyOn (named k) on (m .pending) ∷ []
-actionTests m onlyClock = []
+actionTests m movesClock = []
 
 -- "a ticket that isn't pending answers 8"
 abbrev pub lookTests : List Claim → Look → List Test
@@ -181,13 +181,13 @@ lookTests ps atPool = []
 
 -- A declaration is answered 13 "before 17", and 19 "after 17"; a grace 21.
 abbrev pub setupTests : ℕ → List Share → Setup → List Test
-setupTests issued ss (clientShare c r l) = begun issued ∷ noClient c ∷ overbooked (shareOf ss c) (reservedInAll ss) r l ∷ []
-setupTests issued ss (rigGrace n) = badGrace issued n ∷ []
+setupTests issued ss (declares c r l) = begun issued ∷ noClient c ∷ overbooked (shareOf ss c) (reservedInAll ss) r l ∷ []
+setupTests issued ss (setsGrace n) = badGrace issued n ∷ []
 
 unfoldable pub tests : Model → Call → List Test
 tests m (timed t x) = late t ∷ backward (m .clock) t ∷ actionTests m x
 tests m (looks q) = lookTests (m .pending) q
-tests m (sets p) = setupTests (m .issued) (m .shares) p
+tests m (setsUp p) = setupTests (m .issued) (m .shares) p
 
 -- "A call turned down answers its number, with ticket, start, crowd and ceiling 0 and no grants; the table is the one handed in"
 abbrev pub unchanged : Model → ℕ → Step
@@ -243,22 +243,22 @@ declared m c r l = withShares m (withShare (m .shares) c (share r l))
 
 -- "Release takes away an on claim; withdraw takes away a waiting one. Clock only moves the clock": in a table whose clock is set to t and
 -- which is packed.
-abbrev pub actIn : Model → ℕ → Action → Step
-actIn m t (claims ask) = admit m ask
-actIn m t (releases k) = finish (remove m k) (plain k t)
-actIn m t (withdraws k) = finish (remove m k) (plain k t)
-actIn m t onlyClock = finish m (plain 0 t)
+abbrev pub perform : Model → ℕ → Action → Step
+perform m t (claims ask) = admit m ask
+perform m t (releases k) = finish (remove m k) (plain k t)
+perform m t (withdraws k) = finish (remove m k) (plain k t)
+perform m t movesClock = finish m (plain 0 t)
 
-abbrev pub setUp : Model → Setup → Model
-setUp m (clientShare c r l) = declared m c r l
-setUp m (rigGrace n) = withGrace m n
+abbrev pub withSetup : Model → Setup → Model
+withSetup m (declares c r l) = declared m c r l
+withSetup m (setsGrace n) = withGrace m n
 
 -- "Every accepted timed call .. first sets the clock and packs the waiting claims, then acts, packs again and grants." Look "changes
 -- nothing".
 unfoldable pub act : Model → Call → Step
-act m (timed t x) = actIn (advance m t) t x
+act m (timed t x) = perform (advance m t) t x
 act m (looks q) = unchanged m 0
-act m (sets p) = unchanged (setUp m p) 0
+act m (setsUp p) = unchanged (withSetup m p) 0
 
 -- The call's own step, or the refusal.
 abbrev pub unless : Model → ℕ → Step → Step
@@ -298,17 +298,17 @@ standingOf k [] = NotPending
 standingOf k (c ∷ cs) = cond (named k c) (standing c) (standingOf k cs)
 
 -- f of the first of the claims that has ticket k; 0 where none has.
-unfoldable pub ofTicket : (Claim → ℕ) → ℕ → List Claim → ℕ
-ofTicket f k [] = 0
-ofTicket f k (c ∷ cs) = cond (named k c) (f c) (ofTicket f k cs)
+unfoldable pub valueAt : (Claim → ℕ) → ℕ → List Claim → ℕ
+valueAt f k [] = 0
+valueAt f k (c ∷ cs) = cond (named k c) (f c) (valueAt f k cs)
 
 -- What a lookup of ticket k gives in numbers, by the table: the number of its tests, and the values of the claim.
-abbrev pub lookupValues : Model → ℕ → StandingValues
-lookupValues m k =
+abbrev pub lookupGives : Model → ℕ → StandingValues
+lookupGives m k =
     record {
       number = step m (lookup k) .answer .number;
-      start = ofTicket (λ c. cond (on c) 0 (at c)) k (m .pending);
-      end = ofTicket (λ c. cond (on c) (at c + c .length) 0) k (m .pending);
+      start = valueAt (λ c. cond (on c) 0 (at c)) k (m .pending);
+      end = valueAt (λ c. cond (on c) (at c + c .length) 0) k (m .pending);
     }
 
 -- "A new look takes two tickets and gives that group; a ticket that isn't pending answers 8."
@@ -345,8 +345,8 @@ groupsBetween (c ∷ cs) (d ∷ ds) = groupIn (conflicts c d)
 groupsBetween (c ∷ cs) [] = []
 groupsBetween [] ds = []
 
-abbrev pub pairValues : Model → ℕ → ℕ → CommonValues
-pairValues m j k =
+abbrev pub commonGives : Model → ℕ → ℕ → CommonValues
+commonGives m j k =
     record { number = step m (common j k) .answer .number; groups = groupsBetween (keep (named j) (m .pending)) (keep (named k) (m .pending)) }
 
 -- "A look gives the units free": of the whole table.

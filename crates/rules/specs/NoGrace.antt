@@ -5,14 +5,14 @@ use mathlib.Core.List.{List, [], _∷_}
 use Prim.Native.Nat.{ℕ, _+_, max}
 use Rattle.rules.specs.declared.Claim.{Claim}
 use Rattle.rules.specs.Claims.{on, at, endOf}
-use Rattle.rules.specs.Calls.{Model, ruled, clientShare, rigGrace, Call, timed, looks, sets, step}
+use Rattle.rules.specs.Calls.{Model, ruled, declares, setsGrace, Call, timed, looks, setsUp, step}
 
 -- The call sets no grace, or one of 0.
 abbrev pub setsNoGrace : Call → Type 0
 setsNoGrace (timed t x) = Unit {0}
 setsNoGrace (looks q) = Unit {0}
-setsNoGrace (sets (clientShare c r l)) = Unit {0}
-setsNoGrace (sets (rigGrace n)) = n ≡ 0
+setsNoGrace (setsUp (declares c r l)) = Unit {0}
+setsNoGrace (setsUp (setsGrace n)) = n ≡ 0
 
 -- Nor does any accepted call of the list, made from table m on.
 abbrev pub SetsNoGrace : Model → List Call → Type 0

@@ -12,14 +12,14 @@ use Rattle.rules.specs.declared.Request.{Request}
 use Rattle.rules.specs.Lists.{_∈_}
 use Rattle.rules.specs.Shares.{firstShares}
 use Rattle.rules.specs.Tests.{Test, firstOf, late, backward, dark, nothingAsked, offRig, spots, badLength, full, ticketless}
-use Rattle.rules.specs.Calls.{Model, clientShare, rigGrace, Call, timed, looks, sets, claim, tests, step}
+use Rattle.rules.specs.Calls.{Model, declares, setsGrace, Call, timed, looks, setsUp, claim, tests, step}
 
 -- The call declares nobody.
 abbrev pub declaresNone : Call → Type 0
 declaresNone (timed t x) = Unit {0}
 declaresNone (looks q) = Unit {0}
-declaresNone (sets (clientShare c r l)) = ⊥
-declaresNone (sets (rigGrace n)) = Unit {0}
+declaresNone (setsUp (declares c r l)) = ⊥
+declaresNone (setsUp (setsGrace n)) = Unit {0}
 
 -- No call of the list does.
 abbrev pub DeclaresNone : List Call → Type 0

@@ -10,7 +10,7 @@ ghost use Rattle.numbers.specs.Numbers.{mostClock, mostLength, mostPending, mos
 ghost use Rattle.rules.specs.Claims.{at};
 ghost use Rattle.rules.specs.Shares.{shareOf};
 ghost use Rattle.rules.specs.Tests.{firstOf};
-ghost use Rattle.rules.specs.Calls.{claims, releases, withdraws, onlyClock, atPool, clientShare, rigGrace, timed, looks, sets, tests, advance, finish, remove, admit, step, new, standingValues, standing, standingOf, lookupValues, commonValues, commonOf, pairValues, freeOf};
+ghost use Rattle.rules.specs.Calls.{claims, releases, withdraws, movesClock, atPool, declares, setsGrace, timed, looks, setsUp, tests, advance, finish, remove, admit, step, new, standingValues, standing, standingOf, lookupGives, commonValues, commonOf, commonGives, freeOf};
 ghost use Rattle.rules.specs.Tables.{encode, model};
 ghost use Rattle.rules.specs.Invariants.{Still};
 ghost use Rattle.table.specs.Valid.{Formed, Valid};
@@ -121,7 +121,7 @@ fn shown(c: Claim) -> Standing
 // How the claim of a ticket stands. Cost: one pass at most.
 pub fn lookup(t: Table, ticket: u16) -> Standing
     requires { ⌜ Valid t ⌝ }
-    ensures { λ r. ⌜ (r ≡ standingOf ticket (model t .pending)) × (standingValues r ≡ lookupValues (model t) ticket) ⌝ }
+    ensures { λ r. ⌜ (r ≡ standingOf ticket (model t .pending)) × (standingValues r ≡ lookupGives (model t) ticket) ⌝ }
 {
     let count = t.count;
     let mut i: usize = 0;
@@ -155,7 +155,7 @@ fn find(t: Table, ticket: u16) -> usize
 // Which group the claims of two tickets share: 8 if either is not pending. Cost: two passes at most.
 pub fn common(t: Table, first: u16, second: u16) -> Common
     requires { ⌜ Valid t ⌝ }
-    ensures { λ r. ⌜ (r ≡ commonOf first second (model t .pending)) × (commonValues r ≡ pairValues (model t) first second) ⌝ }
+    ensures { λ r. ⌜ (r ≡ commonOf first second (model t .pending)) × (commonValues r ≡ commonGives (model t) first second) ⌝ }
 {
     let i = find(t, first);
     let j = find(t, second);
@@ -296,7 +296,7 @@ fn finished(t: Table, r: Reply) -> Outcome
 // Moves the clock. Refused: 5, 4.
 pub fn clock(t: Table, clock: u64) -> Outcome
     requires { ⌜ Valid t ⌝ }
-    ensures { λ r. ⌜ (r ≡ outcome (step (model t) (timed clock onlyClock))) × Valid (r .table) ⌝ }
+    ensures { λ r. ⌜ (r ≡ outcome (step (model t) (timed clock movesClock))) × Valid (r .table) ⌝ }
 {
     let n = time_number(t.clock, clock);
     if n != 0 {
@@ -419,7 +419,7 @@ pub fn withdraw(t: Table, clock: u64, ticket: u16) -> Outcome
 // The first of its tests that a declaration fails, or 0.
 fn declare_number(t: Table, client: u8, reserved: u8, limit: u8) -> u8
     requires { ⌜ Valid t ⌝ }
-    ensures { λ r. ⌜ r ≡ firstOf (tests (model t) (sets (clientShare client reserved limit))) ⌝ }
+    ensures { λ r. ⌜ r ≡ firstOf (tests (model t) (setsUp (declares client reserved limit))) ⌝ }
 {
     if refusals::begun(t.issued) {
         return numbers::MISFIT;
@@ -439,7 +439,7 @@ fn declare_number(t: Table, client: u8, reserved: u8, limit: u8) -> u8
 // Declares a client, with its guarantee and its limit. Refused: 13, 17, 19.
 pub fn declare(mut t: Table, client: u8, reserved: u8, limit: u8) -> Outcome
     requires { ⌜ Valid t ⌝ }
-    ensures { λ r. ⌜ (r ≡ outcome (step (model t) (sets (clientShare client reserved limit)))) × Valid (r .table) ⌝ }
+    ensures { λ r. ⌜ (r ≡ outcome (step (model t) (setsUp (declares client reserved limit)))) × Valid (r .table) ⌝ }
 {
     let number = declare_number(t, client, reserved, limit);
     if number == 0 {
@@ -457,7 +457,7 @@ pub fn declare(mut t: Table, client: u8, reserved: u8, limit: u8) -> Outcome
 // Sets the time that a holder past its promised end is expected to need from the clock on. Refused: 21.
 pub fn set_grace(mut t: Table, grace: u32) -> Outcome
     requires { ⌜ Valid t ⌝ }
-    ensures { λ r. ⌜ (r ≡ outcome (step (model t) (sets (rigGrace grace)))) × Valid (r .table) ⌝ }
+    ensures { λ r. ⌜ (r ≡ outcome (step (model t) (setsUp (setsGrace grace)))) × Valid (r .table) ⌝ }
 {
     if refusals::bad_grace(t.issued, grace) {
         return unchanged(t, numbers::GRACE);

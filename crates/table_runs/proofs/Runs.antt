@@ -1,40 +1,54 @@
--- Demand 3 holds of the code: a run's answers and tables are those of the rules.
+-- The theorems of `promises` hold of the code: a run's answers and tables are those of the rules.
 use mathlib.Core.Path.{_≡_, refl, sym, _∙_, ap, subst}
 use mathlib.Core.List.{List, _∷_}
 use Prim.Native.Nat.{ℕ}
 use Rattle.rules.specs.declared.Table.{Table}
-use Rattle.rules.specs.Calls.{Model, Look, atTicket, atTwo, atPool, Call, looks, Answer, Step, step, new, StandingValues, CommonValues}
+use Rattle.rules.specs.Calls.{Model, Look, atTicket, atTwo, atPool, claims, releases, withdraws, movesClock, declares, setsGrace, Call, timed, looks, setsUp, Answer, Step, step, new, StandingValues, CommonValues}
 use Rattle.rules.specs.Tables.{model}
 use Rattle.rules.proofs.Lookup.{look-answer, look-idle, lookup-told, common-told, free-told}
 use Rattle.promises.specs.Ledger.{Turn, Ledger, opening, turns, tableAfter}
-use Rattle.promises.specs.Runs.{TellsOf, Told, tells, Start, Begins, by-new as begins-new, AtAnyTime, AtAnyLater, AtAnyCall}
-use Rattle.promises.specs.Demand3.{Now, Next}
-use Rattle.promises.specs.PoolKept.{Kept}
-use Rattle.promises.specs.SharesKept.{SharesNow, SharesNext}
-use Rattle.promises.specs.EndsAwaited.{Awaited}
+use Rattle.promises.specs.Runs.{Telling, Told, tells, Start, Begins, by-new as begins-new, AtAnyTime, WhileNobodyOverruns, AtAnyLater, AtAnyCall}
+use Rattle.promises.specs.Demand3.{Now, NoWaitPast, Next}
 use Rattle.promises.specs.NumbersTested.{NumberTested}
-use Rattle.promises.specs.HeldUp.{Explained}
-use Rattle.promises.specs.NeverOvertaken.{NotOvertaken}
-use Rattle.promises.proofs.Demand3.{demand-3}
-use Rattle.promises.proofs.PoolKept.{pool-kept}
-use Rattle.promises.proofs.SharesKept.{shares-kept}
-use Rattle.promises.proofs.EndsAwaited.{ends-awaited}
-use Rattle.promises.proofs.NumbersTested.{numbers-tested}
-use Rattle.promises.proofs.HeldUp.{held-up}
-use Rattle.promises.proofs.NeverOvertaken.{never-overtaken}
-use Rattle.promises.specs.Replies.{Replies}
+use Rattle.promises.specs.Replies.{Replied}
 use Rattle.promises.specs.LeastStart.{Least}
 use Rattle.promises.specs.PlansApart.{Apart}
+use Rattle.promises.specs.WaitsExplained.{Explained}
+use Rattle.promises.specs.NeverOvertaken.{NotOvertaken}
+use Rattle.promises.specs.PoolKept.{Kept}
+use Rattle.promises.specs.SharesKept.{SharesNow, SharesNext}
+use Rattle.promises.specs.WholeCalls.{WholeCalls}
+use Rattle.promises.proofs.Demand3.{demand-3}
+use Rattle.promises.proofs.NumbersTested.{numbers-tested, new-tested}
 use Rattle.promises.proofs.Replies.{replies}
 use Rattle.promises.proofs.LeastStart.{least-start}
 use Rattle.promises.proofs.PlansApart.{plans-apart}
-use Rattle.promises.specs.WholeCalls.{WholeCalls}
+use Rattle.promises.proofs.WaitsExplained.{waits-explained}
+use Rattle.promises.proofs.NeverOvertaken.{never-overtaken}
+use Rattle.promises.proofs.PoolKept.{pool-kept}
+use Rattle.promises.proofs.SharesKept.{shares-kept}
+use Rattle.promises.proofs.TableKept.{table-kept}
 use Rattle.promises.proofs.WholeCalls.{whole-calls-after}
 use Rattle.table.specs.declared.Outcome.{Outcome}
 use Rattle.table.specs.Outcomes.{outcome}
 use Rattle.table.specs.Valid.{Valid}
-use Rattle.table_runs.specs.Runs.{answered, looked, Made, by-outcome, by-look, lookNumber, Run, done, then, Looks, BeganAs, by-new, RunValid, CodeAtAnyTime, CodeAtAnyLater, CodeAtAnyCall, CodeDemand3, CodePoolKept, CodeEndsAwaited, CodeHeldUp, CodeNeverOvertaken, CodeNumbersTested, CodeSharesKept, CodeWholeCalls, CodeSteps, CodeReplies, CodeLeastStart, CodePlansApart}
+use Rattle.table_runs.specs.Runs.{answered, looked, lookNumber, Promised, Shows, Made, by-call, by-look, Run, done, then, Looks, BeganAs, by-new, CodeAtAnyTime, CodeWhileNobodyOverruns, CodeAtAnyLater, CodeAtAnyCall, CodeDemand3, CodeNumbersTested, CodeNewTested, CodeReplies, CodeLeastStart, CodePlansApart, CodeWaitsExplained, CodeNeverOvertaken, CodePoolKept, CodeSharesKept, CodeTables}
 use Rattle.table.proofs.Promised.{outcome-model, outcome-grants}
+
+-- ── what the contracts say ──
+promised-is : {t : Table} → Valid t → (c : Call) (r : Outcome) → Promised t c r → (r ≡ outcome (step (model t) c)) × Valid (r .table)
+promised-is v (timed u (claims ask)) r p = p v
+promised-is v (timed u (releases k)) r p = p v
+promised-is v (timed u (withdraws k)) r p = p v
+promised-is v (timed u movesClock) r p = p v
+promised-is v (looks q) r p = absurd p
+promised-is v (setsUp (declares c g n)) r p = p v
+promised-is v (setsUp (setsGrace n)) r p = p v
+
+shows-is : {t : Table} → Valid t → (q : Look) (r : Telling q) → Shows t q r → r ≡ tells (model t) q
+shows-is v (atTicket k) r p = p v .0
+shows-is v (atTwo j k) r p = p v .0
+shows-is v atPool r p = p v .0
 
 -- ── one answer ──
 answer-of : (r : Outcome) (s : Step) → r ≡ outcome s → answered r ≡ s .answer
@@ -47,15 +61,17 @@ answer-of r s e =
 looked-is : (m : Model) (q : Look) (n : ℕ) → n ≡ step m (looks q) .answer .number → looked n ≡ step m (looks q) .answer
 looked-is m q n e = ap looked e ∙ look-answer m q
 
-look-number : (m : Model) (q : Look) (r : TellsOf q) → r ≡ tells m q → lookNumber q r ≡ step m (looks q) .answer .number
+look-number : (m : Model) (q : Look) (r : Telling q) → r ≡ tells m q → lookNumber q r ≡ step m (looks q) .answer .number
 look-number m (atTicket k) r e = ap (λ (x : StandingValues). x .number) (lookup-told m k r e .1)
 look-number m (atTwo j k) r e = ap (λ (x : CommonValues). x .number) (common-told m j k r e .1)
 look-number m atPool r e = free-told m
 
 -- ── a run is the rules' run ──
 made-is : {t u : Table} {c : Call} {a : Answer} → Valid t → Made t c a u → (a ≡ step (model t) c .answer) × (model u ≡ step (model t) c .model) × Valid u
-made-is {t} v (by-outcome c h r e) = (answer-of r (step (model t) c) (e v .0), outcome-model r (step (model t) c) (e v .0), e v .1)
-made-is {t} v (by-look q r e) = (looked-is (model t) q _ (look-number (model t) q r (e v)), sym (look-idle (model t) q), v)
+made-is {t} v (by-call c r p) =
+    let e = promised-is v c r p in
+    (answer-of r (step (model t) c) (e .0), outcome-model r (step (model t) c) (e .0), e .1)
+made-is {t} v (by-look q r p) = (looked-is (model t) q _ (look-number (model t) q r (shows-is v q r p)), sym (look-idle (model t) q), v)
 
 run-is : {t u : Table} {cs : List Call} {ts : List Turn} → Valid t → Run t cs ts u → (ts ≡ turns step (model t) cs) × (model u ≡ tableAfter step (model t) cs) × Valid u
 unfolding turns tableAfter
@@ -69,97 +85,101 @@ run-is v (then {t} {u} {w} {c} {a} {cs} {ts} one p) =
       ih .2,
     )
 
--- What lookup shows of a table is what the rules tell of its model.
-shows-is : (t : Table) (m : Model) (shows : Told) → Valid t → model t ≡ m → Looks t shows → shows ≡ tells m
-shows-is t m shows v e h = λ i q. (h q v ∙ ap (λ (x : Model). tells x q) e) i
+-- What lookups show of a table is what the rules tell of its model.
+looks-are : (t : Table) (m : Model) (shows : Told) → Valid t → model t ≡ m → Looks t shows → shows ≡ tells m
+looks-are t m shows v e h = λ i q. (shows-is v q (shows q) (h q) ∙ ap (λ (x : Model). tells x q) e) i
 
 -- Such a start is one of those of `promises`.
 began-is : {t : Table} {s : Start} → BeganAs t s → Begins s × (model t ≡ s .table) × Valid t
-began-is (by-new rig pool alone first q) = (
-  subst (λ (a : Answer). Begins (record { table = new rig pool alone .model; ledger = opening rig pool alone a })) (sym (answer-of first (new rig pool alone) (q .0))) (begins-new rig pool alone),
-  outcome-model first (new rig pool alone) (q .0),
-  q .1,
-)
-
-pub run-valid : (calls : List Call) → RunValid calls
-run-valid calls t s b ts u p = run-is (began-is b .2) p .2
-
--- What holds of every run of the rules holds of every run of the code.
-pub any-time-of-code : (calls : List Call) (Q : Type 0 → Ledger → Told → Type 0) → ((s : Start) → Begins s → AtAnyTime step s calls Q) → CodeAtAnyTime calls Q
-any-time-of-code calls Q h before rest e t s b ts u p shows k =
-    let i = began-is b in
-    let r = run-is (i .2) p in
-    rw (r .0 ∙ ap (λ (m : Model). turns step m before) (i .1), shows-is u _ shows (r .2) (r .1 ∙ ap (λ (m : Model). tableAfter step m before) (i .1)) k)
-    (h s (i .0) before rest e)
-
-pub any-later-of-code : (calls : List Call) (Q : Ledger → Told → Ledger → Told → Type 0) → ((s : Start) → Begins s → AtAnyLater step s calls Q) → CodeAtAnyLater calls Q
-any-later-of-code calls Q h before between rest e t s b ts u p old k us w q new k′ =
-    let i = began-is b in
-    let r = run-is (i .2) p in
-    let m : model u ≡ tableAfter step (s .table) before = r .1 ∙ ap (λ (x : Model). tableAfter step x before) (i .1) in
-    let d = run-is (r .2) q in
-    rw (
-      r .0 ∙ ap (λ (x : Model). turns step x before) (i .1),
-      shows-is u _ old (r .2) m k,
-      d .0 ∙ ap (λ (x : Model). turns step x between) m,
-      shows-is w _ new (d .2) (d .1 ∙ ap (λ (x : Model). tableAfter step x between) m) k′,
+began-is (by-new rig pool alone first p) =
+    let q : (first ≡ outcome (new rig pool alone)) × Valid (first .table) = p tt in (
+      subst (λ (a : Answer). Begins (record { table = new rig pool alone .model; ledger = opening rig pool alone a })) (sym (answer-of first (new rig pool alone) (q .0))) (begins-new rig pool alone),
+      outcome-model first (new rig pool alone) (q .0),
+      q .1,
     )
-    (h s (i .0) before between rest e)
+
+-- The table after a run from a start, and the turns.
+ran : {t u : Table} {s : Start} {cs : List Call} {ts : List Turn} → BeganAs t s → Run t cs ts u
+    → Begins s × (ts ≡ turns step (s .table) cs) × (model u ≡ tableAfter step (s .table) cs) × Valid u
+ran {t} {u} {s} {cs} b p =
+    let i = began-is b in
+    let r = run-is (i .2) p in
+    (i .0, r .0 ∙ ap (λ (m : Model). turns step m cs) (i .1), r .1 ∙ ap (λ (m : Model). tableAfter step m cs) (i .1), r .2)
+
+-- ── what holds of every run of the rules holds of every run of the code ──
+pub any-time-of-code : (calls : List Call) (Q : Ledger → Told → Type 0) → ((s : Start) → Begins s → AtAnyTime step s calls Q) → CodeAtAnyTime calls Q
+any-time-of-code calls Q h before rest e t s b ts u p shows k =
+    let r = ran b p in
+    rw (r .1, looks-are u _ shows (r .3) (r .2) k) (h s (r .0) before rest e)
+
+pub while-of-code : (calls : List Call) (Q : Ledger → Told → Type 0) → ((s : Start) → Begins s → WhileNobodyOverruns step s calls Q) → CodeWhileNobodyOverruns calls Q
+while-of-code calls Q h before rest e t s b ts u p shows k =
+    let r = ran b p in
+    rw (r .1, looks-are u _ shows (r .3) (r .2) k) (h s (r .0) before rest e)
+
+pub any-later-of-code : (calls : List Call) (Q : Told → Told → Type 0) → ((s : Start) → Begins s → AtAnyLater step s calls Q) → CodeAtAnyLater calls Q
+any-later-of-code calls Q h before between rest e t s b ts u p old k us w q new k′ =
+    let r = ran b p in
+    let d = run-is (r .3) q in
+    rw (looks-are u _ old (r .3) (r .2) k, looks-are w _ new (d .2) (d .1 ∙ ap (λ (x : Model). tableAfter step x between) (r .2)) k′)
+    (h s (r .0) before between rest e)
 
 pub any-call-of-code : (calls : List Call) (Q : Ledger → Turn → Told → Told → Type 0) → ((s : Start) → Begins s → AtAnyCall step s calls Q) → CodeAtAnyCall calls Q
 any-call-of-code calls Q h before c rest e t s b ts u p a w one old new k k′ =
-    let i = began-is b in
-    let r = run-is (i .2) p in
-    let m : model u ≡ tableAfter step (s .table) before = r .1 ∙ ap (λ (x : Model). tableAfter step x before) (i .1) in
-    let d = made-is (r .2) one in
+    let r = ran b p in
+    let d = made-is (r .3) one in
     rw (
-      r .0 ∙ ap (λ (x : Model). turns step x before) (i .1),
-      d .0 ∙ ap (λ (x : Model). step x c .answer) m,
-      shows-is u _ old (r .2) m k,
-      shows-is w _ new (d .2) (d .1 ∙ ap (λ (x : Model). step x c .model) m) k′,
+      r .1,
+      d .0 ∙ ap (λ (x : Model). step x c .answer) (r .2),
+      looks-are u _ old (r .3) (r .2) k,
+      looks-are w _ new (d .2) (d .1 ∙ ap (λ (x : Model). step x c .model) (r .2)) k′,
     )
-    (h s (i .0) before c rest e)
+    (h s (r .0) before c rest e)
 
+-- ── the theorems ──
 pub code-demand-3 : (calls : List Call) → CodeDemand3 calls
 code-demand-3 calls = record {
   at-any-time = any-time-of-code calls Now (λ s b. demand-3 s b calls .at-any-time);
+  no-wait-past = while-of-code calls NoWaitPast (λ s b. demand-3 s b calls .no-wait-past);
   at-any-call = any-call-of-code calls Next (λ s b. demand-3 s b calls .at-any-call);
 }
 
-pub code-pool-kept : (calls : List Call) → CodePoolKept calls
-code-pool-kept calls = any-time-of-code calls (λ _ l told. Kept l told) (λ s b. pool-kept s b calls)
+pub code-numbers-tested : (calls : List Call) → CodeNumbersTested calls
+code-numbers-tested calls = any-call-of-code calls NumberTested (λ s b. numbers-tested s b calls)
 
-pub code-ends-awaited : (calls : List Call) → CodeEndsAwaited calls
-code-ends-awaited calls = any-time-of-code calls (λ _ l told. Awaited l told) (λ s b. ends-awaited s b calls)
+pub code-new-tested : CodeNewTested
+code-new-tested rig pool alone r p =
+    let e : r ≡ outcome (new rig pool alone) = p .0 in
+    ap (λ (a : Answer). a .number) (answer-of r (new rig pool alone) e) ∙ new-tested rig pool alone
 
-pub code-held-up : (calls : List Call) → CodeHeldUp calls
-code-held-up calls = any-time-of-code calls (λ _ l told. Explained l told) (λ s b. held-up s b calls)
+pub code-replies : (calls : List Call) → CodeReplies calls
+code-replies calls = any-call-of-code calls Replied (λ s b. replies s b calls)
+
+pub code-least-start : (calls : List Call) → CodeLeastStart calls
+code-least-start calls = any-call-of-code calls Least (λ s b. least-start s b calls)
+
+pub code-plans-apart : (calls : List Call) → CodePlansApart calls
+code-plans-apart calls = any-time-of-code calls Apart (λ s b. plans-apart s b calls)
+
+pub code-waits-explained : (calls : List Call) → CodeWaitsExplained calls
+code-waits-explained calls = any-time-of-code calls Explained (λ s b. waits-explained s b calls)
 
 pub code-never-overtaken : (calls : List Call) → CodeNeverOvertaken calls
 code-never-overtaken calls = any-later-of-code calls NotOvertaken (λ s b. never-overtaken s b calls)
 
-pub code-numbers-tested : (calls : List Call) → CodeNumbersTested calls
-code-numbers-tested calls = any-call-of-code calls (λ l t _ _. NumberTested l t) (λ s b. numbers-tested s b calls)
+pub code-pool-kept : (calls : List Call) → CodePoolKept calls
+code-pool-kept calls = any-time-of-code calls Kept (λ s b. pool-kept s b calls)
 
 pub code-shares-kept : (calls : List Call) → CodeSharesKept calls
 code-shares-kept calls = record {
-  at-any-time = any-time-of-code calls (λ _ l _. SharesNow l) (λ s b. shares-kept s b calls .at-any-time);
-  at-any-call = any-call-of-code calls (λ l t _ _. SharesNext l t) (λ s b. shares-kept s b calls .at-any-call);
+  at-any-time = any-time-of-code calls SharesNow (λ s b. shares-kept s b calls .at-any-time);
+  at-any-call = any-call-of-code calls SharesNext (λ s b. shares-kept s b calls .at-any-call);
 }
 
-pub code-whole-calls : (calls : List Call) → CodeWholeCalls calls
-code-whole-calls calls t s b ts u p =
-    let i = began-is b in
-    subst WholeCalls (sym (run-is (i .2) p .1 ∙ ap (λ (m : Model). tableAfter step m calls) (i .1))) (whole-calls-after s (i .0) calls)
-
-pub code-steps : (calls : List Call) → CodeSteps calls
-code-steps calls t s b ts u p c a w one = let r = made-is (run-valid calls t s b ts u p) one in (r .0, r .1)
-
-pub code-replies : (calls : List Call) → CodeReplies calls
-code-replies calls = any-call-of-code calls (λ _ t old new. Replies t old new) (λ s b. replies s b calls)
-
-pub code-least-start : (calls : List Call) → CodeLeastStart calls
-code-least-start calls = any-call-of-code calls (λ l t _ new. Least l t new) (λ s b. least-start s b calls)
-
-pub code-plans-apart : (calls : List Call) → CodePlansApart calls
-code-plans-apart calls = any-time-of-code calls (λ _ l told. Apart l told) (λ s b. plans-apart s b calls)
+pub code-tables : (calls : List Call) → CodeTables calls
+code-tables calls = record {
+  valid = λ t s b ts u p. ran b p .3;
+  kept = λ t s b ts u p. (let r = ran b p in rw (r .1, r .2) (table-kept s (r .0) calls));
+  whole = λ t s b ts u p. (let r = ran b p in subst WholeCalls (sym (r .2)) (whole-calls-after s (r .0) calls));
+  steps = λ t s b ts u p c a w one. (let d = made-is (ran b p .3) one in (d .0, d .1));
+}
