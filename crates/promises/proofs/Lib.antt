@@ -11,4 +11,5 @@ pub mod NeverOvertaken
 pub mod PoolKept
 pub mod SharesKept
 pub mod TableKept
+pub mod Promises
 pub mod Worthless

@@ -11,7 +11,7 @@ use borrow.Author.Tests.{not-true, eqb-false, ne-eqb, eq-eqb, leb-false, ltb-tru
 use Rattle.numbers.specs.Numbers.{mostTickets}
 use Rattle.rules.specs.declared.Claim.{Claim}
 use Rattle.rules.specs.declared.Request.{Request}
-use Rattle.rules.specs.Lists.{_∈_, sum, any, keep}
+use Rattle.rules.specs.Lists.{_∈_, greatest, sum, any, keep}
 use Rattle.rules.specs.declared.Setting.{Setting}
 use Rattle.rules.specs.Claims.{on, at, withPhase, rival, endOf, remaining}
 use Rattle.rules.specs.declared.Phase.the-variants.{On}
@@ -27,8 +27,10 @@ use Rattle.rules.specs.Calls.{Model, ruled, settingOf, claims, releases, withdr
 use Rattle.rules.specs.Invariants.{IsSpaced, IsPacked, Still, Invariant}
 use Rattle.rules.proofs.Bools.{clash, by-test, or-fr}
 use Rattle.rules.proofs.Lists.{here, map-e, map-i, keep-e, keep-i, any-some, named-keep, sum-map, sum-le, sum-both}
-use Rattle.rules.proofs.Order.{precedes-e, precedes-lt, ascending-same}
-use Rattle.rules.proofs.Packing.{moved-phase, moved-at, moved-ticket, pack-precedes, pack-no-later}
+use Rattle.rules.proofs.Claims.{waiting-is}
+use Rattle.rules.proofs.Order.{meets-none, ends-precedes, ascending-same}
+use Rattle.rules.proofs.NoUnits.{start-documented}
+use Rattle.rules.proofs.Packing.{moved-cases, moved-phase, moved-at, moved-ticket, pack-precedes, pack-no-later}
 use Rattle.rules.proofs.Placing.{place-low, place-least}
 use Rattle.rules.proofs.Granting.{goes-eq, taken-ticket, goes-wait, goes-at, granted-cases, granted-on, granted-at, grant-precedes}
 use Rattle.rules.proofs.Invariants.{spaced-clear, settled-packs, spaced-packs}
@@ -155,10 +157,33 @@ timed-finish : (m q : Model) (t : ℕ) (rep : Reply) → Invariant m → IsSpace
     → ((x : Claim) → x ∈ q .pending → (x ∈ advance m t .pending) ⊎ (m .issued < x .ticket)) → TimedCall m t (finish q rep)
 timed-finish m q t rep i sp e old = record {
   clock-set = finish-clock q rep ∙ e;
-  starts-packed = let r : Model = finish q rep .model in settled-packs (r .issued) (settingOf r) (r .pending) (finish-invariant q rep sp);
+  starts-packed = packs;
+  starts-documented = λ w wi o z.
+      start-documented v ps w z at packs wi o
+      ∙ ap (λ (f : Claim → ℕ). greatest f (v .clock) (keep (λ c. precedes c w) ps)) (λ i c. endOf v (moved-same c i))
+      ∙ ap (λ (n : ℕ). greatest (endOf v) n (keep (λ c. precedes c w) ps)) (finish-clock q rep ∙ e);
   none-overtaken = finish-order m q t rep i sp old;
   units-wanting = λ w wi o a none. finish-wanting q rep sp w wi o (a ∙ sym e) none;
+  grants-documented = λ w wi o z.
+      let h = inv .blocked w wi o in
+      let r = meets-none (h .0) w z (h .2) in
+      (h .0, h .1, ends-precedes v (h .0) w (inv .spaced .proper (h .0) (h .1) .sane) r (omega (arith, h .3)));
 }
+  where
+    v : Setting
+    v = settingOf (finish q rep .model)
+
+    ps : List Claim
+    ps = finish q rep .model .pending
+
+    inv : Invariant (finish q rep .model)
+    inv = finish-invariant q rep sp
+
+    packs : Packs v ps at
+    packs = settled-packs (finish q rep .model .issued) v ps inv
+
+    moved-same : (c : Claim) → moved at c ≡ c
+    moved-same c = moved-cases (λ (x : Claim). x ≡ c) at c (λ o. refl) (λ o. waiting-is c o)
 
 -- A claim stays or is granted at its start.
 granted-stays : (v : Setting) (ps : List Claim) (x : Claim) → Stays (v .clock) x (granted v ps x)
@@ -323,7 +348,7 @@ module _ (m : Model) (i : Invariant m) (t k : ℕ) (o : Clocked m t) where
 -- ── the first packing, and a clock call ──
 first-packing : (m : Model) → Invariant m → (t : ℕ) → FirstPacking m t
 unfolding advance pack
-first-packing m i t = record { starts = packedStart (ruled m t) (m .pending); packs = packs-as-documented m (i .spaced) t .0; packed = refl }
+first-packing m i t = record { starts = packedStart (ruled m t) (m .pending); packs = packs-as-documented m (i .spaced) t .0; packed = refl; no-other = packs-as-documented m (i .spaced) t .1 }
 
 module _ (m : Model) (i : Invariant m) (t : ℕ) where
   pub clocked-is : finish (advance m t) (plain 0 t) .model .pending ≡ grant (ruled m t) (advance m t .pending)

@@ -197,7 +197,7 @@ all-refused = record {
       omega arith;
   last-packed = λ d.
       let x = d .all-stay later (there {y = drawer 1 (On 0) 20 1} (there {y = drawer 2 (On 0) 20 1} (here {l = drawer 4 (Waiting 20) 10 1 ∷ []}))) (λ (e : _≡_ {A = ℕ} 3 2). omega arith) in
-      let z : d .starts later ≤ 5 = d .packs later (there {y = drawer 1 (On 0) 20 1} here) refl .1 5 (record {
+      let z : d .starts later ≤ 5 = d .packs later (there {y = drawer 1 (On 0) 20 1} (here {l = drawer 4 (Waiting 20) 10 1 ∷ []})) refl .1 5 (record {
         from-clock = omega arith;
         after = λ c i p. absurd (of-three (λ (y : Claim). precedes y later ≡ true → ⊥) (drawer 1 (On 0) 20 1) later (drawer 4 (Waiting 20) 10 1) c (λ q. clash q refl) (λ q. clash q refl) (λ q. clash q refl) i p);
         spare = λ u y p q. two-of-two (ltb y 20);

@@ -11,5 +11,6 @@ pub mod NeverOvertaken
 pub mod PoolKept
 pub mod SharesKept
 pub mod TableKept
+pub mod Promises
 pub mod WholeCalls
 pub mod Worthless

@@ -10,8 +10,8 @@ use lib.ListN.{length as count}
 use Rattle.rules.specs.declared.Claim.{Claim}
 use Rattle.rules.specs.declared.Phase.the-variants.{On}
 use Rattle.rules.specs.declared.Request.{Request}
-use Rattle.rules.specs.Lists.{_∈_, sum, any}
-use Rattle.rules.specs.Claims.{on, at, withPhase, remaining}
+use Rattle.rules.specs.Lists.{_∈_, greatest, sum, any, keep}
+use Rattle.rules.specs.Claims.{on, at, withPhase, endOf, remaining}
 use Rattle.rules.specs.Order.{precedes, rivals}
 use Rattle.rules.specs.Packing.{moved, Packs}
 use Rattle.rules.specs.Plans.{Fits}
@@ -35,6 +35,10 @@ pub record TimedCall (m : Model) (t : ℕ) (s : Step) : Type 0 where
   -- "Each gets the least start, not below the clock, that comes after the conflicting claims preceding it and leaves units enough beside
   -- the on claims and those already packed."
   pub starts-packed : Packs (settingOf (s .model)) (s .model .pending) at
+  -- For a claim that draws no units that is document 01's: "Each waiting claim's planned start becomes the greatest of the clock and the ends
+  -- of the claims that precede it."
+  pub starts-documented : (w : Claim) → w ∈ s .model .pending → on w ≡ false → w .units ≡ 0
+      → at w ≡ greatest (endOf (settingOf (s .model))) t (keep (λ c. precedes c w) (s .model .pending))
   -- "Of two conflicting waiting claims the one with the smaller planned start precedes. Packing never changes this", and granting neither:
   -- what precedes a waiting claim w before the call precedes it after, for as long as both are pending, and w still waits.
   pub none-overtaken : (d d′ w w′ : Claim) → Becomes m (s .model) d d′ → Becomes m (s .model) w w′ → on w ≡ false → precedes d w ≡ true
@@ -43,6 +47,8 @@ pub record TimedCall (m : Model) (t : ℕ) (s : Step) : Type 0 where
   -- on start at the clock, so the grants before it are those of lower tickets. Who stays where nobody precedes it wanted units.
   pub units-wanting : (w : Claim) → w ∈ s .model .pending → on w ≡ false → at w ≡ t → ((d : Claim) → d ∈ s .model .pending → precedes d w ≡ false)
       → s .model .pool < sum (keptFrom (s .answer .grants) w) (s .model .pending) + w .units
+  -- For a claim that draws none that is document 01's: "Every waiting claim that no pending claim precedes goes on at the call's clock."
+  pub grants-documented : (w : Claim) → w ∈ s .model .pending → on w ≡ false → w .units ≡ 0 → (d : Claim) × d ∈ s .model .pending × (precedes d w ≡ true)
 
 -- "first sets the clock and packs the waiting claims": what the other records call `advance m t`. "Packing takes waiting claims by start,
 -- then ticket": by the starts that they have in m.
@@ -50,6 +56,8 @@ pub record FirstPacking (m : Model) (t : ℕ) : Type 0 where
   pub starts : Claim → ℕ
   pub packs : Packs (ruled m t) (m .pending) starts
   pub packed : advance m t .pending ≡ map (moved starts) (m .pending)
+  -- No other starts are so.
+  pub no-other : (f : Claim → ℕ) → Packs (ruled m t) (m .pending) f → (w : Claim) → w ∈ m .pending → on w ≡ false → f w ≡ starts w
 
 -- A packed claim x is d after the call: as it was, or granted at the start that it had.
 abbrev pub Stays : ℕ → Claim → Claim → Type 0

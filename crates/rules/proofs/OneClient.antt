@@ -87,12 +87,12 @@ tests-as-ever m a = record {
 }
 
 -- ── a run ──
-step-alone : (m : Model) (c : Call) → declaresNone c → Alone m → Alone (step m c .model)
+step-alone : (m : Model) (c : Call) → (step m c .answer .number ≡ 0 → declaresNone c) → Alone m → Alone (step m c .model)
 step-alone m c d a =
-    step-cases (λ c s. declaresNone c → Alone (s .model)) m (λ c n z d. a)
+    step-cases (λ c s. (s .answer .number ≡ 0 → declaresNone c) → Alone (s .model)) m (λ c n z d. a)
     (λ t ask p d. record { declared = admit-shares m t ask ∙ a .declared; own = of-clients _ (admitted t ask p) })
     (λ c t k q o v d. record { declared = finish-shares q (plain k t) ∙ leaves-shares v ∙ a .declared; own = of-clients _ (left c t k q v) })
-    (λ c r l e d. absurd d) (λ n e d. record { declared = a .declared; own = a .own }) c d
+    (λ c r l e d. absurd (d refl)) (λ n e d. record { declared = a .declared; own = a .own }) c d
   where
     of-clients : (ps : List Claim) → ((k : ℕ) → k ∈ clientsOf ps → k ≡ 1) → (c : Claim) → c ∈ ps → c .client ≡ 1
     of-clients ps h c i = h (c .client) (map-i (λ (c : Claim). c .client) i)
@@ -112,7 +112,7 @@ step-alone m c d a =
         let y = map-i (λ (c : Claim). c .client) (leaves-old v (r .0) (r .1)) in
         r .2 ∙ clients-own (m .pending) (a .own) (r .0 .client) (subst (λ (ks : List ℕ). r .0 .client ∈ ks) (advance-clients m t) y)
 
-pub after-alone : (m : Model) (cs : List Call) → DeclaresNone cs → Alone m → Alone (after m cs)
+pub after-alone : (m : Model) (cs : List Call) → DeclaresNone m cs → Alone m → Alone (after m cs)
 unfolding after
 after-alone m [] d a = a
 after-alone m (c ∷ cs) d a = after-alone (step m c .model) cs (d .1) (step-alone m c (d .0) a)
@@ -121,6 +121,6 @@ new-alone : (g k : ℕ) → Alone (new g k true .model)
 new-alone g k =
     new-cases (λ (s : Step). Alone (s .model)) g k true (λ e. record { declared = refl; own = λ c i. none i }) (λ e. record { declared = refl; own = λ c i. none i })
 
--- After any calls that declare nobody.
-pub alone-as-ever : (g k : ℕ) (cs : List Call) → DeclaresNone cs → TestsAsEver (after (new g k true .model) cs)
+-- After any calls by which nobody is declared.
+pub alone-as-ever : (g k : ℕ) (cs : List Call) → DeclaresNone (new g k true .model) cs → TestsAsEver (after (new g k true .model) cs)
 alone-as-ever g k cs d = tests-as-ever _ (after-alone (new g k true .model) cs d (new-alone g k))

@@ -1,5 +1,5 @@
 -- Client 1 alone: tables as loads of editions 1 and 2 make them, "with desk 1 declared, guarantee and limit 64", and nobody else. Then a
--- claim is tested as document 01 says: 6 comes as there, and 18 never. proofs/OneClient has it for every such run.
+-- claim is tested as document 01 says: 6 comes as there, and 18 never. proofs/OneClient has it for every such run (`alone-as-ever`).
 use mathlib.Core.Path.{_≡_}
 use mathlib.Core.Logic.{_≢_}
 use mathlib.Core.Bool.{true}
@@ -21,10 +21,10 @@ declaresNone (looks q) = Unit {0}
 declaresNone (setsUp (declares c r l)) = ⊥
 declaresNone (setsUp (setsGrace n)) = Unit {0}
 
--- No call of the list does.
-abbrev pub DeclaresNone : List Call → Type 0
-DeclaresNone [] = Unit {0}
-DeclaresNone (c ∷ cs) = declaresNone c × DeclaresNone cs
+-- Nor does any accepted call of the list, made from table m on.
+abbrev pub DeclaresNone : Model → List Call → Type 0
+DeclaresNone m [] = Unit {0}
+DeclaresNone m (c ∷ cs) = (step m c .answer .number ≡ 0 → declaresNone c) × DeclaresNone (step m c .model) cs
 
 -- "A claim is tested in the order 5, 4, 1, 2, 3, 6, 7": document 01's, and with "16 .. after 2" those of a table with a pool.
 abbrev pub documentedTests : Model → ℕ → Request → List Test

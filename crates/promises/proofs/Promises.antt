@@ -1,0 +1,29 @@
+-- All of it holds, of every start and every list of calls.
+use mathlib.Core.List.{List}
+use Rattle.rules.specs.Calls.{Call}
+use Rattle.promises.specs.Runs.{Start, Begins}
+use Rattle.promises.specs.Promises.{Promises}
+use Rattle.promises.proofs.Demand3.{demand-3}
+use Rattle.promises.proofs.NumbersTested.{numbers-tested}
+use Rattle.promises.proofs.Replies.{replies}
+use Rattle.promises.proofs.LeastStart.{least-start}
+use Rattle.promises.proofs.PlansApart.{plans-apart}
+use Rattle.promises.proofs.WaitsExplained.{waits-explained}
+use Rattle.promises.proofs.NeverOvertaken.{never-overtaken}
+use Rattle.promises.proofs.PoolKept.{pool-kept}
+use Rattle.promises.proofs.SharesKept.{shares-kept}
+use Rattle.promises.proofs.TableKept.{table-kept}
+
+pub promises : (s : Start) → Begins s → (calls : List Call) → Promises s calls
+promises s b calls = record {
+  demand-3 = demand-3 s b calls;
+  numbers-tested = numbers-tested s b calls;
+  replies = replies s b calls;
+  least-start = least-start s b calls;
+  plans-apart = plans-apart s b calls;
+  waits-explained = waits-explained s b calls;
+  never-overtaken = never-overtaken s b calls;
+  pool-kept = pool-kept s b calls;
+  shares-kept = shares-kept s b calls;
+  table-kept = table-kept s b calls;
+}
