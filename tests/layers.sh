@@ -1,18 +1,21 @@
 #!/usr/bin/env bash
 # What a crate cites of the crates below it. tests/layers.txt lists, for each pair, the files of specs/ and proofs/ that it may cite; any
-# other is an error. Types and the statements of functions may be cited by all. The last line is 'N passed, M failed'.
+# other is an error. Types may be cited by all, and of a function what it states, not how that is proved. The last line is
+# 'N passed, M failed'.
 set -u -o pipefail
 cd "$(dirname "$0")/.." || exit 2
 . tests/lib.sh || exit 2
 work=$(mktemp -d) || exit 2
 trap 'rm -rf "$work"' EXIT
 
-# cites: a line `FILE LOWER PART/MODULE` for each file of a lower crate that a file cites.
+# cites: a line `FILE LOWER PART/MODULE` for each module of a lower crate that a file names, in a `use` or in place; what stands after `.{`
+# is not looked at, and the line then ends in `.{`.
 cites() {
     find crates -name '*.antt' -o -name '*.rt' | grep -v /must-fail/ | sort | while read -r file; do
         crate=${file#crates/}
         crate=${crate%%/*}
-        sed -nE 's/^ *(ghost |pub |unfoldable )*use Rattle·([a-z0-9_]+)\.(specs|proofs)\.([A-Za-z0-9_+]+).*/\2 \3\/\4/p' "$file" | sort -u | while read -r lower cited; do
+        sed -E 's/(--|\/\/).*//' "$file" | { grep -oE 'Rattle·[a-z0-9_]+(·specs|·proofs)?\.(specs|proofs)(\.[A-Za-z0-9_+]+)*(\.\{)?' || true; } \
+            | sed -E 's/^Rattle·([a-z0-9_]+)(·specs|·proofs)?\.(specs|proofs)\.?/\1 \3\//' | sort -u | while read -r lower cited; do
             [ "$lower" = "$crate" ] || echo "$file $lower $cited"
         done
     done
@@ -36,11 +39,20 @@ judge() {
         sub(/^crates\//, "", crate)
         file = crate
         sub(/\/.*/, "", crate)
-        # types, and the modules that the checker makes of each function
-        if ($3 == "specs/declared" || $3 ~ /^proofs\/[a-z+]/ || $3 == "proofs/Item") next
-        if ((crate " " $2 " " $3) in may) { used[crate " " $2 " " $3] = 1; print "ok"; next }
-        if ((file " " $2 " " $3) in may) { used[file " " $2 " " $3] = 1; print "ok"; next }
-        print $1 ": cites " $3 " of " $2 ", which tests/layers.txt does not list"
+        cited = $3
+        # of a function, its module and what the checker makes of its contract; not `Proof` or `Tie`, and not what stands after its `.{`
+        if (cited ~ /^proofs\/[a-z+]/) {
+            sub(/\.(Statement|Symbol|Met|Reads)(\.\{)?$/, "", cited)
+            if (cited ~ /^[a-z0-9_+\/.]+$/) next
+            sub(/\.\{$/, "", cited)
+        } else {
+            sub(/\..*/, "", cited)
+        }
+        # types
+        if (cited == "specs/declared" || cited == "proofs/Item") next
+        if ((crate " " $2 " " cited) in may) { used[crate " " $2 " " cited] = 1; print "ok"; next }
+        if ((file " " $2 " " cited) in may) { used[file " " $2 " " cited] = 1; print "ok"; next }
+        print $1 ": cites " cited " of " $2 ", which tests/layers.txt does not list"
     }
     END {
         for (k in may) if (!(k in used)) print "tests/layers.txt: nothing cites " k

@@ -1,10 +1,11 @@
--- The search for the lowest ticket that is on: tickets ascend, so the first claim that is on has it.
+-- The search for the lowest ticket that is on: the claims of a table lie by ascending ticket (`claims-by-ticket`), so the first that is on has
+-- it.
 use mathlib.Core.Path.{_≡_, refl, sym, ap, _∙_}
 use mathlib.Core.Bool.{true, false}
-use mathlib.Core.List.{List, [], _∷_}
+use mathlib.Core.List.{List, _∷_}
 use Prim.Native.Nat.{ℕ, _+_, _≤_, _<_}
 use native.Mathlib.Omega.{arith}
-use lib.ListN.{length, take, drop, getD}
+use lib.ListN.{take, drop, getD}
 use Rattle.rules.specs.declared.Claim.{Claim}
 use Rattle.rules.specs.declared.Table.{Table}
 use Rattle.rules.specs.Lists.{keep, least}
@@ -12,8 +13,9 @@ use Rattle.rules.specs.Claims.{on}
 use Rattle.rules.specs.Plans.{Ascending}
 use Rattle.rules.specs.Tables.{vacant, model}
 use Rattle.rules.proofs.Lists.{Each, keep-e, map-e, least-under, least-low, ascends-drop}
-use Rattle.rules.proofs.Places.{prefix-step, prefix-end, pad-length}
+use Rattle.rules.proofs.Places.{prefix-step, prefix-end}
 use Rattle.table.specs.Valid.{Valid}
+use Rattle.table.proofs.Promised.{ClaimsByTicket, claims-by-ticket}
 use Rattle.generator.specs.declared.MaybeTicket.the-variants.{Ticket, NoTicket}
 use Rattle.generator.specs.Workload.{ticketsOn, lowestOf, lowestOn}
 
@@ -36,39 +38,29 @@ passed-by c ps e = rw e refl
 
 -- The loop's invariant: what is asked of the whole is asked of the claims that are left.
 pub record Seeking (t : Table) (i : ℕ) : Type 0 where
-  pub places : length (t .claims) ≡ 64
-  pub few : t .count ≤ 64
+  pub by-ticket : ClaimsByTicket t
   pub within : i ≤ t .count
-  pub ascends : Ascending (model t .pending)
   pub same : lowestOf (ticketsOn (drop i (take (t .count) (t .claims)))) ≡ lowestOn (model t)
 
 pub seeking-start : (t : Table) → Valid t → Seeking t 0
 unfolding lowestOn
 seeking-start t v =
-    let f = v .formed in
-    let e : length (model t .pending) ≡ t .count = ap (λ (x : Table). x .count) (f .whole) in
-    let r = f .ranged .few in
-    record {
-      places = sym (ap (λ (x : Table). length (x .claims)) (f .whole)) ∙ pad-length vacant (model t .pending) r;
-      few = omega arith;
-      within = omega arith;
-      ascends = f .ranged .ascending;
-      same = refl;
-    }
+    let l = claims-by-ticket t v in
+    record { by-ticket = l; within = omega arith; same = ap (λ (ps : List Claim). lowestOf (ticketsOn ps)) (l .meant) }
 
 module _ (t : Table) (i : ℕ) (s : Seeking t i) where
   here-is : i < t .count → drop i (take (t .count) (t .claims)) ≡ getD (t .claims) i vacant ∷ drop (i + 1) (take (t .count) (t .claims))
-  here-is h = let p = s .places in let f = s .few in prefix-step vacant (t .claims) (t .count) i h (omega arith)
+  here-is h = prefix-step vacant (t .claims) (t .count) i h (omega (arith, s .by-ticket .places, s .by-ticket .few))
 
   pub seeking-here : i < t .count → on (getD (t .claims) i vacant) ≡ true → Ticket (getD (t .claims) i vacant .ticket) ≡ lowestOn (model t)
   seeking-here h e =
       let q = here-is h in
-      sym (first-on _ _ (rw q at (ascends-drop (λ (c : Claim). c .ticket) i (model t .pending) (s .ascends))) e) ∙ (rw q at (s .same))
+      sym (first-on _ _ (rw q at (ascends-drop (λ (c : Claim). c .ticket) i (take (t .count) (t .claims)) (s .by-ticket .ascending))) e) ∙ (rw q at (s .same))
 
   pub seeking-next : i < t .count → on (getD (t .claims) i vacant) ≡ false → Seeking t (i + 1)
   seeking-next h e =
       let q = here-is h in
-      record { places = s .places; few = s .few; within = omega arith; ascends = s .ascends; same = sym (passed-by _ _ e) ∙ (rw q at (s .same)) }
+      record { by-ticket = s .by-ticket; within = omega arith; same = sym (passed-by _ _ e) ∙ (rw q at (s .same)) }
 
   pub seeking-none : t .count ≤ i → NoTicket ≡ lowestOn (model t)
   unfolding keep

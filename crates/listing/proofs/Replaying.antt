@@ -11,7 +11,7 @@ use Rattle.rules.specs.Tables.{model}
 use Rattle.table.specs.declared.Outcome.{Outcome}
 use Rattle.table.specs.Valid.{Valid}
 use Rattle.table.specs.Outcomes.{outcome}
-use Rattle.table.proofs.Promised.{outcome-model}
+use Rattle.table.proofs.Promised.{outcome-model, valid-whole}
 use Rattle.load.specs.declared.Call.{Call}
 use Rattle.load.specs.declared.Item.the-variants.{Record, End, Refused}
 use Rattle.load.specs.Reading.{itemAt, walk, openNumber}
@@ -62,7 +62,7 @@ abbrev built : Table → ℕ → ℕ → Replayed
 built t n k = record { table = t; stop = n; at = k }
 
 as-built : (t : Table) (n k : ℕ) → Valid t → (r : Replay) → r ≡ stoppedAt n k (model t) → (built t n k ≡ replayed r) × Valid t
-as-built t n k v r e = (ap (λ (u : Table). built u n k) (sym (v .formed .whole)) ∙ ap replayed (sym e), v)
+as-built t n k v r e = (ap (λ (u : Table). built u n k) (sym (valid-whole t v)) ∙ ap replayed (sym e), v)
 
 module _ (s : List ℕ) (alone : Bool) (t : Table) (at k : ℕ) (w : Replaying s alone t at k) where
   ends-so : (n j : ℕ) → replayIn alone k (model t) (walk s at) ≡ stoppedAt n j (model t) → (built t n j ≡ replayed (replayIn alone 1 unrigged (walk s 1))) × Valid t

@@ -5,8 +5,10 @@ use mathlib.Core.Bool.{Bool}
 use Prim.Native.Nat.{ℕ, _+_, _-_, _≤_}
 use native.Mathlib.Omega.{arith}
 use lib.ListN.{length, take}
+use Rattle.rules.specs.declared.Table.{Table}
 use Rattle.rules.specs.Calls.{Model, Call, Step, step, blank, new}
-use Rattle.rules.specs.Tables.{model}
+use Rattle.rules.specs.Plans.{Ascending}
+use Rattle.rules.specs.Tables.{encode, model}
 use Rattle.rules.proofs.Calls.{new-cases}
 pub use Rattle.rules.proofs.GrantCounts.{waiting}
 use Rattle.rules.proofs.GrantCounts.{waiting-none, Counted, step-counted, new-counted}
@@ -14,7 +16,7 @@ use Rattle.table.specs.declared.Outcome.{Outcome}
 use Rattle.table.specs.Valid.{Valid}
 use Rattle.table.specs.Outcomes.{outcome}
 use Rattle.rules.proofs.Places.{pad-take}
-use Rattle.table.proofs.Ranges.{model-is, formed-few}
+use Rattle.table.proofs.Ranges.{model-is, formed-few, formed-length}
 
 -- ── what an outcome tells ──
 module _ (o : Outcome) (s : Step) (p : o ≡ outcome s) where
@@ -25,6 +27,22 @@ module _ (o : Outcome) (s : Step) (p : o ≡ outcome s) where
   -- Its first `granted` grants are the tickets that the answer names.
   pub outcome-grants : take (o .granted) (o .grants) ≡ s .answer .grants
   outcome-grants = ap (λ (x : Outcome). take (x .granted) (x .grants)) p ∙ pad-take 0 (s .answer .grants)
+
+-- ── how claims lie in a table ──
+-- In the first `count` of 64 places, by ascending ticket; and those are the claims that the table means. Whoever goes over the claims of a
+-- table needs no more than this.
+pub record ClaimsByTicket (t : Table) : Type 0 where
+  pub places : length (t .claims) ≡ 64
+  pub few : t .count ≤ 64
+  pub ascending : Ascending (take (t .count) (t .claims))
+  pub meant : take (t .count) (t .claims) ≡ model t .pending
+
+pub claims-by-ticket : (t : Table) → Valid t → ClaimsByTicket t
+claims-by-ticket t v = record { places = formed-length t (v .formed); few = formed-few t (v .formed); ascending = v .formed .ranged .ascending; meant = refl }
+
+-- A table between calls is the one that its meaning encodes: nothing stands after the claims.
+pub valid-whole : (t : Table) → Valid t → encode (model t) ≡ t
+valid-whole t v = v .formed .whole
 
 -- ── how many are granted ──
 -- A step that a call promises: of the table m, or a new table.

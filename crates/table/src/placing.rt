@@ -77,8 +77,8 @@ pub(crate) fn place(mut t: Table, w: Claim) -> Placed
     };
     let count = t.count;
     let length = wide(w.length);
-    let mut s = clock;
-    if w.units == 0 {
+    let start = if w.units == 0 {
+        let mut s = clock;
         'candidates: loop {
             let mut j = 0;
             while j < count {
@@ -89,7 +89,7 @@ pub(crate) fn place(mut t: Table, w: Claim) -> Placed
                 }
                 j += 1;
             }
-            break;
+            break s;
         }
     } else {
         let mut starts = [0u64; 64];
@@ -112,8 +112,8 @@ pub(crate) fn place(mut t: Table, w: Claim) -> Placed
             }
             g += 1;
         }
-        s = draw(&mut starts, &mut ends, k, pool, w.units, clock, w.length);
-    }
+        draw(&mut starts, &mut ends, k, pool, w.units, clock, w.length)
+    };
     let mut rivals = 0;
     let mut time = 0;
     let mut i = 0;
@@ -126,14 +126,14 @@ pub(crate) fn place(mut t: Table, w: Claim) -> Placed
         i += 1;
     }
     let bound = clock + time + rivals * (length - 1);
-    t.claims[count] = waiting_from(w, s);
+    t.claims[count] = waiting_from(w, start);
     t.issued = t.issued + 1;
     t.count = count + 1;
     Placed {
         table: t,
         reply: Reply {
             ticket: w.ticket,
-            start: s,
+            start: start,
             contention: rivals,
             bound: bound,
         },

@@ -36,18 +36,18 @@ abbrev μ-candidates : tie.MeasureT-candidates
 μ-candidates w t clock pool v count length s₀ s = place v (take count (t .claims)) w - s
 
 abbrev Inv-loop2 : tie.InvT-loop2
-Inv-loop2 w t clock pool v count length s starts₀ ends₀ k₀ g₀ starts ends k g =
+Inv-loop2 w t clock pool v count length starts₀ ends₀ k₀ g₀ starts ends k g =
     (k ≤ g) × (g ≤ count) × Plot clock starts ends k (λ x. barred v w x (take g (t .claims)))
 
 abbrev μ-loop2 : tie.MeasureT-loop2
-μ-loop2 w t clock pool v count length s starts₀ ends₀ k₀ g₀ starts ends k g = count - g
+μ-loop2 w t clock pool v count length starts₀ ends₀ k₀ g₀ starts ends k g = count - g
 
 abbrev Inv-loop3 : tie.InvT-loop3
-Inv-loop3 w t clock pool v count length s rivals₀ time₀ i₀ rivals time i =
+Inv-loop3 w t clock pool v count length start rivals₀ time₀ i₀ rivals time i =
     Left (λ r. Counted v w (take count (t .claims)) r rivals time) v (t .claims) count i
 
 abbrev μ-loop3 : tie.MeasureT-loop3
-μ-loop3 w t clock pool v count length s rivals₀ time₀ i₀ rivals time i = count - i
+μ-loop3 w t clock pool v count length start rivals₀ time₀ i₀ rivals time i = count - i
 
 -- ── the search of a claim that draws no units ──
 -- The end to which the search jumps is after the candidate, and not after the planned start.
@@ -131,7 +131,7 @@ draw-requires c κs =
 start-is : (c : tie.Joined1 Inv-loop μ-loop Inv-candidates μ-candidates Inv-loop2 μ-loop2 Inv-loop3 μ-loop3) →
     let b = c .before .before .before in
     let t = b .args .t1 in
-    c .if1 .s ≡ place (ruledIn t (t .clock)) (take (t .count) (t .claims)) (b .args .w)
+    c .if1 .start ≡ place (ruledIn t (t .clock)) (take (t .count) (t .claims)) (b .args .w)
 unfolding all
 start-is c =
     let b = c .before .before .before in
