@@ -2,7 +2,7 @@
 use mathlib.Core.Path.{_≡_, refl, sym, ap, _∙_, subst}
 use mathlib.Core.Logic.{⊎-elim}
 use mathlib.Core.Bool.{Bool, true, false, _||_}
-use mathlib.Core.List.{List, [], _∷_, List·Memᴰ·not-nil, List·Memᴰ·cases-cons}
+use mathlib.Core.List.{List, List·Memᴰ·not-nil, List·Memᴰ·cases-cons}
 use Prim.Native.Nat.{ℕ, zero, suc, _+_, _<_}
 use native.Mathlib.Omega.{arith}
 use lib.Dec.{eqb}
@@ -10,14 +10,14 @@ use lib.ListN.{length, drop}
 use borrow.Author.Tests.{eqb-true, ne-eqb, not-true}
 use Rattle.rules.specs.Lists.{_∈_}
 use Rattle.load.specs.declared.Call.{Call}
-use Rattle.load.specs.declared.Item.the-variants.{Record, End, Refused}
+use Rattle.load.specs.declared.Item.the-variants.{Record}
 use Rattle.load.specs.Format.{format, lengthIn, lengthOf}
 use Rattle.load.specs.Reading.{agree, kindField, editionOf, itemAt, walk}
 use Rattle.load.proofs.Format.{either, allRows, tested}
 use Rattle.load.proofs.Calls.{kind-of-call}
 use Rattle.load.proofs.Reading.{stands, misfit-not, record-size, by-item, step-next, step-past, walk-record, walk-end, walk-refused}
 use Rattle.listing.specs.Text.{saysCall}
-use Rattle.listing.specs.RecordKinds.{Says, says-claim, says-release, says-withdrawal, says-clock, says-declaration, says-grace, RigThenCalls, no-record, rig-first, RecordsSayCalls}
+use Rattle.listing.specs.RecordKinds.{Says, says-claim, says-release, says-withdrawal, says-clock, says-declaration, says-grace, no-record, rig-first, RecordsSayCalls}
 
 -- ── one record ──
 -- The kinds of the format, in the order in which `saysCall` asks for them.

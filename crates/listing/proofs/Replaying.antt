@@ -1,12 +1,12 @@
--- What a load leaves: a turn of the loop over its records, and the ways out; then that the listing says the same.
+-- What a load leaves: a turn of the loop over its records, and the ways out.
 use mathlib.Core.Path.{_≡_, refl, sym, ap, _∙_}
 use mathlib.Core.Bool.{Bool, true}
-use mathlib.Core.List.{List, [], _∷_, _++_, append-assoc}
+use mathlib.Core.List.{List}
 use Prim.Native.Nat.{ℕ, zero, suc, _+_, _≤_}
 use native.Mathlib.Omega.{arith}
 use lib.ListN.{length}
 use Rattle.rules.specs.declared.Table.{Table}
-use Rattle.rules.specs.Calls.{Model, Step, unchanged, new}
+use Rattle.rules.specs.Calls.{Model, unchanged, new}
 use Rattle.rules.specs.Tables.{model}
 use Rattle.table.specs.declared.Outcome.{Outcome}
 use Rattle.table.specs.Valid.{Valid}
@@ -17,9 +17,8 @@ use Rattle.load.specs.declared.Item.the-variants.{Record, End, Refused}
 use Rattle.load.specs.Reading.{itemAt, walk, openNumber}
 use Rattle.load.proofs.Reading.{walk-record, walk-end, walk-refused, step-refused}
 use Rattle.listing.specs.declared.Replayed.{Replayed}
-use Rattle.listing.specs.Lines.{header}
-use Rattle.listing.specs.Text.{aloneIn, stepOf, entryOf, ending, stopOr, linesFrom, linesOf, unrigged, listingOf}
-use Rattle.listing.specs.Replay.{Replay, stoppedAt, stoppedOr, replayFrom, replayIn, replayOf, replayed, entriesFrom, modelAfter, ListingReplayed}
+use Rattle.listing.specs.Text.{aloneIn, stepOf, ending, unrigged}
+use Rattle.listing.specs.Replay.{Replay, stoppedAt, stoppedOr, replayFrom, replayIn, replayOf, replayed}
 use Rattle.listing.proofs.RecordLoop.{Reached, reached-start, reached-more, first-table, ends-as}
 
 -- ── what is left to run ──
@@ -99,33 +98,3 @@ whole-stopped s n p q r e v =
 -- The table of the code's struct means the one that is left.
 pub replayed-left : (r : Replayed) (x : Replay) → r ≡ replayed x → model (r .table) ≡ x .left
 replayed-left r x e = ap (λ (y : Replayed). model (y .table)) e ∙ outcome-model (outcome (unchanged (x .left) 0)) (unchanged (x .left) 0) refl
-
--- ── with the listing ──
--- Lines from record k on in table m, and a replay: the steps that both ran.
-record Ran (k : ℕ) (m : Model) (lines : List ℕ) (r : Replay) : Type 0 where
-  ran : List Step
-  shown : lines ≡ entriesFrom k ran ++ stopOr (r .stop) (r .at) []
-  left : r .left ≡ modelAfter m ran
-
-ran-stop : (n k j : ℕ) (m : Model) (lines : List ℕ) (r : Replay) → Ran j m lines r → Ran j m (stopOr n k lines) (stoppedOr n k m r)
-unfolding entriesFrom modelAfter
-ran-stop zero k j m lines r w = w
-ran-stop (suc n) k j m lines r w = record { ran = []; shown = refl; left = refl }
-
-ran-from : (alone : Bool) (k : ℕ) (m : Model) (cs : List Call) (n : ℕ) → Ran k m (linesFrom alone k m cs n) (replayFrom alone k m cs n)
-unfolding linesFrom replayFrom entriesFrom modelAfter
-ran-from alone k m [] n = ran-stop n k k m [] (stoppedAt 0 0 m) (record { ran = []; shown = refl; left = refl })
-ran-from alone k m (c ∷ cs) n =
-    let s = stepOf alone m c in
-    let w = ran-from alone (k + 1) (s .model) cs n in
-    ran-stop (ending k (s .answer .number)) k k m _ _ (record {
-      ran = s ∷ w .ran;
-      shown = ap (λ l. entryOf k s ++ l) (w .shown) ∙ sym (append-assoc (entryOf k s) (entriesFrom (k + 1) (w .ran)) _);
-      left = w .left;
-    })
-
-pub listing-replayed : (s : List ℕ) → ListingReplayed s
-unfolding listingOf replayOf linesOf replayIn
-listing-replayed s =
-    let w = ran-stop (openNumber s) 0 1 unrigged _ _ (ran-from (aloneIn s) 1 unrigged (walk s 1 .calls) (walk s 1 .stop)) in
-    record { ran = w .ran; lines = ap (λ l. header ++ l) (w .shown); left = w .left }

@@ -1,15 +1,14 @@
 -- The table that a load leaves: its records are run as the listing runs them, up to the load's end or to the record that ends the listing.
-use mathlib.Core.Path.{_≡_}
+-- That this is the run of its calls, and the listing's, is said in `load_runs`.
 use mathlib.Core.Bool.{Bool}
-use mathlib.Core.List.{List, [], _∷_, _++_}
+use mathlib.Core.List.{List, [], _∷_}
 use Prim.Native.Nat.{ℕ, zero, suc, _+_}
-use Rattle.rules.specs.Calls.{Model, Step}
+use Rattle.rules.specs.Calls.{Model}
 use Rattle.rules.specs.Tables.{encode}
 use Rattle.load.specs.declared.Call.{Call}
 use Rattle.load.specs.Reading.{Walk, walk, openNumber}
 use Rattle.listing.specs.declared.Replayed.{Replayed}
-use Rattle.listing.specs.Lines.{header}
-use Rattle.listing.specs.Text.{aloneIn, stepOf, entryOf, ending, stopOr, unrigged, listingOf}
+use Rattle.listing.specs.Text.{aloneIn, stepOf, ending, unrigged}
 
 -- The table that is left, and the number and the record of the listing's stop: 0 and 0 for a load that is read to its end.
 pub record Replay : Type 0 where
@@ -43,20 +42,3 @@ replayOf load = stoppedOr (openNumber load) 0 unrigged (replayIn (aloneIn load) 
 -- As the code's struct.
 abbrev pub replayed : Replay → Replayed
 replayed r = record { table = encode (r .left); stop = r .stop; at = r .at }
-
--- ── with the listing ──
--- The lines of steps, from record k on; and the table after them.
-unfoldable pub entriesFrom : ℕ → List Step → List ℕ
-entriesFrom k [] = []
-entriesFrom k (s ∷ ss) = entryOf k s ++ entriesFrom (k + 1) ss
-
-unfoldable pub modelAfter : Model → List Step → Model
-modelAfter m [] = m
-modelAfter m (s ∷ ss) = modelAfter (s .model) ss
-
--- The listing of a load is the header, the lines of the steps that were run, and the replay's stop line, if it has a stop; the table left
--- is that after those steps. (Proved in proofs/Replaying: listing-replayed.)
-pub record ListingReplayed (load : List ℕ) : Type 0 where
-  pub ran : List Step
-  pub lines : listingOf load ≡ header ++ (entriesFrom 1 ran ++ stopOr (replayOf load .stop) (replayOf load .at) [])
-  pub left : replayOf load .left ≡ modelAfter unrigged ran

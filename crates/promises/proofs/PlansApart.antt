@@ -1,10 +1,8 @@
 -- A plan can be kept: nobody overlaps and units are never short (`Separated`), read in the ledger.
 use mathlib.Core.Path.{_≡_, sym, _∙_}
 use mathlib.Core.List.{List}
-use Prim.Native.Nat.{ℕ}
 use native.Mathlib.Omega.{arith}
-use Rattle.rules.specs.declared.Claim.{Claim}
-use Rattle.rules.specs.Calls.{Model, settingOf, Call}
+use Rattle.rules.specs.Calls.{Model, Call}
 use Rattle.rules.proofs.Order.{precedes-conflicts, precedes-before, ascending-same}
 use Rattle.promises.specs.Ledger.{Ledger}
 use Rattle.promises.specs.Runs.{tells, Start, Begins}

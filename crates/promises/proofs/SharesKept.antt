@@ -1,9 +1,8 @@
 -- Shares are kept: the table's invariant `Booked`, read in the ledger.
 use mathlib.Core.Path.{_≡_, refl, sym, subst}
 use mathlib.Core.Logic.{_≢_}
-use mathlib.Core.Bool.{Bool}
 use mathlib.Core.List.{List}
-use Prim.Native.Nat.{ℕ, _<_}
+use Prim.Native.Nat.{_<_}
 use native.Mathlib.Omega.{arith}
 use lib.ListN.{length-map}
 use Rattle.numbers.specs.Numbers.{fullNumber}

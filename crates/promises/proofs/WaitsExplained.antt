@@ -1,8 +1,7 @@
 -- Every wait has its reason: the table's invariant `Blocked`, said of the ledger.
-use mathlib.Core.Path.{_≡_, sym, _∙_}
+use mathlib.Core.Path.{_≡_, _∙_}
 use mathlib.Core.Bool.{true}
 use mathlib.Core.List.{List}
-use Prim.Native.Nat.{ℕ}
 use Rattle.rules.specs.Calls.{Model, Call}
 use Rattle.promises.specs.Ledger.{Ledger}
 use Rattle.promises.specs.Runs.{tells, Start, Begins}

@@ -2,7 +2,7 @@
 use mathlib.Core.Path.{_≡_, refl, sym, _∙_, ap, subst}
 use mathlib.Core.Logic.{_⊎_, inl, inr, _≢_}
 use mathlib.Core.Bool.{Bool, true, false, not, _&&_, _||_}
-use mathlib.Core.List.{List, [], _∷_, _++_, map, List·Memᴰ·append-cases, List·Memᴰ·eq-of-singleton, Memᴰ·append-right}
+use mathlib.Core.List.{List, [], _∷_, _++_, map}
 use Prim.Native.Nat.{ℕ, suc, _+_, _-_, _*_, _≤_, _<_}
 use native.Mathlib.Omega.{arith}
 use lib.Dec.{eqb, ltb, leb}
@@ -13,28 +13,27 @@ use Rattle.rules.specs.declared.Claim.{Claim}
 use Rattle.rules.specs.declared.Request.{Request}
 use Rattle.rules.specs.Lists.{_∈_, greatest, sum, any, keep}
 use Rattle.rules.specs.declared.Setting.{Setting}
-use Rattle.rules.specs.Claims.{on, at, withPhase, rival, endOf, remaining}
-use Rattle.rules.specs.declared.Phase.the-variants.{On}
+use Rattle.rules.specs.Claims.{on, at, endOf, remaining}
 use Rattle.rules.specs.Order.{precedes, rivals}
 use Rattle.rules.specs.Packing.{packedStart, moved, pack, Packs}
 use Rattle.rules.specs.Placing.{place, contention, startBound}
-use Rattle.rules.specs.Plans.{Ascending, Sane, Spare, Fits}
+use Rattle.rules.specs.Plans.{Ascending, Sane, Fits}
 use Rattle.rules.specs.Granting.{takenBefore, trulyFree, goes, granted, grant, grants}
 use Rattle.rules.specs.Pool.{heldBy, heldUnits}
 use Rattle.rules.specs.Tests.{named}
 use Rattle.rules.specs.declared.Reply.{Reply}
-use Rattle.rules.specs.Calls.{Model, ruled, settingOf, claims, releases, withdraws, movesClock, Call, timed, looks, setsUp, claim, release, withdraw, clock, isTimed, clockOf, declared, withGrace, Step, advance, plain, finish, join, remove, fresh, admit, step}
+use Rattle.rules.specs.Calls.{Model, ruled, settingOf, claims, Call, timed, looks, setsUp, claim, release, clock, isTimed, declared, withGrace, Step, advance, plain, finish, join, remove, fresh, admit, step}
 use Rattle.rules.specs.Invariants.{IsSpaced, IsPacked, Still, Invariant}
 use Rattle.rules.proofs.Bools.{clash, by-test, or-fr}
-use Rattle.rules.proofs.Lists.{here, map-e, map-i, keep-e, keep-i, any-some, named-keep, sum-map, sum-le, sum-both}
+use Rattle.rules.proofs.Lists.{map-e, map-i, keep-e, keep-i, any-some, named-keep, sum-map, sum-le, sum-both}
 use Rattle.rules.proofs.Claims.{waiting-is}
 use Rattle.rules.proofs.Order.{meets-none, ends-precedes, ascending-same}
 use Rattle.rules.proofs.NoUnits.{start-documented}
-use Rattle.rules.proofs.Packing.{moved-cases, moved-phase, moved-at, moved-ticket, pack-precedes, pack-no-later}
+use Rattle.rules.proofs.Packing.{moved-cases, moved-phase, pack-precedes, pack-no-later}
 use Rattle.rules.proofs.Placing.{place-low, place-least}
-use Rattle.rules.proofs.Granting.{goes-eq, taken-ticket, goes-wait, goes-at, granted-cases, granted-on, granted-at, grant-precedes}
-use Rattle.rules.proofs.Invariants.{spaced-clear, settled-packs, spaced-packs}
-use Rattle.rules.proofs.Calls.{Clocked, Admissible, advance-drawn, fresh-sane, placed-fits, advance-packed, finish-invariant, placed, join-spaced, Leaves, by-release, by-withdraw, by-clock, leaves-spaced, remove-spaced, Idle, looks-untimed, step-cases, clock-accepted, new-invariant, step-invariant, advance-same, finish-e, finish-clock, leaves-old, leaves-clock, join-old, advance-spare, admit-invariant, packs-as-documented}
+use Rattle.rules.proofs.Granting.{goes-eq, taken-ticket, goes-wait, goes-at, granted-cases, granted-on, grant-precedes}
+use Rattle.rules.proofs.Invariants.{settled-packs, spaced-packs}
+use Rattle.rules.proofs.Calls.{Clocked, Admissible, advance-drawn, fresh-sane, placed-fits, advance-packed, finish-invariant, placed, join-spaced, Leaves, by-release, by-withdraw, by-clock, leaves-spaced, remove-spaced, Idle, looks-untimed, step-cases, clock-accepted, new-invariant, step-invariant, advance-same, finish-e, finish-clock, leaves-old, leaves-clock, join-old, advance-spare, packs-as-documented}
 use Rattle.rules.proofs.OnePacking.{advance-still, finish-still, joined, joined-cases, claim-pending, joined-at}
 use Rattle.promises.specs.Ledger.{tableAfter}
 use Rattle.promises.specs.Runs.{Start, Begins, by-new}

@@ -192,7 +192,7 @@ all-refused = record {
       omega arith;
   last-granted = λ d.
       let w : Claim = drawer 3 (Waiting 10) 10 1 in
-      let z : 2 < 2 = d .units-wanting w (there {y = drawer 2 (On 0) 5 1} here) refl refl
+      let z : 2 < 2 = d .units-wanting w (there {y = drawer 2 (On 0) 5 1} (here {l = drawer 4 (On 10) 10 1 ∷ []})) refl refl
       (λ c. of-three (λ (x : Claim). precedes x w ≡ false) (drawer 2 (On 0) 5 1) w (drawer 4 (On 10) 10 1) c refl refl refl) in
       omega arith;
   last-packed = λ d.

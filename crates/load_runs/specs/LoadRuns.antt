@@ -1,0 +1,65 @@
+-- Every load is a run: the calls that its records say are made one after the other of the table that its rig gave, and its listing prints their
+-- answers and nothing else. So all that is promised of every list of calls is promised of every listing, and of the table that a load leaves.
+-- proofs/LoadRuns has the theorem.
+use mathlib.Core.Path.{_≡_}
+use mathlib.Core.Logic.{_⊎_}
+use mathlib.Core.List.{List, [], _∷_, _++_, map}
+use Prim.Native.Nat.{ℕ, _+_, _≤_}
+use Rattle.numbers.specs.Numbers.{editionNumber, overlongNumber}
+use Rattle.rules.specs.Calls.{clockOf, step, new}
+use Rattle.promises.specs.Ledger.{Turn, turns, tableAfter}
+use Rattle.promises.specs.Runs.{Start, newly}
+use Rattle.promises.specs.Promises.{Promises}
+use Rattle.load.specs.declared.Call.{Call}
+use Rattle.load.specs.Reading.{walk}
+use Rattle.listing.specs.Lines.{header, lineOf, onLines}
+use Rattle.listing.specs.Text.{saysCall, aloneIn, stopOr, unrigged, listingOf}
+use Rattle.listing.specs.Replay.{replayOf}
+
+-- What is printed of record k, by its call and the answer: "its number from 1, the answer (0 accepted), the ticket concerned, the start .. Each
+-- grant adds `on TICKET CLOCK`".
+abbrev pub turnLines : ℕ → Turn → List ℕ
+turnLines k t =
+    let a = t .answer in
+    lineOf k (a .number) (a .ticket) (a .start) ++ onLines (clockOf (t .call)) (a .grants)
+
+-- And of the records from k on.
+unfoldable pub turnsLines : ℕ → List Turn → List ℕ
+turnsLines k [] = []
+turnsLines k (t ∷ ts) = turnLines k t ++ turnsLines (k + 1) ts
+
+-- The line by which the listing ends early, where it does.
+abbrev pub stopText : List ℕ → List ℕ
+stopText load = stopOr (replayOf load .stop) (replayOf load .at) []
+
+-- A number that ends a listing behind the rig.
+abbrev pub Ends : ℕ → Type 0
+Ends n = (editionNumber ≤ n) × (n ≤ overlongNumber)
+
+-- What the run of a load begins with: the table that its rig gave.
+abbrev pub startOf : List ℕ → Call → Start
+startOf load rig = newly (rig .groups) (rig .pool) (aloneIn load)
+
+-- A load whose rig is taken: the rig; the records behind it that were run, and those that were not.
+pub record Ran (load : List ℕ) : Type 0 where
+  pub rig : Call
+  pub records : List Call
+  pub rest : List Call
+  pub read : walk load 1 .calls ≡ rig ∷ (records ++ rest)
+  pub taken : new (rig .groups) (rig .pool) (aloneIn load) .answer .number ≡ 0
+  -- The listing is the header, the rig's line, the lines of the calls with their answers, and the stop line, where there is one.
+  pub listing : listingOf load ≡ header ++ (lineOf 1 0 0 0 ++ (turnsLines 2 (turns step (startOf load rig .table) (map saysCall records)) ++ stopText load))
+  -- The table that the load leaves, of which questions are asked.
+  pub left : replayOf load .left ≡ tableAfter step (startOf load rig .table) (map saysCall records)
+  -- "Only 11 to 14 and a dark rig end the listing early": all records were run, or the next one is answered such a number.
+  pub all-run : (rest ≡ []) ⊎ ((c : Call) × (cs : List Call) × (rest ≡ c ∷ cs) × Ends (step (replayOf load .left) (saysCall c) .answer .number))
+  -- All that is promised of a run.
+  pub promised : Promises (startOf load rig) (map saysCall records)
+
+-- A load of which nothing was run: it does not open, its first record does not read, or its rig is dark.
+pub record NotRun (load : List ℕ) : Type 0 where
+  pub listing : listingOf load ≡ header ++ stopText load
+  pub left : replayOf load .left ≡ unrigged
+
+abbrev pub LoadRuns : Type 0
+LoadRuns = (load : List ℕ) → Ran load ⊎ NotRun load
