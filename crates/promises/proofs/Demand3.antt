@@ -206,7 +206,7 @@ finish-match P l m r i ma =
 
 -- What release, withdraw and clock leave of the ledger.
 pub match-without : (P : Type 0) (k : ℕ) {ps : List Claim} {l : List Entry} → Match (Tracks P) ps l → Match (Tracks P) (keep (λ c. not (named k c)) ps) (without k l)
-match-without P k ma = match-keep (λ c. not (named k c)) (λ e. not (eqb (e .ticket) k)) (λ c e r. ap (λ (x : ℕ). not (eqb x k)) (r .ticket)) ma
+match-without P k ma = match-keep (λ c. not (named k c)) (λ e. not (eqb (e .ticket) k)) (λ c e _ r. ap (λ (x : ℕ). not (eqb x k)) (r .ticket)) ma
 
 leaves-match : (P : Type 0) (l : List Entry) (a : Answer) {m : Model} {c : Call} {t k : ℕ} {q : Model} → Leaves m c t k q
     → Match (Tracks P) (advance m t .pending) l → Match (Tracks P) (q .pending) (stay c l ++ issues c a)
@@ -328,12 +328,12 @@ bound-is : (P : Type 0) (v : Setting) (ps : List Claim) (l : List Entry) (w : Cl
     → startBound v ps w ≡ boundOn v l ask
 unfolding startBound contention boundOn
 bound-is P v ps l w ask g n m =
-    let rs : Match (Tracks P) (rivals ps w) (rivalsOf l ask) = match-keep (λ c. rival c w) (λ e. shares (e .asked .groups) (ask .groups)) (λ c e r. rw (r .groups, g)) m in
+    let rs : Match (Tracks P) (rivals ps w) (rivalsOf l ask) = match-keep (λ c. rival c w) (λ e. shares (e .asked .groups) (ask .groups)) (λ c e _ r. rw (r .groups, g)) m in
     cc (match-sum (remaining v) (remainingOf v) (λ c e _. remaining-is P v c e) rs, match-length rs, n)
 
 contention-is : (P : Type 0) (ps : List Claim) (l : List Entry) (w : Claim) (ask : Request) → w .groups ≡ ask .groups → Match (Tracks P) ps l → contention ps w ≡ length (rivalsOf l ask)
 unfolding contention
-contention-is P ps l w ask g m = match-length (match-keep (λ c. rival c w) (λ e. shares (e .asked .groups) (ask .groups)) (λ c e r. rw (r .groups, g)) m)
+contention-is P ps l w ask g m = match-length (match-keep (λ c. rival c w) (λ e. shares (e .asked .groups) (ask .groups)) (λ c e _ r. rw (r .groups, g)) m)
 
 -- ── grants ──
 tickets-ascend : (l : List Claim) → Ascending l → Ascends (λ (k : ℕ). k) (map (λ c. c .ticket) l)

@@ -41,10 +41,10 @@ module _ {A B : Type 0} {R : A → B → Type 0} where
   match-none (m-cons r m) = m-cons r (match-none m)
 
   -- Tests that agree on partners keep partners.
-  pub match-keep : (p : A → Bool) (q : B → Bool) {k : List A} {l : List B} → ((x : A) (y : B) → R x y → p x ≡ q y) → Match R k l → Match R (keep p k) (keep q l)
+  pub match-keep : (p : A → Bool) (q : B → Bool) {k : List A} {l : List B} → ((x : A) (y : B) → x ∈ k → R x y → p x ≡ q y) → Match R k l → Match R (keep p k) (keep q l)
   unfolding keep
   match-keep p q h m-nil = m-nil
-  match-keep p q h (m-cons {x} {y} {k} {l} r m) = go (p x) (q y) (h x y r) (match-keep p q h m)
+  match-keep p q h (m-cons {x} {y} {k} {l} r m) = go (p x) (q y) (h x y here r) (match-keep p q (λ z w i. h z w (there i)) m)
     where
       go : (a b : Bool) → a ≡ b → Match R (keep p k) (keep q l) → Match R (cond a (x ∷ keep p k) (keep p k)) (cond b (y ∷ keep q l) (keep q l))
       go true true e n = m-cons r n

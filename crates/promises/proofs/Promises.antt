@@ -7,6 +7,7 @@ use Rattle.promises.proofs.Demand3.{demand-3}
 use Rattle.promises.proofs.NumbersTested.{numbers-tested}
 use Rattle.promises.proofs.Replies.{replies}
 use Rattle.promises.proofs.LeastStart.{least-start}
+use Rattle.promises.proofs.StartsPacked.{starts-packed}
 use Rattle.promises.proofs.PlansApart.{plans-apart}
 use Rattle.promises.proofs.WaitsExplained.{waits-explained}
 use Rattle.promises.proofs.NeverOvertaken.{never-overtaken}
@@ -20,6 +21,7 @@ promises s b calls = record {
   numbers-tested = numbers-tested s b calls;
   replies = replies s b calls;
   least-start = least-start s b calls;
+  starts-packed = starts-packed s b calls;
   plans-apart = plans-apart s b calls;
   waits-explained = waits-explained s b calls;
   never-overtaken = never-overtaken s b calls;

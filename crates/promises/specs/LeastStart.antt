@@ -6,7 +6,7 @@ use mathlib.Core.Path.{_≡_}
 use mathlib.Core.Logic.{_⊎_}
 use mathlib.Core.Bool.{true}
 use mathlib.Core.List.{List}
-use Prim.Native.Nat.{ℕ, _+_, _≤_, _<_}
+use Prim.Native.Nat.{ℕ, _+_, _≤_}
 use Rattle.groups.specs.Groups.{shares}
 use Rattle.rules.specs.declared.Request.{Request}
 use Rattle.rules.specs.declared.Standing.the-variants.{Waits}
@@ -14,13 +14,13 @@ use Rattle.rules.specs.Lists.{_∈_}
 use Rattle.rules.specs.Calls.{atTicket, Call, claim, Answer, step}
 use Rattle.promises.specs.Ledger.{Turn, Steps, Entry, without, Ledger, noted}
 use Rattle.promises.specs.Runs.{Told, Start, AtAnyCall}
-use Rattle.promises.specs.Plan.{endTold, plannedUse}
+use Rattle.promises.specs.Plan.{endTold, SpareTold}
 
--- A hold of what is asked for, from x on, fits beside these claims. Nothing is asked of the pool where no units are drawn.
+-- A hold of what is asked for, from x on, fits beside these claims.
 pub record FitsBeside (l : Ledger) (told : Told) (es : List Entry) (ask : Request) (x : ℕ) : Type 0 where
   pub room : (e : Entry) → e ∈ es → shares (e .asked .groups) (ask .groups) ≡ true
       → (endTold l told e ≤ x) ⊎ ((s : ℕ) × (told (atTicket (e .ticket)) ≡ Waits s) × (x + ask .length ≤ s))
-  pub spare : 0 < ask .units → (y : ℕ) → x ≤ y → y < x + ask .length → plannedUse l told y es + ask .units ≤ l .pool
+  pub spare : SpareTold l told es ask x
 
 -- The answer to a claim at clock u, beside the others in the ledger l after it.
 pub record LeastOf (l : Ledger) (told : Told) (u : ℕ) (ask : Request) (a : Answer) : Type 0 where

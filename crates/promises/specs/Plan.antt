@@ -2,14 +2,15 @@
 -- looks into a table.
 use mathlib.Core.Path.{_≡_}
 use mathlib.Core.Logic.{_⊎_}
-use mathlib.Core.Bool.{Bool, _&&_, cond}
+use mathlib.Core.Bool.{Bool, true, false, _&&_, _||_, cond}
 use mathlib.Core.List.{List}
-use Prim.Native.Nat.{ℕ, _+_, _<_}
-use lib.Dec.{leb, ltb}
+use Prim.Native.Nat.{ℕ, _+_, _≤_, _<_}
+use lib.Dec.{leb, ltb, eqb}
+use Rattle.rules.specs.declared.Request.{Request}
 use Rattle.rules.specs.declared.Common.the-variants.{Shared}
 use Rattle.rules.specs.declared.Standing.{Standing}
 use Rattle.rules.specs.declared.Standing.the-variants.{NotPending, Waits, Holds}
-use Rattle.rules.specs.Lists.{sum}
+use Rattle.rules.specs.Lists.{sum, keep}
 use Rattle.rules.specs.Claims.{heldUntil}
 use Rattle.rules.specs.Calls.{atTicket, atTwo}
 use Rattle.promises.specs.Ledger.{Entry, Ledger, ruledBy}
@@ -47,3 +48,19 @@ coversTold l told x e = leb (beginsAs (told (atTicket (e .ticket)))) x && ltb x 
 -- The units that these claims are planned to use at x.
 abbrev pub plannedUse : Ledger → Told → ℕ → List Entry → ℕ
 plannedUse l told x es = sum (λ e. cond (coversTold l told x e) (e .asked .units) 0) es
+
+-- "A start must leave, over the whole hold, units enough beside" the holds of these claims (document 02, P3): a hold of what is asked for, from x
+-- on. Nothing is asked where no units are drawn.
+abbrev pub SpareTold : Ledger → Told → List Entry → Request → ℕ → Type 0
+SpareTold l told es ask x = 0 < ask .units → (y : ℕ) → x ≤ y → y < x + ask .length → plannedUse l told y es + ask .units ≤ l .pool
+
+-- ── the order of packing ──
+-- "Packing takes waiting claims by start, then ticket", behind those that are on: a claim of ticket j that stands so comes before one of ticket k
+-- that waits with the start s.
+abbrev pub aheadAs : Standing → ℕ → ℕ → ℕ → Bool
+aheadAs NotPending j s k = false
+aheadAs (Waits r) j s k = ltb r s || (eqb r s && ltb j k)
+aheadAs (Holds p) j s k = true
+
+abbrev pub aheadTold : Told → ℕ → ℕ → List Entry → List Entry
+aheadTold told s k es = keep (λ e. aheadAs (told (atTicket (e .ticket))) (e .ticket) s k) es

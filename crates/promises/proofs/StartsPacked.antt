@@ -1,0 +1,116 @@
+-- Every waiting start is packed: the rules' `Separated` and `Earliest`, read in the ledger.
+use mathlib.Core.Path.{_≡_, refl, sym, _∙_, ap, subst}
+use mathlib.Core.Bool.{Bool, true, false, _&&_, _||_, cond}
+use mathlib.Core.List.{List}
+use Prim.Native.Nat.{ℕ, _+_, _*_, _≤_, _<_}
+use native.Mathlib.Omega.{arith}
+use lib.Dec.{leb, ltb, eqb}
+use borrow.Author.Tests.{lt-ltb, le-ltb, eq-eqb, ne-eqb}
+use Rattle.groups.specs.Groups.{shares}
+use Rattle.rules.specs.declared.Claim.{Claim}
+use Rattle.rules.specs.declared.Setting.{Setting}
+use Rattle.rules.specs.declared.Standing.{Standing}
+use Rattle.rules.specs.Lists.{_∈_, keep}
+use Rattle.rules.specs.Claims.{on, at, rival, endOf}
+use Rattle.rules.specs.Order.{key, before}
+use Rattle.rules.specs.Packing.{moved, ahead}
+use Rattle.rules.specs.Plans.{Sane, Spare, Behind}
+use Rattle.rules.specs.Calls.{Model, settingOf, atTicket, Call}
+use Rattle.rules.proofs.Bools.{by-test, by-order}
+use Rattle.rules.proofs.Lists.{keep-e, map-id}
+use Rattle.rules.proofs.Claims.{waiting-is}
+use Rattle.rules.proofs.Order.{before-on}
+use Rattle.rules.proofs.Packing.{moved-cases}
+use Rattle.rules.proofs.Invariants.{settled-packs}
+use Rattle.promises.specs.Ledger.{Ledger, Entry}
+use Rattle.promises.specs.Runs.{tells, Start, Begins}
+use Rattle.promises.specs.Plan.{endTold, aheadAs, aheadTold}
+use Rattle.promises.specs.StartsPacked.{BehindTold, PackedAt, Packed, StartsPacked}
+use Rattle.promises.proofs.Matching.{Match, match-keep, partner, partner-of}
+use Rattle.promises.proofs.Demand3.{Tracks, Story, after-calls}
+use Rattle.promises.proofs.Plan.{told-is, waits-at, end-is, use-is, standing-on, standing-wait}
+
+-- Start, then ticket, as one number and as two.
+key-order : (r j s k : ℕ) → j < 65536 → k < 65536 → ltb (r * 65536 + j) (s * 65536 + k) ≡ (ltb r s || (eqb r s && ltb j k))
+key-order r j s k a b =
+    by-order s r
+    (λ l. by-order r s (λ h. same (omega arith)) (λ h. le-ltb (r * 65536 + j) (s * 65536 + k) (omega arith) ∙ rw (le-ltb r s l, ne-eqb r s (λ e. omega arith))))
+    (λ l. lt-ltb (r * 65536 + j) (s * 65536 + k) (omega arith) ∙ rw (lt-ltb r s l))
+  where
+    same : r ≡ s → ltb (r * 65536 + j) (s * 65536 + k) ≡ (ltb r s || (eqb r s && ltb j k))
+    same e =
+        by-order k j
+        (λ h. le-ltb (r * 65536 + j) (s * 65536 + k) (omega arith) ∙ rw (le-ltb r s (omega arith), eq-eqb r s e, le-ltb j k h))
+        (λ h. lt-ltb (r * 65536 + j) (s * 65536 + k) (omega arith) ∙ rw (le-ltb r s (omega arith), eq-eqb r s e, lt-ltb j k h))
+
+module _ (P : Type 0) (l : Ledger) (m : Model) (st : Story P l m) (w : Claim) (wi : w ∈ m .pending) (o : on w ≡ false) (f : Entry) (t : Tracks P w f) where
+  abbrev v : Setting
+  v = settingOf m
+
+  -- The claims before w, and theirs in the ledger.
+  abbrev qs : List Claim
+  qs = keep (λ c. before c w) (m .pending)
+
+  abbrev es : List Entry
+  es = aheadTold (tells m) (at w) (f .ticket) (l .claims)
+
+  sane : (c : Claim) → c ∈ m .pending → Sane (settingOf m) c
+  sane c i = st .inv .spaced .proper c i .sane
+
+  ahead-is : (c : Claim) (e : Entry) → c ∈ m .pending → Tracks P c e → before c w ≡ aheadAs (tells m (atTicket (e .ticket))) (e .ticket) (at w) (f .ticket)
+  unfolding before
+  ahead-is c e i r =
+      by-test (on c)
+      (λ h. before-on c w h ∙ sym (ap (λ (x : Standing). aheadAs x (e .ticket) (at w) (f .ticket)) (told-is P l m st c e i r ∙ standing-on c h)))
+      (λ h.
+      rw (told-is P l m st c e i r ∙ standing-wait c h, h)
+      (key-order (at c) (c .ticket) (at w) (w .ticket) (sane c i .small) (sane w wi .small) ∙ rw (r .ticket, t .ticket)))
+
+  matched : Match (Tracks P) qs es
+  matched = match-keep (λ c. before c w) (λ e. aheadAs (tells m (atTicket (e .ticket))) (e .ticket) (at w) (f .ticket)) ahead-is (st .match)
+
+  pending : (c : Claim) → c ∈ qs → c ∈ m .pending
+  pending c i = keep-e (λ c. before c w) (m .pending) i .0
+
+  shared-same : (c : Claim) (e : Entry) → Tracks P c e → shares (e .asked .groups) (f .asked .groups) ≡ rival c w
+  shared-same c e r = rw (r .groups, t .groups)
+
+  behind-told : (x : ℕ) → Behind v qs w x → BehindTold l (tells m) es f x
+  behind-told x b = record {
+    after = λ e i h.
+        let c = partner matched i in
+        omega (arith, end-is P l m st (c .0) e (pending (c .0) (c .1)) (c .2), b .after (c .0) (c .1) (sym (shared-same (c .0) e (c .2)) ∙ h));
+    spare = λ z y p q. omega (arith, b .spare (omega (arith, t .units, z)) y p (omega (arith, t .length, q)), use-is P l m st y qs es pending matched, t .units, st .pool);
+  }
+
+  behind-of : (x : ℕ) → BehindTold l (tells m) es f x → Behind v qs w x
+  behind-of x b = record {
+    after = λ c i h.
+        let e = partner-of matched i in
+        omega (arith, end-is P l m st c (e .0) (pending c i) (e .2), b .after (e .0) (e .1) (shared-same c (e .0) (e .2) ∙ h));
+    spare = λ z y p q. omega (arith, b .spare (omega (arith, t .units, z)) y p (omega (arith, t .length, q)), use-is P l m st y qs es pending matched, t .units, st .pool);
+  }
+
+  behind-self : Behind v qs w (at w)
+  unfolding ahead
+  behind-self = record {
+    after = λ c i h. let k = keep-e (λ c. before c w) (m .pending) i in st .inv .spaced .fit .behind c w (k .0) wi o (k .1) h;
+    spare = subst (λ (x : List Claim). Spare v x w (at w)) (map-id (moved at) qs (λ c i. moved-cases (λ (x : Claim). x ≡ c) at c (λ h. refl) (λ h. waiting-is c h)))
+        (settled-packs (m .issued) v (m .pending) (st .inv) w wi o .0 .spare);
+  }
+
+  packed-at : PackedAt l (tells m) f (at w)
+  packed-at = record {
+    from-clock = omega (arith, st .inv .spaced .low w wi o, st .clock);
+    behind = behind-told (at w) behind-self;
+    least = λ x h b. st .inv .earliest w wi o x (omega (arith, h, st .clock)) (behind-of x b);
+  }
+
+packed-of : (P : Type 0) (l : Ledger) (m : Model) → Story P l m → Packed l (tells m)
+packed-of P l m st f i s w =
+    let a = partner (st .match) i in
+    let b = waits-at P l m st (a .0) f (a .1) (a .2) s w in
+    subst (PackedAt l (tells m) f) (b .1) (packed-at P l m st (a .0) (a .1) (b .0) f (a .2))
+
+pub starts-packed : (s : Start) → Begins s → (calls : List Call) → StartsPacked s calls
+starts-packed s b calls before rest e = packed-of _ _ _ (after-calls s b before)
