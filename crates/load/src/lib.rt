@@ -8,7 +8,7 @@ ghost use Rattle.load.specs.Format.{known, fieldsOf, rowOf, fieldWidth, 
 ghost use Rattle.load.specs.Calls.{numbers, valueOf, made, withValue, bare, callOf, valuesOf, kept, same, carries};
 ghost use Rattle.load.specs.Answers.{itemValues, writtenValues};
 ghost use Rattle.load.specs.Bytes.{recordBytes, fieldBytes, fieldValues};
-ghost use Rattle.load.specs.Reading.{inPlace, openNumber, misfit, itemAt, recordNumber, loadNumber};
+ghost use Rattle.load.specs.Reading.{inPlace, openNumber, misfit, itemAt, recordValues, loadNumber};
 ghost use Rattle.load.specs.RoundTrip.{Typed};
 ghost use Rattle.load.specs.Writing.{growNumber, appendNumber, appendAnswer, appendValues, appendOut};
 
@@ -370,7 +370,7 @@ fn call_of(edition: u8, kind: u8, fields: &[u8]) -> Call
 // What stands at a position of a load: a record's call, the end, or 12 or 13. The first record stands at 1. Reads that record alone,
 // whatever the load's length.
 pub fn record_at(load: &[u8], at: usize) -> Item
-    ensures { λ r. ⌜ (r ≡ itemAt (now (load .entry)) at) × (itemValues at r .number ≡ recordNumber (now (load .entry)) at) ⌝ }
+    ensures { λ r. ⌜ (r ≡ itemAt (now (load .entry)) at) × (itemValues at r ≡ recordValues (now (load .entry)) at) ⌝ }
 {
     let size = load.len();
     if size <= at {
