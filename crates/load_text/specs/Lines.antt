@@ -10,7 +10,9 @@ use Rattle.load.specs.declared.Call.{Call}
 use Rattle.load.specs.Format.{theGroups, fieldWidth, fieldsOf, nameOf}
 use Rattle.load.specs.Calls.{valueOf}
 use Rattle.load.specs.Bytes.{recordBytes}
+use Rattle.load.specs.Answers.{WrittenValues}
 use Rattle.load.specs.Reading.{editionOf, Walk, walk, openNumber, unlessRefused}
+use Rattle.load.specs.Writing.{answeredValues}
 use Rattle.load_text.specs.declared.print.Reported.{Reported}
 use Rattle.load_text.specs.declared.print.Printed.{Printed}
 use Rattle.load_text.specs.declared.print.Printed.the-variants.{Length, Refusal}
@@ -150,3 +152,7 @@ printedAs k n = unlessRefused k Refusal (Length n)
 -- The text's length, or 15 where it does not go into the lent buffer. The buffer is then `lentOut text out`.
 unfoldable pub printed : List ℕ → List ℕ → Printed
 printed text out = printedAs (spaceNumber text out) (length text)
+
+-- The same in numbers.
+unfoldable pub printValues : List ℕ → List ℕ → WrittenValues
+printValues text out = answeredValues (spaceNumber text out) (length text)

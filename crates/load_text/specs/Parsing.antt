@@ -8,7 +8,8 @@ use lib.ListN.{length, take, drop, getD}
 use Rattle.groups.specs.Groups.{setWhere, union}
 use Rattle.load.specs.declared.Call.{Call}
 use Rattle.load.specs.Format.{theGroups, fieldWidth, fieldsOf, lengthOf, names}
-use Rattle.load.specs.Calls.{withValue, bare}
+use Rattle.load.specs.Calls.{withValue, bare, callOf}
+use Rattle.load.specs.Reading.{orElse, unlessRefused}
 use Rattle.load_text.specs.declared.parse.Head.{Head}
 use Rattle.load_text.specs.declared.parse.Head.the-variants.{Silent, Edition, Other, Misread}
 use Rattle.load_text.specs.declared.parse.Parsed.{Parsed}
@@ -17,6 +18,7 @@ use Rattle.load_text.specs.declared.words.Field.{Field}
 use Rattle.load_text.specs.declared.words.Field.the-variants.{Value, Wrong}
 use Rattle.load_text.specs.declared.words.Mark.{Mark}
 use Rattle.load_text.specs.declared.words.Mark.the-variants.{Joint, NoDigit}
+use Rattle.load_text.specs.Answers.{wordValues, ParsedValues}
 use Rattle.load_text.specs.Reasons.{noEdition, unknown, missing, tooMany, noClock, noTicket, noLength, noGroups, tooLarge, over63, backward, noPool, noUnits, noClient, noReserved, noLimit, noGrace}
 
 -- ── parts of a text ──
@@ -270,17 +272,43 @@ headIn (k ∷ ws) = cond (isWord k editionWord) (editionIn ws) Other
 unfoldable pub headSays : List ℕ → Head
 headSays l = headIn (wordsIn (said l))
 
--- ── what a line comes to ──
--- The cases of `Parsed` by their number, 0 for a line that is not wrong, and by the calls that they say.
-abbrev pub numberOf : Parsed → ℕ
-numberOf Nothing = 0
-numberOf (Said c) = 0
-numberOf (Bad n) = n
+-- ── a line in numbers ──
+-- How many words there are for the fields of a kind: 0 for as many.
+unfoldable pub countNumber : List ℕ → List (List ℕ) → ℕ
+countNumber [] [] = 0
+countNumber [] (w ∷ ws) = tooMany
+countNumber (f ∷ fs) [] = missing
+countNumber (f ∷ fs) (w ∷ ws) = countNumber fs ws
 
-abbrev pub callsOf : Parsed → List Call
-callsOf Nothing = []
-callsOf (Said c) = c ∷ []
-callsOf (Bad n) = []
+-- The first word that is wrong as its field: 0 for none.
+unfoldable pub wrongWord : List ℕ → List (List ℕ) → ℕ
+wrongWord (f ∷ fs) (w ∷ ws) = orElse (wordValues (fieldIn f w) .number) (wrongWord fs ws)
+wrongWord [] ws = 0
+wrongWord (f ∷ fs) [] = 0
+
+-- What the words say as their fields.
+unfoldable pub valuesIn : List ℕ → List (List ℕ) → List ℕ
+valuesIn (f ∷ fs) (w ∷ ws) = wordValues (fieldIn f w) .value ∷ valuesIn fs ws
+valuesIn [] ws = []
+valuesIn (f ∷ fs) [] = []
+
+-- The number of the words behind a kind's name, 0 for none. How many there are is judged before what they say.
+unfoldable pub wordsNumber : List ℕ → List (List ℕ) → ℕ
+wordsNumber fs ws = orElse (countNumber fs ws) (wrongWord fs ws)
+
+-- By the kind that the first word names: the call of the words' values, where nothing is wrong.
+abbrev pub kindValues : ℕ → ℕ → List (List ℕ) → ParsedValues
+kindValues e zero ws = record { number = unknown; calls = [] }
+kindValues e (suc k) ws =
+    let fs = fieldsOf e (suc k) in
+    record { number = wordsNumber fs ws; calls = unlessRefused (wordsNumber fs ws) (λ n. []) (callOf e (suc k) (valuesIn fs ws) ∷ []) }
+
+unfoldable pub callValues : ℕ → List (List ℕ) → ParsedValues
+callValues e [] = record { number = 0; calls = [] }
+callValues e (k ∷ ws) = kindValues e (kindNamed e k) ws
+
+unfoldable pub lineValues : ℕ → List ℕ → ParsedValues
+lineValues e l = callValues e (wordsIn (said l))
 
 -- A line that is wrong has a reason that is no number of document 01. proofs/Within has the proof: reasons-apart.
 abbrev pub ReasonsApart : Type 0
