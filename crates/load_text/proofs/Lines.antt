@@ -9,6 +9,7 @@ use native.Mathlib.Omega.{arith}
 use lib.Dec.{ltb, leb, eqb}
 use lib.ListN.{length, getD, replicate, length-append, length-replicate}
 use borrow.Author.Tests.{ne-eqb, ltb-true, lt-ltb, leb-true}
+use Rattle.numbers.specs.Numbers.{noSpaceNumber}
 use Rattle.numerals.specs.Digits.{digits, widthUpTo, widthOf, decimalOf, column}
 use Rattle.numerals.specs.Laid.{Put, spaceNumber, lentOut}
 use Rattle.numerals.proofs.Laying.{width-small, decimal-length, pair-length, put-short, lent-all, lent-none, lent-known}
@@ -23,7 +24,6 @@ use Rattle.load_text.specs.declared.print.Printed.the-variants.{Length, 
 use Rattle.load_text.specs.Answers.{printedValues}
 use Rattle.load_text.specs.Lines.{glyphOf, hexUpTo, wordOf, fieldsText, lineOf, wordMost, fieldsMost, Brief, stopLine, headerOf, reasons, reasonTexts, reasonText, reportOf, reported, printedAs, printed, printValues}
 use Rattle.load_text.specs.Parsing.{placeOf, is}
-use Rattle.load_text.specs.Reasons.{noSpace}
 use Rattle.load_text.proofs.Cases.{either, below, not-refused}
 use Rattle.load_text.proofs.Parts.{place-high}
 
@@ -152,7 +152,7 @@ prints text o p r e l = (e, (l, ap printedValues e ∙ go (spaceNumber text o)))
     go zero = refl
     go (suc k) = refl
 
-pub print-none : (text o : List ℕ) → length o < length text → Prints text o (Refusal noSpace) o
+pub print-none : (text o : List ℕ) → length o < length text → Prints text o (Refusal noSpaceNumber) o
 unfolding printed
 print-none text o h = let l = lent-none text o h in prints text o o _ (rw (l .0)) (l .1)
 
@@ -165,7 +165,7 @@ print-all text o p r s h w =
 
 -- A text that was counted on one byte: it goes in or not.
 module _ (text : List ℕ) (s : length text < 2 ^ 64) {o₁ p₁ : List ℕ} {n : ℕ} (w : Put o₁ 0 text n p₁) (o : List ℕ) where
-  pub counted-none : length o < n → Prints text o (Refusal noSpace) o
+  pub counted-none : length o < n → Prints text o (Refusal noSpaceNumber) o
   counted-none h = print-none text o (omega (arith, put-short s w .0))
 
   pub counted-all : n ≤ length o → (p : List ℕ) (r : ℕ) → Put o 0 text r p → Prints text o (Length r) p

@@ -9,6 +9,7 @@ use native.Mathlib.Nat.{add-zero}
 use borrow.Author.Tests.{lt-ltb}
 use lib.ListN.{length, take, drop, replicate, length-replicate, length-append}
 use lib.Seq.{take-at, append-snoc}
+use Rattle.numbers.specs.Numbers.{noSpaceNumber}
 use Rattle.numerals.specs.Laid.{behind, laid, spaceNumber, lentOut}
 use Rattle.numerals.proofs.Laying.{laid-append, laid-length, laid-none, laid-first, behind-small, lent-all, lent-none, lent-known}
 use Rattle.load.specs.declared.Call.{Call}
@@ -27,9 +28,8 @@ use Rattle.load_text.specs.declared.Made.the-variants.{Load, Mistake}
 use Rattle.load_text.specs.declared.Start.{Start}
 use Rattle.load_text.specs.declared.parse.Parsed.{Parsed}
 use Rattle.load_text.specs.declared.parse.Parsed.the-variants.{Nothing, Said, Bad}
-use Rattle.load_text.specs.Answers.{madeValues, parsedValues}
+use Rattle.load_text.specs.Answers.{madeValues, parsedValues, lengthUnless}
 use Rattle.load_text.specs.Parsing.{isFeed, placeOf, linesIn, lineSays}
-use Rattle.load_text.specs.Reasons.{noSpace}
 use Rattle.load_text.specs.Making.{Making, whole, wrong, heading, headingNumber, saidIn, Starts, lineNumber, lineBytes, gathered, made, madeAs, answerOn, bufferOn, valuesOn, madeOf, madeOut, makeValues, Adds, Gathers, callsIn, MadeReads}
 use Rattle.load_text.proofs.Cases.{either, below, refused, not-refused, was-refused}
 use Rattle.load_text.proofs.Headings.{lines-cut, lines-end}
@@ -190,7 +190,7 @@ pub makes : (text out : List ℕ) (r : Made) (q : List ℕ) → (r ≡ madeOf te
 unfolding madeOf makeValues
 makes text out r q e = (e .0, (e .1, ap madeValues (e .0) ∙ on (made text)))
   where
-    in-buffer : (k n : ℕ) → madeValues (madeAs k 0 n) ≡ record { number = k; line = 0; length = unlessRefused k (λ m. 0) n }
+    in-buffer : (k n : ℕ) → madeValues (madeAs k 0 n) ≡ record { number = k; line = 0; length = lengthUnless k n }
     in-buffer zero n = refl
     in-buffer (suc k) n = refl
 
@@ -202,7 +202,7 @@ module _ (text o : List ℕ) (n : ℕ) (p : List ℕ) (g : Gathers text o (Load 
   pub gathered-small : n ≤ 65536
   gathered-small = omega (arith, g .2, read-bounded (g .0) (written-reads _ _ (g .0) (made-ends text (g .0) (g .1) .0) .0))
 
-  pub make-none : (out : List ℕ) → length out < n → Makes text out (Mistake 0 noSpace) out
+  pub make-none : (out : List ℕ) → length out < n → Makes text out (Mistake 0 noSpaceNumber) out
   unfolding madeOf madeOut
   make-none out h = let w = lent-none (g .0) out (omega (arith, g .2)) in makes text out _ out (rw (g .1) (rw (w .0), w .1))
 

@@ -1,9 +1,8 @@
--- The values of a call that a line says are within their types, and a line that says none has a reason from 101 on; with both, what a line
--- says in numbers.
+-- The values of a call that a line says are within their types, and a line that says none has a reason from 101 on.
 use Prim.Native.Nat.{ℕ, zero, suc, _-_, _^_, _≤_, _<_}
 use mathlib.Core.Bool.{Bool, _&&_, _||_}
 use mathlib.Core.List.{List, [], _∷_}
-use mathlib.Core.Path.{_≡_, refl, sym, ap, subst, _∙_}
+use mathlib.Core.Path.{_≡_, refl, subst}
 use native.Mathlib.Omega.{arith}
 use lib.Dec.{leb, ltb, eqb}
 use lib.ListN.{List·getD-eq-default}
@@ -12,8 +11,7 @@ use borrow.Author.Tests.{leb-true, eqb-true}
 use Rattle.groups.specs.Groups.{setFrom, union, has}
 use Rattle.load.specs.declared.Call.{Call}
 use Rattle.load.specs.Format.{theGroups, fieldWidths, fieldCount, fieldWidth, fieldsOf}
-use Rattle.load.specs.Calls.{made, withValue, bare, filled, callOf}
-use Rattle.load.specs.Reading.{orElse, unlessRefused}
+use Rattle.load.specs.Calls.{made, withValue, bare}
 use Rattle.load.specs.RoundTrip.{Typed}
 use Rattle.load.proofs.Format.{allBelow, below-passes}
 use Rattle.load.proofs.Calls.{with-none, typed-with, typed-bare}
@@ -21,8 +19,7 @@ use Rattle.load_text.specs.declared.parse.Parsed.{Parsed}
 use Rattle.load_text.specs.declared.parse.Parsed.the-variants.{Nothing, Said, Bad}
 use Rattle.load_text.specs.declared.words.Field.{Field}
 use Rattle.load_text.specs.declared.words.Field.the-variants.{Value, Wrong}
-use Rattle.load_text.specs.Answers.{wordValues, parsedValues}
-use Rattle.load_text.specs.Parsing.{until, since, isDash, isList, groupIn, span, andThen, upTo, rangeIn, itemIn, itemsIn, withItems, groupsIn, noNumbers, noNumber, fieldIn, withField, filledIn, kindNamed, kindSays, callIn, wordsIn, said, lineSays, countNumber, wrongWord, valuesIn, wordsNumber, kindValues, callValues, lineValues, ReasonsApart}
+use Rattle.load_text.specs.Parsing.{until, since, isDash, isList, groupIn, span, andThen, upTo, rangeIn, itemIn, itemsIn, withItems, groupsIn, noNumbers, noNumber, fieldIn, withField, filledIn, kindNamed, kindSays, callIn, wordsIn, said, lineSays, ReasonsApart}
 use Rattle.load_text.specs.Reasons.{unknown}
 use Rattle.load_text.proofs.Cases.{either, below}
 use Rattle.load_text.proofs.Numbers.{Under, number-under}
@@ -41,7 +38,7 @@ set-below (suc k) g p =
     let t = two-pow-succ k in
     either (p g) (λ e. rw e (omega arith)) (λ e. rw e (omega arith))
 
-abbrev InWord : Field → Type 0
+abbrev pub InWord : Field → Type 0
 InWord f = Under 101 18446744073709551615 f
 
 union-in : (a b : ℕ) → InWord (Value (union a b))
@@ -52,10 +49,10 @@ span-in : (low high : ℕ) → InWord (Value (span low high))
 unfolding span
 span-in low high = omega (arith, set-below 64 0 (λ g. leb low g && leb g high))
 
-group-under : (w : List ℕ) → Under 101 63 (groupIn w)
+pub group-under : (w : List ℕ) → Under 101 63 (groupIn w)
 group-under w = number-under 101 10 _ _ _ w (omega arith) (omega arith)
 
-item-in : (w : List ℕ) → InWord (itemIn w)
+pub item-in : (w : List ℕ) → InWord (itemIn w)
 unfolding itemIn
 item-in w = under-then 63 _ (groupIn (until isDash w)) (rangeIn (since isDash w)) (group-under (until isDash w)) (range (since isDash w))
   where
@@ -68,7 +65,7 @@ unfolding withItems
 items-in s [] h = h
 items-in s (w ∷ ws) h = under-then 18446744073709551615 _ (itemIn w) (λ g. withItems (union s g) ws) (item-in w) (λ g. items-in (union s g) ws (union-in s g))
 
-groups-in : (w : List ℕ) → InWord (groupsIn w)
+pub groups-in : (w : List ℕ) → InWord (groupsIn w)
 unfolding groupsIn
 groups-in w = either (isList w) (λ e. rw e (items-in 0 (itemsIn w) (omega arith))) (λ e. rw e (number-under 101 16 _ _ _ w (omega arith) (omega arith)))
 
@@ -79,7 +76,7 @@ no-number-apart f =
     below f 11 (λ h. leb-true 101 (noNumber f) (below-passes 11 (λ i. leb 101 (noNumber i)) refl f h))
     (λ h. omega (arith, List·getD-eq-default noNumbers unknown h))
 
-field-under : (f : ℕ) (w : List ℕ) → Under 101 (256 ^ fieldWidth f - 1) (fieldIn f w)
+pub field-under : (f : ℕ) (w : List ℕ) → Under 101 (256 ^ fieldWidth f - 1) (fieldIn f w)
 unfolding fieldIn fieldWidth fieldWidths
 field-under f w =
     either (eqb f theGroups) (λ e. rw (eqb-true f theGroups e) (groups-in w)) (λ e. rw e (number-under 101 10 _ _ _ w (no-number-apart f) (omega arith)))
@@ -128,52 +125,3 @@ says-typed e l c i = rw i at (call-within e (wordsIn (said l)))
 pub reasons-apart : ReasonsApart
 unfolding lineSays
 reasons-apart e l n i = rw i at (call-within e (wordsIn (said l)))
-
--- ── a line in numbers ──
--- What is wrong before the words' values are looked at stays so, and no call is said.
-filled-bad : (n : ℕ) (fs : List ℕ) (ws : List (List ℕ)) → parsedValues (filledIn fs ws (Bad n)) ≡ record { number = orElse (countNumber fs ws) n; calls = [] }
-unfolding filledIn countNumber
-filled-bad n [] [] = refl
-filled-bad n [] (w ∷ ws) = refl
-filled-bad n (f ∷ fs) [] = refl
-filled-bad n (f ∷ fs) (w ∷ ws) = filled-bad n fs ws
-
-none-said : {A : Type 0} (k n : ℕ) (xs : List A) → unlessRefused (orElse k (suc n)) (λ m. []) xs ≡ []
-none-said zero n xs = refl
-none-said (suc k) n xs = refl
-
-filled-values : (fs : List ℕ) (ws : List (List ℕ)) (c : Call)
-    → parsedValues (filledIn fs ws (Said c)) ≡ record { number = wordsNumber fs ws; calls = unlessRefused (wordsNumber fs ws) (λ n. []) (filled fs (valuesIn fs ws) c ∷ []) }
-unfolding filledIn countNumber wrongWord valuesIn wordsNumber filled
-filled-values [] [] c = refl
-filled-values [] (w ∷ ws) c = refl
-filled-values (f ∷ fs) [] c = refl
-filled-values (f ∷ fs) (w ∷ ws) c = go (fieldIn f w) (field-under f w) (λ d. filled-values fs ws d)
-  where
-    k : ℕ
-    k = countNumber fs ws
-
-    go : (x : Field) → Under 101 (256 ^ fieldWidth f - 1) x
-        → ((d : Call) → parsedValues (filledIn fs ws (Said d)) ≡ record { number = wordsNumber fs ws; calls = unlessRefused (wordsNumber fs ws) (λ n. []) (filled fs (valuesIn fs ws) d ∷ []) })
-        → parsedValues (filledIn fs ws (withField f x (Said c)))
-        ≡ record {
-          number = orElse k (orElse (wordValues x .number) (wrongWord fs ws));
-          calls = unlessRefused (orElse k (orElse (wordValues x .number) (wrongWord fs ws))) (λ n. []) (filled fs (valuesIn fs ws) (withValue f (wordValues x .value) c) ∷ []);
-        }
-    go (Value v) u h = h (withValue f v c)
-    go (Wrong zero) u h = absurd (omega arith)
-    go (Wrong (suc n)) u h = filled-bad (suc n) fs ws ∙ ap (λ (cs : List Call). record { number = orElse k (suc n); calls = cs }) (sym (none-said k n _))
-
-call-values : (e : ℕ) (ws : List (List ℕ)) → parsedValues (callIn e ws) ≡ callValues e ws
-unfolding callIn callValues callOf
-call-values e [] = refl
-call-values e (k ∷ ws) = go (kindNamed e k)
-  where
-    go : (n : ℕ) → parsedValues (kindSays e n ws) ≡ kindValues e n ws
-    go zero = refl
-    go (suc n) = filled-values (fieldsOf e (suc n)) ws (bare (suc n))
-
--- What a line says, with its number and call: what `parse_line` promises.
-pub with-values : (e : ℕ) (l : List ℕ) (p : Parsed) → p ≡ lineSays e l → (p ≡ lineSays e l) × (parsedValues p ≡ lineValues e l)
-unfolding lineSays lineValues
-with-values e l p i = (i, ap parsedValues i ∙ call-values e (wordsIn (said l)))

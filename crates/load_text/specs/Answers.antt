@@ -50,8 +50,11 @@ madeValues (Mistake line n) = record { number = n; line = line; length = 0 }
 abbrev pub wrongAt : ℕ → ℕ → TextValues
 wrongAt line n = record { number = n; line = line; length = 0 }
 
+abbrev pub lengthUnless : ℕ → ℕ → ℕ
+lengthUnless k n = unlessRefused k (λ m. 0) n
+
 abbrev pub lentAs : List ℕ → List ℕ → TextValues
-lentAs bytes out = record { number = spaceNumber bytes out; line = 0; length = unlessRefused (spaceNumber bytes out) (λ n. 0) (length bytes) }
+lentAs bytes out = record { number = spaceNumber bytes out; line = 0; length = lengthUnless (spaceNumber bytes out) (length bytes) }
 
 -- A text in a lent buffer.
 abbrev pub printedValues : Printed → WrittenValues

@@ -5,6 +5,7 @@ use mathlib.Core.Bool.{Bool, true, false, not, _&&_, _||_, cond}
 use mathlib.Core.List.{List, [], _∷_}
 use lib.Dec.{eqb, leb, ltb}
 use lib.ListN.{length, take, drop, getD}
+use Rattle.numbers.specs.Numbers.{editionNumber}
 use Rattle.groups.specs.Groups.{setWhere, union}
 use Rattle.load.specs.declared.Call.{Call}
 use Rattle.load.specs.Format.{theGroups, fieldWidth, fieldsOf, lengthOf, names}
@@ -18,8 +19,8 @@ use Rattle.load_text.specs.declared.words.Field.{Field}
 use Rattle.load_text.specs.declared.words.Field.the-variants.{Value, Wrong}
 use Rattle.load_text.specs.declared.words.Mark.{Mark}
 use Rattle.load_text.specs.declared.words.Mark.the-variants.{Joint, NoDigit}
-use Rattle.load_text.specs.Answers.{wordValues, ParsedValues}
-use Rattle.load_text.specs.Reasons.{noEdition, unknown, missing, tooMany, noClock, noTicket, noLength, noGroups, tooLarge, over63, backward, noPool, noUnits, noClient, noReserved, noLimit, noGrace}
+use Rattle.load_text.specs.Answers.{WordValues, wordValues, ParsedValues}
+use Rattle.load_text.specs.Reasons.{unknown, missing, tooMany, noClock, noTicket, noLength, noGroups, tooLarge, over63, backward, noPool, noUnits, noClient, noReserved, noLimit, noGrace}
 
 -- ── parts of a text ──
 -- How many bytes stand before the first that passes p; these bytes, and those from it on.
@@ -101,6 +102,8 @@ wordAt l from to = take (to - from) (drop from l)
 
 -- What the code finds of the first word from `at` on: its first byte and the place after its last, both the text's end where there is none.
 pub record FirstWord (l : List ℕ) (at from to : ℕ) : Type 0 where
+  pub first : from ≡ placeOf isFull l at
+  pub behind : to ≡ placeOf isBlank l from
   pub low : at ≤ from
   pub order : from ≤ to
   pub high : to ≤ max at (length l)
@@ -186,6 +189,49 @@ isList w = not (none isJoint w)
 unfoldable pub groupsIn : List ℕ → Field
 groupsIn w = cond (isList w) (withItems 0 (itemsIn w)) (numberIn 16 18446744073709551615 noGroups tooLarge w)
 
+-- ── words in numbers ──
+-- The number that a word says: `none` where it says none, `large` where it is over `most`.
+unfoldable pub numberValues : ℕ → ℕ → ℕ → ℕ → List ℕ → WordValues
+numberValues base most none large w =
+    let v = valueIn base 0 w in
+    record { number = cond (isNumber base w) (cond (leb v most) 0 large) none; value = cond (isNumber base w && leb v most) v 0 }
+
+-- The groups that an item names: the one before its dash, and the one behind it, or the same where there is no dash.
+abbrev pub groupValues : List ℕ → WordValues
+groupValues w = numberValues 10 63 noGroups over63 w
+
+abbrev pub firstGroup : List ℕ → WordValues
+firstGroup w = groupValues (until isDash w)
+
+abbrev pub behindDash : List ℕ → WordValues → WordValues
+behindDash [] first = first
+behindDash (dash ∷ l) first = groupValues l
+
+abbrev pub lastGroup : List ℕ → WordValues
+lastGroup w = behindDash (since isDash w) (firstGroup w)
+
+unfoldable pub itemNumber : List ℕ → ℕ
+itemNumber w = orElse (firstGroup w .number) (orElse (lastGroup w .number) (cond (ltb (lastGroup w .value) (firstGroup w .value)) backward 0))
+
+-- The first item of a list that is wrong, and the groups of all with those before them.
+unfoldable pub listNumber : List (List ℕ) → ℕ
+listNumber [] = 0
+listNumber (w ∷ ws) = orElse (itemNumber w) (listNumber ws)
+
+unfoldable pub listSet : ℕ → List (List ℕ) → ℕ
+listSet s [] = s
+listSet s (w ∷ ws) = listSet (union s (span (firstGroup w .value) (lastGroup w .value))) ws
+
+-- A value, where a number is 0.
+abbrev pub unlessWrong : ℕ → ℕ → WordValues
+unlessWrong n v = record { number = n; value = unlessRefused n (λ m. 0) v }
+
+-- The set that a word says.
+unfoldable pub groupsValues : List ℕ → WordValues
+groupsValues w =
+    cond (isList w) (unlessWrong (listNumber (itemsIn w)) (listSet 0 (itemsIn w)))
+    (numberValues 16 18446744073709551615 noGroups tooLarge w)
+
 -- ── calls ──
 -- The reasons of words that say nothing as a field, in the order of the fields: the kind has no word, then clock, groups, length, ticket,
 -- pool, units, client, reserved, limit, grace.
@@ -261,7 +307,7 @@ editionOr (Wrong n) = Misread n
 
 unfoldable pub editionIn : List (List ℕ) → Head
 editionIn [] = Misread missing
-editionIn (w ∷ []) = editionOr (numberIn 10 255 noEdition noEdition w)
+editionIn (w ∷ []) = editionOr (numberIn 10 255 editionNumber editionNumber w)
 editionIn (w ∷ a ∷ ws) = Misread tooMany
 
 unfoldable pub headIn : List (List ℕ) → Head
@@ -307,8 +353,8 @@ unfoldable pub callValues : ℕ → List (List ℕ) → ParsedValues
 callValues e [] = record { number = 0; calls = [] }
 callValues e (k ∷ ws) = kindValues e (kindNamed e k) ws
 
-unfoldable pub lineValues : ℕ → List ℕ → ParsedValues
-lineValues e l = callValues e (wordsIn (said l))
+unfoldable pub parseValues : ℕ → List ℕ → ParsedValues
+parseValues e l = callValues e (wordsIn (said l))
 
 -- A line that is wrong has a reason that is no number of document 01. proofs/Within has the proof: reasons-apart.
 abbrev pub ReasonsApart : Type 0

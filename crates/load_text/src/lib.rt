@@ -151,7 +151,7 @@ pub fn make(text: &[u8], out: &mut [u8]) -> Made
     match gather(text, &mut load) {
         Made::Load(n) => {
             if out.len() < n {
-                return Made::Mistake(0, reasons::NO_SPACE);
+                return Made::Mistake(0, numbers::NO_SPACE);
             }
             numerals::put_bytes(out, 0, &load[..n]);
             Made::Load(n)

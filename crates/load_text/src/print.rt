@@ -12,7 +12,6 @@ ghost use Rattle.load.specs.Reading.{editionOf, walk, openNumber};
 ghost use Rattle.load_text.specs.Answers.{printedValues};
 ghost use Rattle.load_text.specs.Lines.{glyphOf, hexUpTo, wordOf, fieldsText, fieldsMost, lineOf, Brief, stopLine, restOf, headerOf, textOf, reportOf, reported, printed, printValues};
 use crate::parse;
-use crate::reasons;
 use crate::texts::put_name;
 use crate::texts::put_reason;
 use load::Call;
@@ -93,7 +92,7 @@ pub fn put_line(edition: u8, call: Call, out: &mut [u8]) -> Printed
 {
     let mut scrap = [0u8; 1];
     if out.len() < put_call(&mut scrap, 0, edition, call) {
-        return Printed::Refusal(reasons::NO_SPACE);
+        return Printed::Refusal(numbers::NO_SPACE);
     }
     let n = put_call(out, 0, edition, call);
     Printed::Length(n)
@@ -178,7 +177,7 @@ pub fn show(load: &[u8], out: &mut [u8]) -> Printed
         let n = put_text(out, load);
         return Printed::Length(n);
     }
-    Printed::Refusal(reasons::NO_SPACE)
+    Printed::Refusal(numbers::NO_SPACE)
 }
 
 // A line that says what is wrong with a line of text.

@@ -9,19 +9,19 @@ returns : tie.Need-returns
 returns c =
     let n = c .before in
     let l = n .before .before .before .before .listing .ensures in
-    (rw (sym (l .0) ∙ n .n .given .1), l .1)
+    (rw (sym (l .0) ∙ n .n .given .1), l .1 .0)
 
 returns-2 : tie.Need-returns-2
 returns-2 c =
     let n = c .before .before in
     let l = n .before .before .before .before .listing .ensures in
-    (rw (sym (l .0) ∙ n .line .given .1, eq-eqb _ _ (c .if1 .taken)), l .1)
+    (rw (sym (l .0) ∙ n .line .given .1, eq-eqb _ _ (c .if1 .taken)), l .1 .0)
 
 returns-3 : tie.Need-returns-3
 returns-3 c =
     let n = c .before .before in
     let l = n .before .before .before .before .listing .ensures in
-    (rw (sym (l .0) ∙ n .line .given .1, ne-eqb _ _ (c .if1 .left)), l .1)
+    (rw (sym (l .0) ∙ n .line .given .1, ne-eqb _ _ (c .if1 .left)), l .1 .0)
 
 pub belgwyth-beat-spec : {M : Type 1} → statement M
 belgwyth-beat-spec =
