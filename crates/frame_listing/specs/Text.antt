@@ -73,7 +73,6 @@ listingValues text out = let s = surveyOf text in cond (eqb (s .number) 0) (lent
 unfoldable pub listedOut : List ℕ → List ℕ → List ℕ
 listedOut text out = cond (eqb (surveyOf text .number) 0) (lentOut (textOf text) out) out
 
--- The answer in a number: the length, 15, or 0 where a line is wrong.
-abbrev pub beatOf : Listed → ℕ
-beatOf (Length n) = n
-beatOf (Mistake line n) = cond (eqb line 0) n 0
+-- The answer in one number: the length, 15, or 0 where a line is wrong.
+abbrev pub beatOf : TextValues → ℕ
+beatOf v = cond (eqb (v .line) 0) (cond (eqb (v .number) 0) (v .length) (v .number)) 0

@@ -172,7 +172,7 @@ pub fn listing(text: &[u8], out: &mut [u8]) -> Listed
 // The same for C: the count of bytes written; 15 where the listing does not go in; 0 where a line is wrong.
 #[no_mangle]
 pub extern "C" fn belgwyth_beat(text: &[u8], out: &mut [u8]) -> usize
-    ensures answer { λ r. ⌜ r ≡ beatOf (listedOf (now (text .entry)) (now (out .entry))) ⌝ }
+    ensures answer { λ r. ⌜ r ≡ beatOf (listingValues (now (text .entry)) (now (out .entry))) ⌝ }
     ensures buffer { λ _. ⌜ now (out .exit) ≡ listedOut (now (text .entry)) (now (out .entry)) ⌝ }
 {
     match listing(text, out) {

@@ -18,11 +18,12 @@ use Rattle.load.specs.Format.{theGroups, fieldWidths, fieldCount, fieldWidth, f
 use Rattle.load.specs.Calls.{valueOf}
 use Rattle.load.proofs.Format.{both, allBelow, below-passes, allRows, tested, known-tested, no-width}
 use Rattle.load.proofs.Bytes.{record-some, record-length}
+use Rattle.load.specs.Reading.{unlessRefused}
 use Rattle.load.specs.Writing.{answeredValues}
 use Rattle.load_text.specs.declared.print.Printed.{Printed}
 use Rattle.load_text.specs.declared.print.Printed.the-variants.{Length, Refusal}
 use Rattle.load_text.specs.Answers.{printedValues}
-use Rattle.load_text.specs.Lines.{glyphOf, hexUpTo, wordOf, fieldsText, lineOf, wordMost, fieldsMost, Brief, stopLine, headerOf, reasons, reasonTexts, reasonText, reportOf, reported, printedAs, printed, printValues}
+use Rattle.load_text.specs.Lines.{glyphOf, hexUpTo, wordOf, fieldsText, lineOf, wordMost, fieldsMost, Brief, stopLine, headerOf, reasons, reasonTexts, reasonText, reportOf, reported, printed, printValues}
 use Rattle.load_text.specs.Parsing.{placeOf, is}
 use Rattle.load_text.proofs.Cases.{either, below, not-refused}
 use Rattle.load_text.proofs.Parts.{place-high}
@@ -148,7 +149,7 @@ prints : (text o p : List ℕ) (r : Printed) → r ≡ printed text o → p ≡ 
 unfolding printed printValues
 prints text o p r e l = (e, (l, ap printedValues e ∙ go (spaceNumber text o)))
   where
-    go : (k : ℕ) → printedValues (printedAs k (length text)) ≡ answeredValues k (length text)
+    go : (k : ℕ) → printedValues (unlessRefused k Refusal (Length (length text))) ≡ answeredValues k (length text)
     go zero = refl
     go (suc k) = refl
 

@@ -30,7 +30,7 @@ use Rattle.load_text.specs.declared.parse.Parsed.{Parsed}
 use Rattle.load_text.specs.declared.parse.Parsed.the-variants.{Nothing, Said, Bad}
 use Rattle.load_text.specs.Answers.{madeValues, parsedValues, lengthUnless}
 use Rattle.load_text.specs.Parsing.{isFeed, placeOf, linesIn, lineSays}
-use Rattle.load_text.specs.Making.{Making, whole, wrong, heading, headingNumber, saidIn, Starts, lineNumber, lineBytes, gathered, made, madeAs, answerOn, bufferOn, valuesOn, madeOf, madeOut, makeValues, Adds, Gathers, callsIn, MadeReads}
+use Rattle.load_text.specs.Making.{Making, whole, wrong, heading, headingNumber, saidIn, Starts, lineNumber, lineBytes, gathered, made, answerOn, bufferOn, valuesOn, madeOf, madeOut, makeValues, Adds, Gathers, callsIn, MadeReads}
 use Rattle.load_text.proofs.Cases.{either, below, refused, not-refused, was-refused}
 use Rattle.load_text.proofs.Headings.{lines-cut, lines-end}
 use Rattle.load_text.proofs.Parts.{place-low}
@@ -190,7 +190,7 @@ pub makes : (text out : List ℕ) (r : Made) (q : List ℕ) → (r ≡ madeOf te
 unfolding madeOf makeValues
 makes text out r q e = (e .0, (e .1, ap madeValues (e .0) ∙ on (made text)))
   where
-    in-buffer : (k n : ℕ) → madeValues (madeAs k 0 n) ≡ record { number = k; line = 0; length = lengthUnless k n }
+    in-buffer : (k n : ℕ) → madeValues (unlessRefused k (Mistake 0) (Load n)) ≡ record { number = k; line = 0; length = lengthUnless k n }
     in-buffer zero n = refl
     in-buffer (suc k) n = refl
 

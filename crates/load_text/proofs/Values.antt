@@ -1,6 +1,6 @@
 -- What words and lines say in numbers: the values of each answer are those that their bytes give.
-use Prim.Native.Nat.{ℕ, zero, suc, _-_, _^_, _≤_}
-use mathlib.Core.Bool.{_&&_, cond}
+use Prim.Native.Nat.{ℕ, zero, suc, _-_, _^_}
+use mathlib.Core.Bool.{cond}
 use mathlib.Core.List.{List, [], _∷_}
 use mathlib.Core.Path.{_≡_, refl, sym, ap, _∙_}
 use native.Mathlib.Omega.{arith}
@@ -12,12 +12,12 @@ use Rattle.load.specs.Format.{fieldWidth, fieldsOf}
 use Rattle.load.specs.Calls.{withValue, bare, filled, callOf}
 use Rattle.load.specs.Reading.{orElse, unlessRefused}
 use Rattle.load_text.specs.declared.parse.Parsed.{Parsed}
-use Rattle.load_text.specs.declared.parse.Parsed.the-variants.{Nothing, Said, Bad}
+use Rattle.load_text.specs.declared.parse.Parsed.the-variants.{Said, Bad}
 use Rattle.load_text.specs.declared.words.Field.{Field}
 use Rattle.load_text.specs.declared.words.Field.the-variants.{Value, Wrong}
 use Rattle.load_text.specs.Answers.{WordValues, wordValues, parsedValues}
 use Rattle.load_text.specs.Parsing.{until, since, isDash, isNumber, valueIn, numberIn, isList, groupIn, span, andThen, upTo, rangeIn, itemIn, itemsIn, withItems, groupsIn}
-use Rattle.load_text.specs.Parsing.{numberValues, groupValues, firstGroup, behindDash, lastGroup, itemNumber, listNumber, listSet, unlessWrong, groupsValues}
+use Rattle.load_text.specs.Parsing.{numberValues, firstGroup, behindDash, lastGroup, itemNumber, listNumber, listSet, unlessWrong, groupsValues}
 use Rattle.load_text.specs.Parsing.{fieldIn, withField, filledIn, kindNamed, kindSays, callIn, wordsIn, said, lineSays, countNumber, wrongWord, valuesIn, wordsNumber, kindValues, callValues, parseValues}
 use Rattle.load_text.specs.Reasons.{backward}
 use Rattle.load_text.proofs.Cases.{either}

@@ -146,13 +146,9 @@ abbrev pub reported : ℕ → ℕ → Reported
 reported line n = record { text = lentOut (reportOf line n) (replicate 64 0); length = length (reportOf line n) }
 
 -- ── what is answered ──
--- The cases of `Printed` by their number and length: 0 is a text of that length.
-abbrev pub printedAs : ℕ → ℕ → Printed
-printedAs k n = unlessRefused k Refusal (Length n)
-
 -- The text's length, or 15 where it does not go into the lent buffer. The buffer is then `lentOut text out`.
 unfoldable pub printed : List ℕ → List ℕ → Printed
-printed text out = printedAs (spaceNumber text out) (length text)
+printed text out = unlessRefused (spaceNumber text out) Refusal (Length (length text))
 
 -- The same in numbers.
 unfoldable pub printValues : List ℕ → List ℕ → WrittenValues

@@ -92,13 +92,9 @@ unfoldable pub made : List ℕ → Making
 made text = unlessRefused (headingNumber text) (wrong (heading text .lines)) (behindHeading (heading text) (saidIn text))
 
 -- ── `make` ──
--- The cases of `Made` by their number, line and length: 0 is a load of that length, any other number is told with its line.
-abbrev pub madeAs : ℕ → ℕ → ℕ → Made
-madeAs k line n = unlessRefused k (Mistake line) (Load n)
-
 -- The first line that is wrong, else 15, whose line is 0, for a load that does not go in.
 abbrev pub answerOn : Making → List ℕ → Made
-answerOn (whole s) out = madeAs (spaceNumber s out) 0 (length s)
+answerOn (whole s) out = unlessRefused (spaceNumber s out) (Mistake 0) (Load (length s))
 answerOn (wrong k n) out = Mistake k n
 
 -- The buffer after it: where a number is answered, "no byte of a lent buffer differs".

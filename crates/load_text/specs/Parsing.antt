@@ -7,7 +7,6 @@ use lib.Dec.{eqb, leb, ltb}
 use lib.ListN.{length, take, drop, getD}
 use Rattle.numbers.specs.Numbers.{editionNumber}
 use Rattle.groups.specs.Groups.{setWhere, union}
-use Rattle.load.specs.declared.Call.{Call}
 use Rattle.load.specs.Format.{theGroups, fieldWidth, fieldsOf, lengthOf, names}
 use Rattle.load.specs.Calls.{withValue, bare, callOf}
 use Rattle.load.specs.Reading.{orElse, unlessRefused}
@@ -100,7 +99,8 @@ itemsIn l = parts isComma l
 abbrev pub wordAt : List ℕ → ℕ → ℕ → List ℕ
 wordAt l from to = take (to - from) (drop from l)
 
--- What the code finds of the first word from `at` on: its first byte and the place after its last, both the text's end where there is none.
+-- What the code finds of the first word from `at` on: its first byte and the place after its last; where there is none both are the text's
+-- end, or `at` behind it. The other facts follow from these two.
 pub record FirstWord (l : List ℕ) (at from to : ℕ) : Type 0 where
   pub first : from ≡ placeOf isFull l at
   pub behind : to ≡ placeOf isBlank l from
