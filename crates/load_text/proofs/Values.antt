@@ -4,21 +4,21 @@ use mathlib.Core.Bool.{cond}
 use mathlib.Core.List.{List, [], _∷_}
 use mathlib.Core.Path.{_≡_, refl, sym, ap, _∙_}
 use native.Mathlib.Omega.{arith}
-use lib.Dec.{leb, ltb}
+use lib.Dec.{leb, ltb, eqb}
 use borrow.Author.Tests.{le-ltb}
 use Rattle.groups.specs.Groups.{union}
 use Rattle.load.specs.declared.Call.{Call}
-use Rattle.load.specs.Format.{fieldWidth, fieldsOf}
+use Rattle.load.specs.Format.{theGroups, fieldWidth, fieldsOf}
 use Rattle.load.specs.Calls.{withValue, bare, filled, callOf}
 use Rattle.load.specs.Reading.{orElse, unlessRefused}
 use Rattle.load_text.specs.declared.parse.Parsed.{Parsed}
 use Rattle.load_text.specs.declared.parse.Parsed.the-variants.{Said, Bad}
 use Rattle.load_text.specs.declared.words.Field.{Field}
 use Rattle.load_text.specs.declared.words.Field.the-variants.{Value, Wrong}
-use Rattle.load_text.specs.Answers.{WordValues, wordValues, parsedValues}
+use Rattle.load_text.specs.Answers.{WordValues, wordValues, ParsedValues, parsedValues}
 use Rattle.load_text.specs.Parsing.{until, since, isDash, isNumber, valueIn, numberIn, isList, groupIn, span, andThen, upTo, rangeIn, itemIn, itemsIn, withItems, groupsIn}
 use Rattle.load_text.specs.Parsing.{numberValues, firstGroup, behindDash, lastGroup, itemNumber, listNumber, listSet, unlessWrong, groupsValues}
-use Rattle.load_text.specs.Parsing.{fieldIn, withField, filledIn, kindNamed, kindSays, callIn, wordsIn, said, lineSays, countNumber, wrongWord, valuesIn, wordsNumber, kindValues, callValues, parseValues}
+use Rattle.load_text.specs.Parsing.{fieldIn, withField, filledIn, kindNamed, kindSays, callIn, wordsIn, said, lineSays, countNumber, wordAs, wrongWord, valuesSaid, wordsNumber, kindValues, callValues, parseValues}
 use Rattle.load_text.specs.Reasons.{backward}
 use Rattle.load_text.proofs.Cases.{either}
 use Rattle.load_text.proofs.Numbers.{Under}
@@ -93,24 +93,30 @@ none-said : {A : Type 0} (k n : ℕ) (xs : List A) → unlessRefused (orElse k (
 none-said zero n xs = refl
 none-said (suc k) n xs = refl
 
+field-values : (f : ℕ) (w : List ℕ) → wordValues (fieldIn f w) ≡ wordAs f w
+unfolding fieldIn wordAs
+field-values f w = either (eqb f theGroups) (λ e. rw e (groups-values w)) (λ e. rw e (number-values _ _ _ _ w))
+
 filled-values : (fs : List ℕ) (ws : List (List ℕ)) (c : Call)
-    → parsedValues (filledIn fs ws (Said c)) ≡ record { number = wordsNumber fs ws; calls = unlessRefused (wordsNumber fs ws) (λ n. []) (filled fs (valuesIn fs ws) c ∷ []) }
-unfolding filledIn countNumber wrongWord valuesIn wordsNumber filled
+    → parsedValues (filledIn fs ws (Said c)) ≡ record { number = wordsNumber fs ws; calls = unlessRefused (wordsNumber fs ws) (λ n. []) (filled fs (valuesSaid fs ws) c ∷ []) }
+unfolding filledIn countNumber wrongWord valuesSaid wordsNumber filled
 filled-values [] [] c = refl
 filled-values [] (w ∷ ws) c = refl
 filled-values (f ∷ fs) [] c = refl
-filled-values (f ∷ fs) (w ∷ ws) c = go (fieldIn f w) (field-under f w) (λ d. filled-values fs ws d)
+filled-values (f ∷ fs) (w ∷ ws) c = go (fieldIn f w) (field-under f w) (λ d. filled-values fs ws d) ∙ ap with-word (field-values f w)
   where
     k : ℕ
     k = countNumber fs ws
 
+    with-word : WordValues → ParsedValues
+    with-word v = record {
+      number = orElse k (orElse (v .number) (wrongWord fs ws));
+      calls = unlessRefused (orElse k (orElse (v .number) (wrongWord fs ws))) (λ n. []) (filled fs (valuesSaid fs ws) (withValue f (v .value) c) ∷ []);
+    }
+
     go : (x : Field) → Under 101 (256 ^ fieldWidth f - 1) x
-        → ((d : Call) → parsedValues (filledIn fs ws (Said d)) ≡ record { number = wordsNumber fs ws; calls = unlessRefused (wordsNumber fs ws) (λ n. []) (filled fs (valuesIn fs ws) d ∷ []) })
-        → parsedValues (filledIn fs ws (withField f x (Said c)))
-        ≡ record {
-          number = orElse k (orElse (wordValues x .number) (wrongWord fs ws));
-          calls = unlessRefused (orElse k (orElse (wordValues x .number) (wrongWord fs ws))) (λ n. []) (filled fs (valuesIn fs ws) (withValue f (wordValues x .value) c) ∷ []);
-        }
+        → ((d : Call) → parsedValues (filledIn fs ws (Said d)) ≡ record { number = wordsNumber fs ws; calls = unlessRefused (wordsNumber fs ws) (λ n. []) (filled fs (valuesSaid fs ws) d ∷ []) })
+        → parsedValues (filledIn fs ws (withField f x (Said c))) ≡ with-word (wordValues x)
     go (Value v) u h = h (withValue f v c)
     go (Wrong zero) u h = absurd (omega arith)
     go (Wrong (suc n)) u h = filled-bad (suc n) fs ws ∙ ap (λ (cs : List Call). record { number = orElse k (suc n); calls = cs }) (sym (none-said k n _))

@@ -18,7 +18,7 @@ use Rattle.load_text.specs.declared.words.Field.{Field}
 use Rattle.load_text.specs.declared.words.Field.the-variants.{Value, Wrong}
 use Rattle.load_text.specs.declared.words.Mark.{Mark}
 use Rattle.load_text.specs.declared.words.Mark.the-variants.{Joint, NoDigit}
-use Rattle.load_text.specs.Answers.{WordValues, wordValues, ParsedValues}
+use Rattle.load_text.specs.Answers.{WordValues, ParsedValues}
 use Rattle.load_text.specs.Reasons.{unknown, missing, tooMany, noClock, noTicket, noLength, noGroups, tooLarge, over63, backward, noPool, noUnits, noClient, noReserved, noLimit, noGrace}
 
 -- ── parts of a text ──
@@ -190,6 +190,7 @@ unfoldable pub groupsIn : List ℕ → Field
 groupsIn w = cond (isList w) (withItems 0 (itemsIn w)) (numberIn 16 18446744073709551615 noGroups tooLarge w)
 
 -- ── words in numbers ──
+-- By their bytes alone, without the cases of `Field`.
 -- The number that a word says: `none` where it says none, `large` where it is over `most`.
 unfoldable pub numberValues : ℕ → ℕ → ℕ → ℕ → List ℕ → WordValues
 numberValues base most none large w =
@@ -319,6 +320,7 @@ unfoldable pub headSays : List ℕ → Head
 headSays l = headIn (wordsIn (said l))
 
 -- ── a line in numbers ──
+-- By its words alone, without the cases of `Parsed`.
 -- How many words there are for the fields of a kind: 0 for as many.
 unfoldable pub countNumber : List ℕ → List (List ℕ) → ℕ
 countNumber [] [] = 0
@@ -326,17 +328,21 @@ countNumber [] (w ∷ ws) = tooMany
 countNumber (f ∷ fs) [] = missing
 countNumber (f ∷ fs) (w ∷ ws) = countNumber fs ws
 
+-- What a word says as a field.
+unfoldable pub wordAs : ℕ → List ℕ → WordValues
+wordAs f w = cond (eqb f theGroups) (groupsValues w) (numberValues 10 (256 ^ fieldWidth f - 1) (noNumber f) tooLarge w)
+
 -- The first word that is wrong as its field: 0 for none.
 unfoldable pub wrongWord : List ℕ → List (List ℕ) → ℕ
-wrongWord (f ∷ fs) (w ∷ ws) = orElse (wordValues (fieldIn f w) .number) (wrongWord fs ws)
+wrongWord (f ∷ fs) (w ∷ ws) = orElse (wordAs f w .number) (wrongWord fs ws)
 wrongWord [] ws = 0
 wrongWord (f ∷ fs) [] = 0
 
 -- What the words say as their fields.
-unfoldable pub valuesIn : List ℕ → List (List ℕ) → List ℕ
-valuesIn (f ∷ fs) (w ∷ ws) = wordValues (fieldIn f w) .value ∷ valuesIn fs ws
-valuesIn [] ws = []
-valuesIn (f ∷ fs) [] = []
+unfoldable pub valuesSaid : List ℕ → List (List ℕ) → List ℕ
+valuesSaid (f ∷ fs) (w ∷ ws) = wordAs f w .value ∷ valuesSaid fs ws
+valuesSaid [] ws = []
+valuesSaid (f ∷ fs) [] = []
 
 -- The number of the words behind a kind's name, 0 for none. How many there are is judged before what they say.
 unfoldable pub wordsNumber : List ℕ → List (List ℕ) → ℕ
@@ -347,7 +353,7 @@ abbrev pub kindValues : ℕ → ℕ → List (List ℕ) → ParsedValues
 kindValues e zero ws = record { number = unknown; calls = [] }
 kindValues e (suc k) ws =
     let fs = fieldsOf e (suc k) in
-    record { number = wordsNumber fs ws; calls = unlessRefused (wordsNumber fs ws) (λ n. []) (callOf e (suc k) (valuesIn fs ws) ∷ []) }
+    record { number = wordsNumber fs ws; calls = unlessRefused (wordsNumber fs ws) (λ n. []) (callOf e (suc k) (valuesSaid fs ws) ∷ []) }
 
 unfoldable pub callValues : ℕ → List (List ℕ) → ParsedValues
 callValues e [] = record { number = 0; calls = [] }
