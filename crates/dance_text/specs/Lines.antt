@@ -3,10 +3,12 @@
 use Prim.Native.Nat.{ℕ}
 use mathlib.Core.Bool.{Bool, true, false, cond}
 use mathlib.Core.List.{List, [], _∷_}
+use lib.Dec.{eqb}
 use Rattle.load_text.specs.declared.words.Field.{Field}
 use Rattle.load_text.specs.declared.words.Field.the-variants.{Value}
 use Rattle.load_text.specs.declared.words.Field.the-variants as field
-use Rattle.load_text.specs.Parsing.{wordsIn, said, isWord, groupsIn, numberIn}
+use Rattle.load_text.specs.Answers.{WordValues}
+use Rattle.load_text.specs.Parsing.{wordsIn, said, isWord, groupsIn, numberIn, groupsValues, numberValues}
 use Rattle.load_text.specs.Reasons.{unknown, missing, tooMany, noTicket, tooLarge}
 use Rattle.dance_text.specs.declared.Call.{Call}
 use Rattle.dance_text.specs.declared.Call.the-variants.{Rig, Claim, Release}
@@ -61,3 +63,43 @@ callIn (k ∷ ws) = cond (isCall (named k)) (wordsSay (named k) ws) (Wrong unkno
 -- What a line says.
 unfoldable pub lineSays : List ℕ → Line
 lineSays l = callIn (wordsIn (said l))
+
+-- ── a line in numbers ──
+-- What a line says: the number of what is wrong with it, 0 for nothing; its call, where it says one.
+pub record LineValues : Type 0 where
+  pub number : ℕ
+  pub calls : List Call
+
+abbrev pub lineValues : Line → LineValues
+lineValues Silent = record { number = 0; calls = [] }
+lineValues (Said c) = record { number = 0; calls = c ∷ [] }
+lineValues (Wrong n) = record { number = n; calls = [] }
+
+-- The same by the line's words. What the word behind a call's name says, and the call of it.
+abbrev pub wordOf : Name → List ℕ → WordValues
+wordOf NewRig w = groupsValues w
+wordOf NewClaim w = groupsValues w
+wordOf EndClaim w = numberValues 10 65535 noTicket tooLarge w
+wordOf NoCall w = record { number = unknown; value = 0 }
+
+abbrev pub callWith : Name → ℕ → List Call
+callWith NewRig v = Rig v ∷ []
+callWith NewClaim v = Claim v ∷ []
+callWith EndClaim v = Release v ∷ []
+callWith NoCall v = []
+
+abbrev pub noCallFor : ℕ → LineValues
+noCallFor n = record { number = n; calls = [] }
+
+-- A call has one word behind its name.
+unfoldable pub wordsValues : Name → List (List ℕ) → LineValues
+wordsValues n [] = noCallFor missing
+wordsValues n (w ∷ []) = record { number = wordOf n w .number; calls = cond (eqb (wordOf n w .number) 0) (callWith n (wordOf n w .value)) [] }
+wordsValues n (w ∷ v ∷ ws) = noCallFor tooMany
+
+unfoldable pub namedValues : List (List ℕ) → LineValues
+namedValues [] = noCallFor 0
+namedValues (k ∷ ws) = cond (isCall (named k)) (wordsValues (named k) ws) (noCallFor unknown)
+
+unfoldable pub parseValues : List ℕ → LineValues
+parseValues l = namedValues (wordsIn (said l))

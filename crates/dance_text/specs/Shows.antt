@@ -4,23 +4,21 @@ use mathlib.Core.Bool.{Bool, true, false}
 use mathlib.Core.List.{List, [], _∷_, _++_, map}
 use lib.Dec.{ltb}
 use lib.ListN.{length}
+use Rattle.numbers.specs.Numbers.{misfitNumber}
 use Rattle.load_text.specs.Parsing.{linesIn}
-use Rattle.load_text.specs.Reasons.{misfit}
 use Rattle.dance_text.specs.declared.Call.{Call}
 use Rattle.dance_text.specs.declared.Call.the-variants.{Rig, Claim, Release}
 use Rattle.dance_text.specs.declared.Line.{Line}
 use Rattle.dance_text.specs.declared.Line.the-variants.{Silent, Said, Wrong}
 use Rattle.dance_text.specs.declared.Surveyed.{Surveyed}
-use Rattle.dance_text.specs.Lines.{lineSays}
+use Rattle.dance_text.specs.Lines.{lineSays, lineValues}
 
 -- What the lines of a text say; and the calls among that.
 unfoldable pub saidIn : List ℕ → List Line
 saidIn text = map lineSays (linesIn text)
 
 abbrev pub callsOf : Line → List Call
-callsOf Silent = []
-callsOf (Said c) = c ∷ []
-callsOf (Wrong n) = []
+callsOf l = lineValues l .calls
 
 unfoldable pub callsIn : List Line → List Call
 callsIn [] = []
@@ -33,12 +31,12 @@ saysCall (Wrong n) = false
 
 -- "The first record is the rig and no other is": whether a call is out of place, after other calls or as the first.
 abbrev pub misplaced : Bool → Call → ℕ
-misplaced true (Rig g) = misfit
+misplaced true (Rig g) = misfitNumber
 misplaced true (Claim g) = 0
 misplaced true (Release k) = 0
 misplaced false (Rig g) = 0
-misplaced false (Claim g) = misfit
-misplaced false (Release k) = misfit
+misplaced false (Claim g) = misfitNumber
+misplaced false (Release k) = misfitNumber
 
 -- The number of what is wrong with a line, or 0; `begun` where a call stands before it.
 abbrev pub lineNumber : Bool → Line → ℕ

@@ -6,7 +6,7 @@ ghost use lib.ListN.{drop};
 ghost use Rattle.load_text.specs.Parsing.{numberIn, wordsIn};
 ghost use Rattle.load_text.specs.Reasons.{noTicket, tooLarge};
 ghost use Rattle.dance_text.specs.declared.Call.the-variants.{Rig, Claim, Release};
-ghost use Rattle.dance_text.specs.Lines.{callOr, isCall, lineSays, named, wordSays, wordsSay};
+ghost use Rattle.dance_text.specs.Lines.{callOr, isCall, lineSays, lineValues, named, parseValues, wordSays, wordsSay};
 ghost use Rattle.dance_text.specs.Shows.{lineNumber, saysCall, surveyOf};
 use load_text::reasons;
 use load_text::sets;
@@ -130,7 +130,7 @@ fn is_call(name: Name) -> bool
 
 // A line of a dance show, without its line feed: its first word names the call.
 pub fn parse_line(line: &[u8]) -> Line
-    ensures { λ r. ⌜ r ≡ lineSays (now (line .entry)) ⌝ }
+    ensures { λ r. ⌜ (r ≡ lineSays (now (line .entry))) × (lineValues r ≡ parseValues (now (line .entry))) ⌝ }
 {
     let end = load_text::said_end(line);
     let said = &line[..end];
@@ -155,9 +155,9 @@ fn line_number(begun: bool, line: Line) -> u8
     match line {
         Line::Silent => 0,
         Line::Said(call) => match call {
-            Call::Rig(_g) => { if begun { reasons::MISFIT } else { 0 } }
-            Call::Claim(_g) => { if begun { 0 } else { reasons::MISFIT } }
-            Call::Release(_k) => { if begun { 0 } else { reasons::MISFIT } }
+            Call::Rig(_g) => { if begun { numbers::MISFIT } else { 0 } }
+            Call::Claim(_g) => { if begun { 0 } else { numbers::MISFIT } }
+            Call::Release(_k) => { if begun { 0 } else { numbers::MISFIT } }
         },
         Line::Wrong(n) => n,
     }

@@ -2,11 +2,11 @@
 -- Rests on the calls from a place on (dance_text/proofs/Shows) and on a run of pieces laid one after the other (numerals/proofs/Going).
 use mathlib.Core.Path.{_≡_, refl, sym, ap, _∙_}
 use mathlib.Core.Logic.{_≢_}
-use mathlib.Core.Bool.{Bool, true, false}
+use mathlib.Core.Bool.{Bool, true, false, cond}
 use mathlib.Core.List.{List, [], _∷_, _++_}
 use Prim.Native.Nat.{ℕ, zero, suc, _+_, _-_, _^_, _≤_, _<_}
 use native.Mathlib.Omega.{arith}
-use lib.Dec.{leb}
+use lib.Dec.{leb, eqb}
 use lib.ListN.{length, take, drop}
 use borrow.Author.Tests.{leb-true, leb-false, ne-eqb}
 use Rattle.numerals.specs.Laid.{Put, spaceNumber}
@@ -19,6 +19,7 @@ use Rattle.frame_table.specs.declared.Outcome.{Outcome}
 use Rattle.frame_table.specs.Valid.{Valid}
 use Rattle.frame_table.specs.Outcomes.{outcome}
 use Rattle.frame_table.proofs.Promised.{outcome-model, outcome-grants, granted-few, new-none}
+use Rattle.load_text.specs.Answers.{wrongAt, lengthUnless, lentAs}
 use Rattle.load_text.specs.Parsing.{isFeed, placeOf}
 use Rattle.load_text.proofs.Parts.{place-low}
 use Rattle.dance_text.specs.declared.Call.{Call}
@@ -28,9 +29,10 @@ use Rattle.dance_text.specs.declared.Surveyed.{Surveyed}
 use Rattle.dance_text.specs.Lines.{lineSays}
 use Rattle.dance_text.specs.Shows.{saidIn, callsOf, callsIn, surveyOf}
 use Rattle.dance_text.proofs.Shows.{survey-calls, saidFrom, calls-cut, calls-end}
+use Rattle.frame_listing.specs.declared.Listed.{Listed}
 use Rattle.frame_listing.specs.declared.Listed.the-variants.{Length, Mistake}
 use Rattle.frame_listing.specs.Lines.{lineOf, onLines, stopLine}
-use Rattle.frame_listing.specs.Text.{stepOf, stops, entryOf, linesOf, textOf, mistakeOr, lengthOr, listedOf, listedOut}
+use Rattle.frame_listing.specs.Text.{stepOf, stops, entryOf, linesOf, textOf, mistakeOr, lengthOr, listedOf, listedValues, listingValues, listedOut}
 use Rattle.frame_listing.proofs.Calls.{promised}
 
 -- ── what an outcome prints ──
@@ -132,6 +134,23 @@ module _ (s o₀ : List ℕ) (from : ℕ) (out : List ℕ) (t : Table) (at k n :
       }
 
 -- ── what is answered ──
+-- The answer on a text for a lent buffer, which becomes p.
+abbrev Lists : List ℕ → List ℕ → Listed → List ℕ → Type 0
+Lists text out r p = (r ≡ listedOf text out) × ((p ≡ listedOut text out) × (listedValues r ≡ listingValues text out))
+
+lists : (text out : List ℕ) (r : Listed) (p : List ℕ) → (r ≡ listedOf text out) × (p ≡ listedOut text out) → Lists text out r p
+unfolding listedOf listingValues
+lists text out r p e = (e .0, (e .1, ap listedValues (e .0) ∙ wrong (surveyOf text .number)))
+  where
+    in-buffer : (k n : ℕ) → listedValues (lengthOr k n) ≡ record { number = k; line = 0; length = lengthUnless k n }
+    in-buffer zero n = refl
+    in-buffer (suc k) n = refl
+
+    wrong : (k : ℕ) → listedValues (mistakeOr (surveyOf text .line) k (lengthOr (spaceNumber (textOf text) out) (length (textOf text))))
+        ≡ cond (eqb k 0) (lentAs (textOf text) out) (wrongAt (surveyOf text .line) k)
+    wrong zero = in-buffer (spaceNumber (textOf text) out) (length (textOf text))
+    wrong (suc k) = rw (ne-eqb (suc k) 0 (λ z. omega arith)) refl
+
 module _ (text : List ℕ) (s : Surveyed) (e : s ≡ surveyOf text) where
   -- The same of the text.
   none-wrong : s .number ≡ 0 → surveyOf text .number ≡ 0
@@ -143,9 +162,9 @@ module _ (text : List ℕ) (s : Surveyed) (e : s ≡ surveyOf text) where
 
   module _ (out : List ℕ) where
     -- A line is wrong.
-    pub listed-wrong : s .number ≢ 0 → (Mistake (s .line) (s .number) ≡ listedOf text out) × (out ≡ listedOut text out)
+    pub listed-wrong : s .number ≢ 0 → Lists text out (Mistake (s .line) (s .number)) out
     unfolding listedOf listedOut
-    listed-wrong z = rw (← e) (go (s .number) z, rw (ne-eqb (s .number) 0 z))
+    listed-wrong z = lists text out _ out (rw (← e) (go (s .number) z, rw (ne-eqb (s .number) 0 z)))
       where
         go : (n : ℕ) → n ≢ 0 → Mistake (s .line) n ≡ mistakeOr (s .line) n (lengthOr (spaceNumber (textOf text) out) (length (textOf text)))
         go zero z = absurd (z refl)
@@ -153,20 +172,20 @@ module _ (text : List ℕ) (s : Surveyed) (e : s ≡ surveyOf text) where
 
     -- The listing goes in,
     pub listed-all : s .number ≡ 0 → leb (length (textOf text)) (length out) ≡ true → length out < 2 ^ 64 → (r : ℕ) (p : List ℕ) → Put out 0 (textOf text) r p
-        → (Length r ≡ listedOf text out) × (p ≡ listedOut text out)
+        → Lists text out (Length r) p
     unfolding listedOf listedOut
     listed-all z b h r p w =
         let l = leb-true (length (textOf text)) (length out) b in
         let q = put-short (omega arith) w in
         let a = lent-all (textOf text) out p l (q .1) in
-        (rw (none-wrong z, a .0) (ap Length (q .0)), rw (none-wrong z) (a .1))
+        lists text out _ p (rw (none-wrong z, a .0) (ap Length (q .0)), rw (none-wrong z) (a .1))
 
     -- or it does not.
-    pub listed-none : s .number ≡ 0 → leb (length (textOf text)) (length out) ≡ false → (Mistake 0 15 ≡ listedOf text out) × (out ≡ listedOut text out)
+    pub listed-none : s .number ≡ 0 → leb (length (textOf text)) (length out) ≡ false → Lists text out (Mistake 0 15) out
     unfolding listedOf listedOut
     listed-none z b =
         let a = lent-none (textOf text) out (leb-false (length (textOf text)) (length out) b) in
-        (rw (none-wrong z, a .0), rw (none-wrong z) (a .1))
+        lists text out _ out (rw (none-wrong z, a .0), rw (none-wrong z) (a .1))
 
 -- A length that is answered is one of the buffer.
 pub listed-within : (text out : List ℕ) (n : ℕ) → listedOf text out ≡ Length n → n ≤ length out

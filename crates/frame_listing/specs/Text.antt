@@ -6,6 +6,7 @@ use lib.Dec.{eqb, ltb}
 use lib.ListN.{length}
 use Rattle.numerals.specs.Laid.{spaceNumber, lentOut}
 use Rattle.frames.specs.Calls.{Model, claim, release, Step, step, blank, new}
+use Rattle.load_text.specs.Answers.{TextValues, wrongAt, lentAs}
 use Rattle.dance_text.specs.declared.Call.{Call}
 use Rattle.dance_text.specs.declared.Call.the-variants.{Rig, Claim, Release}
 use Rattle.dance_text.specs.Shows.{saidIn, callsIn, surveyOf}
@@ -59,11 +60,19 @@ mistakeOr line (suc n) r = Mistake line (suc n)
 unfoldable pub listedOf : List ℕ → List ℕ → Listed
 listedOf text out = mistakeOr (surveyOf text .line) (surveyOf text .number) (lengthOr (spaceNumber (textOf text) out) (length (textOf text)))
 
+-- In numbers: "Where an answer is an enum, a definition gives this paper's number and values for each of its cases."
+abbrev pub listedValues : Listed → TextValues
+listedValues (Length n) = record { number = 0; line = 0; length = n }
+listedValues (Mistake line n) = record { number = n; line = line; length = 0 }
+
+-- The same by the text.
+unfoldable pub listingValues : List ℕ → List ℕ → TextValues
+listingValues text out = let s = surveyOf text in cond (eqb (s .number) 0) (lentAs (textOf text) out) (wrongAt (s .line) (s .number))
+
 -- The lent buffer after it: where a line is wrong, or the listing does not go in, no byte differs.
 unfoldable pub listedOut : List ℕ → List ℕ → List ℕ
 listedOut text out = cond (eqb (surveyOf text .number) 0) (lentOut (textOf text) out) out
 
--- The answer in a number: the length, 15, or 0 where a line is wrong.
-abbrev pub beatOf : Listed → ℕ
-beatOf (Length n) = n
-beatOf (Mistake line n) = cond (eqb line 0) n 0
+-- The answer in one number: the length, 15, or 0 where a line is wrong.
+abbrev pub beatOf : TextValues → ℕ
+beatOf v = cond (eqb (v .line) 0) (cond (eqb (v .number) 0) (v .length) (v .number)) 0

@@ -9,11 +9,10 @@ ghost use Rattle.numerals.specs.Laid.{Put};
 ghost use Rattle.frames.specs.Calls.{blank};
 ghost use Rattle.dance_text.specs.Shows.{saidIn, callsIn};
 ghost use Rattle.frame_listing.specs.Lines.{lineOf, onLine, onLines};
-ghost use Rattle.frame_listing.specs.Text.{stops, linesOf, textOf, roomFor, listedOf, listedOut, beatOf};
+ghost use Rattle.frame_listing.specs.Text.{stops, linesOf, textOf, roomFor, listedOf, listedValues, listingValues, listedOut, beatOf};
 use dance_text::Call;
 use dance_text::Line;
 use frame_table::Outcome;
-use load_text::reasons;
 use load_text::words;
 
 // ── lines: each is laid over a buffer from a place on, as far as that goes, and answers the place after it ──
@@ -157,6 +156,7 @@ pub enum Listed {
 pub fn listing(text: &[u8], out: &mut [u8]) -> Listed
     ensures answer { λ r. ⌜ r ≡ listedOf (now (text .entry)) (now (out .entry)) ⌝ }
     ensures buffer { λ _. ⌜ now (out .exit) ≡ listedOut (now (text .entry)) (now (out .entry)) ⌝ }
+    ensures values { λ r. ⌜ listedValues r ≡ listingValues (now (text .entry)) (now (out .entry)) ⌝ }
 {
     let s = dance_text::survey(text);
     if s.number != 0 {
@@ -166,13 +166,13 @@ pub fn listing(text: &[u8], out: &mut [u8]) -> Listed
         let n = run(text, out);
         return Listed::Length(n);
     }
-    Listed::Mistake(0, reasons::NO_SPACE)
+    Listed::Mistake(0, numbers::NO_SPACE)
 }
 
 // The same for C: the count of bytes written; 15 where the listing does not go in; 0 where a line is wrong.
 #[no_mangle]
 pub extern "C" fn belgwyth_beat(text: &[u8], out: &mut [u8]) -> usize
-    ensures answer { λ r. ⌜ r ≡ beatOf (listedOf (now (text .entry)) (now (out .entry))) ⌝ }
+    ensures answer { λ r. ⌜ r ≡ beatOf (listingValues (now (text .entry)) (now (out .entry))) ⌝ }
     ensures buffer { λ _. ⌜ now (out .exit) ≡ listedOut (now (text .entry)) (now (out .entry)) ⌝ }
 {
     match listing(text, out) {

@@ -15,12 +15,12 @@ use Rattle.load.specs.declared.Item.the-variants.{Record}
 use Rattle.load.specs.Format.{fieldWidth, fieldsOf, widths, total, lengthOf}
 use Rattle.load.specs.Calls.{valuesOf, carries}
 use Rattle.load.specs.Bytes.{big, fieldBytes, fieldValues, recordBytes, recordsBytes, loadBytes}
-use Rattle.load.specs.Reading.{agree, lengthField, kindField, misfit, readAt, editionOf, itemAt, openNumber, onto, walkIn, walk}
+use Rattle.load.specs.Reading.{agree, lengthField, kindField, misfit, callIn, readAt, editionOf, itemAt, openNumber, onto, walkIn, walk}
 use Rattle.load.specs.RoundTrip.{Bytes, Typed}
 use Rattle.load.proofs.Format.{length-few, length-total}
 use Rattle.load.proofs.Calls.{kind-of-call, values-of-call, call-of-values, call-carried, carries-length}
 use Rattle.load.proofs.Bytes.{Fit, bytes-drop, values-of-bytes, bytes-of-values, values-fit, values-length, typed-fits, fits-typed, record-length}
-use Rattle.load.proofs.Reading.{callIn, read-record, stands, step-next, step-refused, step-end, step-past, misfit-not, misfit-none, by-item, walk-record, walk-end, open-known}
+use Rattle.load.proofs.Reading.{read-record, stands, step-next, step-refused, step-end, step-past, misfit-not, misfit-none, by-item, walk-record, walk-end, open-known}
 
 -- A call that may stand first, or after the first.
 pub record Sound (e : ℕ) (first : Bool) (c : Call) : Type 0 where

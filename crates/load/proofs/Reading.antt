@@ -17,16 +17,12 @@ use Rattle.load.specs.Format.{thePool, theUnits, theClient, format, defa
 use Rattle.load.specs.Calls.{numbers, valueOf, callOf}
 use Rattle.load.specs.Bytes.{fieldValues, loadBytes}
 use Rattle.load.specs.Answers.{itemValues}
-use Rattle.load.specs.Reading.{inPlace, lengthField, kindField, short, misfit, readAt, editionOf, itemAt, recordNumber, ItemNumbered, Edition1Bare, OlderClient1}
+use Rattle.load.specs.Reading.{inPlace, lengthField, kindField, short, misfit, callIn, readAt, editionOf, itemAt, recordNumber, recordValues, ItemValued, Edition1Bare, OlderClient1}
 use Rattle.load.specs.Reading.{openNumber, Walk, ended, onto, walkIn, walk, orElse, unlessRefused, reading, loadNumber, ReadingTested}
 use Rattle.load.proofs.Format.{neither, passed, either, has, allRows, tested, least-some, length-least}
 use Rattle.load.proofs.Calls.{kind-of-call, lacked}
 
 -- ── what stands at a position ──
--- The call that bytes say, where they are a record.
-abbrev pub callIn : ℕ → List ℕ → Call
-callIn e bs = callOf e (kindField bs) (fieldValues (widths e (kindField bs)) (drop 3 bs))
-
 pub read-record : (e at : ℕ) (bs : List ℕ) → 2 + lengthField bs ≤ length bs → misfit e at (lengthField bs) (kindField bs) ≡ false
     → readAt e at bs ≡ Record (callIn e bs) (at + (2 + lengthField bs))
 unfolding readAt
@@ -47,8 +43,8 @@ Known s at (Record c next) = Stands s at c next
 Known s at End = drop at s ≡ []
 Known s at (Refused n) = 0 < n
 
-item-known : (s : List ℕ) (at : ℕ) → Known s at (itemAt s at) × (itemValues at (itemAt s at) .number ≡ recordNumber s at)
-unfolding itemAt readAt recordNumber
+item-known : (s : List ℕ) (at : ℕ) → Known s at (itemAt s at) × (itemValues at (itemAt s at) ≡ recordValues s at)
+unfolding itemAt readAt recordNumber recordValues
 item-known s at =
     let bs = drop at s in
     either (eqb (length bs) 0)
@@ -63,11 +59,12 @@ item-known s at =
     nothing [] h = refl
     nothing (b ∷ bs) h = absurd (omega arith)
 
-pub item-numbered : ItemNumbered
-item-numbered s at = item-known s at .1
+pub item-valued : ItemValued
+item-valued s at = item-known s at .1
 
-pub with-number : (s : List ℕ) (at : ℕ) (r : Item) → r ≡ itemAt s at → (r ≡ itemAt s at) × (itemValues at r .number ≡ recordNumber s at)
-with-number s at r e = rw e (refl, item-numbered s at)
+-- An item that stands there, with its values: what `record_at` promises.
+pub with-values : (s : List ℕ) (at : ℕ) (r : Item) → r ≡ itemAt s at → (r ≡ itemAt s at) × (itemValues at r ≡ recordValues s at)
+with-values s at r e = (e, ap (itemValues at) e ∙ item-valued s at)
 
 pub stands : (s : List ℕ) (at : ℕ) (c : Call) (next : ℕ) → itemAt s at ≡ Record c next → Stands s at c next
 stands s at c next h = rw h at (item-known s at .0)

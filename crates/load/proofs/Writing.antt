@@ -1,15 +1,14 @@
 -- The writer's definitions as the code meets them: the tests in its order, the answer, and the pieces of a record.
-use Prim.Native.Nat.{ℕ, zero, suc, _+_, _^_, _≤_, _<_}
+use Prim.Native.Nat.{ℕ, zero, suc, _+_, _≤_, _<_}
 use mathlib.Core.Bool.{true, not, _||_}
 use mathlib.Core.List.{List}
 use mathlib.Core.Path.{_≡_, refl, sym, ap, _∙_}
 use native.Mathlib.Omega.{arith}
-use lib.Dec.{ltb, eqb}
-use borrow.Author.Tests.{lt-ltb, le-ltb, ltb-false, eqb-false, ne-eqb, not-false}
-use lib.ListN.{length, take, length-append, take-append-drop}
-use lib.Seq.{length-take-le, getD-take}
-use Rattle.numerals.specs.Laid.{behind, laid, Put}
-use Rattle.numerals.proofs.Laying.{behind-small, laid-fits, put, put-then, put-short}
+use lib.Dec.{ltb}
+use borrow.Author.Tests.{lt-ltb, le-ltb, ltb-false, not-false}
+use lib.ListN.{length, length-append}
+use Rattle.numerals.specs.Laid.{Put}
+use Rattle.numerals.proofs.Laying.{laid-fits, put-short}
 use Rattle.load.specs.declared.Call.{Call}
 use Rattle.load.specs.declared.Written.{Written}
 use Rattle.load.specs.declared.Written.the-variants.{Length, Refusal}
@@ -17,7 +16,7 @@ use Rattle.load.specs.Calls.{carries}
 use Rattle.load.specs.Answers.{writtenValues}
 use Rattle.load.specs.Bytes.{recordBytes}
 use Rattle.load.specs.Reading.{inPlace, editionOf, loadNumber}
-use Rattle.load.specs.Writing.{grown, roomNumber, growNumber, appendNumber, appendAnswer, appendOut, answered, answeredValues, lent, begun, heldNumber, growAnswer, growOut}
+use Rattle.load.specs.Writing.{grown, roomNumber, growNumber, appendNumber, answered, answeredValues, lent, begun}
 use Rattle.load.proofs.Format.{neither, passed}
 use Rattle.load.proofs.Reading.{or-else}
 
@@ -78,31 +77,6 @@ append-parts s c room h = or-else (loadNumber s) (growNumber (editionOf s) (leng
 pub append-grows : (s : List ℕ) (c : Call) (room : ℕ) → appendNumber s c room ≡ 0 → Grows s c room
 append-grows s c room h = grow-known s c room (append-parts s c room h .1)
 
--- ── a load in the buffer ──
-module _ (out : List ℕ) (n : ℕ) (c : Call) where
-  pub held-within : heldNumber out n c ≡ 0 → (0 < n) × (n ≤ length out) × (growNumber (editionOf out) n c (length out) ≡ 0)
-  unfolding heldNumber
-  held-within h =
-      let a = passed (eqb n 0) _ _ h in
-      let b = passed (ltb (length out) n) _ _ (a .1) in
-      (omega (arith, eqb-false n 0 (a .0)), ltb-false (length out) n (b .0), b .1)
-
-  -- What it is, is the buffer's first bytes.
-  module _ (p : 0 < n) (l : n ≤ length out) where
-    first-length : length (take n out) ≡ n
-    first-length = length-take-le n out l
-
-    first-edition : editionOf (take n out) ≡ editionOf out
-    first-edition = getD-take n out 0 0 p
-
-    -- Where they read to their end, growing in place is appending.
-    pub grows-in-place : loadNumber (take n out) ≡ 0 → (growAnswer out n c ≡ appendAnswer (take n out) c out) × (growOut out n c ≡ appendOut (take n out) c out)
-    unfolding growAnswer growOut appendAnswer appendOut appendNumber heldNumber
-    grows-in-place o = rw (ne-eqb n 0 (λ z. omega arith), le-ltb (length out) n l, o, first-length, first-edition) (refl, refl)
-
-  pub held-known : heldNumber out n c ≡ 0 → Grows (take n out) c (length out)
-  held-known h = let q = held-within h in grow-known (take n out) c (length out) (rw (first-length (q .0) (q .1), first-edition (q .0) (q .1)) (q .2))
-
 -- ── the answer and the buffer ──
 -- k is the number, and g the load to be written.
 abbrev pub Answers : List ℕ → List ℕ → ℕ → Written → List ℕ → Type 0
@@ -120,15 +94,3 @@ accepted g out k p r h b l w =
 
 pub written : (s : List ℕ) (c : Call) (out : List ℕ) (k : ℕ) (p : List ℕ) (r : ℕ) → k ≡ 0 → Grows s c (length out) → Put out 0 (grown s c) r p → Answers (grown s c) out k (Length r) p
 written s c out k p r h g w = accepted (grown s c) out k p r h (g .bounded) (g .goes-in) w
-
--- A record laid after the first bytes of a buffer is the grown load laid at its start.
-pub put-behind : (out : List ℕ) (n : ℕ) (c : Call) (p : List ℕ) (r : ℕ) → length out < 2 ^ 64 → 0 < n → n ≤ length out
-    → (r ≡ behind n (length (recordBytes (editionOf out) c))) × (p ≡ laid out n (recordBytes (editionOf out) c)) → Put out 0 (grown (take n out) c) r p
-unfolding grown
-put-behind out n c p r h z l w =
-    let t = first-length out n c z l in
-    let a : Put out 0 (take n out) n out = record {
-      next = sym (behind-small 0 (length (take n out)) (omega arith) ∙ omega arith);
-      is = sym (laid-fits out (take n out) (omega arith) ∙ rw t (take-append-drop n out));
-    } in
-    rw (first-edition out n c z l) (put-then out 0 (take n out) (recordBytes (editionOf out) c) n r out p h a (put w))

@@ -1,7 +1,7 @@
 -- The reader. A position is a count of bytes from the load's start; the first record stands at 1. "A load [is tested in the order] 14, 12,
 -- 11, then each record 12, 13." "Reader and writer pass fields on without judging them; the table judges."
 use Prim.Native.Nat.{ℕ, zero, suc, _+_, _<_}
-use mathlib.Core.Bool.{Bool, true, false, not, _||_, cond}
+use mathlib.Core.Bool.{Bool, true, false, not, _&&_, _||_, cond}
 use mathlib.Core.List.{List, [], _∷_}
 use mathlib.Core.Path.{_≡_}
 use lib.Dec.{ltb, eqb}
@@ -12,7 +12,7 @@ use Rattle.load.specs.declared.Item.{Item}
 use Rattle.load.specs.declared.Item.the-variants.{Record, End, Refused}
 use Rattle.load.specs.Format.{known, widths, lengthOf}
 use Rattle.load.specs.Calls.{callOf}
-use Rattle.load.specs.Answers.{itemValues}
+use Rattle.load.specs.Answers.{ItemValues, itemValues}
 use Rattle.load.specs.Bytes.{bigValue, fieldValues}
 
 -- ── one record ──
@@ -40,13 +40,17 @@ short bs = ltb (length bs) (2 + lengthField bs)
 unfoldable pub misfit : ℕ → ℕ → ℕ → ℕ → Bool
 misfit e at n kind = eqb n 0 || (not (eqb n (lengthOf e kind)) || not (inPlace kind at))
 
+-- The call that bytes say, where they begin with a record.
+abbrev pub callIn : ℕ → List ℕ → Call
+callIn e bs = callOf e (kindField bs) (fieldValues (widths e (kindField bs)) (drop 3 bs))
+
 -- What the bytes from a position to the load's end begin with: "Behind the last record it says that the load has ended".
 unfoldable pub readAt : ℕ → ℕ → List ℕ → Item
 readAt e at bs =
     cond (eqb (length bs) 0) End
     (cond (short bs) (Refused shortNumber)
     (cond (misfit e at (lengthField bs) (kindField bs)) (Refused misfitNumber)
-    (Record (callOf e (kindField bs) (fieldValues (widths e (kindField bs)) (drop 3 bs))) (at + (2 + lengthField bs)))))
+    (Record (callIn e bs) (at + (2 + lengthField bs)))))
 
 -- A load's edition is its first byte.
 abbrev pub editionOf : List ℕ → ℕ
@@ -64,9 +68,23 @@ recordNumber s at =
     (cond (misfit (editionOf s) at (lengthField (drop at s)) (kindField (drop at s))) misfitNumber
     0))
 
--- Every item has that number. (Proved in proofs/Reading: item-numbered.)
-abbrev pub ItemNumbered : Type 0
-ItemNumbered = (s : List ℕ) (at : ℕ) → itemValues at (itemAt s at) .number ≡ recordNumber s at
+-- A record stands there: the load does not end there, and nothing refuses it.
+abbrev pub recordThere : List ℕ → ℕ → Bool
+recordThere s at = not (eqb (length (drop at s)) 0) && eqb (recordNumber s at) 0
+
+-- What stands there in numbers, by the load's bytes: its number; of a record the call and the position after it; else no call, and the
+-- position is kept.
+unfoldable pub recordValues : List ℕ → ℕ → ItemValues
+recordValues s at =
+    record {
+      number = recordNumber s at;
+      calls = cond (recordThere s at) (callIn (editionOf s) (drop at s) ∷ []) [];
+      next = cond (recordThere s at) (at + (2 + lengthField (drop at s))) at;
+    }
+
+-- Every item has these. (Proved in proofs/Reading: item-valued.)
+abbrev pub ItemValued : Type 0
+ItemValued = (s : List ℕ) (at : ℕ) → itemValues at (itemAt s at) ≡ recordValues s at
 
 -- Document 02 of pool and units: "edition 1 reads as 0 for both". (Proved in proofs/Reading: edition-1-bare.)
 abbrev pub Edition1Bare : Type 0

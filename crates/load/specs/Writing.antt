@@ -3,9 +3,9 @@
 use Prim.Native.Nat.{ℕ, zero, suc, _+_}
 use mathlib.Core.Bool.{not, _||_, cond}
 use mathlib.Core.List.{List, _++_}
-use lib.Dec.{ltb, eqb}
-use lib.ListN.{length, take, drop}
-use Rattle.numbers.specs.Numbers.{shortNumber, misfitNumber, overlongNumber, noSpaceNumber, mostBytes}
+use lib.Dec.{ltb}
+use lib.ListN.{length, drop}
+use Rattle.numbers.specs.Numbers.{misfitNumber, overlongNumber, noSpaceNumber, mostBytes}
 use Rattle.load.specs.declared.Call.{Call}
 use Rattle.load.specs.declared.Written.{Written}
 use Rattle.load.specs.declared.Written.the-variants.{Length, Refusal}
@@ -57,18 +57,3 @@ begun s out = s ++ drop (length s) out
 
 unfoldable pub appendOut : List ℕ → Call → List ℕ → List ℕ
 appendOut s c out = lent (appendNumber s c (length out)) (begun (grown s c) out) out
-
--- ── a load that stands in the lent buffer ──
--- Its first n bytes, which are not tested again: 12 where there are none, 15 where the buffer has not so many. (Where they read to their end
--- answer and buffer are `append`'s: proofs/Writing, `grows-in-place`.)
-unfoldable pub heldNumber : List ℕ → ℕ → Call → ℕ
-heldNumber out n c = cond (eqb n 0) shortNumber (cond (ltb (length out) n) noSpaceNumber (growNumber (editionOf out) n c (length out)))
-
-unfoldable pub growAnswer : List ℕ → ℕ → Call → Written
-growAnswer out n c = answered (heldNumber out n c) (length (grown (take n out) c))
-
-unfoldable pub growValues : List ℕ → ℕ → Call → WrittenValues
-growValues out n c = answeredValues (heldNumber out n c) (length (grown (take n out) c))
-
-unfoldable pub growOut : List ℕ → ℕ → Call → List ℕ
-growOut out n c = lent (heldNumber out n c) (begun (grown (take n out) c) out) out

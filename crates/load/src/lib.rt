@@ -8,10 +8,9 @@ ghost use Rattle.load.specs.Format.{known, fieldsOf, rowOf, fieldWidth, 
 ghost use Rattle.load.specs.Calls.{numbers, valueOf, made, withValue, bare, callOf, valuesOf, kept, same, carries};
 ghost use Rattle.load.specs.Answers.{itemValues, writtenValues};
 ghost use Rattle.load.specs.Bytes.{recordBytes, fieldBytes, fieldValues};
-ghost use Rattle.load.specs.Reading.{inPlace, openNumber, misfit, itemAt, recordNumber, loadNumber};
+ghost use Rattle.load.specs.Reading.{inPlace, openNumber, misfit, itemAt, recordValues, loadNumber};
 ghost use Rattle.load.specs.RoundTrip.{Typed};
 ghost use Rattle.load.specs.Writing.{growNumber, appendNumber, appendAnswer, appendValues, appendOut};
-ghost use Rattle.load.specs.Writing.{heldNumber, growAnswer, growValues, growOut};
 
 // One record of a load: its kind, and a value for each field that some kind has. A field that its kind lacks is 0, but for the client
 // (document 02: desk): a record without one is client 1's. `reserved` is document 02's guarantee; `grace` is the grace in ticks.
@@ -371,7 +370,7 @@ fn call_of(edition: u8, kind: u8, fields: &[u8]) -> Call
 // What stands at a position of a load: a record's call, the end, or 12 or 13. The first record stands at 1. Reads that record alone,
 // whatever the load's length.
 pub fn record_at(load: &[u8], at: usize) -> Item
-    ensures { λ r. ⌜ (r ≡ itemAt (now (load .entry)) at) × (itemValues at r .number ≡ recordNumber (now (load .entry)) at) ⌝ }
+    ensures { λ r. ⌜ (r ≡ itemAt (now (load .entry)) at) × (itemValues at r ≡ recordValues (now (load .entry)) at) ⌝ }
 {
     let size = load.len();
     if size <= at {
@@ -500,35 +499,4 @@ pub fn append(load: &[u8], call: Call, out: &mut [u8]) -> Written
     let m = numerals::put_bytes(out, 0, load);
     let whole = put_record(out, m, load[0], call);
     Written::Length(whole)
-}
-
-// For a load that is known to read to its end and is the first `size` bytes of a buffer: 0 for a call that can be laid after it; else 12 for
-// no load, 15 for one longer than the buffer, 13, 14 or 15.
-fn held_number(out: &[u8], size: usize, call: Call) -> u8
-    ensures { λ r. ⌜ r ≡ heldNumber (now (out .entry)) size call ⌝ }
-{
-    if size == 0 {
-        return numbers::SHORT;
-    }
-    let room = out.len();
-    if room < size {
-        return numbers::NO_SPACE;
-    }
-    grow_number(out[0], size, call, room)
-}
-
-// Lays one record more after a load that is the first `size` bytes of the buffer and is known to read to its end. Answers and refuses as
-// `append` does, but neither tests the load nor copies it.
-pub fn grow(out: &mut [u8], size: usize, call: Call) -> Written
-    ensures answer { λ r. ⌜ r ≡ growAnswer (now (out .entry)) size call ⌝ }
-    ensures buffer { λ _. ⌜ now (out .exit) ≡ growOut (now (out .entry)) size call ⌝ }
-    ensures values { λ r. ⌜ writtenValues r ≡ growValues (now (out .entry)) size call ⌝ }
-{
-    let t = held_number(out, size, call);
-    if t != 0 {
-        return Written::Refusal(t);
-    }
-    let edition = out[0];
-    let r = put_record(out, size, edition, call);
-    Written::Length(r)
 }

@@ -11,4 +11,5 @@ pub mod Remaking
 pub mod Showing
 pub mod Spans
 pub mod Tables
+pub mod Values
 pub mod Within

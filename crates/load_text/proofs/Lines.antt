@@ -3,12 +3,13 @@ use Prim.Native.Nat.{ℕ, zero, suc, _+_, _-_, _*_, _/_, _^_, _≤_, _<_, min, m
 use mathlib.Core.Bool.{Bool, true, false, _&&_, _||_, false≢true}
 use mathlib.Core.List.{List, [], _∷_, _++_, map}
 use mathlib.Core.Logic.{⊎-elim}
-use mathlib.Core.Path.{_≡_, refl, sym, ap}
+use mathlib.Core.Path.{_≡_, refl, sym, ap, _∙_}
 use native.Mathlib.Nat.{pow-suc}
 use native.Mathlib.Omega.{arith}
 use lib.Dec.{ltb, leb, eqb}
 use lib.ListN.{length, getD, replicate, length-append, length-replicate}
 use borrow.Author.Tests.{ne-eqb, ltb-true, lt-ltb, leb-true}
+use Rattle.numbers.specs.Numbers.{noSpaceNumber}
 use Rattle.numerals.specs.Digits.{digits, widthUpTo, widthOf, decimalOf, column}
 use Rattle.numerals.specs.Laid.{Put, spaceNumber, lentOut}
 use Rattle.numerals.proofs.Laying.{width-small, decimal-length, pair-length, put-short, lent-all, lent-none, lent-known}
@@ -17,10 +18,13 @@ use Rattle.load.specs.Format.{theGroups, fieldWidths, fieldCount, fieldWidth, f
 use Rattle.load.specs.Calls.{valueOf}
 use Rattle.load.proofs.Format.{both, allBelow, below-passes, allRows, tested, known-tested, no-width}
 use Rattle.load.proofs.Bytes.{record-some, record-length}
+use Rattle.load.specs.Reading.{unlessRefused}
+use Rattle.load.specs.Writing.{answeredValues}
+use Rattle.load_text.specs.declared.print.Printed.{Printed}
 use Rattle.load_text.specs.declared.print.Printed.the-variants.{Length, Refusal}
-use Rattle.load_text.specs.Lines.{glyphOf, hexUpTo, wordOf, fieldsText, lineOf, wordMost, fieldsMost, Brief, stopLine, headerOf, reasons, reasonTexts, reasonText, reportOf, reported, printed}
+use Rattle.load_text.specs.Answers.{printedValues}
+use Rattle.load_text.specs.Lines.{glyphOf, hexUpTo, wordOf, fieldsText, lineOf, wordMost, fieldsMost, Brief, stopLine, headerOf, reasons, reasonTexts, reasonText, reportOf, reported, printed, printValues}
 use Rattle.load_text.specs.Parsing.{placeOf, is}
-use Rattle.load_text.specs.Reasons.{noSpace}
 use Rattle.load_text.proofs.Cases.{either, below, not-refused}
 use Rattle.load_text.proofs.Parts.{place-high}
 
@@ -137,23 +141,35 @@ report-goes line n {r} {p} w =
     (cc (e .0, l .1), omega (arith, e .0))
 
 -- ── what is answered ──
-pub print-none : (text o : List ℕ) → length o < length text → (Refusal noSpace ≡ printed text o) × (o ≡ lentOut text o)
-unfolding printed
-print-none text o h = let l = lent-none text o h in (rw (l .0), l .1)
+-- The answer on a text for a lent buffer o, which becomes p.
+abbrev Prints : List ℕ → List ℕ → Printed → List ℕ → Type 0
+Prints text o r p = (r ≡ printed text o) × ((p ≡ lentOut text o) × (printedValues r ≡ printValues text o))
 
-pub print-all : (text o p : List ℕ) (r : ℕ) → length text < 2 ^ 64 → length text ≤ length o → Put o 0 text r p → (Length r ≡ printed text o) × (p ≡ lentOut text o)
+prints : (text o p : List ℕ) (r : Printed) → r ≡ printed text o → p ≡ lentOut text o → Prints text o r p
+unfolding printed printValues
+prints text o p r e l = (e, (l, ap printedValues e ∙ go (spaceNumber text o)))
+  where
+    go : (k : ℕ) → printedValues (unlessRefused k Refusal (Length (length text))) ≡ answeredValues k (length text)
+    go zero = refl
+    go (suc k) = refl
+
+pub print-none : (text o : List ℕ) → length o < length text → Prints text o (Refusal noSpaceNumber) o
+unfolding printed
+print-none text o h = let l = lent-none text o h in prints text o o _ (rw (l .0)) (l .1)
+
+pub print-all : (text o p : List ℕ) (r : ℕ) → length text < 2 ^ 64 → length text ≤ length o → Put o 0 text r p → Prints text o (Length r) p
 unfolding printed
 print-all text o p r s h w =
     let e = put-short s w in
     let l = lent-all text o p h (e .1) in
-    (rw (l .0) (ap Length (e .0)), l .1)
+    prints text o p _ (rw (l .0) (ap Length (e .0))) (l .1)
 
 -- A text that was counted on one byte: it goes in or not.
 module _ (text : List ℕ) (s : length text < 2 ^ 64) {o₁ p₁ : List ℕ} {n : ℕ} (w : Put o₁ 0 text n p₁) (o : List ℕ) where
-  pub counted-none : length o < n → (Refusal noSpace ≡ printed text o) × (o ≡ lentOut text o)
+  pub counted-none : length o < n → Prints text o (Refusal noSpaceNumber) o
   counted-none h = print-none text o (omega (arith, put-short s w .0))
 
-  pub counted-all : n ≤ length o → (p : List ℕ) (r : ℕ) → Put o 0 text r p → (Length r ≡ printed text o) × (p ≡ lentOut text o)
+  pub counted-all : n ≤ length o → (p : List ℕ) (r : ℕ) → Put o 0 text r p → Prints text o (Length r) p
   counted-all h p r z = print-all text o p r s (omega (arith, put-short s w .0)) z
 
 -- A length that is answered is one of the buffer.

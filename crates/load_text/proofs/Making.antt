@@ -9,6 +9,7 @@ use native.Mathlib.Nat.{add-zero}
 use borrow.Author.Tests.{lt-ltb}
 use lib.ListN.{length, take, drop, replicate, length-replicate, length-append}
 use lib.Seq.{take-at, append-snoc}
+use Rattle.numbers.specs.Numbers.{noSpaceNumber}
 use Rattle.numerals.specs.Laid.{behind, laid, spaceNumber, lentOut}
 use Rattle.numerals.proofs.Laying.{laid-append, laid-length, laid-none, laid-first, behind-small, lent-all, lent-none, lent-known}
 use Rattle.load.specs.declared.Call.{Call}
@@ -22,13 +23,14 @@ use Rattle.load.specs.RoundTrip.{Typed, Appended}
 use Rattle.load.proofs.Reading.{or-else, open-known}
 use Rattle.load.proofs.Writing.{append-grow}
 use Rattle.load.proofs.RoundTrip.{written-reads, read-bounded}
+use Rattle.load_text.specs.declared.Made.{Made}
 use Rattle.load_text.specs.declared.Made.the-variants.{Load, Mistake}
 use Rattle.load_text.specs.declared.Start.{Start}
 use Rattle.load_text.specs.declared.parse.Parsed.{Parsed}
 use Rattle.load_text.specs.declared.parse.Parsed.the-variants.{Nothing, Said, Bad}
-use Rattle.load_text.specs.Parsing.{isFeed, placeOf, linesIn, lineSays, callsOf}
-use Rattle.load_text.specs.Reasons.{noSpace}
-use Rattle.load_text.specs.Making.{Making, whole, wrong, heading, headingNumber, saidIn, Starts, lineNumber, lineBytes, gathered, made, answerOn, bufferOn, madeOf, madeOut, Adds, Gathers, callsIn, MadeReads}
+use Rattle.load_text.specs.Answers.{madeValues, parsedValues, lengthUnless}
+use Rattle.load_text.specs.Parsing.{isFeed, placeOf, linesIn, lineSays}
+use Rattle.load_text.specs.Making.{Making, whole, wrong, heading, headingNumber, saidIn, Starts, lineNumber, lineBytes, gathered, made, answerOn, bufferOn, valuesOn, madeOf, madeOut, makeValues, Adds, Gathers, callsIn, MadeReads}
 use Rattle.load_text.proofs.Cases.{either, below, refused, not-refused, was-refused}
 use Rattle.load_text.proofs.Headings.{lines-cut, lines-end}
 use Rattle.load_text.proofs.Parts.{place-low}
@@ -166,7 +168,7 @@ gathered-reads e k (l ∷ ls) cs t u a q =
 
     go : (p : Parsed) → lineSays e l ≡ p → lineNumber e (length (e ∷ t)) p ≡ 0 → gathered e (k + 1) (e ∷ (t ++ lineBytes e p)) ps ≡ whole u
         → ((ds : List Call) (r : List ℕ) → Appended e ds (e ∷ r) → gathered e (k + 1) (e ∷ r) ps ≡ whole u → Appended e (ds ++ callsIn ps) u × (editionOf u ≡ e))
-        → Appended e (cs ++ (callsOf p ++ callsIn ps)) u × (editionOf u ≡ e)
+        → Appended e (cs ++ (parsedValues p .calls ++ callsIn ps)) u × (editionOf u ≡ e)
     go Nothing i z q f = f cs t a (rw append-nil at q)
     go (Bad n) i z q f = absurd (omega (arith, reasons-apart e l n i, or-else n _ z .0))
     go (Said c) i z q f =
@@ -180,20 +182,41 @@ made-ends text s q =
     gathered-reads (h .edition) (h .lines) (drop (h .lines) (linesIn text)) [] [] s (Appended.none (open-known _ (or-else (h .number) _ (b .0) .1) .1)) (b .1)
 
 -- ── into a lent buffer ──
+-- The answer on a text for a lent buffer, which becomes q.
+abbrev pub Makes : List ℕ → List ℕ → Made → List ℕ → Type 0
+Makes text out r q = (r ≡ madeOf text out) × ((q ≡ madeOut text out) × (madeValues r ≡ makeValues text out))
+
+pub makes : (text out : List ℕ) (r : Made) (q : List ℕ) → (r ≡ madeOf text out) × (q ≡ madeOut text out) → Makes text out r q
+unfolding madeOf makeValues
+makes text out r q e = (e .0, (e .1, ap madeValues (e .0) ∙ on (made text)))
+  where
+    in-buffer : (k n : ℕ) → madeValues (unlessRefused k (Mistake 0) (Load n)) ≡ record { number = k; line = 0; length = lengthUnless k n }
+    in-buffer zero n = refl
+    in-buffer (suc k) n = refl
+
+    on : (m : Making) → madeValues (answerOn m out) ≡ valuesOn m out
+    on (whole s) = in-buffer (spaceNumber s out) (length s)
+    on (wrong k n) = refl
+
 module _ (text o : List ℕ) (n : ℕ) (p : List ℕ) (g : Gathers text o (Load n) p) where
   pub gathered-small : n ≤ 65536
   gathered-small = omega (arith, g .2, read-bounded (g .0) (written-reads _ _ (g .0) (made-ends text (g .0) (g .1) .0) .0))
 
-  pub make-none : (out : List ℕ) → length out < n → (Mistake 0 noSpace ≡ madeOf text out) × (out ≡ madeOut text out)
+  pub make-none : (out : List ℕ) → length out < n → Makes text out (Mistake 0 noSpaceNumber) out
   unfolding madeOf madeOut
-  make-none out h = let w = lent-none (g .0) out (omega (arith, g .2)) in rw (g .1) (rw (w .0), w .1)
+  make-none out h = let w = lent-none (g .0) out (omega (arith, g .2)) in makes text out _ out (rw (g .1) (rw (w .0), w .1))
 
-  pub make-all : (out : List ℕ) → 65536 ≡ length o → n ≤ length out → (q : List ℕ) → q ≡ laid out 0 (take n p) → (Load n ≡ madeOf text out) × (q ≡ madeOut text out)
+  pub make-all : (out : List ℕ) → 65536 ≡ length o → n ≤ length out → (q : List ℕ) → q ≡ laid out 0 (take n p) → Makes text out (Load n) q
   unfolding madeOf madeOut
   make-all out r h q e =
       let f : take n p ≡ g .0 = ap (take n) (g .3) ∙ laid-first o (g .0) n (g .2) (omega (arith, g .2, gathered-small)) in
       let w = lent-all (g .0) out q (omega (arith, g .2)) (e ∙ ap (laid out 0) f) in
-      rw (g .1) (rw (w .0) (ap Load (sym (g .2))), w .1)
+      makes text out _ q (rw (g .1) (rw (w .0) (ap Load (sym (g .2))), w .1))
+
+-- A line that is wrong.
+pub make-wrong : (text out : List ℕ) (k n : ℕ) → made text ≡ wrong k n → Makes text out (Mistake k n) out
+unfolding madeOf madeOut
+make-wrong text out k n e = makes text out _ out (rw e (refl, refl))
 
 pub made-reads : MadeReads
 unfolding madeOf madeOut

@@ -26,7 +26,7 @@ use Rattle.load_text.specs.Lines.{glyphOf, hexUpTo, wordOf, fieldsText, 
 use Rattle.load_text.specs.Making.{plain, headingIn, heading, saidIn}
 use Rattle.load_text.specs.Parsing.{none, before, parts, inFront, full, is, isFeed, isBlank, isJoint, isList, linesIn, wordsIn, chomped, said, digitOf, noDigit, digitsIn, valueIn, numberIn, groupsIn, fieldIn, filledIn, isWord, placeIn, kindOf, kindNamed, kindSays, callIn, lineSays, editionWord, editionOr, editionIn, headIn, headSays}
 use Rattle.load_text.specs.ReadBack.{LineReadBack, TextReadBack}
-use Rattle.load_text.specs.Reasons.{noEdition}
+use Rattle.numbers.specs.Numbers.{editionNumber}
 use Rattle.load_text.proofs.Cases.{either, below}
 use Rattle.load_text.proofs.Fields.{kind-some}
 use Rattle.load_text.proofs.Parts.{none-cons, none-less, none-at, until-none}
@@ -310,7 +310,7 @@ edition-says e k t =
     let p = plain-word editionWord refl in
     let d : Plain (decimalOf e) = digits-plain 10 (omega arith) (decimalOf e) (s .digit) (s .some) in (
       ap (λ x. linesIn (editionWord ++ 32 ∷ x)) (append-assoc (decimalOf e) (10 ∷ []) t) ∙ line-front editionWord (decimalOf e ∷ []) p (also d nil) t,
-      ap headIn (line-words editionWord (decimalOf e ∷ []) p (also d nil)) ∙ ap editionOr (number-said 10 255 noEdition noEdition e (decimalOf e) s b),
+      ap headIn (line-words editionWord (decimalOf e ∷ []) p (also d nil)) ∙ ap editionOr (number-said 10 255 editionNumber editionNumber e (decimalOf e) s b),
     )
 
 text-said : (e : ℕ) (cs : List Call) → known e ≡ true → Loadable e true cs → (t : List ℕ) → t ≡ headerOf e ++ linesOf e 1 cs 0

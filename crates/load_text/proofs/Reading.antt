@@ -59,6 +59,8 @@ module _ (l : List ℕ) (at from to : ℕ) (e : from ≡ placeOf isFull l at) (f
 
   pub first-word : FirstWord l at from to
   first-word = record {
+    first = e;
+    behind = f;
     low = omega (arith, e, place-low isFull l at);
     order = omega (arith, f, place-low isBlank l from);
     high = omega (arith, e, f, place-high isFull l at, place-high isBlank l from);

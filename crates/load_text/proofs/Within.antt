@@ -38,7 +38,7 @@ set-below (suc k) g p =
     let t = two-pow-succ k in
     either (p g) (λ e. rw e (omega arith)) (λ e. rw e (omega arith))
 
-abbrev InWord : Field → Type 0
+abbrev pub InWord : Field → Type 0
 InWord f = Under 101 18446744073709551615 f
 
 union-in : (a b : ℕ) → InWord (Value (union a b))
@@ -49,10 +49,10 @@ span-in : (low high : ℕ) → InWord (Value (span low high))
 unfolding span
 span-in low high = omega (arith, set-below 64 0 (λ g. leb low g && leb g high))
 
-group-under : (w : List ℕ) → Under 101 63 (groupIn w)
+pub group-under : (w : List ℕ) → Under 101 63 (groupIn w)
 group-under w = number-under 101 10 _ _ _ w (omega arith) (omega arith)
 
-item-in : (w : List ℕ) → InWord (itemIn w)
+pub item-in : (w : List ℕ) → InWord (itemIn w)
 unfolding itemIn
 item-in w = under-then 63 _ (groupIn (until isDash w)) (rangeIn (since isDash w)) (group-under (until isDash w)) (range (since isDash w))
   where
@@ -65,7 +65,7 @@ unfolding withItems
 items-in s [] h = h
 items-in s (w ∷ ws) h = under-then 18446744073709551615 _ (itemIn w) (λ g. withItems (union s g) ws) (item-in w) (λ g. items-in (union s g) ws (union-in s g))
 
-groups-in : (w : List ℕ) → InWord (groupsIn w)
+pub groups-in : (w : List ℕ) → InWord (groupsIn w)
 unfolding groupsIn
 groups-in w = either (isList w) (λ e. rw e (items-in 0 (itemsIn w) (omega arith))) (λ e. rw e (number-under 101 16 _ _ _ w (omega arith) (omega arith)))
 
@@ -76,7 +76,7 @@ no-number-apart f =
     below f 11 (λ h. leb-true 101 (noNumber f) (below-passes 11 (λ i. leb 101 (noNumber i)) refl f h))
     (λ h. omega (arith, List·getD-eq-default noNumbers unknown h))
 
-field-under : (f : ℕ) (w : List ℕ) → Under 101 (256 ^ fieldWidth f - 1) (fieldIn f w)
+pub field-under : (f : ℕ) (w : List ℕ) → Under 101 (256 ^ fieldWidth f - 1) (fieldIn f w)
 unfolding fieldIn fieldWidth fieldWidths
 field-under f w =
     either (eqb f theGroups) (λ e. rw (eqb-true f theGroups e) (groups-in w)) (λ e. rw e (number-under 101 10 _ _ _ w (no-number-apart f) (omega arith)))

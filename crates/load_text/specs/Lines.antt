@@ -4,18 +4,21 @@ use mathlib.Core.Bool.{cond}
 use mathlib.Core.List.{List, [], _∷_, _++_, map}
 use lib.Dec.{ltb, eqb}
 use lib.ListN.{length, getD, replicate}
+use Rattle.numbers.specs.Numbers.{editionNumber, misfitNumber, overlongNumber}
 use Rattle.numerals.specs.Digits.{decimalOf, column, pair}
 use Rattle.numerals.specs.Laid.{spaceNumber, lentOut}
 use Rattle.load.specs.declared.Call.{Call}
 use Rattle.load.specs.Format.{theGroups, fieldWidth, fieldsOf, nameOf}
 use Rattle.load.specs.Calls.{valueOf}
 use Rattle.load.specs.Bytes.{recordBytes}
+use Rattle.load.specs.Answers.{WrittenValues}
 use Rattle.load.specs.Reading.{editionOf, Walk, walk, openNumber, unlessRefused}
+use Rattle.load.specs.Writing.{answeredValues}
 use Rattle.load_text.specs.declared.print.Reported.{Reported}
 use Rattle.load_text.specs.declared.print.Printed.{Printed}
 use Rattle.load_text.specs.declared.print.Printed.the-variants.{Length, Refusal}
 use Rattle.load_text.specs.Parsing.{placeOf, is}
-use Rattle.load_text.specs.Reasons.{unknown, missing, tooMany, noClock, noTicket, noLength, noGroups, tooLarge, over63, backward, noPool, noUnits, noClient, noReserved, noLimit, noGrace, noEdition, misfit, overlong}
+use Rattle.load_text.specs.Reasons.{unknown, missing, tooMany, noClock, noTicket, noLength, noGroups, tooLarge, over63, backward, noPool, noUnits, noClient, noReserved, noLimit, noGrace}
 
 -- the lowest digit of v in base 16: 0 to 9, A to F
 unfoldable pub glyphOf : ℕ → ℕ
@@ -117,11 +120,11 @@ reasons =
     -- "grace is not a number"
     ∷ reason noGrace (103 ∷ 114 ∷ 97 ∷ 99 ∷ 101 ∷ 32 ∷ 105 ∷ 115 ∷ 32 ∷ 110 ∷ 111 ∷ 116 ∷ 32 ∷ 97 ∷ 32 ∷ 110 ∷ 117 ∷ 109 ∷ 98 ∷ 101 ∷ 114 ∷ 10 ∷ [])
     -- "unknown edition"
-    ∷ reason noEdition (117 ∷ 110 ∷ 107 ∷ 110 ∷ 111 ∷ 119 ∷ 110 ∷ 32 ∷ 101 ∷ 100 ∷ 105 ∷ 116 ∷ 105 ∷ 111 ∷ 110 ∷ 10 ∷ [])
+    ∷ reason editionNumber (117 ∷ 110 ∷ 107 ∷ 110 ∷ 111 ∷ 119 ∷ 110 ∷ 32 ∷ 101 ∷ 100 ∷ 105 ∷ 116 ∷ 105 ∷ 111 ∷ 110 ∷ 10 ∷ [])
     -- "rig must be first"
-    ∷ reason misfit (114 ∷ 105 ∷ 103 ∷ 32 ∷ 109 ∷ 117 ∷ 115 ∷ 116 ∷ 32 ∷ 98 ∷ 101 ∷ 32 ∷ 102 ∷ 105 ∷ 114 ∷ 115 ∷ 116 ∷ 10 ∷ [])
+    ∷ reason misfitNumber (114 ∷ 105 ∷ 103 ∷ 32 ∷ 109 ∷ 117 ∷ 115 ∷ 116 ∷ 32 ∷ 98 ∷ 101 ∷ 32 ∷ 102 ∷ 105 ∷ 114 ∷ 115 ∷ 116 ∷ 10 ∷ [])
     -- "load over 65,536 bytes"
-    ∷ reason overlong (108 ∷ 111 ∷ 97 ∷ 100 ∷ 32 ∷ 111 ∷ 118 ∷ 101 ∷ 114 ∷ 32 ∷ 54 ∷ 53 ∷ 44 ∷ 53 ∷ 51 ∷ 54 ∷ 32 ∷ 98 ∷ 121 ∷ 116 ∷ 101 ∷ 115 ∷ 10 ∷ [])
+    ∷ reason overlongNumber (108 ∷ 111 ∷ 97 ∷ 100 ∷ 32 ∷ 111 ∷ 118 ∷ 101 ∷ 114 ∷ 32 ∷ 54 ∷ 53 ∷ 44 ∷ 53 ∷ 51 ∷ 54 ∷ 32 ∷ 98 ∷ 121 ∷ 116 ∷ 101 ∷ 115 ∷ 10 ∷ [])
     ∷ []
 
 -- "not written", for a number that has no text
@@ -143,10 +146,10 @@ abbrev pub reported : ℕ → ℕ → Reported
 reported line n = record { text = lentOut (reportOf line n) (replicate 64 0); length = length (reportOf line n) }
 
 -- ── what is answered ──
--- The cases of `Printed` by their number and length: 0 is a text of that length.
-abbrev pub printedAs : ℕ → ℕ → Printed
-printedAs k n = unlessRefused k Refusal (Length n)
-
 -- The text's length, or 15 where it does not go into the lent buffer. The buffer is then `lentOut text out`.
 unfoldable pub printed : List ℕ → List ℕ → Printed
-printed text out = printedAs (spaceNumber text out) (length text)
+printed text out = unlessRefused (spaceNumber text out) Refusal (Length (length text))
+
+-- The same in numbers.
+unfoldable pub printValues : List ℕ → List ℕ → WrittenValues
+printValues text out = answeredValues (spaceNumber text out) (length text)

@@ -16,7 +16,8 @@ use Rattle.load_text.specs.declared.Start.{Start}
 use Rattle.load_text.specs.declared.parse.Head.{Head}
 use Rattle.load_text.specs.declared.parse.Head.the-variants.{Silent, Edition, Other, Misread}
 use Rattle.load_text.specs.declared.parse.Parsed.{Parsed}
-use Rattle.load_text.specs.Parsing.{linesIn, lineSays, headSays, numberOf, callsOf}
+use Rattle.load_text.specs.Answers.{TextValues, parsedValues, wrongAt, lentAs}
+use Rattle.load_text.specs.Parsing.{linesIn, lineSays, headSays}
 
 -- ── the heading ──
 -- A show may begin with its edition, before any call; without it the edition is 1. The heading ends after so many lines, the last of which
@@ -73,10 +74,10 @@ callsNumber e n (c ∷ cs) = growNumber e n c 65536
 
 -- The number of a line after such a load, 0 for one that is not wrong, and the record that it adds.
 unfoldable pub lineNumber : ℕ → ℕ → Parsed → ℕ
-lineNumber e n p = orElse (numberOf p) (callsNumber e n (callsOf p))
+lineNumber e n p = orElse (parsedValues p .number) (callsNumber e n (parsedValues p .calls))
 
 unfoldable pub lineBytes : ℕ → Parsed → List ℕ
-lineBytes e p = recordsBytes e (callsOf p)
+lineBytes e p = recordsBytes e (parsedValues p .calls)
 
 -- What lines make of a load s of edition e, after k lines: what the later lines make, unless line k + 1 has a number.
 unfoldable pub gathered : ℕ → ℕ → List ℕ → List Parsed → Making
@@ -91,13 +92,9 @@ unfoldable pub made : List ℕ → Making
 made text = unlessRefused (headingNumber text) (wrong (heading text .lines)) (behindHeading (heading text) (saidIn text))
 
 -- ── `make` ──
--- The cases of `Made` by their number, line and length: 0 is a load of that length, any other number is told with its line.
-abbrev pub madeAs : ℕ → ℕ → ℕ → Made
-madeAs k line n = unlessRefused k (Mistake line) (Load n)
-
 -- The first line that is wrong, else 15, whose line is 0, for a load that does not go in.
 abbrev pub answerOn : Making → List ℕ → Made
-answerOn (whole s) out = madeAs (spaceNumber s out) 0 (length s)
+answerOn (whole s) out = unlessRefused (spaceNumber s out) (Mistake 0) (Load (length s))
 answerOn (wrong k n) out = Mistake k n
 
 -- The buffer after it: where a number is answered, "no byte of a lent buffer differs".
@@ -110,6 +107,14 @@ madeOf text out = answerOn (made text) out
 
 unfoldable pub madeOut : List ℕ → List ℕ → List ℕ
 madeOut text out = bufferOn (made text) out
+
+-- The answer in numbers.
+abbrev pub valuesOn : Making → List ℕ → TextValues
+valuesOn (whole s) out = lentAs s out
+valuesOn (wrong k n) out = wrongAt k n
+
+unfoldable pub makeValues : List ℕ → List ℕ → TextValues
+makeValues text out = valuesOn (made text) out
 
 -- What the code has in a buffer o of its own: q after a line that says p and a load of edition e and n bytes, with the answer r on the line;
 -- and after a text, whose load is laid over the buffer, or which has a line that is wrong.
@@ -126,7 +131,7 @@ Gathers text o (Mistake k n) q = made text ≡ wrong k n
 -- The calls that lines say.
 unfoldable pub callsIn : List Parsed → List Call
 callsIn [] = []
-callsIn (p ∷ ps) = callsOf p ++ callsIn ps
+callsIn (p ∷ ps) = parsedValues p .calls ++ callsIn ps
 
 -- A load that is answered with its length stands in the buffer's first bytes, and reads as the calls that the lines say, to its end; its
 -- edition is the show's.

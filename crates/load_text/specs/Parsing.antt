@@ -5,10 +5,11 @@ use mathlib.Core.Bool.{Bool, true, false, not, _&&_, _||_, cond}
 use mathlib.Core.List.{List, [], _∷_}
 use lib.Dec.{eqb, leb, ltb}
 use lib.ListN.{length, take, drop, getD}
+use Rattle.numbers.specs.Numbers.{editionNumber}
 use Rattle.groups.specs.Groups.{setWhere, union}
-use Rattle.load.specs.declared.Call.{Call}
 use Rattle.load.specs.Format.{theGroups, fieldWidth, fieldsOf, lengthOf, names}
-use Rattle.load.specs.Calls.{withValue, bare}
+use Rattle.load.specs.Calls.{withValue, bare, callOf}
+use Rattle.load.specs.Reading.{orElse, unlessRefused}
 use Rattle.load_text.specs.declared.parse.Head.{Head}
 use Rattle.load_text.specs.declared.parse.Head.the-variants.{Silent, Edition, Other, Misread}
 use Rattle.load_text.specs.declared.parse.Parsed.{Parsed}
@@ -17,7 +18,8 @@ use Rattle.load_text.specs.declared.words.Field.{Field}
 use Rattle.load_text.specs.declared.words.Field.the-variants.{Value, Wrong}
 use Rattle.load_text.specs.declared.words.Mark.{Mark}
 use Rattle.load_text.specs.declared.words.Mark.the-variants.{Joint, NoDigit}
-use Rattle.load_text.specs.Reasons.{noEdition, unknown, missing, tooMany, noClock, noTicket, noLength, noGroups, tooLarge, over63, backward, noPool, noUnits, noClient, noReserved, noLimit, noGrace}
+use Rattle.load_text.specs.Answers.{WordValues, ParsedValues}
+use Rattle.load_text.specs.Reasons.{unknown, missing, tooMany, noClock, noTicket, noLength, noGroups, tooLarge, over63, backward, noPool, noUnits, noClient, noReserved, noLimit, noGrace}
 
 -- ── parts of a text ──
 -- How many bytes stand before the first that passes p; these bytes, and those from it on.
@@ -97,8 +99,11 @@ itemsIn l = parts isComma l
 abbrev pub wordAt : List ℕ → ℕ → ℕ → List ℕ
 wordAt l from to = take (to - from) (drop from l)
 
--- What the code finds of the first word from `at` on: its first byte and the place after its last, both the text's end where there is none.
+-- What the code finds of the first word from `at` on: its first byte and the place after its last; where there is none both are the text's
+-- end, or `at` behind it. The other facts follow from these two.
 pub record FirstWord (l : List ℕ) (at from to : ℕ) : Type 0 where
+  pub first : from ≡ placeOf isFull l at
+  pub behind : to ≡ placeOf isBlank l from
   pub low : at ≤ from
   pub order : from ≤ to
   pub high : to ≤ max at (length l)
@@ -184,6 +189,50 @@ isList w = not (none isJoint w)
 unfoldable pub groupsIn : List ℕ → Field
 groupsIn w = cond (isList w) (withItems 0 (itemsIn w)) (numberIn 16 18446744073709551615 noGroups tooLarge w)
 
+-- ── words in numbers ──
+-- By their bytes alone, without the cases of `Field`.
+-- The number that a word says: `none` where it says none, `large` where it is over `most`.
+unfoldable pub numberValues : ℕ → ℕ → ℕ → ℕ → List ℕ → WordValues
+numberValues base most none large w =
+    let v = valueIn base 0 w in
+    record { number = cond (isNumber base w) (cond (leb v most) 0 large) none; value = cond (isNumber base w && leb v most) v 0 }
+
+-- The groups that an item names: the one before its dash, and the one behind it, or the same where there is no dash.
+abbrev pub groupValues : List ℕ → WordValues
+groupValues w = numberValues 10 63 noGroups over63 w
+
+abbrev pub firstGroup : List ℕ → WordValues
+firstGroup w = groupValues (until isDash w)
+
+abbrev pub behindDash : List ℕ → WordValues → WordValues
+behindDash [] first = first
+behindDash (dash ∷ l) first = groupValues l
+
+abbrev pub lastGroup : List ℕ → WordValues
+lastGroup w = behindDash (since isDash w) (firstGroup w)
+
+unfoldable pub itemNumber : List ℕ → ℕ
+itemNumber w = orElse (firstGroup w .number) (orElse (lastGroup w .number) (cond (ltb (lastGroup w .value) (firstGroup w .value)) backward 0))
+
+-- The first item of a list that is wrong, and the groups of all with those before them.
+unfoldable pub listNumber : List (List ℕ) → ℕ
+listNumber [] = 0
+listNumber (w ∷ ws) = orElse (itemNumber w) (listNumber ws)
+
+unfoldable pub listSet : ℕ → List (List ℕ) → ℕ
+listSet s [] = s
+listSet s (w ∷ ws) = listSet (union s (span (firstGroup w .value) (lastGroup w .value))) ws
+
+-- A value, where a number is 0.
+abbrev pub unlessWrong : ℕ → ℕ → WordValues
+unlessWrong n v = record { number = n; value = unlessRefused n (λ m. 0) v }
+
+-- The set that a word says.
+unfoldable pub groupsValues : List ℕ → WordValues
+groupsValues w =
+    cond (isList w) (unlessWrong (listNumber (itemsIn w)) (listSet 0 (itemsIn w)))
+    (numberValues 16 18446744073709551615 noGroups tooLarge w)
+
 -- ── calls ──
 -- The reasons of words that say nothing as a field, in the order of the fields: the kind has no word, then clock, groups, length, ticket,
 -- pool, units, client, reserved, limit, grace.
@@ -259,7 +308,7 @@ editionOr (Wrong n) = Misread n
 
 unfoldable pub editionIn : List (List ℕ) → Head
 editionIn [] = Misread missing
-editionIn (w ∷ []) = editionOr (numberIn 10 255 noEdition noEdition w)
+editionIn (w ∷ []) = editionOr (numberIn 10 255 editionNumber editionNumber w)
 editionIn (w ∷ a ∷ ws) = Misread tooMany
 
 unfoldable pub headIn : List (List ℕ) → Head
@@ -270,17 +319,48 @@ headIn (k ∷ ws) = cond (isWord k editionWord) (editionIn ws) Other
 unfoldable pub headSays : List ℕ → Head
 headSays l = headIn (wordsIn (said l))
 
--- ── what a line comes to ──
--- The cases of `Parsed` by their number, 0 for a line that is not wrong, and by the calls that they say.
-abbrev pub numberOf : Parsed → ℕ
-numberOf Nothing = 0
-numberOf (Said c) = 0
-numberOf (Bad n) = n
+-- ── a line in numbers ──
+-- By its words alone, without the cases of `Parsed`.
+-- How many words there are for the fields of a kind: 0 for as many.
+unfoldable pub countNumber : List ℕ → List (List ℕ) → ℕ
+countNumber [] [] = 0
+countNumber [] (w ∷ ws) = tooMany
+countNumber (f ∷ fs) [] = missing
+countNumber (f ∷ fs) (w ∷ ws) = countNumber fs ws
 
-abbrev pub callsOf : Parsed → List Call
-callsOf Nothing = []
-callsOf (Said c) = c ∷ []
-callsOf (Bad n) = []
+-- What a word says as a field.
+unfoldable pub wordAs : ℕ → List ℕ → WordValues
+wordAs f w = cond (eqb f theGroups) (groupsValues w) (numberValues 10 (256 ^ fieldWidth f - 1) (noNumber f) tooLarge w)
+
+-- The first word that is wrong as its field: 0 for none.
+unfoldable pub wrongWord : List ℕ → List (List ℕ) → ℕ
+wrongWord (f ∷ fs) (w ∷ ws) = orElse (wordAs f w .number) (wrongWord fs ws)
+wrongWord [] ws = 0
+wrongWord (f ∷ fs) [] = 0
+
+-- What the words say as their fields.
+unfoldable pub valuesSaid : List ℕ → List (List ℕ) → List ℕ
+valuesSaid (f ∷ fs) (w ∷ ws) = wordAs f w .value ∷ valuesSaid fs ws
+valuesSaid [] ws = []
+valuesSaid (f ∷ fs) [] = []
+
+-- The number of the words behind a kind's name, 0 for none. How many there are is judged before what they say.
+unfoldable pub wordsNumber : List ℕ → List (List ℕ) → ℕ
+wordsNumber fs ws = orElse (countNumber fs ws) (wrongWord fs ws)
+
+-- By the kind that the first word names: the call of the words' values, where nothing is wrong.
+abbrev pub kindValues : ℕ → ℕ → List (List ℕ) → ParsedValues
+kindValues e zero ws = record { number = unknown; calls = [] }
+kindValues e (suc k) ws =
+    let fs = fieldsOf e (suc k) in
+    record { number = wordsNumber fs ws; calls = unlessRefused (wordsNumber fs ws) (λ n. []) (callOf e (suc k) (valuesSaid fs ws) ∷ []) }
+
+unfoldable pub callValues : ℕ → List (List ℕ) → ParsedValues
+callValues e [] = record { number = 0; calls = [] }
+callValues e (k ∷ ws) = kindValues e (kindNamed e k) ws
+
+unfoldable pub parseValues : ℕ → List ℕ → ParsedValues
+parseValues e l = callValues e (wordsIn (said l))
 
 -- A line that is wrong has a reason that is no number of document 01. proofs/Within has the proof: reasons-apart.
 abbrev pub ReasonsApart : Type 0

@@ -1,5 +1,5 @@
 -- Why a text makes no load, by number, as in src/reasons.rt: from 101 on for a line that says no call, so that no reason can be taken for a
--- number of document 01; 11, 13, 14 and 15 are document 01's own.
+-- number of document 01; 11, 13, 14 and 15 are document 01's own (crate numbers).
 use Prim.Native.Nat.{ℕ}
 
 abbrev pub unknown : ℕ
@@ -49,15 +49,3 @@ noLimit = 115
 
 abbrev pub noGrace : ℕ
 noGrace = 116
-
-abbrev pub noEdition : ℕ
-noEdition = 11
-
-abbrev pub misfit : ℕ
-misfit = 13
-
-abbrev pub overlong : ℕ
-overlong = 14
-
-abbrev pub noSpace : ℕ
-noSpace = 15

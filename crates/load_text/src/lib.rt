@@ -3,8 +3,9 @@
 // specs/Making.antt, and the lines of a load in specs/Lines.antt.
 ghost use mathlib.Core.Path.{_≡_};
 ghost use lib.ListN.{length};
+ghost use Rattle.load_text.specs.Answers.{madeValues};
 ghost use Rattle.load_text.specs.Parsing.{lineSays};
-ghost use Rattle.load_text.specs.Making.{Starts, Adds, Gathers, madeOf, madeOut};
+ghost use Rattle.load_text.specs.Making.{Starts, Adds, Gathers, madeOf, madeOut, makeValues};
 
 mod parse;
 mod print;
@@ -144,12 +145,13 @@ fn room() -> [u8; 65536]
 pub fn make(text: &[u8], out: &mut [u8]) -> Made
     ensures answer { λ r. ⌜ r ≡ madeOf (now (text .entry)) (now (out .entry)) ⌝ }
     ensures buffer { λ _. ⌜ now (out .exit) ≡ madeOut (now (text .entry)) (now (out .entry)) ⌝ }
+    ensures values { λ r. ⌜ madeValues r ≡ makeValues (now (text .entry)) (now (out .entry)) ⌝ }
 {
     let mut load = room();
     match gather(text, &mut load) {
         Made::Load(n) => {
             if out.len() < n {
-                return Made::Mistake(0, reasons::NO_SPACE);
+                return Made::Mistake(0, numbers::NO_SPACE);
             }
             numerals::put_bytes(out, 0, &load[..n]);
             Made::Load(n)

@@ -5,7 +5,8 @@ ghost use lib.ListN.{length, take, drop};
 ghost use Rattle.load.specs.Format.{fieldsOf};
 ghost use Rattle.load.specs.Calls.{bare};
 ghost use Rattle.load_text.specs.declared.parse.Parsed.the-variants.{Said};
-ghost use Rattle.load_text.specs.Parsing.{chomped, editionIn, fieldIn, filledIn, headSays, lineSays, said, withField, wordsIn};
+ghost use Rattle.load_text.specs.Answers.{parsedValues};
+ghost use Rattle.load_text.specs.Parsing.{chomped, editionIn, fieldIn, filledIn, headSays, lineSays, parseValues, said, withField, wordsIn};
 use crate::reasons;
 use crate::sets::groups_of;
 use crate::texts::kind_named;
@@ -146,7 +147,7 @@ pub fn said_end(line: &[u8]) -> usize
 
 // A line of a show of an edition, without its line feed: its first word names the call.
 pub fn parse_line(edition: u8, line: &[u8]) -> Parsed
-    ensures { λ r. ⌜ r ≡ lineSays edition (now (line .entry)) ⌝ }
+    ensures { λ r. ⌜ (r ≡ lineSays edition (now (line .entry))) × (parsedValues r ≡ parseValues edition (now (line .entry))) ⌝ }
 {
     let end = said_end(line);
     let said = &line[..end];
@@ -178,13 +179,7 @@ fn edition_at(said: &[u8], at: usize) -> Head
     if more.from < more.to {
         return Head::Misread(reasons::TOO_MANY);
     }
-    match number(
-        &said[from..to],
-        10,
-        255,
-        reasons::NO_EDITION,
-        reasons::NO_EDITION,
-    ) {
+    match number(&said[from..to], 10, 255, numbers::EDITION, numbers::EDITION) {
         Field::Value(e) => Head::Edition(e as u8),
         Field::Wrong(n) => Head::Misread(n),
     }

@@ -9,9 +9,9 @@ ghost use lib.ListN.{length};
 ghost use Rattle.numerals.specs.Laid.{lentOut, Put};
 ghost use Rattle.load.specs.Format.{fieldsOf};
 ghost use Rattle.load.specs.Reading.{editionOf, walk, openNumber};
-ghost use Rattle.load_text.specs.Lines.{glyphOf, hexUpTo, wordOf, fieldsText, fieldsMost, lineOf, Brief, stopLine, restOf, headerOf, textOf, reportOf, reported, printed};
+ghost use Rattle.load_text.specs.Answers.{printedValues};
+ghost use Rattle.load_text.specs.Lines.{glyphOf, hexUpTo, wordOf, fieldsText, fieldsMost, lineOf, Brief, stopLine, restOf, headerOf, textOf, reportOf, reported, printed, printValues};
 use crate::parse;
-use crate::reasons;
 use crate::texts::put_name;
 use crate::texts::put_reason;
 use load::Call;
@@ -88,10 +88,11 @@ fn put_call(out: &mut [u8], at: usize, edition: u8, call: Call) -> usize
 pub fn put_line(edition: u8, call: Call, out: &mut [u8]) -> Printed
     ensures answer { λ r. ⌜ r ≡ printed (lineOf edition call) (now (out .entry)) ⌝ }
     ensures buffer { λ _. ⌜ now (out .exit) ≡ lentOut (lineOf edition call) (now (out .entry)) ⌝ }
+    ensures values { λ r. ⌜ printedValues r ≡ printValues (lineOf edition call) (now (out .entry)) ⌝ }
 {
     let mut scrap = [0u8; 1];
     if out.len() < put_call(&mut scrap, 0, edition, call) {
-        return Printed::Refusal(reasons::NO_SPACE);
+        return Printed::Refusal(numbers::NO_SPACE);
     }
     let n = put_call(out, 0, edition, call);
     Printed::Length(n)
@@ -170,12 +171,13 @@ fn goes_into(load: &[u8], room: usize) -> bool
 pub fn show(load: &[u8], out: &mut [u8]) -> Printed
     ensures answer { λ r. ⌜ r ≡ printed (textOf (now (load .entry))) (now (out .entry)) ⌝ }
     ensures buffer { λ _. ⌜ now (out .exit) ≡ lentOut (textOf (now (load .entry))) (now (out .entry)) ⌝ }
+    ensures values { λ r. ⌜ printedValues r ≡ printValues (textOf (now (load .entry))) (now (out .entry)) ⌝ }
 {
     if goes_into(load, out.len()) {
         let n = put_text(out, load);
         return Printed::Length(n);
     }
-    Printed::Refusal(reasons::NO_SPACE)
+    Printed::Refusal(numbers::NO_SPACE)
 }
 
 // A line that says what is wrong with a line of text.

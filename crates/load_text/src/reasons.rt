@@ -1,5 +1,5 @@
 // Why a text makes no load, by number, as in specs/Reasons.antt: from 101 on for a line that says no call, so that no reason can be taken
-// for a number of document 01; 11, 13, 14 and 15 are document 01's own.
+// for a number of document 01; 11, 13, 14 and 15 are document 01's own (crate numbers).
 pub const UNKNOWN: u8 = 101;
 
 pub const MISSING: u8 = 102;
@@ -31,9 +31,3 @@ pub const NO_RESERVED: u8 = 114;
 pub const NO_LIMIT: u8 = 115;
 
 pub const NO_GRACE: u8 = 116;
-
-pub const NO_EDITION: u8 = 11;
-
-pub const MISFIT: u8 = 13;
-
-pub const NO_SPACE: u8 = 15;

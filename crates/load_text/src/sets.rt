@@ -1,7 +1,8 @@
 // Sets of groups as text: hex, or a list such as 0,3,5-7. What a word says is defined in specs/Parsing.antt.
 ghost use mathlib.Core.Path.{_≡_};
 ghost use Prim.Native.Nat.{_≤_};
-ghost use Rattle.load_text.specs.Parsing.{andThen, groupIn, groupsIn, itemIn, itemsIn, span, upTo, withItems};
+ghost use Rattle.load_text.specs.Answers.{wordValues};
+ghost use Rattle.load_text.specs.Parsing.{andThen, groupIn, groupsIn, groupsValues, itemIn, itemsIn, span, upTo, withItems};
 use crate::reasons;
 use crate::words::Field;
 use crate::words::Mark;
@@ -77,7 +78,7 @@ fn list(word: &[u8]) -> Field
 
 // The set that a word says. A word without comma and dash is hex.
 pub fn groups_of(word: &[u8]) -> Field
-    ensures { λ r. ⌜ r ≡ groupsIn (now (word .entry)) ⌝ }
+    ensures { λ r. ⌜ (r ≡ groupsIn (now (word .entry))) × (wordValues r ≡ groupsValues (now (word .entry))) ⌝ }
 {
     if lacks(word, Mark::Joint) {
         return number(word, 16, u64::MAX, reasons::NO_GROUPS, reasons::TOO_LARGE);

@@ -8,6 +8,7 @@ ghost use Rattle.numerals.specs.Laid.{Put};
 ghost use Rattle.load.specs.Format.{nameOf, names};
 ghost use Rattle.load_text.specs.Lines.{reasonText, reasonTexts};
 ghost use Rattle.load_text.specs.Parsing.{isWord, kindNamed, kindOf};
+use crate::reasons;
 use crate::words::place;
 
 // ---- names
@@ -90,25 +91,25 @@ pub(crate) fn put_name(out: &mut [u8], at: usize, edition: u8, kind: u8) -> usiz
 // ---- reasons
 // The number of each text but the last.
 const REASONS: [u8; 19] = [
-    101,
-    102,
-    103,
-    104,
-    105,
-    106,
-    107,
-    108,
-    109,
-    110,
-    111,
-    112,
-    113,
-    114,
-    115,
-    116,
-    11,
-    13,
-    14,
+    reasons::UNKNOWN,
+    reasons::MISSING,
+    reasons::TOO_MANY,
+    reasons::NO_CLOCK,
+    reasons::NO_TICKET,
+    reasons::NO_LENGTH,
+    reasons::NO_GROUPS,
+    reasons::TOO_LARGE,
+    reasons::OVER_63,
+    reasons::BACKWARD,
+    reasons::NO_POOL,
+    reasons::NO_UNITS,
+    reasons::NO_CLIENT,
+    reasons::NO_RESERVED,
+    reasons::NO_LIMIT,
+    reasons::NO_GRACE,
+    numbers::EDITION,
+    numbers::MISFIT,
+    numbers::OVERLONG,
 ];
 
 const TEXTS: [[u8; 32]; 20] = [

@@ -4,7 +4,8 @@ ghost use mathlib.Core.Path.{_≡_};
 ghost use mathlib.Core.Bool.{true, _||_};
 ghost use Prim.Native.Nat.{_≤_, _<_, max};
 ghost use lib.ListN.{length};
-ghost use Rattle.load_text.specs.Parsing.{FirstWord, digitOf, digitsIn, edgeOf, is, none, numberIn, passes, placeOf, upToMost, valueIn};
+ghost use Rattle.load_text.specs.Answers.{wordValues};
+ghost use Rattle.load_text.specs.Parsing.{FirstWord, digitOf, digitsIn, edgeOf, is, none, numberIn, numberValues, passes, placeOf, upToMost, valueIn};
 
 // A word of a line, from its first byte to after its last. Both are equal where there is no word.
 pub struct Word {
@@ -131,7 +132,8 @@ fn value(word: &[u8], base: u64, most: u64, large: u8) -> Field
 
 // The number that a word says: `none` where it says none, which goes before `large`, where it is over `most`.
 pub fn number(word: &[u8], base: u64, most: u64, none: u8, large: u8) -> Field
-    ensures { λ r. ⌜ r ≡ numberIn base most none large (now (word .entry)) ⌝ }
+    ensures { λ r. ⌜ (r ≡ numberIn base most none large (now (word .entry)))
+        × (wordValues r ≡ numberValues base most none large (now (word .entry))) ⌝ }
 {
     if (0 < word.len()) & lacks(word, Mark::NoDigit(base)) {
         return value(word, base, most, large);

@@ -91,13 +91,7 @@ pub fn number(s: &[u8], at: usize, n: usize) -> u64
     each(s, at, m)
 }
 
-// The same for four bytes, and for two.
-pub fn be32(s: &[u8], at: usize) -> u32
-    ensures { λ r. ⌜ r ≡ numeral 0 (take 4 (drop at (now (s .entry)))) ⌝ }
-{
-    number(s, at, 4) as u32
-}
-
+// The same for two bytes.
 pub fn be16(s: &[u8], at: usize) -> u16
     ensures { λ r. ⌜ r ≡ numeral 0 (take 2 (drop at (now (s .entry)))) ⌝ }
 {

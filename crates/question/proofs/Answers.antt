@@ -4,12 +4,12 @@ use mathlib.Core.List.{List, [], _∷_, _++_}
 use mathlib.Core.Path.{_≡_, refl, sym, ap, _∙_}
 use Prim.Native.Nat.{ℕ, zero, suc, _+_, _^_, _≤_, _<_}
 use native.Mathlib.Omega.{arith}
-use lib.Dec.{leb}
+use lib.Dec.{leb, eqb}
 use lib.ListN.{length, length-append}
 use Rattle.numerals.specs.Digits.{decimalOf}
 use Rattle.numerals.specs.Laid.{spaceNumber, lentOut, Put}
 use Rattle.numerals.proofs.Laying.{decimal-length, width-small, put-short, put-as, lent-all, lent-none, lent-known}
-use Rattle.rules.specs.declared.Common.{Common as Share}
+use Rattle.rules.specs.declared.Common.{Common}
 use Rattle.rules.specs.declared.Common.the-variants.{Unknown, Shared, Apart}
 use Rattle.rules.specs.declared.Standing.{Standing}
 use Rattle.rules.specs.declared.Standing.the-variants.{NotPending, Waits, Holds}
@@ -22,11 +22,12 @@ use Rattle.listing.specs.Replay.{replayOf, replayed}
 use Rattle.listing.proofs.Replaying.{replayed-left}
 use Rattle.listing.proofs.Sizes.{stop-length}
 use Rattle.question.specs.declared.questions.Question.{Question}
-use Rattle.question.specs.declared.questions.Question.the-variants.{Lookup, Common, Free, NoQuestion}
+use Rattle.question.specs.declared.questions.Question.the-variants.{Lookup, Free, NoQuestion}
+use Rattle.question.specs.declared.questions.Question.the-variants as question
 use Rattle.question.specs.declared.Asked.{Asked}
 use Rattle.question.specs.declared.Asked.the-variants.{Written, NoSuch, NoRoom}
 use Rattle.question.specs.Questions.{questionOf, isQuestion}
-use Rattle.question.specs.Answers.{ticketWord, ticketsWord, andWord, waitsWords, onWords, apartWords, shareWords, ofWord, freeWords, worded, standingText, lookupText, ticketsText, absentOf, commonText, freeText, sentenceOf, answerOf, textOf, usageText, askedValues, writtenAs, written, askedOf, askedOut}
+use Rattle.question.specs.Answers.{ticketWord, ticketsWord, andWord, waitsWords, onWords, apartWords, shareWords, ofWord, freeWords, worded, standingText, lookupText, ticketsText, absentOf, commonText, freeText, sentenceOf, answerOf, textOf, usageText, askedValues, writtenAs, written, lentValues, askedOf, answerValues, askedOut}
 
 -- ── lengths ──
 worded-length : (w : List ℕ) (v : ℕ) → length (worded w v) ≤ length w + 20
@@ -46,7 +47,7 @@ tickets-length : (j k : ℕ) → length (ticketsText j k) ≤ 53
 unfolding ticketsText
 tickets-length j k = omega (arith, length-append (worded ticketsWord j) (worded andWord k), worded-length ticketsWord j, worded-length andWord k)
 
-common-length : (j k : ℕ) (s : Standing) (c : Share) → length (commonText j k s c) ≤ 86
+common-length : (j k : ℕ) (s : Standing) (c : Common) → length (commonText j k s c) ≤ 86
 common-length j k s Unknown = omega (arith, lookup-length (absentOf j k s) NotPending)
 common-length j k s (Shared g) = omega (arith, length-append (ticketsText j k) (worded shareWords g), tickets-length j k, worded-length shareWords g)
 common-length j k s Apart = omega (arith, length-append (ticketsText j k) apartWords, tickets-length j k)
@@ -58,7 +59,7 @@ free-length n k =
 
 sentence-length : (m : Model) (q : Question) → length (sentenceOf m q) ≤ 86
 sentence-length m (Lookup k) = omega (arith, lookup-length k (standingOf k (m .pending)))
-sentence-length m (Common j k) = common-length j k (standingOf j (m .pending)) (commonOf j k (m .pending))
+sentence-length m (question.Common j k) = common-length j k (standingOf j (m .pending)) (commonOf j k (m .pending))
 sentence-length m Free = omega (arith, free-length (freeOf m) (m .pool))
 sentence-length m NoQuestion = omega arith
 
@@ -79,10 +80,10 @@ module _ {o : List ℕ} {at r : ℕ} {p : List ℕ} where
   pub standing-is : (s x : Standing) → s ≡ x → Put o at (standingText x) r p → Put o at (standingText s) r p
   standing-is s x e w = put-as _ _ (ap standingText (sym e)) w
 
-  pub common-is : (j k : ℕ) (s : Standing) (c x : Share) → c ≡ x → Put o at (commonText j k s x) r p → Put o at (commonText j k s c) r p
+  pub common-is : (j k : ℕ) (s : Standing) (c x : Common) → c ≡ x → Put o at (commonText j k s x) r p → Put o at (commonText j k s c) r p
   common-is j k s c x e w = put-as _ _ (ap (commonText j k s) (sym e)) w
 
-  pub common-unknown : (j k : ℕ) (s : Standing) (c : Share) → c ≡ Unknown → (n : ℕ) → n ≡ absentOf j k s → Put o at (lookupText n NotPending) r p
+  pub common-unknown : (j k : ℕ) (s : Standing) (c : Common) → c ≡ Unknown → (n : ℕ) → n ≡ absentOf j k s → Put o at (lookupText n NotPending) r p
       → Put o at (commonText j k s c) r p
   common-unknown j k s c e n i w = common-is j k s c Unknown e (put-as _ _ (ap (λ x. lookupText x NotPending) i) w)
 
@@ -90,7 +91,7 @@ module _ {o : List ℕ} {at r : ℕ} {p : List ℕ} where
     pub sentence-lookup : (k : ℕ) → q ≡ Lookup k → (s : Standing) → s ≡ standingOf k (m .pending) → Put o at (lookupText k s) r p → Put o at (sentenceOf m q) r p
     sentence-lookup k e s i w = put-as _ _ (ap (lookupText k) i ∙ ap (sentenceOf m) (sym e)) w
 
-    pub sentence-common : (j k : ℕ) → q ≡ Common j k → (s : Standing) → s ≡ standingOf j (m .pending) → (c : Share) → c ≡ commonOf j k (m .pending)
+    pub sentence-common : (j k : ℕ) → q ≡ question.Common j k → (s : Standing) → s ≡ standingOf j (m .pending) → (c : Common) → c ≡ commonOf j k (m .pending)
         → Put o at (commonText j k s c) r p → Put o at (sentenceOf m q) r p
     sentence-common j k e s i c l w =
         put-as _ _ (ap (λ x. commonText j k x c) i ∙ ap (commonText j k (standingOf j (m .pending))) l ∙ ap (sentenceOf m) (sym e)) w
@@ -119,25 +120,32 @@ text-is load q r e =
 
 -- ── a lent buffer ──
 module _ (text out : List ℕ) where
-  pub written-none : length out < length text → (NoRoom ≡ written text out) × (out ≡ lentOut text out)
-  unfolding written
-  written-none h = let l = lent-none text out h in (rw (l .0), l .1)
+  -- The answer on a text for it; it becomes p.
+  abbrev pub Writes : Asked → List ℕ → Type 0
+  Writes r p = (r ≡ written text out) × ((p ≡ lentOut text out) × (askedValues r ≡ lentValues text out))
 
-  pub written-all : (p : List ℕ) (r : ℕ) → length text < 2 ^ 64 → length text ≤ length out → Put out 0 text r p → (Written r ≡ written text out) × (p ≡ lentOut text out)
+  -- The number of what is answered is document 01's, and the count that of the text.
+  written-values : askedValues (written text out) ≡ lentValues text out
+  unfolding written spaceNumber lentValues
+  written-values = go (leb (length text) (length out))
+    where
+      go : (b : Bool) → askedValues (writtenAs (cond b 0 15) (length text)) ≡ record { number = cond b 0 15; bytes = cond (eqb (cond b 0 15) 0) (length text) 0 }
+      go true = refl
+      go false = refl
+
+  writes : (r : Asked) (p : List ℕ) → r ≡ written text out → p ≡ lentOut text out → Writes r p
+  writes r p e l = (e, (l, ap askedValues e ∙ written-values))
+
+  pub written-none : length out < length text → Writes NoRoom out
+  unfolding written
+  written-none h = let l = lent-none text out h in writes NoRoom out (rw (l .0)) (l .1)
+
+  pub written-all : (p : List ℕ) (r : ℕ) → length text < 2 ^ 64 → length text ≤ length out → Put out 0 text r p → Writes (Written r) p
   unfolding written
   written-all p r s h w =
       let e = put-short s w in
       let l = lent-all text out p h (e .1) in
-      (rw (l .0) (ap Written (e .0)), l .1)
-
-  -- The number of what is answered is document 01's.
-  pub written-number : askedValues (written text out) .number ≡ spaceNumber text out
-  unfolding written spaceNumber
-  written-number = go (leb (length text) (length out))
-    where
-      go : (b : Bool) → askedValues (writtenAs (cond b 0 15) (length text)) .number ≡ cond b 0 15
-      go true = refl
-      go false = refl
+      writes (Written r) p (rw (l .0) (ap Written (e .0))) (l .1)
 
 -- A count that is answered is one of the buffer.
 written-count : (k m n : ℕ) → writtenAs k m ≡ Written n → (k ≡ 0) × (m ≡ n)
@@ -152,13 +160,16 @@ written-within text out n e =
 
 -- ── a call ──
 module _ (load line out : List ℕ) (q : Question) (i : q ≡ questionOf line) where
-  pub asked-none : isQuestion q ≡ false → (NoSuch ≡ askedOf load line out) × (out ≡ askedOut load line out)
-  unfolding askedOf askedOut
-  asked-none e = rw (sym i, e) (refl, refl)
+  -- The answer to the line; the lent buffer becomes p.
+  abbrev pub Answers : Asked → List ℕ → Type 0
+  Answers r p = (r ≡ askedOf load line out) × ((p ≡ askedOut load line out) × (askedValues r ≡ answerValues load line out))
 
-  asked-some : isQuestion q ≡ true → (a : Asked) (p : List ℕ) → (a ≡ written (textOf load q) out) × (p ≡ lentOut (textOf load q) out)
-      → (a ≡ askedOf load line out) × (p ≡ askedOut load line out)
-  unfolding askedOf askedOut
+  pub asked-none : isQuestion q ≡ false → Answers NoSuch out
+  unfolding askedOf askedOut answerValues
+  asked-none e = rw (sym i, e) (refl, (refl, refl))
+
+  asked-some : isQuestion q ≡ true → (a : Asked) (p : List ℕ) → Writes (textOf load q) out a p → Answers a p
+  unfolding askedOf askedOut answerValues
   asked-some e a p w = rw (sym i, e) w
 
   module _ (e : isQuestion q ≡ true) (l : Replayed) (j : l ≡ replayed (replayOf load)) (scrap used : List ℕ) (n : ℕ)
@@ -166,11 +177,11 @@ module _ (load line out : List ℕ) (q : Question) (i : q ≡ questionOf line) w
     counted : n ≡ length (textOf load q)
     counted = put-short (omega (arith, text-length load q)) (put-as _ _ (text-is load q l j) c) .0
 
-    pub asked-short : length out < n → (NoRoom ≡ askedOf load line out) × (out ≡ askedOut load line out)
+    pub asked-short : length out < n → Answers NoRoom out
     asked-short h = asked-some e _ _ (written-none (textOf load q) out (omega (arith, counted)))
 
     pub asked-all : n ≤ length out → (r : ℕ) (p : List ℕ) → Put out 0 (stopOr (l .stop) (l .at) [] ++ answerOf (model (l .table)) q) r p
-        → (Written r ≡ askedOf load line out) × (p ≡ askedOut load line out)
+        → Answers (Written r) p
     asked-all h r p w =
         asked-some e _ _ (written-all (textOf load q) out p r (omega (arith, text-length load q)) (omega (arith, counted)) (put-as _ _ (text-is load q l j) w))
 

@@ -4,6 +4,7 @@ use mathlib.Core.Bool.{cond}
 use mathlib.Core.List.{List, [], _∷_, _++_}
 use mathlib.Core.Path.{_≡_}
 use Prim.Native.Nat.{ℕ, zero, suc}
+use lib.Dec.{eqb}
 use lib.ListN.{length}
 use Rattle.numbers.specs.Numbers.{noSpaceNumber}
 use Rattle.numerals.specs.Digits.{decimalOf}
@@ -11,13 +12,14 @@ use Rattle.numerals.specs.Laid.{spaceNumber, lentOut}
 use Rattle.rules.specs.declared.Claim.{Claim}
 use Rattle.rules.specs.declared.Standing.{Standing}
 use Rattle.rules.specs.declared.Standing.the-variants.{NotPending, Waits, Holds}
-use Rattle.rules.specs.declared.Common.{Common as Share}
+use Rattle.rules.specs.declared.Common.{Common}
 use Rattle.rules.specs.declared.Common.the-variants.{Unknown, Shared, Apart}
 use Rattle.rules.specs.Calls.{Model, standingOf, commonOf, freeOf}
 use Rattle.listing.specs.Text.{stopOr}
 use Rattle.listing.specs.Replay.{replayOf}
 use Rattle.question.specs.declared.questions.Question.{Question}
-use Rattle.question.specs.declared.questions.Question.the-variants.{Lookup, Common, Free, NoQuestion}
+use Rattle.question.specs.declared.questions.Question.the-variants.{Lookup, Free, NoQuestion}
+use Rattle.question.specs.declared.questions.Question.the-variants as question
 use Rattle.question.specs.declared.Asked.{Asked}
 use Rattle.question.specs.declared.Asked.the-variants.{Written, NoSuch, NoRoom}
 use Rattle.question.specs.Questions.{questionOf, isQuestion}
@@ -92,7 +94,7 @@ NamedAbsent = (j k : ℕ) (ps : List Claim) → commonOf j k ps ≡ Unknown → 
 unfoldable pub ticketsText : ℕ → ℕ → List ℕ
 ticketsText j k = worded ticketsWord j ++ worded andWord k
 
-abbrev pub commonText : ℕ → ℕ → Standing → Share → List ℕ
+abbrev pub commonText : ℕ → ℕ → Standing → Common → List ℕ
 commonText j k s Unknown = lookupText (absentOf j k s) NotPending
 commonText j k s (Shared g) = ticketsText j k ++ worded shareWords g
 commonText j k s Apart = ticketsText j k ++ apartWords
@@ -105,7 +107,7 @@ freeText n k = (decimalOf n ++ worded ofWord k) ++ freeWords
 -- ── the answers ──
 abbrev pub sentenceOf : Model → Question → List ℕ
 sentenceOf m (Lookup k) = lookupText k (standingOf k (m .pending))
-sentenceOf m (Common j k) = commonText j k (standingOf j (m .pending)) (commonOf j k (m .pending))
+sentenceOf m (question.Common j k) = commonText j k (standingOf j (m .pending)) (commonOf j k (m .pending))
 sentenceOf m Free = freeText (freeOf m) (m .pool)
 sentenceOf m NoQuestion = []
 
@@ -150,9 +152,19 @@ writtenAs (suc k) n = NoRoom
 unfoldable pub written : List ℕ → List ℕ → Asked
 written text out = writtenAs (spaceNumber text out) (length text)
 
+-- In numbers: the bytes of a text that goes into the buffer, else 15.
+unfoldable pub lentValues : List ℕ → List ℕ → AskedValues
+lentValues text out = record { number = spaceNumber text out; bytes = cond (eqb (spaceNumber text out) 0) (length text) 0 }
+
 -- The answer to a line, and the buffer after it.
 unfoldable pub askedOf : List ℕ → List ℕ → List ℕ → Asked
 askedOf load line out = let q = questionOf line in cond (isQuestion q) (written (textOf load q) out) NoSuch
+
+-- The answer in numbers.
+unfoldable pub answerValues : List ℕ → List ℕ → List ℕ → AskedValues
+answerValues load line out =
+    let q = questionOf line in
+    cond (isQuestion q) (lentValues (textOf load q) out) (record { number = noSuchNumber; bytes = 0 })
 
 unfoldable pub askedOut : List ℕ → List ℕ → List ℕ → List ℕ
 askedOut load line out = let q = questionOf line in cond (isQuestion q) (lentOut (textOf load q) out) out

@@ -2,7 +2,7 @@
 // public function asks anything of its slices. What a line asks is defined in specs/Questions.antt, what is answered in specs/Answers.antt.
 ghost use mathlib.Core.Path.{_≡_};
 ghost use Rattle.numerals.specs.Laid.{lentOut};
-ghost use Rattle.question.specs.Answers.{askedOf, askedOut, usageText, written};
+ghost use Rattle.question.specs.Answers.{answerValues, askedOf, askedOut, askedValues, lentValues, usageText, written};
 
 mod questions;
 mod sentences;
@@ -23,6 +23,7 @@ pub enum Asked {
 pub fn answer(load: &[u8], line: &[u8], out: &mut [u8]) -> Asked
     ensures answer { λ r. ⌜ r ≡ askedOf (now (load .entry)) (now (line .entry)) (now (out .entry)) ⌝ }
     ensures buffer { λ _. ⌜ now (out .exit) ≡ askedOut (now (load .entry)) (now (line .entry)) (now (out .entry)) ⌝ }
+    ensures values { λ r. ⌜ askedValues r ≡ answerValues (now (load .entry)) (now (line .entry)) (now (out .entry)) ⌝ }
 {
     let q = question_of(line);
     if !is_question(q) {
@@ -41,6 +42,7 @@ pub fn answer(load: &[u8], line: &[u8], out: &mut [u8]) -> Asked
 pub fn usage(out: &mut [u8]) -> Asked
     ensures answer { λ r. ⌜ r ≡ written usageText (now (out .entry)) ⌝ }
     ensures buffer { λ _. ⌜ now (out .exit) ≡ lentOut usageText (now (out .entry)) ⌝ }
+    ensures values { λ r. ⌜ askedValues r ≡ lentValues usageText (now (out .entry)) ⌝ }
 {
     let mut scrap = [0u8; 1];
     if out.len() < sentences::put_usage(&mut scrap) {

@@ -7,25 +7,24 @@ use lib.ListN.{length, take, drop}
 use Rattle.load.specs.declared.Call.{Call}
 use Rattle.load.specs.declared.Item.{Item}
 use Rattle.load.specs.declared.Item.the-variants.{Record, End, Refused}
-use Rattle.load.specs.Answers.{itemValues}
-use Rattle.load.specs.Reading.{itemAt, recordNumber, openNumber, orElse, unlessRefused}
-use Rattle.load.proofs.Reading.{item-numbered, step-next}
-use Rattle.reader.specs.Items.{itemOf, itemNumber, positionAfter}
+use Rattle.load.specs.Answers.{ItemValues, itemValues}
+use Rattle.load.specs.Reading.{itemAt, recordValues, openNumber, unlessRefused}
+use Rattle.load.proofs.Reading.{item-valued, step-next}
+use Rattle.reader.specs.Items.{itemOf, notOpened, readValues, positionAfter}
 use Rattle.reader.specs.Shown.{recordPart, startOf, recordStart, further}
 
--- Its number is the first of the tests that fails.
-pub item-number : (s : List ℕ) (at : ℕ) → itemValues at (itemOf s at) .number ≡ itemNumber s at
-unfolding itemOf itemNumber
-item-number s at = go (openNumber s) (itemAt s at) (item-numbered s at)
+-- Its values: those of the opening's refusal, or of what stands there.
+pub item-values : (s : List ℕ) (at : ℕ) → itemValues at (itemOf s at) ≡ readValues s at
+unfolding itemOf readValues
+item-values s at = go (openNumber s)
   where
-    go : (k : ℕ) (i : Item) → itemValues at i .number ≡ recordNumber s at
-        → itemValues at (unlessRefused k Refused i) .number ≡ orElse k (recordNumber s at)
-    go zero i e = e
-    go (suc k) i e = refl
+    go : (k : ℕ) → itemValues at (unlessRefused k Refused (itemAt s at)) ≡ unlessRefused k (notOpened at) (recordValues s at)
+    go zero = item-valued s at
+    go (suc k) = refl
 
--- An item that is the reader's, with its number: what `item_at` and `next` promise.
-pub with-number : (s : List ℕ) (at : ℕ) (i : Item) → i ≡ itemOf s at → (i ≡ itemOf s at) × (itemValues at i .number ≡ itemNumber s at)
-with-number s at i e = (e, ap (λ (x : Item). itemValues at x .number) e ∙ item-number s at)
+-- An item that is the reader's, with its values: what `item_at` and `next` promise.
+pub with-values : (s : List ℕ) (at : ℕ) (i : Item) → i ≡ itemOf s at → (i ≡ itemOf s at) × (itemValues at i ≡ readValues s at)
+with-values s at i e = (e, ap (itemValues at) e ∙ item-values s at)
 
 module _ (s : List ℕ) (at n : ℕ) (p : n ≡ openNumber s) where
   pub item-refused : (n ≡ 0 → ⊥) → Refused n ≡ itemOf s at
@@ -56,7 +55,7 @@ record-inside s at c next h = step-next s at c next (record-opened s at c next h
 module _ (s : List ℕ) (at : ℕ) where
   pub next-position : (i : Item) → itemOf s at ≡ i → itemValues at i .next ≡ positionAfter s at
   unfolding positionAfter
-  next-position i e = sym (ap (λ (x : Item). itemValues at x .next) e)
+  next-position i e = ap (λ (v : ItemValues). v .next) (ap (itemValues at) (sym e) ∙ item-values s at)
 
   shown-start : (i : Item) → itemOf s at ≡ i → startOf at i ≡ recordStart s at
   unfolding recordStart

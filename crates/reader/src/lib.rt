@@ -6,7 +6,7 @@ ghost use lib.ListN.{length};
 ghost use denote.Ref.{ptr};
 ghost use Rattle.load.specs.Answers.{itemValues};
 ghost use Rattle.load.specs.Reading.{reading};
-ghost use Rattle.reader.specs.Items.{itemOf, itemNumber, positionAfter};
+ghost use Rattle.reader.specs.Items.{itemOf, readValues, positionAfter};
 ghost use Rattle.reader.specs.Shown.{recordPart, recordStart, further};
 use load::Item;
 
@@ -17,7 +17,7 @@ pub struct Reader<'a> {
 
 // What a reader of a load answers at a position: 14, 12 or 11 for a load that does not open; else what stands there.
 pub fn item_at(load: &[u8], at: usize) -> Item
-    ensures { λ r. ⌜ (r ≡ itemOf (now (load .entry)) at) × (itemValues at r .number ≡ itemNumber (now (load .entry)) at) ⌝ }
+    ensures { λ r. ⌜ (r ≡ itemOf (now (load .entry)) at) × (itemValues at r ≡ readValues (now (load .entry)) at) ⌝ }
 {
     let n = load::open_number(load);
     if n != 0 {
@@ -59,7 +59,7 @@ pub fn opened<'a>(load: &'a [u8]) -> Reader<'a>
 // What the reader answers at its position: a call with the next position, the end, or the number of a refusal.
 pub fn next<'a>(r: Reader<'a>) -> Item
     ensures { λ s. ⌜ (s ≡ itemOf (now (r .entry .load)) (r .entry .at))
-        × (itemValues (r .entry .at) s .number ≡ itemNumber (now (r .entry .load)) (r .entry .at)) ⌝ }
+        × (itemValues (r .entry .at) s ≡ readValues (now (r .entry .load)) (r .entry .at)) ⌝ }
 {
     item_at(r.load, r.at)
 }

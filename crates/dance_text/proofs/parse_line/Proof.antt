@@ -5,6 +5,7 @@ use lib.ListN.{length-take}
 use borrow.Author.Needs.{needs}
 use borrow.Author.Tests.{le-leb, lt-leb}
 use Rattle.dance_text.specs.Lines.{callIn, lineSays}
+use Rattle.dance_text.proofs.Lines.{with-values}
 use Rattle.dance_text.proofs.parse_line.Statement.{statement}
 use Rattle.dance_text.proofs.parse_line.Tie as tie
 
@@ -15,8 +16,9 @@ returns-2 c =
     let k = i .before in
     let l = k .before .before in
     let n = l .before in
-    rw (← (n .before .before .said-end .ensures .1), n .next-word .ensures .words, lt-leb _ _ (l .if1 .left), ← (k .named .ensures), sym (i .is-call .ensures) ∙ c .before .if2 .taken)
-    (c .words-say .ensures)
+    with-values _ _
+    (rw (← (n .before .before .said-end .ensures .1), n .next-word .ensures .words, lt-leb _ _ (l .if1 .left), ← (k .named .ensures), sym (i .is-call .ensures) ∙ c .before .if2 .taken)
+    (c .words-say .ensures))
 
 returns-3 : tie.Need-returns-3
 unfolding lineSays callIn
@@ -25,7 +27,8 @@ returns-3 c =
     let k = i .before in
     let l = k .before .before in
     let n = l .before in
-    rw (← (n .before .before .said-end .ensures .1), n .next-word .ensures .words, lt-leb _ _ (l .if1 .left), ← (k .named .ensures), sym (i .is-call .ensures) ∙ c .if2 .left)
+    with-values _ _
+    (rw (← (n .before .before .said-end .ensures .1), n .next-word .ensures .words, lt-leb _ _ (l .if1 .left), ← (k .named .ensures), sym (i .is-call .ensures) ∙ c .if2 .left))
 
 pub parse-line-spec : {M : Type 1} → statement M
 unfolding lineSays callIn
@@ -33,6 +36,6 @@ parse-line-spec =
     tie.close
     (tie.spec
     (λ c κs. search needs) (λ c. simp length-take (omega arith)) (λ c κs. search needs)
-    (λ c. let n = c .before in rw (← (n .before .before .said-end .ensures .1), n .next-word .ensures .words, le-leb _ _ (c .if1 .taken)))
+    (λ c. let n = c .before in with-values _ _ (rw (← (n .before .before .said-end .ensures .1), n .next-word .ensures .words, le-leb _ _ (c .if1 .taken))))
     (λ c. search needs) (λ c. search needs) (λ c. search needs) (λ c κs. search needs) (λ c κs. search needs) (λ c κs. search needs) returns-2
     returns-3)

@@ -11,6 +11,6 @@ release-of-spec =
     tie.close
     (tie.spec
     (λ c κs. search needs) (λ c. search needs)
-    (λ c. omega (arith, number-most _ _ _ _ _ _ (sym (c .before .before .before .number .ensures) ∙ c .before .k .given .1)))
-    (λ c. search needs) (λ c. rw (sym (c .before .before .before .number .ensures) ∙ c .before .k .given .1))
-    (λ c. rw (sym (c .before .before .before .number .ensures) ∙ c .before .n .given .1)))
+    (λ c. omega (arith, number-most _ _ _ _ _ _ (sym (c .before .before .before .number .ensures .0) ∙ c .before .k .given .1)))
+    (λ c. search needs) (λ c. rw (sym (c .before .before .before .number .ensures .0) ∙ c .before .k .given .1))
+    (λ c. rw (sym (c .before .before .before .number .ensures .0) ∙ c .before .n .given .1)))

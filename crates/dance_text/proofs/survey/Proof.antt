@@ -21,7 +21,7 @@ returns c =
     let s = n .before in
     let p = s .before .before in
     let l = p .before .before in
-    pass-wrong _ _ _ _ (l .loop .inv) (p .before .loop-test .taken) _ (p .place .ensures .0) _ (s .parse-line .ensures) _ (n .line-number .ensures) (c .if1 .taken)
+    pass-wrong _ _ _ _ (l .loop .inv) (p .before .loop-test .taken) _ (p .place .ensures .0) _ (s .parse-line .ensures .0) _ (n .line-number .ensures) (c .if1 .taken)
 
 add-calls : tie.Need-add-calls Inv-loop μ-loop
 add-calls c =
@@ -35,7 +35,7 @@ loop-again c =
     let s = n .before in
     let p = s .before .before in
     let l = p .before .before in
-    pass-on _ _ _ _ (l .loop .inv) (p .before .loop-test .taken) _ (p .place .ensures .0) _ (s .parse-line .ensures) _ (n .line-number .ensures) (i .if1 .left)
+    pass-on _ _ _ _ (l .loop .inv) (p .before .loop-test .taken) _ (p .place .ensures .0) _ (s .parse-line .ensures .0) _ (n .line-number .ensures) (i .if1 .left)
     _ (c .before .says-call .ensures) _ (⊎-elim (λ t. rw (t .0 .taken) (t .1)) (λ t. rw (t .0 .left, add-zero) (t .1)) (c .if2 .came))
 
 pub survey-spec : {M : Type 1} → statement M

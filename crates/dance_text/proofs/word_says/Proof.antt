@@ -9,7 +9,7 @@ word-says-spec =
     (tie.spec
     (λ c. search needs) (λ c κs. search needs) (λ c κs. search needs) (λ c. search needs) (λ c κs. search needs) (λ c κs. search needs)
     (λ c. search needs) (λ c κs. search needs) (λ c. search needs)
-    (λ c. rw (c .before .before .enum-told .given .1, ← (c .before .groups-of .ensures)) (c .rig-of .ensures))
-    (λ c. rw (c .before .before .enum-told2 .given .1, ← (c .before .groups-of2 .ensures)) (c .claim-of .ensures))
+    (λ c. rw (c .before .before .enum-told .given .1, ← (c .before .groups-of .ensures .0)) (c .rig-of .ensures))
+    (λ c. rw (c .before .before .enum-told2 .given .1, ← (c .before .groups-of2 .ensures .0)) (c .claim-of .ensures))
     (λ c. rw (c .before .enum-told3 .given .1) (c .release-of .ensures))
     (λ c. rw (c .enum-told4 .given .1)))

@@ -50,7 +50,7 @@ returns c =
     let d = called a in
     let s = a .before .before .before .before in
     let p = s .before .before in
-    turn-stop _ _ _ _ _ _ _ _ (p .before .before .loop .inv) (p .before .loop-test .taken) _ (p .place .ensures .0) _ (s .parse-line .ensures)
+    turn-stop _ _ _ _ _ _ _ _ (p .before .before .loop .inv) (p .before .loop-test .taken) _ (p .place .ensures .0) _ (s .parse-line .ensures .0)
     _ (d .0) _ (d .1 .0) _ (i .before .stops-at .ensures) _ _ (i .if1 .taken) (put (b .put-bytes .ensures))
 
 put-entry-requires : tie.Need-put-entry-requires Inv-loop μ-loop
@@ -72,7 +72,7 @@ loop-again c =
     let u = p .before .before .loop .inv in
     let h = p .before .loop-test .taken in
     let f = p .place .ensures .0 in
-    let e = s .parse-line .ensures in
+    let e = s .parse-line .ensures .0 in
     ⊎-elim
     (λ w. rw (w .2, w .3, w .4, w .5) (turn-pass _ _ _ _ _ _ _ _ u h _ f _ e (ap callsOf (w .1 .given .1))))
     (⊎-elim

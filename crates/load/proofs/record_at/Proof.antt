@@ -2,7 +2,7 @@
 use native.Mathlib.Omega.{arith}
 use mathlib.Core.Path.{sym, _∙_}
 use Rattle.load.specs.Reading.{misfit}
-use Rattle.load.proofs.Reading.{step-past, with-number, step-short, step-misfit, step-record}
+use Rattle.load.proofs.Reading.{step-past, with-values, step-short, step-misfit, step-record}
 use borrow.Author.Needs.{needs}
 use Rattle.load.proofs.record_at.Statement.{statement}
 use Rattle.load.proofs.record_at.Tie as tie
@@ -11,13 +11,13 @@ returns-4 : tie.Need-returns-4
 unfolding misfit
 returns-4 c =
     let b = c .before .before in
-    with-number _ _ _ (step-misfit _ _ _ (b .be16 .ensures) (omega (arith, c .before .if3 .left, b .before .if2 .left)) (rw (c .if4 .taken)))
+    with-values _ _ _ (step-misfit _ _ _ (b .be16 .ensures) (omega (arith, c .before .if3 .left, b .before .if2 .left)) (rw (c .if4 .taken)))
 
 returns-5 : tie.Need-returns-5
 returns-5 c =
     let z = c .before .before .before .before .before in
     let b = z .before in
-    with-number _ _ _ (step-misfit _ _ _ (b .be16 .ensures) (omega (arith, z .if3 .left, b .before .if2 .left)) (sym (c .before .misfits .ensures) ∙ c .if5 .taken))
+    with-values _ _ _ (step-misfit _ _ _ (b .be16 .ensures) (omega (arith, z .if3 .left, b .before .if2 .left)) (sym (c .before .misfits .ensures) ∙ c .if5 .taken))
 
 returns-6 : tie.Need-returns-6
 returns-6 c =
@@ -25,18 +25,18 @@ returns-6 c =
     let z = m .before .before .before .before in
     let b = z .before in
     let f = sym (m .misfits .ensures) ∙ c .before .before .if5 .left in
-    with-number _ _ _ (step-record _ _ _ (b .be16 .ensures) (omega (arith, z .if3 .left, b .before .if2 .left)) _ f (c .call-of .ensures))
+    with-values _ _ _ (step-record _ _ _ (b .be16 .ensures) (omega (arith, z .if3 .left, b .before .if2 .left)) _ f (c .call-of .ensures))
 
 pub record-at-spec : {M : Type 1} → statement M
 record-at-spec =
     tie.close
     (tie.spec
-    (λ c. with-number _ _ _ (sym (step-past _ _ (c .if1 .taken))))
+    (λ c. with-values _ _ _ (sym (step-past _ _ (c .if1 .taken))))
     (λ c. search needs)
-    (λ c. with-number _ _ _ (step-short _ _ (c .before .if1 .left) (omega (arith, c .if2 .taken))))
+    (λ c. with-values _ _ _ (step-short _ _ (c .before .if1 .left) (omega (arith, c .if2 .taken))))
     (λ c κs. search needs)
     (λ c. search needs)
-    (λ c. with-number _ _ _ (step-short _ _ (c .before .before .before .if1 .left) (omega (arith, c .if3 .taken, c .before .be16 .ensures, c .before .before .if2 .left))))
+    (λ c. with-values _ _ _ (step-short _ _ (c .before .before .before .if1 .left) (omega (arith, c .if3 .taken, c .before .be16 .ensures, c .before .before .if2 .left))))
     returns-4
     (λ c. search needs)
     (λ c. search needs)

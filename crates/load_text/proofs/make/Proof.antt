@@ -1,9 +1,7 @@
 -- The load is gathered in a buffer of its own, and copied where it goes in.
-use mathlib.Core.Path.{refl}
 use native.Mathlib.Omega.{arith}
 use lib.ListN.{length-take}
-use Rattle.load_text.specs.Making.{madeOf, madeOut}
-use Rattle.load_text.proofs.Making.{gathered-small, make-none, make-all}
+use Rattle.load_text.proofs.Making.{gathered-small, make-none, make-all, make-wrong}
 use borrow.Author.Needs.{needs}
 use Rattle.load_text.proofs.make.Statement.{statement}
 use Rattle.load_text.proofs.make.Tie as tie
@@ -34,10 +32,9 @@ returns-2 c =
     make-all _ _ _ _ (rw (k .n .given .1) at (g .gather .ensures)) _ (g .before .before .room .ensures) (i .if1 .left) _ (p .put-bytes .ensures .1)
 
 pub make-spec : {M : Type 1} → statement M
-unfolding madeOf madeOut
 make-spec =
     tie.close
     (tie.spec
     (λ c κs. search needs) (λ c. search needs) (λ c κs. search needs) (λ c. search needs) returns array-share-prefix-load
     slice-aggregate-put-bytes (λ c κs. search needs) (λ c. search needs) (λ c. search needs) returns-2
-    (λ c. rw (rw (c .before .line .given .1) at (c .before .before .before .before .gather .ensures)) (refl, refl)))
+    (λ c. make-wrong _ _ _ _ (rw (c .before .line .given .1) at (c .before .before .before .before .gather .ensures))))

@@ -30,7 +30,7 @@ use Rattle.load.specs.declared.Item.{Item}
 use Rattle.load.specs.Answers.{itemValues}
 use Rattle.load.proofs.Item as S
 use Rattle.load.proofs.Item.Laws as S′
-use Rattle.reader.specs.Items.{itemOf, itemNumber}
+use Rattle.reader.specs.Items.{itemOf, readValues}
 use Rattle.reader.specs.declared.Reader.{Reader}
 use Rattle.reader.proofs.item_at as item-at
 use Rattle.reader.proofs.item_at.Symbol as item-at-def
@@ -53,9 +53,9 @@ module _ {M : Type 1} (𝓤 : URA M) (H : Heap 𝓤) (A : Atoms 𝓤) (mem : Mem
   ItemAt = tripleOf 𝓤 H A item-at.signature (item-at.spec 𝓤 H A mem run)
 
 module _ {M : Type 1} (𝓤 : URA M) (H : Heap 𝓤) (A : Atoms 𝓤) (W : Given 𝓤 H A) (mem : Memory → SProp 𝓤) (run : Routine → Fun 𝓤) (κ : Lft) (q : Share) (d : Reader) where
-  -- what the contract says of the result: the reader's item, and its number
+  -- what the contract says of the result: the reader's item, and its values
   abbrev Found : Item → Type 0
-  Found r = (r ≡ itemOf (now (d .load)) (d .at)) × (itemValues (d .at) r .number ≡ itemNumber (now (d .load)) (d .at))
+  Found r = (r ≡ itemOf (now (d .load)) (d .at)) × (itemValues (d .at) r ≡ readValues (now (d .load)) (d .at))
 
   abbrev Post : Val → SProp 𝓤
   Post = walkOf 𝓤 H A next.ended stayed (next.clauses 𝓤 H A mem run) .post (((κ, tt), (q, tt), tt, (d, tt), (mach d ∷ [], tt)), tt)

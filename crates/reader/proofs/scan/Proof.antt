@@ -50,7 +50,7 @@ use Rattle.load.specs.Answers.{itemValues}
 use Rattle.load.specs.Reading.{reading}
 use Rattle.load.proofs.Item as S
 use Rattle.load.proofs.Item.Laws as S′
-use Rattle.reader.specs.Items.{itemOf, itemNumber, positionAfter}
+use Rattle.reader.specs.Items.{itemOf, readValues, positionAfter}
 use Rattle.reader.specs.declared.Reader.{Reader}
 use Rattle.reader.specs.declared.Scanned.{Scanned}
 use Rattle.reader.proofs.Reader as T
@@ -177,7 +177,7 @@ module _ {M : Type 1} (𝓤 : URA M) (H : Heap 𝓤) (A : Atoms 𝓤) (W : Given
   goes-held d = qed W (‵ (Own κ d) ∷ Token ∷ []) ∵ nothing ! $ move ! (1 ∷ 0 ∷ []) $ fjoin ! $ move ! (1 ∷ 0 ∷ []) $ join ! $ frame ! $ done !
 
   abbrev Found : Reader → Item → Type 0
-  Found d i = (i ≡ itemOf (now (d .load)) (d .at)) × (itemValues (d .at) i .number ≡ itemNumber (now (d .load)) (d .at))
+  Found d i = (i ≡ itemOf (now (d .load)) (d .at)) × (itemValues (d .at) i ≡ readValues (now (d .load)) (d .at))
 
   next-said : (d : Reader) (i : Item) → ent 𝓤 (ensured 𝓤 H A next.ended (next.clauses 𝓤 H A mem run) (κ, tt) (d, tt) tt i) (fact 𝓤 (Found d i))
   next-said d i = exE 𝓤 _ (λ ws. snd∗ 𝓤 (sem 𝓤 H A (lasts next.ended (κ, tt) (d, tt) ws)) (fact 𝓤 (Found d i)))

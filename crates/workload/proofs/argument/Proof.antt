@@ -19,7 +19,7 @@ argument-spec =
     (λ c. search needs)
     (λ c κs. search needs)
     (λ c. search needs)
-    (λ c. omega (arith, number-most _ _ _ _ _ _ (sym (c .before .before .before .number .ensures) ∙ c .before .v .given .1)))
+    (λ c. omega (arith, number-most _ _ _ _ _ _ (sym (c .before .before .before .number .ensures .0) ∙ c .before .v .given .1)))
     (λ c. search needs)
     (λ c. search needs)
     (λ c. search needs))

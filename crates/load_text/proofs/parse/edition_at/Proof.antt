@@ -24,7 +24,7 @@ one n =
     let s = n .before .before in
     let m = s .before .before in
     let l = m .before in
-    rw (l .before .next-word .ensures .words, lt-leb _ _ (l .if1 .left), m .next-word2 .ensures .words, le-leb _ _ (s .if2 .left), n .number .ensures)
+    rw (l .before .next-word .ensures .words, lt-leb _ _ (l .if1 .left), m .next-word2 .ensures .words, le-leb _ _ (s .if2 .left), n .number .ensures .0)
 
 pub edition-at-spec : {M : Type 1} → statement M
 unfolding editionIn
@@ -33,6 +33,6 @@ edition-at-spec =
     (tie.spec
     (λ c κs. search needs) (λ c. rw (c .before .next-word .ensures .words, le-leb _ _ (c .if1 .taken))) (λ c κs. search needs) returns-2
     (λ c. omega arith) (λ c. omega arith) (λ c. omega arith) (λ c κs. search needs) (λ c. search needs)
-    (λ c. omega (arith, number-most _ _ _ _ _ _ (sym (c .before .before .before .number .ensures) ∙ c .before .e .given .1)))
+    (λ c. omega (arith, number-most _ _ _ _ _ _ (sym (c .before .before .before .number .ensures .0) ∙ c .before .e .given .1)))
     (λ c. search needs) (λ c. rw (one (c .before .before .before), c .before .e .given .1))
     (λ c. rw (one (c .before .before .before), c .before .n .given .1)))

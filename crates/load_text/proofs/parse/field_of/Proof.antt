@@ -13,7 +13,7 @@ unfolding fieldIn fieldWidths noNumbers
 field-of-spec =
     tie.close
     (tie.spec
-    (λ c κs. search needs) (λ c. rw (eq-eqb _ 2 (c .before .if1 .taken)) (c .groups-of .ensures)) (λ c κs. search needs)
-    (λ c. c .number .ensures ∙ field-none _ _ (c .before .before .if1 .left) (c .before .if2 .taken)) (λ c. search needs)
+    (λ c κs. search needs) (λ c. rw (eq-eqb _ 2 (c .before .if1 .taken)) (c .groups-of .ensures .0)) (λ c κs. search needs)
+    (λ c. c .number .ensures .0 ∙ field-none _ _ (c .before .before .if1 .left) (c .before .if2 .taken)) (λ c. search needs)
     (λ c. search needs) (λ c. search needs) (λ c κs. search needs)
-    (λ c. c .number2 .ensures ∙ field-number _ _ (c .before .before .if1 .left) (c .before .if2 .left)))
+    (λ c. c .number2 .ensures .0 ∙ field-number _ _ (c .before .before .if1 .left) (c .before .if2 .left)))

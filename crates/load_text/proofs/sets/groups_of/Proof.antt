@@ -2,6 +2,7 @@
 use mathlib.Core.Path.{sym, _∙_}
 use borrow.Author.Needs.{needs}
 use Rattle.load_text.specs.Parsing.{isList, groupsIn}
+use Rattle.load_text.proofs.Values.{groups-with-values}
 use Rattle.load_text.proofs.sets.groups_of.Statement.{statement}
 use Rattle.load_text.proofs.sets.groups_of.Tie as tie
 
@@ -11,5 +12,5 @@ groups-of-spec =
     tie.close
     (tie.spec
     (λ c κs. search needs) (λ c κs. search needs)
-    (λ c. rw (sym (c .before .before .lacks .ensures) ∙ c .before .if1 .taken) (c .number .ensures)) (λ c κs. search needs)
-    (λ c. rw (sym (c .before .before .lacks .ensures) ∙ c .before .if1 .left) (c .list .ensures)))
+    (λ c. groups-with-values _ _ (rw (sym (c .before .before .lacks .ensures) ∙ c .before .if1 .taken) (c .number .ensures .0))) (λ c κs. search needs)
+    (λ c. groups-with-values _ _ (rw (sym (c .before .before .lacks .ensures) ∙ c .before .if1 .left) (c .list .ensures))))

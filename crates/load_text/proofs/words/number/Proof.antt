@@ -2,6 +2,7 @@
 use borrow.Author.Needs.{needs}
 use Rattle.load_text.specs.Parsing.{numberIn}
 use Rattle.load_text.proofs.Numbers.{number-digits}
+use Rattle.load_text.proofs.Values.{number-with-values}
 use Rattle.load_text.proofs.words.number.Statement.{statement}
 use Rattle.load_text.proofs.words.number.Tie as tie
 
@@ -11,5 +12,5 @@ number-spec =
     tie.close
     (tie.spec
     (λ c κs. search needs) (λ c κs. number-digits _ _ (rw (c .before .lacks .ensures) at (c .if1 .taken)))
-    (λ c. rw (rw (c .before .before .lacks .ensures) at (c .before .if1 .taken)) (c .value .ensures))
-    (λ c. rw (rw (c .before .lacks .ensures) at (c .if1 .left))))
+    (λ c. number-with-values _ _ _ _ _ _ (rw (rw (c .before .before .lacks .ensures) at (c .before .if1 .taken)) (c .value .ensures)))
+    (λ c. number-with-values _ _ _ _ _ _ (rw (rw (c .before .lacks .ensures) at (c .if1 .left)))))
