@@ -13,4 +13,3 @@ pub mod PoolKept
 pub mod SharesKept
 pub mod TableKept
 pub mod Promises
-pub mod Worthless

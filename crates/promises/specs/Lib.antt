@@ -14,4 +14,3 @@ pub mod SharesKept
 pub mod TableKept
 pub mod Promises
 pub mod WholeCalls
-pub mod Worthless

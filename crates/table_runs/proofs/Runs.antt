@@ -12,6 +12,7 @@ use Rattle.promises.specs.Demand3.{Now, NoWaitPast, Next}
 use Rattle.promises.specs.NumbersTested.{NumberTested}
 use Rattle.promises.specs.Replies.{Replied}
 use Rattle.promises.specs.LeastStart.{Least}
+use Rattle.promises.specs.StartsPacked.{Packed}
 use Rattle.promises.specs.PlansApart.{Apart}
 use Rattle.promises.specs.WaitsExplained.{Explained}
 use Rattle.promises.specs.NeverOvertaken.{NotOvertaken}
@@ -22,6 +23,7 @@ use Rattle.promises.proofs.Demand3.{demand-3}
 use Rattle.promises.proofs.NumbersTested.{numbers-tested, new-tested}
 use Rattle.promises.proofs.Replies.{replies}
 use Rattle.promises.proofs.LeastStart.{least-start}
+use Rattle.promises.proofs.StartsPacked.{starts-packed}
 use Rattle.promises.proofs.PlansApart.{plans-apart}
 use Rattle.promises.proofs.WaitsExplained.{waits-explained}
 use Rattle.promises.proofs.NeverOvertaken.{never-overtaken}
@@ -32,7 +34,7 @@ use Rattle.promises.proofs.WholeCalls.{whole-calls-after}
 use Rattle.table.specs.declared.Outcome.{Outcome}
 use Rattle.table.specs.Outcomes.{outcome}
 use Rattle.table.specs.Valid.{Valid}
-use Rattle.table_runs.specs.Runs.{answered, looked, lookNumber, Promised, Shows, Made, by-call, by-look, Run, done, then, Looks, BeganAs, by-new, CodeAtAnyTime, CodeWhileNobodyOverruns, CodeAtAnyLater, CodeAtAnyCall, CodeDemand3, CodeNumbersTested, CodeNewTested, CodeReplies, CodeLeastStart, CodePlansApart, CodeWaitsExplained, CodeNeverOvertaken, CodePoolKept, CodeSharesKept, CodeTables}
+use Rattle.table_runs.specs.Runs.{answered, looked, lookNumber, Promised, Shows, Made, by-call, by-look, Run, done, then, Looks, BeganAs, by-new, CodeAtAnyTime, CodeWhileNobodyOverruns, CodeAtAnyLater, CodeAtAnyCall, CodeDemand3, CodeNumbersTested, CodeNewTested, CodeReplies, CodeLeastStart, CodeStartsPacked, CodePlansApart, CodeWaitsExplained, CodeNeverOvertaken, CodePoolKept, CodeSharesKept, CodeTables}
 use Rattle.table.proofs.Promised.{outcome-model, outcome-grants}
 
 -- ── what the contracts say ──
@@ -157,6 +159,9 @@ code-replies calls = any-call-of-code calls Replied (λ s b. replies s b calls)
 
 pub code-least-start : (calls : List Call) → CodeLeastStart calls
 code-least-start calls = any-call-of-code calls Least (λ s b. least-start s b calls)
+
+pub code-starts-packed : (calls : List Call) → CodeStartsPacked calls
+code-starts-packed calls = any-time-of-code calls Packed (λ s b. starts-packed s b calls)
 
 pub code-plans-apart : (calls : List Call) → CodePlansApart calls
 code-plans-apart calls = any-time-of-code calls Apart (λ s b. plans-apart s b calls)

@@ -16,6 +16,7 @@ use Rattle.promises.specs.Demand3.{Now, NoWaitPast, Next}
 use Rattle.promises.specs.NumbersTested.{NumberTested}
 use Rattle.promises.specs.Replies.{Replied}
 use Rattle.promises.specs.LeastStart.{Least}
+use Rattle.promises.specs.StartsPacked.{Packed}
 use Rattle.promises.specs.PlansApart.{Apart}
 use Rattle.promises.specs.WaitsExplained.{Explained}
 use Rattle.promises.specs.NeverOvertaken.{NotOvertaken}
@@ -149,6 +150,9 @@ CodeReplies calls = CodeAtAnyCall calls Replied
 
 abbrev pub CodeLeastStart : List Call → Type 0
 CodeLeastStart calls = CodeAtAnyCall calls Least
+
+abbrev pub CodeStartsPacked : List Call → Type 0
+CodeStartsPacked calls = CodeAtAnyTime calls Packed
 
 abbrev pub CodePlansApart : List Call → Type 0
 CodePlansApart calls = CodeAtAnyTime calls Apart

@@ -6,6 +6,7 @@ use mathlib.Core.List.{List, [], _∷_, List·Memᴰ·eq-of-singleton, List·Mem
 use Prim.Native.Nat.{ℕ, _+_, _≤_, _<_}
 use native.Mathlib.Omega.{arith}
 use lib.Dec.{leb, ltb}
+use borrow.Author.Tests.{le-ltb}
 use Rattle.groups.specs.Groups.{someFrom, lowestFrom, common, shares, empty, within}
 use Rattle.rules.specs.declared.Claim.{Claim}
 use Rattle.rules.specs.declared.Phase.{Phase}
@@ -21,17 +22,17 @@ use Rattle.rules.specs.Granting.{takenBefore, trulyFree, goesWithin, goes, gran
 use Rattle.rules.specs.declared.Phase.the-variants.{Waiting, On}
 use Rattle.rules.specs.declared.Standing.the-variants.{NotPending, Waits, Holds}
 use Rattle.rules.specs.Tests.{firstOf}
-use Rattle.rules.specs.Calls.{asking, atTicket, Call, release, clock, setGrace, lookup, tests, advance, finish, join, remove, admit, act, step, new, standingOf, commonOf}
-use Rattle.rules.proofs.Bools.{clash}
+use Rattle.rules.specs.Calls.{asking, atTicket, Call, release, clock, setGrace, lookup, tests, advance, finish, join, remove, admit, act, step, new, standingOf, commonOf, valueAt}
+use Rattle.rules.proofs.Bools.{clash, by-test}
 use Rattle.rules.proofs.Lists.{here, there, none}
 use Rattle.promises.specs.Ledger.{Entry, turns, tableAfter, issues, stay, sharesBy, graceBy, marked, notedAll, boundOn}
 use Rattle.promises.specs.Runs.{Start, newly, ledgerAfter, toldAfter}
 use Rattle.promises.specs.Plan.{endTold}
 use Rattle.promises.specs.NumbersTested.{testsBy}
 use Rattle.promises.specs.WaitsExplained.{inCommon}
 use Rattle.promises.specs.TableKept.{Has}
 use Rattle.promises.specs.WholeCalls.{Stays}
-use Rattle.promises.specs.Worthless.{claim, drawing, turnsDown, fixedStart, untouched, echoes, inventsContention, inventsBound, criesFull, neverGrants, tellsLate, renews, namesBackward, stopsGranting, fidgets, mumbles, blurts, noRig, ignoresGaps, skipsPacking, oneDrawer, crowds, showsNow, leavesGaps, reverses, overdraws, keepsUnitsBack, lastFirst, losesUnits, AllRefused}
+use Rattle.worthless.specs.Worthless.{claim, drawing, turnsDown, fixedStart, untouched, echoes, inventsContention, inventsBound, criesFull, neverGrants, tellsLate, renews, namesBackward, stopsGranting, fidgets, mumbles, blurts, noRig, ignoresGaps, skipsPacking, oneDrawer, crowds, showsNow, leavesGaps, leavesDrawers, reverses, overdraws, keepsUnitsBack, lastFirst, losesUnits, AllRefused}
 
 -- Of what holds of each, in a list of two and of three.
 module _ {A : Type 0} (P : A → Type 0) where
@@ -66,6 +67,10 @@ two-of-two : (b : Bool) → cond b 1 0 + 0 + 1 ≤ 2
 two-of-two true = omega arith
 two-of-two false = omega arith
 
+-- One of two units is held until 10: from then on both are free.
+both-free : (y : ℕ) → 10 ≤ y → cond (leb 0 y && ltb y 10) 1 0 + 0 + 2 ≤ 2
+both-free y h = rw (le-ltb y 10 h) (by-test (leb 0 y) (λ p. rw p (omega arith)) (λ p. rw p (omega arith)))
+
 -- Ticket 3 of the last case: it stays at 15, whatever start it was given.
 abbrev later : Claim
 later = drawer 3 (Waiting 20) 10 1
@@ -78,7 +83,7 @@ passed-over f d = of-three (λ (y : Claim). Stays 5 (moved f later) y → f late
     (λ s l. ⊎-elim (λ e. (let z : _≡_ {A = ℕ} 4 3 = ap (λ (c : Claim). c .ticket) e in omega arith)) (λ e. (let z : _≡_ {A = ℕ} 4 3 = ap (λ (c : Claim). c .ticket) (e .2) in omega arith)) s)
 
 pub all-refused : AllRefused
-unfolding someFrom lowestFrom common shares empty within greatest least sum all any keep heldUntil endOf remaining precedes before covers unitsAt used enough spare heldUnits ready startFor moved ahead startWithin packedStart pack clear fits seek place contention startBound takenBefore trulyFree goesWithin goes granted grant grants shareOf pendingOf unfilled unfilledByOthers firstOf tests advance finish join remove admit act step new standingOf commonOf turns tableAfter issues stay sharesBy graceBy marked notedAll boundOn testsBy freeUnits turnsDown fixedStart untouched echoes inventsContention inventsBound criesFull neverGrants tellsLate renews namesBackward stopsGranting fidgets mumbles blurts noRig ignoresGaps skipsPacking oneDrawer crowds showsNow leavesGaps reverses overdraws keepsUnitsBack lastFirst losesUnits
+unfolding someFrom lowestFrom common shares empty within greatest least sum all any keep heldUntil endOf remaining precedes before covers unitsAt used enough spare heldUnits ready startFor moved ahead startWithin packedStart pack clear fits seek place contention startBound takenBefore trulyFree goesWithin goes granted grant grants shareOf pendingOf unfilled unfilledByOthers firstOf tests advance finish join remove admit act step new standingOf commonOf turns tableAfter issues stay sharesBy graceBy marked notedAll boundOn testsBy freeUnits valueAt turnsDown fixedStart untouched echoes inventsContention inventsBound criesFull neverGrants tellsLate renews namesBackward stopsGranting fidgets mumbles blurts noRig ignoresGaps skipsPacking oneDrawer crowds showsNow leavesGaps leavesDrawers reverses overdraws keepsUnitsBack lastFirst losesUnits
 all-refused = record {
   turns-down = λ d.
       let z : _≡_ {A = ℕ} 3 0 = d [] (claim 0 0x1 10) [] refl in
@@ -173,6 +178,13 @@ all-refused = record {
       let e : Entry = entry 2 0x1 10 10 false in
       let r = d calls [] refl e here 10 refl in
       let z : _≡_ {A = ℕ} 20 10 = subst (λ (x : Entry). endTold (ledgerAfter leavesGaps s calls) (toldAfter leavesGaps s calls) x ≡ 10) (List·Memᴰ·eq-of-singleton (r .1)) (r .3) in
+      omega arith;
+  drawers-left = λ d.
+      let f : Entry = record { ticket = 3; asked = record { groups = 0; length = 10; units = 2; client = 1 }; first = 20; held = false; grant = 0 } in
+      let z : 20 ≤ 10 = d (drawing 0 10 1 ∷ drawing 0 20 1 ∷ drawing 0 10 2 ∷ release 5 2 ∷ []) [] refl f (there {y = drawerEntry 1 10 0 true} here) 20 refl .least 10 (omega arith) (record {
+        after = λ e i h. clash h (ap (λ (x : Entry). shares (x .asked .groups) 0) (List·Memᴰ·eq-of-singleton i));
+        spare = λ u y p q. both-free y p;
+      }) in
       omega arith;
   reversed = λ d.
       let r =

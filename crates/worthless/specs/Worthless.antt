@@ -16,20 +16,21 @@ use Rattle.rules.specs.Claims.{on, at, withPhase, endOf}
 use Rattle.rules.specs.Order.{rivals}
 use Rattle.rules.specs.Packing.{moved}
 use Rattle.rules.specs.NoUnits.{withPool}
-use Rattle.rules.specs.Calls.{Model, withClock, withPending, withGrace, settingOf, asking, Action, claims, releases, withdraws, movesClock, Call, timed, looks, setsUp, release, clock, lookup, setGrace, isLook, Answer, Step, unchanged, advance, plain, finish, join, remove, fresh, placing, admit, step, blank, freeOf}
+use Rattle.rules.specs.Calls.{Model, withClock, withPending, withGrace, settingOf, asking, Action, claims, releases, withdraws, movesClock, Call, timed, looks, setsUp, release, clock, lookup, setGrace, isLook, Answer, Step, unchanged, advance, plain, finish, join, remove, fresh, placing, admit, step, blank, valueAt, freeOf}
 use Rattle.promises.specs.Ledger.{Steps, tableAfter}
 use Rattle.promises.specs.Runs.{newly}
 use Rattle.promises.specs.Demand3.{Demand3Of}
 use Rattle.promises.specs.NumbersTested.{NumbersTestedOf, NewTestedOf}
 use Rattle.promises.specs.Replies.{isClaim, RepliesOf}
 use Rattle.promises.specs.LeastStart.{LeastStartOf}
+use Rattle.promises.specs.StartsPacked.{StartsPackedOf}
 use Rattle.promises.specs.PlansApart.{PlansApartOf}
 use Rattle.promises.specs.WaitsExplained.{WaitsExplainedOf}
 use Rattle.promises.specs.NeverOvertaken.{NeverOvertakenOf}
 use Rattle.promises.specs.PoolKept.{PoolKeptOf}
 use Rattle.promises.specs.SharesKept.{SharesKeptOf}
 use Rattle.promises.specs.TableKept.{TableKeptOf}
 use Rattle.promises.specs.WholeCalls.{TimedCall, LeaveCall}
 
 -- A claim at a clock, of groups (hex) and a length; and one of a length and units alone.
 abbrev pub claim : ℕ → ℕ → ℕ → Call
@@ -199,6 +200,13 @@ showsNow m c = step (withGrace m 0) c
 unfoldable pub leavesGaps : Steps
 leavesGaps = actsBy (releasesBy (λ m t k. record { model = remove (withClock m t) k; answer = record { number = 0; ticket = k; start = t; contention = 0; bound = 0; grants = [] } }))
 
+-- A release that moves nobody up who draws units.
+unfoldable pub leavesDrawers : Steps
+leavesDrawers =
+    actsBy (releasesBy (λ m t k.
+    let s : Step = step m (release t k) in
+    record { model = claimsAs (λ d. cond (ltb 0 (d .units) && not (on d)) (withPhase d (Waiting (valueAt (λ c. at c) (d .ticket) (m .pending)))) d) (s .model); answer = s .answer }))
+
 -- A plan turned round at every call: the last comes first.
 unfoldable pub reverses : Steps
 reverses m c = let s : Step = step m c in record { model = startsAs (λ d. 1000 - at d) (s .model); answer = s .answer }
@@ -279,6 +287,8 @@ pub record AllRefused : Type 0 where
   pub shown-now : PlansApartOf showsNow (newly 0x1 0 true) (setGrace 5 ∷ claim 0 0x1 10 ∷ claim 0 0x1 10 ∷ clock 12 ∷ []) → ⊥
   -- By `Explained`: at clock 4 ticket 2 waits for 10, and nothing else is pending.
   pub gaps-left : WaitsExplainedOf leavesGaps (newly 0x1 0 true) (claim 0 0x1 10 ∷ claim 0 0x1 10 ∷ release 4 1 ∷ []) → ⊥
+  -- By `least` of a packed start: ticket 3 draws both units and waits for 20; from 10 on, where ticket 1 ends, they are free.
+  pub drawers-left : StartsPackedOf leavesDrawers (newly 0x1 2 true) (drawing 0 10 1 ∷ drawing 0 20 1 ∷ drawing 0 10 2 ∷ release 5 2 ∷ []) → ⊥
   -- By `NotOvertaken`: ticket 3 waits before ticket 2, and at the next call behind it.
   pub reversed : NeverOvertakenOf reverses (newly 0x1 0 true) (claim 0 0x1 10 ∷ claim 0 0x1 10 ∷ claim 0 0x1 10 ∷ clock 0 ∷ []) → ⊥
   -- By `never-more`: two units held of one; and by `units-enough`: two planned in use.
