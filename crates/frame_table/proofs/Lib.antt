@@ -5,4 +5,3 @@ pub mod Tests
 pub mod Steps
 pub mod Releasing
 pub mod Promised
-pub mod Runs

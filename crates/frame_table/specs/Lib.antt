@@ -1,4 +1,3 @@
 pub mod Valid
 pub mod Outcomes
 pub mod Parts
-pub mod Runs
