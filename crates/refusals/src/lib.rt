@@ -9,10 +9,10 @@ pub fn late(clock: u64) -> bool
     numbers::MOST_CLOCK < clock
 }
 
-pub fn backward(now: u64, clock: u64) -> bool
-    ensures { λ r. ⌜ r ≡ backward now clock .fails ⌝ }
+pub fn backward(last: u64, clock: u64) -> bool
+    ensures { λ r. ⌜ r ≡ backward last clock .fails ⌝ }
 {
-    clock < now
+    clock < last
 }
 
 pub fn dark(groups: u64) -> bool

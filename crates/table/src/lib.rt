@@ -192,13 +192,13 @@ pub fn free(t: Table) -> u16
 // ── the parts of a call ──
 
 // The first of the tests 5 and 4 that a clock fails, or 0.
-fn time_number(now: u64, clock: u64) -> u8
-    ensures { λ r. ⌜ r ≡ timeNumber now clock ⌝ }
+fn time_number(last: u64, clock: u64) -> u8
+    ensures { λ r. ⌜ r ≡ timeNumber last clock ⌝ }
 {
     if refusals::late(clock) {
         return numbers::LATE;
     }
-    if refusals::backward(now, clock) {
+    if refusals::backward(last, clock) {
         return numbers::BACKWARD;
     }
     0

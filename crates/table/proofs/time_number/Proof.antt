@@ -22,7 +22,7 @@ unfolding timeNumber firstOf
 returns-3 c =
     let l = c .before .before in
     let a = l .before .before .args in
-    past _ (backward (a .now) (a .clock) ∷ []) (sym (l .before .late .ensures) ∙ l .if1 .left) (past _ [] (sym (c .before .backward .ensures) ∙ c .if2 .left) refl)
+    past _ (backward (a .last) (a .clock) ∷ []) (sym (l .before .late .ensures) ∙ l .if1 .left) (past _ [] (sym (c .before .backward .ensures) ∙ c .if2 .left) refl)
 
 pub time-number-spec : {M : Type 1} → statement M
 time-number-spec = tie.close (tie.spec (λ c κs. search needs) returns (λ c κs. search needs) returns-2 returns-3)
