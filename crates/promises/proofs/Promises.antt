@@ -14,6 +14,7 @@ use Rattle.promises.proofs.NeverOvertaken.{never-overtaken}
 use Rattle.promises.proofs.PoolKept.{pool-kept}
 use Rattle.promises.proofs.SharesKept.{shares-kept}
 use Rattle.promises.proofs.TableKept.{table-kept}
+use Rattle.promises.proofs.WholeCalls.{whole-calls-after}
 
 pub promises : (s : Start) → Begins s → (calls : List Call) → Promises s calls
 promises s b calls = record {
@@ -28,4 +29,5 @@ promises s b calls = record {
   pool-kept = pool-kept s b calls;
   shares-kept = shares-kept s b calls;
   table-kept = table-kept s b calls;
+  whole-calls = whole-calls-after s b calls;
 }

@@ -12,5 +12,5 @@ pub mod NeverOvertaken
 pub mod PoolKept
 pub mod SharesKept
 pub mod TableKept
-pub mod Promises
 pub mod WholeCalls
+pub mod Promises

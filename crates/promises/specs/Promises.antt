@@ -1,6 +1,7 @@
 -- All that is promised of a run of calls, in one place.
 use mathlib.Core.List.{List}
-use Rattle.rules.specs.Calls.{Call}
+use Rattle.rules.specs.Calls.{Call, step}
+use Rattle.promises.specs.Ledger.{tableAfter}
 use Rattle.promises.specs.Runs.{Start}
 use Rattle.promises.specs.Demand3.{Demand3}
 use Rattle.promises.specs.NumbersTested.{NumbersTested}
@@ -13,7 +14,9 @@ use Rattle.promises.specs.NeverOvertaken.{NeverOvertaken}
 use Rattle.promises.specs.PoolKept.{PoolKept}
 use Rattle.promises.specs.SharesKept.{SharesKept}
 use Rattle.promises.specs.TableKept.{TableKept}
+use Rattle.promises.specs.WholeCalls.{WholeCalls}
 
+-- Over the calls, by their answers and lookups; last of the table that they left, and of the next call.
 pub record Promises (s : Start) (calls : List Call) : Type 0 where
   pub demand-3 : Demand3 s calls
   pub numbers-tested : NumbersTested s calls
@@ -26,3 +29,4 @@ pub record Promises (s : Start) (calls : List Call) : Type 0 where
   pub pool-kept : PoolKept s calls
   pub shares-kept : SharesKept s calls
   pub table-kept : TableKept s calls
+  pub whole-calls : WholeCalls (tableAfter step (s .table) calls)
