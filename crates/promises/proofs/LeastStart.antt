@@ -1,7 +1,7 @@
 -- The start of an accepted claim is the least that fits beside the others, as ledger and lookups tell them: what fits beside them in the table
 -- that the first packing gave fits beside them after the call, and the other way round.
 use mathlib.Core.Path.{_≡_, refl, sym, _∙_, ap, subst}
-use mathlib.Core.Logic.{_⊎_, inl, inr, _≢_}
+use mathlib.Core.Logic.{inl, inr, _≢_}
 use mathlib.Core.Bool.{not}
 use mathlib.Core.List.{List, [], _∷_, _++_, Memᴰ·append-left}
 use Prim.Native.Nat.{ℕ, suc, _+_, _≤_}
@@ -11,7 +11,6 @@ use Rattle.groups.specs.Groups.{shares}
 use Rattle.rules.specs.declared.Claim.{Claim}
 use Rattle.rules.specs.declared.Request.{Request}
 use Rattle.rules.specs.declared.Setting.{Setting}
-use Rattle.rules.specs.declared.Standing.the-variants.{Waits}
 use Rattle.rules.specs.Lists.{_∈_, keep}
 use Rattle.rules.specs.Claims.{on, at, rival, endOf}
 use Rattle.rules.specs.Granting.{goes, granted, grant}
@@ -19,7 +18,7 @@ use Rattle.rules.specs.Plans.{Room, Fits}
 use Rattle.rules.specs.Pool.{used}
 use Rattle.rules.specs.Tests.{named}
 use Rattle.rules.specs.Invariants.{Invariant}
-use Rattle.rules.specs.Calls.{Model, ruled, settingOf, atTicket, Call, claim, standing, isTimed, isLook, Step, advance, finish, join, admit, step}
+use Rattle.rules.specs.Calls.{Model, ruled, settingOf, Call, claim, standing, isTimed, isLook, Step, advance, finish, join, admit, step}
 use Rattle.rules.proofs.Bools.{clash, by-test}
 use Rattle.rules.proofs.Lists.{map-e, map-i, keep-snoc, keep-all}
 use Rattle.rules.proofs.Granting.{granted-cases, granted-ticket, goes-at, end-granted, granted-on, grant-uses}
@@ -28,7 +27,7 @@ use Rattle.promises.specs.Ledger.{Turn, turns, tableAfter, Ledger, Entry
 use Rattle.promises.specs.Runs.{tells, Start, Begins}
 use Rattle.promises.specs.Plan.{endTold, plannedUse}
 use Rattle.promises.specs.WholeCalls.{ClaimCall}
-use Rattle.promises.specs.LeastStart.{FitsBeside, LeastOf, Least, LeastStart}
+use Rattle.promises.specs.LeastStart.{RoomTold, FitsBeside, LeastOf, Least, LeastStart}
 use Rattle.promises.proofs.Matching.{Match, partner, partner-of}
 use Rattle.promises.proofs.WholeCalls.{claim-whole, clocked-is}
 use Rattle.promises.proofs.Demand3.{Tracks, Story, match-without, same-claim, story-after, after-calls}
@@ -111,10 +110,7 @@ module _ (Q : Type 0) (l : Ledger) (m : Model) (i : Invariant m) (t : ℕ) (ask 
       ∙ (granted-cases (λ (x : Claim). rival x (whole .new) ≡ rival c (whole .new)) (ruled m t) ps c (λ g. refl) (λ g. refl))
 
   -- Room in the plan as it is told, and in the table.
-  abbrev RoomTold : ℕ → Entry → Type 0
-  RoomTold x e = (endTold l (tells n) e ≤ x) ⊎ ((s : ℕ) × (tells n (atTicket (e .ticket)) ≡ Waits s) × (x + ask .length ≤ s))
-
-  room-told : (x : ℕ) → t ≤ x → (c : Claim) (e : Entry) → Of c e → Room (ruled m t) (whole .new) x c → RoomTold x e
+  room-told : (x : ℕ) → t ≤ x → (c : Claim) (e : Entry) → Of c e → Room (ruled m t) (whole .new) x c → RoomTold l (tells n) ask x e
   unfolding Of
   room-told x h c e r (inl z) = inl (omega (arith, end-same c e r))
   room-told x h c e r (inr z) =
@@ -124,7 +120,7 @@ module _ (Q : Type 0) (l : Ledger) (m : Model) (i : Invariant m) (t : ℕ) (ask 
       let same : after c ≡ c = granted-cases (λ (y : Claim). y ≡ c) (ruled m t) ps c (λ q. clash q g) (λ q. refl) in
       inr (at c, told-is Q l n st (after c) e (r .0) (r .1) ∙ ap standing same ∙ standing-wait c (z .0), omega (arith, z .1, whole .length)))
 
-  room-of : (x : ℕ) → (c : Claim) (e : Entry) → Of c e → RoomTold x e → Room (ruled m t) (whole .new) x c
+  room-of : (x : ℕ) → (c : Claim) (e : Entry) → Of c e → RoomTold l (tells n) ask x e → Room (ruled m t) (whole .new) x c
   unfolding Of
   room-of x c e r (inl z) = inl (omega (arith, end-same c e r))
   room-of x c e r (inr z) =

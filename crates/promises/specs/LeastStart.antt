@@ -16,10 +16,13 @@ use Rattle.promises.specs.Ledger.{Turn, Steps, Entry, without, Ledger, n
 use Rattle.promises.specs.Runs.{Told, Start, AtAnyCall}
 use Rattle.promises.specs.Plan.{endTold, SpareTold}
 
--- A hold of what is asked for, from x on, fits beside these claims.
+-- A claim e leaves room for a hold of what is asked for, from x on.
+abbrev pub RoomTold : Ledger → Told → Request → ℕ → Entry → Type 0
+RoomTold l told ask x e = (endTold l told e ≤ x) ⊎ ((s : ℕ) × (told (atTicket (e .ticket)) ≡ Waits s) × (x + ask .length ≤ s))
+
+-- That hold fits beside these claims.
 pub record FitsBeside (l : Ledger) (told : Told) (es : List Entry) (ask : Request) (x : ℕ) : Type 0 where
-  pub room : (e : Entry) → e ∈ es → shares (e .asked .groups) (ask .groups) ≡ true
-      → (endTold l told e ≤ x) ⊎ ((s : ℕ) × (told (atTicket (e .ticket)) ≡ Waits s) × (x + ask .length ≤ s))
+  pub room : (e : Entry) → e ∈ es → shares (e .asked .groups) (ask .groups) ≡ true → RoomTold l told ask x e
   pub spare : SpareTold l told es ask x
 
 -- The answer to a claim at clock u, beside the others in the ledger l after it.
