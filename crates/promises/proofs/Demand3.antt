@@ -43,9 +43,10 @@ use Rattle.rules.proofs.Booking.{advance-booked, finish-booked, finish-shares, 
 use Rattle.rules.proofs.NoOverrun.{no-overrun-no-later}
 use Rattle.rules.proofs.Lookup.{lookup-absent, none-named, lookup-found, one-named, lookup-waits}
 use Rattle.promises.specs.Ledger.{Turn, turns, tableAfter, accepted, Entry, promised, Ledger, opening, issues, without, stay, sharesBy, graceBy, hold, marked, noted, notedAll, NoOverrun, NoOverruns, ruledBy, remainingOf, rivalsOf, boundOn}
-use Rattle.promises.specs.Runs.{tells, Start, Begins, by-new}
+use Rattle.promises.specs.Runs.{tells, Start, newly, Begins, by-new}
 use Rattle.promises.specs.Demand3.{TicketsAscend, Now, NoWaitPast, OfClaim, OfGrants, Next, Demand3}
-use Rattle.promises.proofs.WholeCalls.{claim-whole}
+use Rattle.promises.specs.WholeCalls.{WholeCalls}
+use Rattle.promises.proofs.WholeCalls.{claim-whole, whole-calls}
 use Rattle.promises.proofs.Matching.{Match, m-nil, m-cons, match-map, match-left, match-weaken, match-snoc, match-none, match-keep, match-length, match-sum, partner, partner-of}
 
 -- A pending claim and its entry. P: no accepted call so far bore a clock past the promised end of a holder.
@@ -623,13 +624,16 @@ story-after (c ∷ cs) P l m s =
     story-weaken _ (P × (NoOverrun l t × NoOverruns (noted l t) (turns step (step m c .model) cs))) _ _ (λ q. ((q .0, q .1 .0), q .1 .1)) r
 
 -- What holds where a run begins.
-begin : (s : Start) → Begins s → Story (Unit {0}) (s .ledger) (s .table)
-begin s (by-new g k alone) =
+new-story : (g k : ℕ) (alone : Bool) → Story (Unit {0}) (newly g k alone .ledger) (newly g k alone .table)
+new-story g k alone =
     new-cases (λ (s : Step). Story (Unit {0}) (opening g k alone (s .answer)) (s .model)) g k alone (λ e. blank-story 0 0 1 refl refl) (λ e. blank-story g k 0 refl refl)
   where
     blank-story : (r n j : ℕ) → r ≡ cond (eqb j 0) g 0 → n ≡ cond (eqb j 0) k 0 → Story (Unit {0}) (opening g k alone (unchanged (blank r n alone) j .answer)) (blank r n alone)
     blank-story r n j o e =
         record { inv = blank-invariant r n alone; booked = first-booked alone; rig = o; clock = refl; pool = e; issued = refl; grace = refl; shares = refl; match = m-nil }
+
+begin : (s : Start) → Begins s → Story (Unit {0}) (s .ledger) (s .table)
+begin s (by-new g k alone) = new-story g k alone
 
 pub after-calls : (s : Start) → Begins s → (cs : List Call)
     → (let ts = turns step (s .table) cs in
@@ -643,3 +647,7 @@ demand-3 s b calls = record {
   no-wait-past = λ before rest e. no-wait-of _ _ _ (after-calls s b before);
   at-any-call = λ before c rest e. told _ _ _ (after-calls s b before) c .0;
 }
+
+-- And whole calls, of the table after any of them.
+pub whole-calls-after : (s : Start) → Begins s → (calls : List Call) → WholeCalls (tableAfter step (s .table) calls)
+whole-calls-after s b calls = whole-calls (tableAfter step (s .table) calls) (after-calls s b calls .inv)

@@ -17,7 +17,8 @@ use Rattle.rules.proofs.Lookup.{lookup-known}
 use Rattle.promises.specs.Ledger.{tableAfter}
 use Rattle.promises.specs.Runs.{Start, Begins}
 use Rattle.promises.specs.NeverOvertaken.{NeverOvertaken}
-use Rattle.promises.proofs.WholeCalls.{order-holds, begins-invariant, calls-invariant}
+use Rattle.promises.proofs.WholeCalls.{order-holds, calls-invariant}
+use Rattle.promises.proofs.Demand3.{after-calls}
 use Rattle.promises.proofs.Plan.{precedes-of, precedes-told}
 
 -- ── a ticket that was issued comes back to nobody ──
@@ -75,7 +76,7 @@ pub never-overtaken : (s : Start) → Begins s → (calls : List Call) → Never
 never-overtaken s b calls before between rest q j k p one other =
     let m : Model = tableAfter step (s .table) before in
     let n : Model = tableAfter step m between in
-    let i = calls-invariant (s .table) before (begins-invariant s b) in
+    let i = after-calls s b before .inv in
     let x = precedes-of m (i .spaced .ascending) p in
     let c = lookup-known j (n .pending) one in
     let d = lookup-known k (n .pending) other in

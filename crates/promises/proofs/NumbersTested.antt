@@ -7,7 +7,7 @@ use lib.Dec.{eqb}
 use Rattle.rules.specs.Claims.{on}
 use Rattle.rules.specs.Lists.{any}
 use Rattle.rules.specs.Tests.{firstOf, dark, named}
-use Rattle.rules.specs.Calls.{Model, claims, releases, withdraws, movesClock, atTicket, atTwo, atPool, Call, timed, looks, setsUp, Step, tests, step}
+use Rattle.rules.specs.Calls.{Model, claims, releases, withdraws, movesClock, Call, timed, looks, setsUp, Step, lookTests, tests, step}
 use Rattle.rules.proofs.Calls.{step-number, new-cases}
 use Rattle.promises.specs.Ledger.{tableAfter, hasTicket, Ledger}
 use Rattle.promises.specs.Runs.{Start, Begins}
@@ -37,9 +37,7 @@ module _ (P : Type 0) (l : Ledger) (m : Model) (s : Story P l m) where
   tests-are (timed t (releases k)) = rw (s .clock, known-is k, waits-is k)
   tests-are (timed t (withdraws k)) = rw (s .clock, known-is k, holds-is k)
   tests-are (timed t movesClock) = rw (s .clock)
-  tests-are (looks (atTicket k)) = rw (known-is k)
-  tests-are (looks (atTwo j k)) = rw (known-is j, known-is k)
-  tests-are (looks atPool) = refl
+  tests-are (looks q) = ap (λ (f : ℕ → Bool). lookTests f q) (λ i k. known-is k i)
   tests-are (setsUp p) = rw (s .issued, s .shares)
 
 pub numbers-tested : (s : Start) → Begins s → (calls : List Call) → NumbersTested s calls

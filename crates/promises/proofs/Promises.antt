@@ -3,7 +3,7 @@ use mathlib.Core.List.{List}
 use Rattle.rules.specs.Calls.{Call}
 use Rattle.promises.specs.Runs.{Start, Begins}
 use Rattle.promises.specs.Promises.{Promises}
-use Rattle.promises.proofs.Demand3.{demand-3}
+use Rattle.promises.proofs.Demand3.{demand-3, whole-calls-after}
 use Rattle.promises.proofs.NumbersTested.{numbers-tested}
 use Rattle.promises.proofs.Replies.{replies}
 use Rattle.promises.proofs.LeastStart.{least-start}
@@ -14,7 +14,6 @@ use Rattle.promises.proofs.NeverOvertaken.{never-overtaken}
 use Rattle.promises.proofs.PoolKept.{pool-kept}
 use Rattle.promises.proofs.SharesKept.{shares-kept}
 use Rattle.promises.proofs.TableKept.{table-kept}
-use Rattle.promises.proofs.WholeCalls.{whole-calls-after}
 
 pub promises : (s : Start) → Begins s → (calls : List Call) → Promises s calls
 promises s b calls = record {

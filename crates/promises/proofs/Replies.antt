@@ -7,7 +7,7 @@ use Prim.Native.Nat.{ℕ}
 use lib.Dec.{eqb}
 use borrow.Author.Tests.{ne-eqb}
 use Rattle.rules.specs.declared.Request.{Request}
-use Rattle.rules.specs.Calls.{Model, Look, atTicket, atTwo, atPool, Call, claim, isTimed, Step, unchanged, advance, plain, finish, admit, step}
+use Rattle.rules.specs.Calls.{Model, withGrace, declared, Look, Call, claim, isTimed, Step, unchanged, advance, plain, finish, admit, step}
 use Rattle.rules.proofs.Bools.{clash}
 use Rattle.rules.proofs.Calls.{Leaves, by-release, by-withdraw, by-clock, Idle, looks-untimed, step-cases}
 use Rattle.promises.specs.Ledger.{tableAfter, Ledger}
@@ -26,9 +26,7 @@ never c n (inl e) = rw (looks-untimed c e)
 never c n (inr e) = rw (ne-eqb n 0 e) (and-no (isTimed c))
 
 same-tells : (m n : Model) → n .pending ≡ m .pending → n .pool ≡ m .pool → (q : Look) → tells n q ≡ tells m q
-same-tells m n e p (atTicket k) = rw e
-same-tells m n e p (atTwo j k) = rw e
-same-tells m n e p atPool = rw (e, p)
+same-tells m n e p q = rw (e, p)
 
 untimed : (l : Ledger) (m n : Model) (c : Call) (k : ℕ) → n .pending ≡ m .pending → n .pool ≡ m .pool → isTimed c && eqb k 0 ≡ false → Reply l m c (unchanged n k)
 untimed l m n c k e p z = record {
@@ -50,7 +48,7 @@ left l (by-clock t) = record { three-plain = λ h n. record { ticket-is = refl; 
 reply-of : (l : Ledger) (m : Model) (c : Call) → Reply l m c (step m c)
 reply-of l m =
     step-cases (Reply l m) m (λ c n z. untimed l m m c n refl refl (never c n z)) (λ t ask a. claimed l m t ask) (λ c t k q o v. left l v)
-    (λ c r k d. untimed l m _ _ 0 refl refl refl) (λ n d. untimed l m _ _ 0 refl refl refl)
+    (λ c r k d. untimed l m (declared m c r k) _ 0 refl refl refl) (λ n d. untimed l m (withGrace m n) _ 0 refl refl refl)
 
 pub replies : (s : Start) → Begins s → (calls : List Call) → Replies s calls
 replies s b calls before c rest e = reply-of _ (tableAfter step (s .table) before) c

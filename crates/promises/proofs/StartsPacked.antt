@@ -1,18 +1,18 @@
 -- Every waiting start is packed: the rules' `Separated` and `Earliest`, read in the ledger.
 use mathlib.Core.Path.{_≡_, refl, sym, _∙_, ap, subst}
-use mathlib.Core.Bool.{Bool, true, false, _&&_, _||_, cond}
+use mathlib.Core.Bool.{false, _&&_, _||_}
 use mathlib.Core.List.{List}
-use Prim.Native.Nat.{ℕ, _+_, _*_, _≤_, _<_}
+use Prim.Native.Nat.{ℕ, _+_, _*_, _<_}
 use native.Mathlib.Omega.{arith}
-use lib.Dec.{leb, ltb, eqb}
+use lib.Dec.{ltb, eqb}
 use borrow.Author.Tests.{lt-ltb, le-ltb, eq-eqb, ne-eqb}
 use Rattle.groups.specs.Groups.{shares}
 use Rattle.rules.specs.declared.Claim.{Claim}
 use Rattle.rules.specs.declared.Setting.{Setting}
 use Rattle.rules.specs.declared.Standing.{Standing}
 use Rattle.rules.specs.Lists.{_∈_, keep}
-use Rattle.rules.specs.Claims.{on, at, rival, endOf}
-use Rattle.rules.specs.Order.{key, before}
+use Rattle.rules.specs.Claims.{on, at, rival}
+use Rattle.rules.specs.Order.{before}
 use Rattle.rules.specs.Packing.{moved, ahead}
 use Rattle.rules.specs.Plans.{Sane, Spare, Behind}
 use Rattle.rules.specs.Calls.{Model, settingOf, atTicket, Call}
@@ -24,7 +24,7 @@ use Rattle.rules.proofs.Packing.{moved-cases}
 use Rattle.rules.proofs.Invariants.{settled-packs}
 use Rattle.promises.specs.Ledger.{Ledger, Entry}
 use Rattle.promises.specs.Runs.{tells, Start, Begins}
-use Rattle.promises.specs.Plan.{endTold, aheadAs, aheadTold}
+use Rattle.promises.specs.Plan.{aheadAs, aheadTold}
 use Rattle.promises.specs.StartsPacked.{BehindTold, PackedAt, Packed, StartsPacked}
 use Rattle.promises.proofs.Matching.{Match, match-keep, partner, partner-of}
 use Rattle.promises.proofs.Demand3.{Tracks, Story, after-calls}

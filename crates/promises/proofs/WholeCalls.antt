@@ -33,10 +33,9 @@ use Rattle.rules.proofs.Packing.{moved-cases, moved-phase, pack-precedes, pack-
 use Rattle.rules.proofs.Placing.{place-low, place-least}
 use Rattle.rules.proofs.Granting.{goes-eq, taken-ticket, goes-wait, goes-at, granted-cases, granted-on, grant-precedes}
 use Rattle.rules.proofs.Invariants.{settled-packs, spaced-packs}
-use Rattle.rules.proofs.Calls.{Clocked, Admissible, advance-drawn, fresh-sane, placed-fits, advance-packed, finish-invariant, placed, join-spaced, Leaves, by-release, by-withdraw, by-clock, leaves-spaced, remove-spaced, Idle, looks-untimed, step-cases, clock-accepted, new-invariant, step-invariant, advance-same, finish-e, finish-clock, leaves-old, leaves-clock, join-old, advance-spare, packs-as-documented}
+use Rattle.rules.proofs.Calls.{Clocked, Admissible, advance-drawn, fresh-sane, placed-fits, advance-packed, finish-invariant, placed, join-spaced, Leaves, by-release, by-withdraw, by-clock, leaves-spaced, remove-spaced, Idle, looks-untimed, step-cases, clock-accepted, step-invariant, advance-same, finish-e, finish-clock, leaves-old, leaves-clock, join-old, advance-spare, packs-as-documented}
 use Rattle.rules.proofs.OnePacking.{advance-still, finish-still, joined, joined-cases, claim-pending, joined-at}
 use Rattle.promises.specs.Ledger.{tableAfter}
-use Rattle.promises.specs.Runs.{Start, Begins, by-new}
 use Rattle.promises.specs.WholeCalls.{Becomes, keptFrom, TimedCall, FirstPacking, Stays, ClaimCall, LeaveCall, ClockCall, Acts, WholeCalls}
 
 -- ── order ──
@@ -391,13 +390,7 @@ pub whole-calls : (m : Model) → Invariant m → WholeCalls m
 unfolding OfCall
 whole-calls m i = record { of-packing = first-packing m i; of-timed = λ t x. of-call m i (timed t x) refl }
 
-pub begins-invariant : (s : Start) → Begins s → Invariant (s .table)
-begins-invariant s (by-new rig pool alone) = new-invariant rig pool alone
-
 pub calls-invariant : (m : Model) (cs : List Call) → Invariant m → Invariant (tableAfter step m cs)
 unfolding tableAfter
 calls-invariant m [] i = i
 calls-invariant m (c ∷ cs) i = calls-invariant (step m c .model) cs (step-invariant m c i)
-
-pub whole-calls-after : (s : Start) → Begins s → (calls : List Call) → WholeCalls (tableAfter step (s .table) calls)
-whole-calls-after s b calls = whole-calls (tableAfter step (s .table) calls) (calls-invariant (s .table) calls (begins-invariant s b))

@@ -6,10 +6,11 @@ use mathlib.Core.Bool.{Bool}
 use mathlib.Core.List.{List, [], _∷_}
 use Prim.Native.Nat.{ℕ}
 use lib.ListN.{length}
+use Rattle.rules.specs.Lists.{any}
 use Rattle.rules.specs.Shares.{shareOf, pendingOf, unfilledByOthers}
 use Rattle.rules.specs.Tests.{Test, firstOf, late, backward, dark, stranger, nothingAsked, offRig, spots, badLength, fullFor, over, ticketless, unknown, notYetOn, alreadyOn}
-use Rattle.rules.specs.Calls.{Action, claims, releases, withdraws, movesClock, Look, atTicket, atTwo, atPool, Call, timed, looks, setsUp, Step, setupTests, step, new}
-use Rattle.promises.specs.Ledger.{Turn, Steps, Entry, hasTicket, Ledger}
+use Rattle.rules.specs.Calls.{Action, claims, releases, withdraws, movesClock, Call, timed, looks, setsUp, Step, lookTests, setupTests, step, new}
+use Rattle.promises.specs.Ledger.{Turn, Steps, hasTicket, Ledger}
 use Rattle.promises.specs.Runs.{Told, Start, AtAnyCall}
 use Rattle.promises.specs.SharesKept.{askers}
 
@@ -25,14 +26,9 @@ actionTestsBy l (releases k) = unknown (hasTicket k) (l .claims) ∷ notYetOn (h
 actionTestsBy l (withdraws k) = unknown (hasTicket k) (l .claims) ∷ alreadyOn (hasTicket k) (λ e. e .held) (l .claims) ∷ []
 actionTestsBy l movesClock = []
 
-abbrev pub lookTestsBy : List Entry → Look → List Test
-lookTestsBy es (atTicket k) = unknown (hasTicket k) es ∷ []
-lookTestsBy es (atTwo j k) = unknown (hasTicket j) es ∷ unknown (hasTicket k) es ∷ []
-lookTestsBy es atPool = []
-
 unfoldable pub testsBy : Ledger → Call → List Test
 testsBy l (timed t x) = late t ∷ backward (l .clock) t ∷ actionTestsBy l x
-testsBy l (looks q) = lookTestsBy (l .claims) q
+testsBy l (looks q) = lookTests (λ k. any (hasTicket k) (l .claims)) q
 testsBy l (setsUp p) = setupTests (l .issued) (l .shares) p
 
 abbrev pub NumberTested : Ledger → Turn → Told → Told → Type 0

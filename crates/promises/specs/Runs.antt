@@ -3,9 +3,11 @@ use mathlib.Core.Path.{_≡_}
 use mathlib.Core.Bool.{Bool}
 use mathlib.Core.List.{List, _∷_, _++_}
 use Prim.Native.Nat.{ℕ}
+use Rattle.rules.specs.declared.Claim.{Claim}
 use Rattle.rules.specs.declared.Common.{Common}
 use Rattle.rules.specs.declared.Standing.{Standing}
-use Rattle.rules.specs.Calls.{Model, Look, atTicket, atTwo, atPool, Call, Step, new, standingOf, commonOf, freeOf}
+use Rattle.rules.specs.Pool.{freeUnits}
+use Rattle.rules.specs.Calls.{Model, Look, atTicket, atTwo, atPool, Call, Step, new, standingOf, commonOf}
 use Rattle.promises.specs.Ledger.{Turn, Steps, turns, tableAfter, Ledger, opening, notedAll, NoOverruns}
 
 -- What a lookup tells, and what all of them tell.
@@ -17,11 +19,14 @@ Telling atPool = ℕ
 abbrev pub Told : Type 0
 Told = (q : Look) → Telling q
 
--- What they tell of a table.
+-- What they tell of a table: of its pool and its pending claims.
+abbrev pub tellsOf : ℕ → List Claim → (q : Look) → Telling q
+tellsOf pool ps (atTicket k) = standingOf k ps
+tellsOf pool ps (atTwo j k) = commonOf j k ps
+tellsOf pool ps atPool = freeUnits pool ps
+
 abbrev pub tells : Model → (q : Look) → Telling q
-tells m (atTicket k) = standingOf k (m .pending)
-tells m (atTwo j k) = commonOf j k (m .pending)
-tells m atPool = freeOf m
+tells m q = tellsOf (m .pool) (m .pending) q
 
 -- What a run begins with: a table, and what the call that gave it tells.
 pub record Start : Type 0 where

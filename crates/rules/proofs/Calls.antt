@@ -329,9 +329,11 @@ unissued-none m i e = go (m .pending) refl
         let p = i .spaced .proper c (subst (λ (l : List Claim). c ∈ l) (sym q) here) in
         absurd (omega (arith, p .numbered, p .issued))
 
+pub none-invariant : (m : Model) → m .pending ≡ [] → Invariant m
+none-invariant m e = subst (Settled (m .issued) (settingOf m)) (sym e) (none-settled (m .issued) (settingOf m))
+
 pub grace-invariant : (m : Model) (n : ℕ) → Invariant m → m .issued ≡ 0 → Invariant (withGrace m n)
-grace-invariant m n i e =
-    subst (Settled (m .issued) (settingOf (withGrace m n))) (sym (unissued-none m i e)) (none-settled (m .issued) (settingOf (withGrace m n)))
+grace-invariant m n i e = none-invariant (withGrace m n) (unissued-none m i e)
 
 pub step-invariant : (m : Model) (c : Call) → Invariant m → Invariant (step m c .model)
 step-invariant m c i =
@@ -341,7 +343,7 @@ step-invariant m c i =
     (λ c r l d. i) (λ n d. grace-invariant m n i (d .unissued)) c
 
 pub blank-invariant : (g k : ℕ) (alone : Bool) → Invariant (blank g k alone)
-blank-invariant g k alone = none-settled 0 (settingOf (blank g k alone))
+blank-invariant g k alone = none-invariant (blank g k alone) refl
 
 -- To show something of a new table, show it of a refused one and of the others.
 pub new-cases : (P : Step → Type 0) (g k : ℕ) (alone : Bool)

@@ -18,7 +18,7 @@ use Rattle.rules.specs.declared.Common.the-variants.{Shared}
 use Rattle.rules.specs.declared.Standing.{Standing}
 use Rattle.rules.specs.declared.Standing.the-variants.{NotPending, Waits, Holds}
 use Rattle.rules.specs.Tests.{firstOf, named}
-use Rattle.rules.specs.Calls.{Model, Look, atTicket, atTwo, atPool, looks, lookup, free, Step, tests, unchanged, act, unless, step, StandingValues, standingValues, standing, standingOf, valueAt, lookupGives, commonValues, shared, between, commonOf, groupIn, groupsBetween, commonGives}
+use Rattle.rules.specs.Calls.{Model, Look, atTicket, atTwo, looks, lookup, Step, lookTests, tests, unchanged, act, unless, step, StandingValues, standingValues, standing, standingOf, valueAt, lookupGives, commonValues, shared, between, commonOf, groupIn, groupsBetween, commonGives}
 use Rattle.rules.specs.Plans.{Ascending}
 use Rattle.rules.proofs.Bools.{by-test, clash}
 use Rattle.rules.proofs.Lists.{Each, here, there, none}
@@ -169,7 +169,7 @@ common-told m j k s e =
     let t = ap (λ (x : Step). x .answer .number) (look-step m (atTwo j k)) in
     (e, ap commonValues e ∙ between-values cs ds ∙ ap (λ (n : ℕ). record { number = n; groups = groupsBetween cs ds }) (sym (t ∙ rw (any-keep j (m .pending), any-keep k (m .pending)))))
 
--- A lookup of the units free is never refused.
-pub free-told : (m : Model) → 0 ≡ step m free .answer .number
+-- A lookup without tests is never refused.
+pub unrefused : (m : Model) (q : Look) → ((known : ℕ → Bool) → lookTests known q ≡ []) → 0 ≡ step m (looks q) .answer .number
 unfolding tests firstOf
-free-told m = sym (ap (λ (x : Step). x .answer .number) (look-step m atPool))
+unrefused m q e = sym (ap (λ (x : Step). x .answer .number) (look-step m q) ∙ ap firstOf (e _))

@@ -17,14 +17,14 @@ use Rattle.rules.specs.declared.Common.{Common}
 use Rattle.rules.specs.declared.Common.the-variants.{Unknown, Shared, Apart}
 use Rattle.rules.specs.declared.Standing.{Standing}
 use Rattle.rules.specs.declared.Standing.the-variants.{NotPending, Waits, Holds}
-use Rattle.rules.specs.Lists.{keep}
+use Rattle.rules.specs.Lists.{any, keep}
 use Rattle.rules.specs.Shares.{share, firstShares, shareOf, withShare, pendingOf, unfilledByOthers, reservedInAll}
 use Rattle.rules.specs.Claims.{on, at, withPhase, conflicts}
 use Rattle.rules.specs.Packing.{pack}
 use Rattle.rules.specs.Placing.{place, contention, startBound}
 use Rattle.rules.specs.Granting.{grant, grants}
 use Rattle.rules.specs.Pool.{freeUnits}
-use Rattle.rules.specs.Tests.{Test, firstOf, late, backward, stranger, noClient, nothingAsked, offRig, spots, badLength, fullFor, over, begun, overbooked, badGrace, ticketless, named, unknown, notYetOn, alreadyOn}
+use Rattle.rules.specs.Tests.{Test, test, firstOf, late, backward, stranger, noClient, nothingAsked, offRig, spots, badLength, fullFor, over, begun, overbooked, badGrace, ticketless, named, unknown, notYetOn, alreadyOn}
 
 -- What a table means. The pending claims stand in ascending order of ticket.
 pub record Model : Type 0 where
@@ -173,11 +173,11 @@ actionTests m (releases k) = unknown (named k) (m .pending) ∷ notYetOn (named 
 actionTests m (withdraws k) = unknown (named k) (m .pending) ∷ alreadyOn (named k) on (m .pending) ∷ []
 actionTests m movesClock = []
 
--- "a ticket that isn't pending answers 8"
-abbrev pub lookTests : List Claim → Look → List Test
-lookTests ps (atTicket k) = unknown (named k) ps ∷ []
-lookTests ps (atTwo j k) = unknown (named j) ps ∷ unknown (named k) ps ∷ []
-lookTests ps atPool = []
+-- "a ticket that isn't pending answers 8": whether a ticket is pending is `known`.
+abbrev pub lookTests : (ℕ → Bool) → Look → List Test
+lookTests known (atTicket k) = test (not (known k)) unknownNumber ∷ []
+lookTests known (atTwo j k) = test (not (known j)) unknownNumber ∷ test (not (known k)) unknownNumber ∷ []
+lookTests known atPool = []
 
 -- A declaration is answered 13 "before 17", and 19 "after 17"; a grace 21.
 abbrev pub setupTests : ℕ → List Share → Setup → List Test
@@ -186,7 +186,7 @@ setupTests issued ss (setsGrace n) = badGrace issued n ∷ []
 
 unfoldable pub tests : Model → Call → List Test
 tests m (timed t x) = late t ∷ backward (m .clock) t ∷ actionTests m x
-tests m (looks q) = lookTests (m .pending) q
+tests m (looks q) = lookTests (λ k. any (named k) (m .pending)) q
 tests m (setsUp p) = setupTests (m .issued) (m .shares) p
 
 -- "A call turned down answers its number, with ticket, start, crowd and ceiling 0 and no grants; the table is the one handed in"

@@ -3,9 +3,10 @@ use mathlib.Core.Path.{_≡_, refl, sym, _∙_, ap, subst}
 use mathlib.Core.List.{List, _∷_}
 use Prim.Native.Nat.{ℕ}
 use Rattle.rules.specs.declared.Table.{Table}
-use Rattle.rules.specs.Calls.{Model, Look, atTicket, atTwo, atPool, claims, releases, withdraws, movesClock, declares, setsGrace, Call, timed, looks, setsUp, Answer, Step, step, new, StandingValues, CommonValues}
+use Rattle.rules.specs.Calls.{Model, Look, claims, releases, withdraws, movesClock, declares, setsGrace, Call, timed, looks, setsUp, Answer, Step, step, new, StandingValues, CommonValues}
+use Rattle.rules.specs.Calls as rules
 use Rattle.rules.specs.Tables.{model}
-use Rattle.rules.proofs.Lookup.{look-answer, look-idle, lookup-told, common-told, free-told}
+use Rattle.rules.proofs.Lookup.{look-answer, look-idle}
 use Rattle.promises.specs.Ledger.{Turn, Ledger, opening, turns, tableAfter}
 use Rattle.promises.specs.Runs.{Telling, Told, tells, Start, Begins, by-new as begins-new, AtAnyTime, WhileNobodyOverruns, AtAnyLater, AtAnyCall}
 use Rattle.promises.specs.Demand3.{Now, NoWaitPast, Next}
@@ -19,7 +20,7 @@ use Rattle.promises.specs.NeverOvertaken.{NotOvertaken}
 use Rattle.promises.specs.PoolKept.{Kept}
 use Rattle.promises.specs.SharesKept.{SharesNow, SharesNext}
 use Rattle.promises.specs.WholeCalls.{WholeCalls}
-use Rattle.promises.proofs.Demand3.{demand-3}
+use Rattle.promises.proofs.Demand3.{demand-3, whole-calls-after}
 use Rattle.promises.proofs.NumbersTested.{numbers-tested, new-tested}
 use Rattle.promises.proofs.Replies.{replies}
 use Rattle.promises.proofs.LeastStart.{least-start}
@@ -30,7 +31,6 @@ use Rattle.promises.proofs.NeverOvertaken.{never-overtaken}
 use Rattle.promises.proofs.PoolKept.{pool-kept}
 use Rattle.promises.proofs.SharesKept.{shares-kept}
 use Rattle.promises.proofs.TableKept.{table-kept}
-use Rattle.promises.proofs.WholeCalls.{whole-calls-after}
 use Rattle.table.specs.declared.Outcome.{Outcome}
 use Rattle.table.specs.Outcomes.{outcome}
 use Rattle.table.specs.Valid.{Valid}
@@ -47,10 +47,10 @@ promised-is v (looks q) r p = absurd p
 promised-is v (setsUp (declares c g n)) r p = p v
 promised-is v (setsUp (setsGrace n)) r p = p v
 
-shows-is : {t : Table} → Valid t → (q : Look) (r : Telling q) → Shows t q r → r ≡ tells (model t) q
-shows-is v (atTicket k) r p = p v .0
-shows-is v (atTwo j k) r p = p v .0
-shows-is v atPool r p = p v .0
+shows-is : {t : Table} → Valid t → (q : Look) (r : Telling q) → Shows t q r → (r ≡ tells (model t) q) × (lookNumber q r ≡ step (model t) (looks q) .answer .number)
+shows-is v (rules.atTicket k) r p = let e = p v in (e .0, ap (λ (x : StandingValues). x .number) (e .1))
+shows-is v (rules.atTwo j k) r p = let e = p v in (e .0, ap (λ (x : CommonValues). x .number) (e .1))
+shows-is v rules.atPool r p = p v
 
 -- ── one answer ──
 answer-of : (r : Outcome) (s : Step) → r ≡ outcome s → answered r ≡ s .answer
@@ -63,17 +63,12 @@ answer-of r s e =
 looked-is : (m : Model) (q : Look) (n : ℕ) → n ≡ step m (looks q) .answer .number → looked n ≡ step m (looks q) .answer
 looked-is m q n e = ap looked e ∙ look-answer m q
 
-look-number : (m : Model) (q : Look) (r : Telling q) → r ≡ tells m q → lookNumber q r ≡ step m (looks q) .answer .number
-look-number m (atTicket k) r e = ap (λ (x : StandingValues). x .number) (lookup-told m k r e .1)
-look-number m (atTwo j k) r e = ap (λ (x : CommonValues). x .number) (common-told m j k r e .1)
-look-number m atPool r e = free-told m
-
 -- ── a run is the rules' run ──
 made-is : {t u : Table} {c : Call} {a : Answer} → Valid t → Made t c a u → (a ≡ step (model t) c .answer) × (model u ≡ step (model t) c .model) × Valid u
 made-is {t} v (by-call c r p) =
     let e = promised-is v c r p in
     (answer-of r (step (model t) c) (e .0), outcome-model r (step (model t) c) (e .0), e .1)
-made-is {t} v (by-look q r p) = (looked-is (model t) q _ (look-number (model t) q r (shows-is v q r p)), sym (look-idle (model t) q), v)
+made-is {t} v (by-look q r p) = (looked-is (model t) q _ (shows-is v q r p .1), sym (look-idle (model t) q), v)
 
 run-is : {t u : Table} {cs : List Call} {ts : List Turn} → Valid t → Run t cs ts u → (ts ≡ turns step (model t) cs) × (model u ≡ tableAfter step (model t) cs) × Valid u
 unfolding turns tableAfter
@@ -89,7 +84,7 @@ run-is v (then {t} {u} {w} {c} {a} {cs} {ts} one p) =
 
 -- What lookups show of a table is what the rules tell of its model.
 looks-are : (t : Table) (m : Model) (shows : Told) → Valid t → model t ≡ m → Looks t shows → shows ≡ tells m
-looks-are t m shows v e h = λ i q. (shows-is v q (shows q) (h q) ∙ ap (λ (x : Model). tells x q) e) i
+looks-are t m shows v e h = λ i q. (shows-is v q (shows q) (h q) .0 ∙ ap (λ (x : Model). tells x q) e) i
 
 -- Such a start is one of those of `promises`.
 began-is : {t : Table} {s : Start} → BeganAs t s → Begins s × (model t ≡ s .table) × Valid t

@@ -1,15 +1,17 @@
 -- The loop's invariant is `Freeing`: the units of the holders that are done are taken off those of the pool.
+use mathlib.Core.Path.{refl}
 use Prim.Native.Nat.{_-_}
 use native.Mathlib.Omega.{arith}
 use lib.ListN.{take}
 use borrow.Author.Needs.{needs}
 use Rattle.rules.specs.Pool.{freeUnits}
+use Rattle.rules.specs.Calls.{atPool}
 use Rattle.rules.specs.Tables.{model}
+use Rattle.rules.proofs.Lookup.{unrefused}
 use Rattle.table.specs.Parts.{ruledIn}
 use Rattle.table.proofs.Rows.{Left, left-start, left-here, left-next, left-end}
 use Rattle.table.proofs.Ranges.{formed-now}
 use Rattle.table.proofs.GrantingLoop.{Freeing, freeing-start, freeing-covers, freeing-more, freeing-end}
-use Rattle.rules.proofs.Lookup.{free-told}
 use Rattle.table.proofs.free.Statement.{statement}
 use Rattle.table.proofs.free.Tie as tie
 
@@ -32,7 +34,7 @@ returns : tie.Need-returns Inv-loop μ-loop
 unfolding freeUnits
 returns c =
     let z = c .before in
-    (omega (arith, freeing-end (left-end (z .loop .inv) (c .loop-test .left))), free-told (model (z .before .args .t1)))
+    (omega (arith, freeing-end (left-end (z .loop .inv) (c .loop-test .left))), unrefused (model (z .before .args .t1)) atPool (λ k. refl))
 
 pub free-spec : {M : Type 1} → statement M
 free-spec =
