@@ -1,19 +1,20 @@
 -- A load is a run: record by record, listing, replay and the turns of the run go side by side.
-use mathlib.Core.Path.{_≡_, refl, sym, _∙_, ap}
-use mathlib.Core.Logic.{_⊎_, inl, inr, _≢_}
+use mathlib.Core.Path.{_≡_, refl, sym, _∙_, ap, subst}
+use mathlib.Core.Logic.{_⊎_, inl, inr, ⊎-elim, _≢_}
 use mathlib.Core.Bool.{Bool, false, _&&_}
-use mathlib.Core.List.{List, [], _∷_, _++_, map, append-assoc}
+use mathlib.Core.List.{List, [], _∷_, _++_, map, append-assoc, List·Memᴰ·cases-cons}
 use Prim.Native.Nat.{ℕ, zero, suc, _+_, _<_}
 use native.Mathlib.Omega.{arith}
 use lib.Dec.{leb, eqb}
-use borrow.Author.Tests.{eq-eqb, ne-eqb, leb-true}
+use lib.ListN.{length}
+use borrow.Author.Tests.{le-leb, eq-eqb, ne-eqb, leb-true}
 use Rattle.numbers.specs.Numbers.{darkNumber, editionNumber, overlongNumber}
 use Rattle.rules.specs.Lists.{_∈_}
 use Rattle.rules.specs.Calls.{Model, Call as TableCall, Answer, Step, unchanged, advance, plain, finish, join, admit, step, blank, new}
 use Rattle.rules.proofs.Bools.{by-test, and-l, and-r}
-use Rattle.rules.proofs.Lists.{here, there}
+use Rattle.rules.proofs.Lists.{here, there, none}
 use Rattle.rules.proofs.Calls.{leaves-clock, step-cases, new-cases}
-use Rattle.promises.specs.Ledger.{turns, tableAfter}
+use Rattle.promises.specs.Ledger.{Turn, turns, tableAfter}
 use Rattle.promises.specs.Runs.{by-new}
 use Rattle.promises.proofs.Promises.{promises}
 use Rattle.load.specs.declared.Call.{Call}
@@ -34,12 +35,19 @@ turn-entry k m =
     (λ c t j q o v. ap (λ (n : ℕ). lineOf k 0 j t ++ onLines n (finish q (plain j t) .answer .grants)) (leaves-clock v .0 ∙ sym (leaves-clock v .1)))
     (λ c r l d. refl) (λ n d. refl)
 
-ends-within : (k n : ℕ) → k ≢ 1 → ending k n ≢ 0 → Ends n
+-- Behind the rig a record ends the listing by its own number, where that is one that does.
+ends-within : (k n : ℕ) → k ≢ 1 → ending k n ≢ 0 → Ends n × (ending k n ≡ n)
 unfolding ending
 ends-within k n h e =
     by-test (leb editionNumber n && leb n overlongNumber)
-    (λ b. (leb-true editionNumber n (and-l _ _ b), leb-true n overlongNumber (and-r (leb editionNumber n) _ b)))
+    (λ b. ((leb-true editionNumber n (and-l _ _ b), leb-true n overlongNumber (and-r (leb editionNumber n) _ b)), rw b))
     (λ b. absurd (e (rw (b, ne-eqb k 1 h) (by-test (eqb n darkNumber) (λ q. rw q) (λ q. rw q)))))
+
+goes-on : (k n : ℕ) → ending k n ≡ 0 → Ends n → ⊥
+unfolding ending
+goes-on k n e h =
+    let z : n ≡ 0 = rw (le-leb editionNumber n (h .0), le-leb n overlongNumber (h .1)) at e in
+    omega (arith, h .0)
 
 -- ── the records behind the rig ──
 record RanFrom (alone : Bool) (k : ℕ) (m : Model) (cs : List Call) (n : ℕ) : Type 0 where
@@ -48,7 +56,10 @@ record RanFrom (alone : Bool) (k : ℕ) (m : Model) (cs : List Call) (n : ℕ) :
   read : cs ≡ records ++ rest
   lines : linesFrom alone k m cs n ≡ turnsLines k (turns step m (map saysCall records)) ++ stopOr (replayFrom alone k m cs n .stop) (replayFrom alone k m cs n .at) []
   left : replayFrom alone k m cs n .left ≡ tableAfter step m (map saysCall records)
-  all-run : (rest ≡ []) ⊎ ((c : Call) × (ds : List Call) × (rest ≡ c ∷ ds) × Ends (step (replayFrom alone k m cs n .left) (saysCall c) .answer .number))
+  none-ends : (t : Turn) → t ∈ turns step m (map saysCall records) → Ends (t .answer .number) → ⊥
+  all-run : ((rest ≡ []) × (replayFrom alone k m cs n .stop ≡ n))
+      ⊎ ((c : Call) × (ds : List Call) × (rest ≡ c ∷ ds) × (let j = step (replayFrom alone k m cs n .left) (saysCall c) .answer .number in Ends j × (replayFrom alone k m cs n .stop ≡ j)))
+  stop-at : replayFrom alone k m cs n .stop ≢ 0 → replayFrom alone k m cs n .at ≡ k + length records
 
 says-no-rig : {c : Call} {t : TableCall} → Says c t → eqb (c .kind) 1 ≡ false
 says-no-rig {c} (says-claim e) = ne-eqb (c .kind) 1 (λ q. omega arith)
@@ -60,8 +71,10 @@ says-no-rig {c} (says-grace e) = ne-eqb (c .kind) 1 (λ q. omega arith)
 
 ran-from : (alone : Bool) (k : ℕ) (m : Model) (cs : List Call) (n : ℕ) → 1 < k → ((c : Call) → c ∈ cs → Says c (saysCall c)) → RanFrom alone k m cs n
 unfolding linesFrom replayFrom turnsLines turns tableAfter stepOf
-ran-from alone k m [] zero l h = record { records = []; rest = []; read = refl; lines = refl; left = refl; all-run = inl refl }
-ran-from alone k m [] (suc n) l h = record { records = []; rest = []; read = refl; lines = refl; left = refl; all-run = inl refl }
+ran-from alone k m [] zero l h =
+    record { records = []; rest = []; read = refl; lines = refl; left = refl; none-ends = λ t i. none i; all-run = inl (refl, refl); stop-at = λ z. absurd (z refl) }
+ran-from alone k m [] (suc n) l h =
+    record { records = []; rest = []; read = refl; lines = refl; left = refl; none-ends = λ t i. none i; all-run = inl (refl, refl); stop-at = λ z. omega arith }
 ran-from alone k m (c ∷ cs) n l h =
     let e : stepOf alone m c ≡ step m (saysCall c) = rw (says-no-rig (h c here)) in
     go (ending k (step m (saysCall c) .answer .number)) refl e (ran-from alone (k + 1) (step m (saysCall c) .model) cs n (omega arith) (λ d i. h d (there i)))
@@ -78,7 +91,9 @@ ran-from alone k m (c ∷ cs) n l h =
           let stop : List ℕ = stopOr (f .stop) (f .at) [] in
           ap (λ (x : List ℕ). first ++ x) (r .lines) ∙ sym (append-assoc first later stop) ∙ ap (λ (x : List ℕ). (x ++ later) ++ stop) (turn-entry k m (saysCall c)));
       left = rw (e, sym q) (r .left);
+      none-ends = λ t i f. ⊎-elim (λ j. goes-on k _ (sym q) (subst (λ (x : Turn). Ends (x .answer .number)) j f)) (λ j. r .none-ends t j f) (List·Memᴰ·cases-cons i);
       all-run = rw (e, sym q) (r .all-run);
+      stop-at = rw (e, sym q) (λ z. omega (arith, r .stop-at z));
     }
     go (suc j) q e r = record {
       records = [];
@@ -86,7 +101,9 @@ ran-from alone k m (c ∷ cs) n l h =
       read = refl;
       lines = rw (e, sym q);
       left = rw (e, sym q);
-      all-run = inr (c, cs, refl, rw (e, sym q) (ends-within k _ (λ z. omega arith) (λ z. omega (arith, q, z))));
+      none-ends = λ t i. none i;
+      all-run = inr (c, cs, refl, rw (e, sym q) (let x = ends-within k (step m (saysCall c) .answer .number) (λ z. omega arith) (λ z. omega (arith, q, z)) in (x .0, q ∙ x .1)));
+      stop-at = rw (e, sym q) (λ z. omega arith);
     }
 
 -- ── the whole ──
@@ -137,7 +154,9 @@ module _ (load : List ℕ) (opens : openNumber load ≡ 0) where
             taken = ap (λ (x : Answer). x .number) a;
             listing = lines-are ∙ ap (λ (x : List ℕ). header ++ (lineOf 1 0 0 0 ++ x)) (rw replay-is (r .lines));
             left = rw replay-is (r .left);
+            none-ends = r .none-ends;
             all-run = rw replay-is (r .all-run);
+            stop-at = rw replay-is (r .stop-at);
             promised = promises (startOf load rig) (by-new (rig .groups) (rig .pool) (aloneIn load)) (map saysCall (r .records));
           }
 

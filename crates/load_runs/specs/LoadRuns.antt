@@ -1,12 +1,14 @@
--- Every load is a run: the calls that its records say are made one after the other of the table that its rig gave, and its listing prints their
--- answers and nothing else. So all that is promised of every list of calls is promised of every listing, and of the table that a load leaves.
+-- Every load is a run: the calls that its records say are made one after the other of the table that its rig gave, and its listing prints
+-- number, ticket, start and grants of their answers, between the rig's line and a stop line. So all that is promised of every list of calls is promised of every listing, and of the table that a load leaves.
 -- proofs/LoadRuns has the theorem.
 use mathlib.Core.Path.{_≡_}
-use mathlib.Core.Logic.{_⊎_}
+use mathlib.Core.Logic.{_⊎_, _≢_}
 use mathlib.Core.List.{List, [], _∷_, _++_, map}
 use Prim.Native.Nat.{ℕ, _+_, _≤_}
+use lib.ListN.{length}
 use Rattle.numbers.specs.Numbers.{editionNumber, overlongNumber}
 use Rattle.rules.specs.Calls.{clockOf, step, new}
+use Rattle.rules.specs.Lists.{_∈_}
 use Rattle.promises.specs.Ledger.{Turn, turns, tableAfter}
 use Rattle.promises.specs.Runs.{Start, newly}
 use Rattle.promises.specs.Promises.{Promises}
@@ -51,8 +53,13 @@ pub record Ran (load : List ℕ) : Type 0 where
   pub listing : listingOf load ≡ header ++ (lineOf 1 0 0 0 ++ (turnsLines 2 (turns step (startOf load rig .table) (map saysCall records)) ++ stopText load))
   -- The table that the load leaves, of which questions are asked.
   pub left : replayOf load .left ≡ tableAfter step (startOf load rig .table) (map saysCall records)
-  -- "Only 11 to 14 and a dark rig end the listing early": all records were run, or the next one is answered such a number.
-  pub all-run : (rest ≡ []) ⊎ ((c : Call) × (cs : List Call) × (rest ≡ c ∷ cs) × Ends (step (replayOf load .left) (saysCall c) .answer .number))
+  -- "Only 11 to 14 and a dark rig end the listing early": no call that was run is answered such a number; and all records were run, so that the
+  -- stop, if any, is that of the load's bytes, or the next one is answered such a number, and that is the stop.
+  pub none-ends : (t : Turn) → t ∈ turns step (startOf load rig .table) (map saysCall records) → Ends (t .answer .number) → ⊥
+  pub all-run : ((rest ≡ []) × (replayOf load .stop ≡ walk load 1 .stop))
+      ⊎ ((c : Call) × (cs : List Call) × (rest ≡ c ∷ cs) × (let n = step (replayOf load .left) (saysCall c) .answer .number in Ends n × (replayOf load .stop ≡ n)))
+  -- "`stop NUMBER RECORD`, in place of that record's line": the rig is record 1.
+  pub stop-at : replayOf load .stop ≢ 0 → replayOf load .at ≡ 2 + length records
   -- All that is promised of a run.
   pub promised : Promises (startOf load rig) (map saysCall records)
 

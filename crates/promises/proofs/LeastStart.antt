@@ -17,12 +17,12 @@ use Rattle.rules.specs.Granting.{goes, granted, grant}
 use Rattle.rules.specs.Plans.{Room, Fits}
 use Rattle.rules.specs.Pool.{used}
 use Rattle.rules.specs.Tests.{named}
-use Rattle.rules.specs.Invariants.{Invariant}
-use Rattle.rules.specs.Calls.{Model, ruled, settingOf, Call, claim, standing, isTimed, isLook, Step, advance, finish, join, admit, step}
+use Rattle.rules.specs.Invariants.{Invariant, Settled}
+use Rattle.rules.specs.Calls.{Model, ruled, settingOf, Call, claim, standing, isTimed, isLook, Step, advance, plain, finish, join, admit, step}
 use Rattle.rules.proofs.Bools.{clash, by-test}
 use Rattle.rules.proofs.Lists.{map-e, map-i, keep-snoc, keep-all}
 use Rattle.rules.proofs.Granting.{granted-cases, granted-ticket, goes-at, end-granted, granted-on, grant-uses}
-use Rattle.rules.proofs.Calls.{Admissible, advance-e, clock-accepted, Leaves, by-release, by-withdraw, by-clock, Idle, step-cases}
+use Rattle.rules.proofs.Calls.{Admissible, advance-packed, finish-invariant, advance-e, clock-accepted, Leaves, by-release, by-withdraw, by-clock, Idle, step-cases}
 use Rattle.promises.specs.Ledger.{Turn, turns, tableAfter, Ledger, Entry, without, noted, notedAll, NoOverrun}
 use Rattle.promises.specs.Runs.{tells, Start, Begins}
 use Rattle.promises.specs.Plan.{endTold, plannedUse}
@@ -31,6 +31,7 @@ use Rattle.promises.specs.LeastStart.{RoomTold, FitsBeside, LeastOf, Lea
 use Rattle.promises.proofs.Matching.{Match, partner, partner-of}
 use Rattle.promises.proofs.WholeCalls.{claim-whole, clocked-is}
 use Rattle.promises.proofs.Demand3.{Tracks, Story, match-without, same-claim, story-after, after-calls}
+use Rattle.promises.proofs.StartsPacked.{packed-of}
 use Rattle.promises.proofs.Plan.{told-is, waits-at, end-is, use-is, standing-wait}
 
 module _ (Q : Type 0) (l : Ledger) (m : Model) (i : Invariant m) (t : ℕ) (ask : Request) (a : Admissible m t ask) (st : Story Q l (admit (advance m t) ask .model)) where
@@ -44,7 +45,7 @@ module _ (Q : Type 0) (l : Ledger) (m : Model) (i : Invariant m) (t : ℕ) (ask 
   abbrev k : ℕ
   k = suc (m .issued)
 
-  whole : ClaimCall m t ask (admit (advance m t) ask)
+  whole : ClaimCall step m t ask (admit (advance m t) ask)
   whole = claim-whole m i t ask a
 
   same-rules : settingOf n ≡ ruled m t
@@ -156,11 +157,16 @@ module _ (Q : Type 0) (l : Ledger) (m : Model) (i : Invariant m) (t : ℕ) (ask 
     spare = λ z y p q. omega (arith, f .spare (omega (arith, whole .units, z)) y p (omega (arith, whole .length, q)), use-same y (omega (arith, h, p)), whole .units, pool-same);
   }
 
+  settled : Settled (m .issued) (settingOf n) (grant (ruled m t) ps)
+  unfolding admit finish join advance
+  settled = subst (Settled (m .issued) (ruled m t)) (clocked-is m i t) (finish-invariant (advance m t) (plain 0 t) (advance-packed m t i (a .clocked .later) .spaced))
+
   least-of : LeastOf l (tells n) t ask (admit (advance m t) ask .answer)
   least-of = record {
     from-clock = whole .from-clock;
     fits = rw next-ticket (fits-told _ (whole .from-clock) (whole .fits));
     least = λ x h f. whole .least x h (fits-of x h (rw next-ticket at f));
+    others-packed = rw next-ticket (packed-of Q l n st (grant (ruled m t) ps) (without k (l .claims)) matched pending (m .issued) settled);
   }
 
 -- Of a call and its step, where the ledger after it is that of the table after it.

@@ -15,6 +15,7 @@ use Rattle.rules.specs.Claims.{on, at, rival}
 use Rattle.rules.specs.Order.{before}
 use Rattle.rules.specs.Packing.{moved, ahead}
 use Rattle.rules.specs.Plans.{Sane, Spare, Behind}
+use Rattle.rules.specs.Invariants.{Settled}
 use Rattle.rules.specs.Calls.{Model, settingOf, atTicket, Call}
 use Rattle.rules.proofs.Bools.{by-test, by-order}
 use Rattle.rules.proofs.Lists.{keep-e, map-id}
@@ -43,74 +44,78 @@ key-order r j s k a b =
         (λ h. le-ltb (r * 65536 + j) (s * 65536 + k) (omega arith) ∙ rw (le-ltb r s (omega arith), eq-eqb r s e, le-ltb j k h))
         (λ h. lt-ltb (r * 65536 + j) (s * 65536 + k) (omega arith) ∙ rw (le-ltb r s (omega arith), eq-eqb r s e, lt-ltb j k h))
 
-module _ (P : Type 0) (l : Ledger) (m : Model) (st : Story P l m) (w : Claim) (wi : w ∈ m .pending) (o : on w ≡ false) (f : Entry) (t : Tracks P w f) where
-  abbrev v : Setting
-  v = settingOf m
+-- Of claims ps of the table that are settled among themselves, side by side with theirs in the ledger.
+module _ (P : Type 0) (l : Ledger) (m : Model) (st : Story P l m) (ps : List Claim) (es : List Entry) (ma : Match (Tracks P) ps es) (inside : (c : Claim) → c ∈ ps → c ∈ m .pending)
+    (k : ℕ) (se : Settled k (settingOf m) ps) where
+  -- One that waits, and its entry.
+  module _ (w : Claim) (wi : w ∈ ps) (o : on w ≡ false) (f : Entry) (t : Tracks P w f) where
+    abbrev v : Setting
+    v = settingOf m
 
-  -- The claims before w, and theirs in the ledger.
-  abbrev qs : List Claim
-  qs = keep (λ c. before c w) (m .pending)
+    -- The claims before w, and theirs in the ledger.
+    abbrev qs : List Claim
+    qs = keep (λ c. before c w) ps
 
-  abbrev es : List Entry
-  es = aheadTold (tells m) (at w) (f .ticket) (l .claims)
+    abbrev ahead-of : List Entry
+    ahead-of = aheadTold (tells m) (at w) (f .ticket) es
 
-  sane : (c : Claim) → c ∈ m .pending → Sane (settingOf m) c
-  sane c i = st .inv .spaced .proper c i .sane
+    sane : (c : Claim) → c ∈ ps → Sane (settingOf m) c
+    sane c i = se .spaced .proper c i .sane
 
-  ahead-is : (c : Claim) (e : Entry) → c ∈ m .pending → Tracks P c e → before c w ≡ aheadAs (tells m (atTicket (e .ticket))) (e .ticket) (at w) (f .ticket)
-  unfolding before
-  ahead-is c e i r =
-      by-test (on c)
-      (λ h. before-on c w h ∙ sym (ap (λ (x : Standing). aheadAs x (e .ticket) (at w) (f .ticket)) (told-is P l m st c e i r ∙ standing-on c h)))
-      (λ h.
-      rw (told-is P l m st c e i r ∙ standing-wait c h, h)
-      (key-order (at c) (c .ticket) (at w) (w .ticket) (sane c i .small) (sane w wi .small) ∙ rw (r .ticket, t .ticket)))
+    ahead-is : (c : Claim) (e : Entry) → c ∈ ps → Tracks P c e → before c w ≡ aheadAs (tells m (atTicket (e .ticket))) (e .ticket) (at w) (f .ticket)
+    unfolding before
+    ahead-is c e i r =
+        by-test (on c)
+        (λ h. before-on c w h ∙ sym (ap (λ (x : Standing). aheadAs x (e .ticket) (at w) (f .ticket)) (told-is P l m st c e (inside c i) r ∙ standing-on c h)))
+        (λ h.
+        rw (told-is P l m st c e (inside c i) r ∙ standing-wait c h, h)
+        (key-order (at c) (c .ticket) (at w) (w .ticket) (sane c i .small) (sane w wi .small) ∙ rw (r .ticket, t .ticket)))
 
-  matched : Match (Tracks P) qs es
-  matched = match-keep (λ c. before c w) (λ e. aheadAs (tells m (atTicket (e .ticket))) (e .ticket) (at w) (f .ticket)) ahead-is (st .match)
+    matched : Match (Tracks P) qs ahead-of
+    matched = match-keep (λ c. before c w) (λ e. aheadAs (tells m (atTicket (e .ticket))) (e .ticket) (at w) (f .ticket)) ahead-is ma
 
-  pending : (c : Claim) → c ∈ qs → c ∈ m .pending
-  pending c i = keep-e (λ c. before c w) (m .pending) i .0
+    pending : (c : Claim) → c ∈ qs → c ∈ m .pending
+    pending c i = inside c (keep-e (λ c. before c w) ps i .0)
 
-  shared-same : (c : Claim) (e : Entry) → Tracks P c e → shares (e .asked .groups) (f .asked .groups) ≡ rival c w
-  shared-same c e r = rw (r .groups, t .groups)
+    shared-same : (c : Claim) (e : Entry) → Tracks P c e → shares (e .asked .groups) (f .asked .groups) ≡ rival c w
+    shared-same c e r = rw (r .groups, t .groups)
 
-  behind-told : (x : ℕ) → Behind v qs w x → BehindTold l (tells m) es f x
-  behind-told x b = record {
-    after = λ e i h.
-        let c = partner matched i in
-        omega (arith, end-is P l m st (c .0) e (pending (c .0) (c .1)) (c .2), b .after (c .0) (c .1) (sym (shared-same (c .0) e (c .2)) ∙ h));
-    spare = λ z y p q. omega (arith, b .spare (omega (arith, t .units, z)) y p (omega (arith, t .length, q)), use-is P l m st y qs es pending matched, t .units, st .pool);
-  }
+    behind-told : (x : ℕ) → Behind v qs w x → BehindTold l (tells m) ahead-of f x
+    behind-told x b = record {
+      after = λ e i h.
+          let c = partner matched i in
+          omega (arith, end-is P l m st (c .0) e (pending (c .0) (c .1)) (c .2), b .after (c .0) (c .1) (sym (shared-same (c .0) e (c .2)) ∙ h));
+      spare = λ z y p q. omega (arith, b .spare (omega (arith, t .units, z)) y p (omega (arith, t .length, q)), use-is P l m st y qs ahead-of pending matched, t .units, st .pool);
+    }
 
-  behind-of : (x : ℕ) → BehindTold l (tells m) es f x → Behind v qs w x
-  behind-of x b = record {
-    after = λ c i h.
-        let e = partner-of matched i in
-        omega (arith, end-is P l m st c (e .0) (pending c i) (e .2), b .after (e .0) (e .1) (shared-same c (e .0) (e .2) ∙ h));
-    spare = λ z y p q. omega (arith, b .spare (omega (arith, t .units, z)) y p (omega (arith, t .length, q)), use-is P l m st y qs es pending matched, t .units, st .pool);
-  }
+    behind-of : (x : ℕ) → BehindTold l (tells m) ahead-of f x → Behind v qs w x
+    behind-of x b = record {
+      after = λ c i h.
+          let e = partner-of matched i in
+          omega (arith, end-is P l m st c (e .0) (pending c i) (e .2), b .after (e .0) (e .1) (shared-same c (e .0) (e .2) ∙ h));
+      spare = λ z y p q. omega (arith, b .spare (omega (arith, t .units, z)) y p (omega (arith, t .length, q)), use-is P l m st y qs ahead-of pending matched, t .units, st .pool);
+    }
 
-  behind-self : Behind v qs w (at w)
-  unfolding ahead
-  behind-self = record {
-    after = λ c i h. let k = keep-e (λ c. before c w) (m .pending) i in st .inv .spaced .fit .behind c w (k .0) wi o (k .1) h;
-    spare = subst (λ (x : List Claim). Spare v x w (at w)) (map-id (moved at) qs (λ c i. moved-cases (λ (x : Claim). x ≡ c) at c (λ h. refl) (λ h. waiting-is c h)))
-        (settled-packs (m .issued) v (m .pending) (st .inv) w wi o .0 .spare);
-  }
+    behind-self : Behind v qs w (at w)
+    unfolding ahead
+    behind-self = record {
+      after = λ c i h. let k = keep-e (λ c. before c w) ps i in se .spaced .fit .behind c w (k .0) wi o (k .1) h;
+      spare = subst (λ (x : List Claim). Spare v x w (at w)) (map-id (moved at) qs (λ c i. moved-cases (λ (x : Claim). x ≡ c) at c (λ h. refl) (λ h. waiting-is c h)))
+          (settled-packs k v ps se w wi o .0 .spare);
+    }
 
-  packed-at : PackedAt l (tells m) f (at w)
-  packed-at = record {
-    from-clock = omega (arith, st .inv .spaced .low w wi o, st .clock);
-    behind = behind-told (at w) behind-self;
-    least = λ x h b. st .inv .earliest w wi o x (omega (arith, h, st .clock)) (behind-of x b);
-  }
+    packed-at : PackedAt l (tells m) es f (at w)
+    packed-at = record {
+      from-clock = omega (arith, se .spaced .low w wi o, st .clock);
+      behind = behind-told (at w) behind-self;
+      least = λ x h b. se .earliest w wi o x (omega (arith, h, st .clock)) (behind-of x b);
+    }
 
-packed-of : (P : Type 0) (l : Ledger) (m : Model) → Story P l m → Packed l (tells m)
-packed-of P l m st f i s w =
-    let a = partner (st .match) i in
-    let b = waits-at P l m st (a .0) f (a .1) (a .2) s w in
-    subst (PackedAt l (tells m) f) (b .1) (packed-at P l m st (a .0) (a .1) (b .0) f (a .2))
+  pub packed-of : Packed l (tells m) es
+  packed-of f i s w =
+      let a = partner ma i in
+      let b = waits-at P l m st (a .0) f (inside (a .0) (a .1)) (a .2) s w in
+      subst (PackedAt l (tells m) es f) (b .1) (packed-at (a .0) (a .1) (b .0) f (a .2))
 
 pub starts-packed : (s : Start) → Begins s → (calls : List Call) → StartsPacked s calls
-starts-packed s b calls before rest e = packed-of _ _ _ (after-calls s b before)
+starts-packed s b calls before rest e = let st = after-calls s b before in packed-of _ _ _ st _ _ (st .match) (λ c i. i) _ (st .inv)

@@ -246,7 +246,7 @@ module _ (m : Model) (i : Invariant m) (t : ℕ) (ask : Request) (a : Admissible
   unfolding startBound contention
   bound-at = joined-cases first ask (λ (y : Claim). (let rs = rivals (first .pending) y in startBound (ruled m t) (first .pending) (fresh first ask) ≡ t + sum (remaining (ruled m t)) rs + count rs * (ask .length - 1))) refl refl
 
-  pub claim-whole : ClaimCall m t ask (admit first ask)
+  pub claim-whole : ClaimCall step m t ask (admit first ask)
   unfolding admit finish advance
   claim-whole = record {
     new = w;
@@ -367,7 +367,7 @@ module _ (m : Model) (i : Invariant m) (t : ℕ) where
 
 -- ── every accepted call ──
 OfCall : Model → Call → Step → Type 0
-OfCall m (timed t x) s = TimedCall m t s × Acts m t x s
+OfCall m (timed t x) s = TimedCall m t s × Acts step m t x s
 OfCall m (looks q) s = Unit {0}
 OfCall m (setsUp p) s = Unit {0}
 

@@ -1,7 +1,7 @@
 -- "The planned start is the least s, not below the clock, such that for each conflicting on claim s ≥ its end, and for each conflicting waiting
 -- claim either s ≥ its end or s + length ≤ its planned start", and "a start must leave, over the whole hold, units enough beside all planned
--- holds" (document 02, P3): of every accepted claim of a run, by what ledger and lookups tell of the others after it. Beside demand 3.
--- proofs/LeastStart has the theorem.
+-- holds" (document 02, P3): of every accepted claim of a run, beside the others as ledger and lookups tell them after it, where they stand as if
+-- it were not there. Beside demand 3. proofs/LeastStart has the theorem.
 use mathlib.Core.Path.{_≡_}
 use mathlib.Core.Logic.{_⊎_}
 use mathlib.Core.Bool.{true}
@@ -15,6 +15,7 @@ use Rattle.rules.specs.Calls.{atTicket, Call, claim, Answer, step}
 use Rattle.promises.specs.Ledger.{Turn, Steps, Entry, without, Ledger, noted}
 use Rattle.promises.specs.Runs.{Told, Start, AtAnyCall}
 use Rattle.promises.specs.Plan.{endTold, SpareTold}
+use Rattle.promises.specs.StartsPacked.{Packed}
 
 -- A claim e leaves room for a hold of what is asked for, from x on.
 abbrev pub RoomTold : Ledger → Told → Request → ℕ → Entry → Type 0
@@ -30,6 +31,8 @@ pub record LeastOf (l : Ledger) (told : Told) (u : ℕ) (ask : Request) (a : Ans
   pub from-clock : u ≤ a .start
   pub fits : FitsBeside l told (without (a .ticket) (l .claims)) ask (a .start)
   pub least : (x : ℕ) → u ≤ x → FitsBeside l told (without (a .ticket) (l .claims)) ask x → a .start ≤ x
+  -- And those others are packed as if it were not there: it pushes none back.
+  pub others-packed : Packed l told (without (a .ticket) (l .claims))
 
 abbrev pub Least : Ledger → Turn → Told → Told → Type 0
 Least l t before after = (u : ℕ) (ask : Request) → t .call ≡ claim u ask → t .answer .number ≡ 0 → LeastOf (noted l t) after u ask (t .answer)

@@ -4,10 +4,11 @@ pub mod Plan
 pub mod Demand3
 pub mod NumbersTested
 pub mod Replies
-pub mod LeastStart
 pub mod StartsPacked
+pub mod LeastStart
 pub mod PlansApart
 pub mod WaitsExplained
+pub mod GrantsDue
 pub mod NeverOvertaken
 pub mod PoolKept
 pub mod SharesKept

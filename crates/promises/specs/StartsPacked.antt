@@ -1,6 +1,7 @@
--- "Packing takes waiting claims by start, then ticket. Each gets the least start, not below the clock, that comes after the conflicting claims
--- preceding it and leaves units enough beside the on claims and those already packed" (document 02, P3): of every waiting claim after any calls,
--- whoever overruns, by what ledger and lookups tell. Beside demand 3. proofs/StartsPacked has the theorem.
+-- "Each gets the least start, not below the clock, that comes after the conflicting claims preceding it and leaves units enough beside the on
+-- claims and those already packed" (document 02, P3): of every waiting claim after any calls, whoever overruns, by what ledger and lookups tell.
+-- "Packing takes waiting claims by start, then ticket": by the starts that they then have; that these are in the order of the starts before is
+-- said of calls (`WholeCalls`). Beside demand 3. proofs/StartsPacked has the theorem.
 use mathlib.Core.Path.{_≡_}
 use mathlib.Core.Bool.{true}
 use mathlib.Core.List.{List}
@@ -18,17 +19,21 @@ pub record BehindTold (l : Ledger) (told : Told) (es : List Entry) (f : Entry) (
   pub after : (e : Entry) → e ∈ es → shares (e .asked .groups) (f .asked .groups) ≡ true → endTold l told e ≤ x
   pub spare : SpareTold l told es (f .asked) x
 
--- f waits with the start s.
-pub record PackedAt (l : Ledger) (told : Told) (f : Entry) (s : ℕ) : Type 0 where
+-- f, one of these claims, waits with the start s.
+pub record PackedAt (l : Ledger) (told : Told) (es : List Entry) (f : Entry) (s : ℕ) : Type 0 where
   pub from-clock : l .clock ≤ s
-  pub behind : BehindTold l told (aheadTold told s (f .ticket) (l .claims)) f s
-  pub least : (x : ℕ) → l .clock ≤ x → BehindTold l told (aheadTold told s (f .ticket) (l .claims)) f x → s ≤ x
+  pub behind : BehindTold l told (aheadTold told s (f .ticket) es) f s
+  pub least : (x : ℕ) → l .clock ≤ x → BehindTold l told (aheadTold told s (f .ticket) es) f x → s ≤ x
 
-abbrev pub Packed : Ledger → Told → Type 0
-Packed l told = (f : Entry) → f ∈ l .claims → (s : ℕ) → told (atTicket (f .ticket)) ≡ Waits s → PackedAt l told f s
+-- So do all of these that wait; and all that are pending.
+abbrev pub Packed : Ledger → Told → List Entry → Type 0
+Packed l told es = (f : Entry) → f ∈ es → (s : ℕ) → told (atTicket (f .ticket)) ≡ Waits s → PackedAt l told es f s
+
+abbrev pub AllPacked : Ledger → Told → Type 0
+AllPacked l told = Packed l told (l .claims)
 
 abbrev pub StartsPackedOf : Steps → Start → List Call → Type 0
-StartsPackedOf step s calls = AtAnyTime step s calls Packed
+StartsPackedOf step s calls = AtAnyTime step s calls AllPacked
 
 abbrev pub StartsPacked : Start → List Call → Type 0
 StartsPacked s calls = StartsPackedOf step s calls

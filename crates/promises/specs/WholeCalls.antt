@@ -1,5 +1,6 @@
--- The sentences of document 01, "What each call does", and of document 02, P3, of whole calls: of the table m before a call that is accepted
--- and the table after it. proofs/WholeCalls has them for every table that calls can make.
+-- The sentences of document 01, "What each call does", and of document 02, P3, on order, packing, placing and granting, of whole calls: of the
+-- table m before a timed call that is accepted and the table after it. (What is answered beside, what lookups tell and what a refused call leaves
+-- is said of runs.) proofs/WholeCalls has them for every table that calls can make.
 use mathlib.Core.Path.{_≡_}
 use mathlib.Core.Logic.{_⊎_, _≢_}
 use mathlib.Core.Bool.{true, false, _&&_, cond}
@@ -17,6 +18,7 @@ use Rattle.rules.specs.Packing.{moved, Packs}
 use Rattle.rules.specs.Plans.{Fits}
 use Rattle.rules.specs.Pool.{heldBy}
 use Rattle.rules.specs.Calls.{Model, ruled, settingOf, Action, claims, releases, withdraws, movesClock, timed, clock, Step, advance, remove, step}
+use Rattle.promises.specs.Ledger.{Steps}
 
 -- The claim c of the table m is the claim d of the table n: tickets tell.
 pub record Becomes (m n : Model) (c d : Claim) : Type 0 where
@@ -63,8 +65,8 @@ pub record FirstPacking (m : Model) (t : ℕ) : Type 0 where
 abbrev pub Stays : ℕ → Claim → Claim → Type 0
 Stays t x d = (d ≡ x) ⊎ ((on x ≡ false) × (at x ≡ t) × (d ≡ withPhase x (On t)))
 
--- An accepted claim.
-pub record ClaimCall (m : Model) (t : ℕ) (ask : Request) (s : Step) : Type 0 where
+-- An accepted claim. `step` is how calls are run.
+pub record ClaimCall (step : Steps) (m : Model) (t : ℕ) (ask : Request) (s : Step) : Type 0 where
   -- The new claim, as it stands after the call.
   pub new : Claim
   pub groups : new .groups ≡ ask .groups
@@ -104,12 +106,16 @@ pub record ClockCall (m : Model) (t : ℕ) (s : Step) : Type 0 where
   pub none-else : (d : Claim) → d ∈ s .model .pending → (x : Claim) × x ∈ advance m t .pending × Stays t x d
 
 -- "then acts"
-abbrev pub Acts : Model → ℕ → Action → Step → Type 0
-Acts m t (claims ask) s = ClaimCall m t ask s
-Acts m t (releases k) s = LeaveCall m t k s
-Acts m t (withdraws k) s = LeaveCall m t k s
-Acts m t movesClock s = ClockCall m t s
+abbrev pub Acts : Steps → Model → ℕ → Action → Step → Type 0
+Acts step m t (claims ask) s = ClaimCall step m t ask s
+Acts step m t (releases k) s = LeaveCall m t k s
+Acts step m t (withdraws k) s = LeaveCall m t k s
+Acts step m t movesClock s = ClockCall m t s
 
-pub record WholeCalls (m : Model) : Type 0 where
+-- Of a table and every timed call of it, by `step`.
+pub record WholeCallsOf (step : Steps) (m : Model) : Type 0 where
   pub of-packing : (t : ℕ) → FirstPacking m t
-  pub of-timed : (t : ℕ) (x : Action) → step m (timed t x) .answer .number ≡ 0 → TimedCall m t (step m (timed t x)) × Acts m t x (step m (timed t x))
+  pub of-timed : (t : ℕ) (x : Action) → step m (timed t x) .answer .number ≡ 0 → TimedCall m t (step m (timed t x)) × Acts step m t x (step m (timed t x))
+
+abbrev pub WholeCalls : Model → Type 0
+WholeCalls m = WholeCallsOf step m

@@ -13,10 +13,11 @@ use Rattle.promises.specs.Demand3.{Now, NoWaitPast, Next}
 use Rattle.promises.specs.NumbersTested.{NumberTested}
 use Rattle.promises.specs.Replies.{Replied}
 use Rattle.promises.specs.LeastStart.{Least}
-use Rattle.promises.specs.StartsPacked.{Packed}
+use Rattle.promises.specs.StartsPacked.{AllPacked}
 use Rattle.promises.specs.PlansApart.{Apart}
 use Rattle.promises.specs.WaitsExplained.{Explained}
 use Rattle.promises.specs.NeverOvertaken.{NotOvertaken}
+use Rattle.promises.specs.GrantsDue.{Due}
 use Rattle.promises.specs.PoolKept.{Kept}
 use Rattle.promises.specs.SharesKept.{SharesNow, SharesNext}
 use Rattle.promises.specs.WholeCalls.{WholeCalls}
@@ -28,13 +29,14 @@ use Rattle.promises.proofs.StartsPacked.{starts-packed}
 use Rattle.promises.proofs.PlansApart.{plans-apart}
 use Rattle.promises.proofs.WaitsExplained.{waits-explained}
 use Rattle.promises.proofs.NeverOvertaken.{never-overtaken}
+use Rattle.promises.proofs.GrantsDue.{grants-due}
 use Rattle.promises.proofs.PoolKept.{pool-kept}
 use Rattle.promises.proofs.SharesKept.{shares-kept}
 use Rattle.promises.proofs.TableKept.{table-kept}
 use Rattle.table.specs.declared.Outcome.{Outcome}
 use Rattle.table.specs.Outcomes.{outcome}
 use Rattle.table.specs.Valid.{Valid}
-use Rattle.table_runs.specs.Runs.{answered, looked, lookNumber, Promised, Shows, Made, by-call, by-look, Run, done, then, Looks, BeganAs, by-new, CodeAtAnyTime, CodeWhileNobodyOverruns, CodeAtAnyLater, CodeAtAnyCall, CodeDemand3, CodeNumbersTested, CodeNewTested, CodeReplies, CodeLeastStart, CodeStartsPacked, CodePlansApart, CodeWaitsExplained, CodeNeverOvertaken, CodePoolKept, CodeSharesKept, CodeTables}
+use Rattle.table_runs.specs.Runs.{answered, looked, lookNumber, Promised, Shows, Made, by-call, by-look, Run, done, then, Looks, BeganAs, by-new, CodeAtAnyTime, CodeWhileNobodyOverruns, CodeAtAnyLater, CodeAtAnyCall, CodeDemand3, CodeNumbersTested, CodeNewTested, CodeReplies, CodeLeastStart, CodeStartsPacked, CodePlansApart, CodeWaitsExplained, CodeNeverOvertaken, CodeGrantsDue, CodePoolKept, CodeSharesKept, CodeTables}
 use Rattle.table.proofs.Promised.{outcome-model, outcome-grants}
 
 -- ── what the contracts say ──
@@ -156,7 +158,7 @@ pub code-least-start : (calls : List Call) → CodeLeastStart calls
 code-least-start calls = any-call-of-code calls Least (λ s b. least-start s b calls)
 
 pub code-starts-packed : (calls : List Call) → CodeStartsPacked calls
-code-starts-packed calls = any-time-of-code calls Packed (λ s b. starts-packed s b calls)
+code-starts-packed calls = any-time-of-code calls AllPacked (λ s b. starts-packed s b calls)
 
 pub code-plans-apart : (calls : List Call) → CodePlansApart calls
 code-plans-apart calls = any-time-of-code calls Apart (λ s b. plans-apart s b calls)
@@ -166,6 +168,9 @@ code-waits-explained calls = any-time-of-code calls Explained (λ s b. waits-exp
 
 pub code-never-overtaken : (calls : List Call) → CodeNeverOvertaken calls
 code-never-overtaken calls = any-later-of-code calls NotOvertaken (λ s b. never-overtaken s b calls)
+
+pub code-grants-due : (calls : List Call) → CodeGrantsDue calls
+code-grants-due calls = any-call-of-code calls Due (λ s b. grants-due s b calls)
 
 pub code-pool-kept : (calls : List Call) → CodePoolKept calls
 code-pool-kept calls = any-time-of-code calls Kept (λ s b. pool-kept s b calls)

@@ -16,10 +16,11 @@ use Rattle.promises.specs.Demand3.{Now, NoWaitPast, Next}
 use Rattle.promises.specs.NumbersTested.{NumberTested}
 use Rattle.promises.specs.Replies.{Replied}
 use Rattle.promises.specs.LeastStart.{Least}
-use Rattle.promises.specs.StartsPacked.{Packed}
+use Rattle.promises.specs.StartsPacked.{AllPacked}
 use Rattle.promises.specs.PlansApart.{Apart}
 use Rattle.promises.specs.WaitsExplained.{Explained}
 use Rattle.promises.specs.NeverOvertaken.{NotOvertaken}
+use Rattle.promises.specs.GrantsDue.{Due}
 use Rattle.promises.specs.PoolKept.{Kept}
 use Rattle.promises.specs.SharesKept.{SharesNow, SharesNext}
 use Rattle.promises.specs.TableKept.{Keeps}
@@ -152,7 +153,7 @@ abbrev pub CodeLeastStart : List Call → Type 0
 CodeLeastStart calls = CodeAtAnyCall calls Least
 
 abbrev pub CodeStartsPacked : List Call → Type 0
-CodeStartsPacked calls = CodeAtAnyTime calls Packed
+CodeStartsPacked calls = CodeAtAnyTime calls AllPacked
 
 abbrev pub CodePlansApart : List Call → Type 0
 CodePlansApart calls = CodeAtAnyTime calls Apart
@@ -162,6 +163,9 @@ CodeWaitsExplained calls = CodeAtAnyTime calls Explained
 
 abbrev pub CodeNeverOvertaken : List Call → Type 0
 CodeNeverOvertaken calls = CodeAtAnyLater calls NotOvertaken
+
+abbrev pub CodeGrantsDue : List Call → Type 0
+CodeGrantsDue calls = CodeAtAnyCall calls Due
 
 abbrev pub CodePoolKept : List Call → Type 0
 CodePoolKept calls = CodeAtAnyTime calls Kept
