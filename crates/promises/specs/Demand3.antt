@@ -1,5 +1,6 @@
 -- Demand 3: one statement about a list of calls, "any number, even zero, in any order, with any values, those turned down too". Its words
--- go by the calls, their answers and lookup. proofs/Demand3 has the theorem: it holds for every start and every list.
+-- go by the calls, their answers and lookup. proofs/Demand3 has the theorem: it holds of every start that a run may have
+-- (`Begins`) and every list.
 use mathlib.Core.Path.{_≡_}
 use mathlib.Core.Logic.{_⊎_, _≢_}
 use mathlib.Core.Bool.{true, false}

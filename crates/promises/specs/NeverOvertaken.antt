@@ -1,6 +1,7 @@
--- A cue that precedes another goes on before it, or leaves: nobody is overtaken, whoever overruns. What precedes a waiting claim goes on
--- preceding it, and that claim waits on, for as long as both are pending. Beside demand 3, of the same lists of calls, by lookups alone.
--- proofs/NeverOvertaken has the theorem.
+-- Of two cues that are pending and share a group the one that precedes goes on before the other, or leaves, whoever overruns: what precedes a
+-- waiting claim goes on preceding it, and that claim waits on, for as long as both are pending. (A new claim may come before one that waits only
+-- where it fits and pushes nobody back: `LeastStart`. Claims that have only the pool in common may overtake each other.) Beside demand 3, of the
+-- same lists of calls, by lookups alone. proofs/NeverOvertaken has the theorem.
 use mathlib.Core.Logic.{_≢_}
 use mathlib.Core.List.{List}
 use Prim.Native.Nat.{ℕ}

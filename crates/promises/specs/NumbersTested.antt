@@ -14,7 +14,7 @@ use Rattle.promises.specs.Ledger.{Turn, Steps, hasTicket, Ledger}
 use Rattle.promises.specs.Runs.{Told, Start, AtAnyCall}
 use Rattle.promises.specs.SharesKept.{askers}
 
--- The tests of the rules (`actionTests`, `lookTests`), of the ledger in place of a table.
+-- The tests of the rules (`actionTests`), of the ledger in place of a table.
 abbrev pub actionTestsBy : Ledger → Action → List Test
 actionTestsBy l (claims ask) =
     let ks = askers (l .claims) in

@@ -1,6 +1,6 @@
--- A plan can be kept: no start is before the end of a claim that precedes, held or waiting, and at no time is more of the pool planned in use
--- than there is, whoever overruns. So a cue that stays dark behind one that is running over is planned at least a grace later than the clock,
--- and not for "now" (document 02, P6). With `WaitsExplained` (each start is such an end, or one in the pool) that is document 01's "Each waiting
+-- No start is before the end of a claim that precedes, held or waiting, and at no time is more of the pool planned in use than there is, whoever
+-- overruns. So a cue that stays dark behind one that runs over on a group of its own is planned at least a grace later than the clock, and not
+-- for "now" (document 02, P6). With `WaitsExplained` (each start is such an end, or one in the pool) that is document 01's "Each waiting
 -- claim's planned start becomes the greatest of the clock and the ends of the claims that precede it", for claims that draw no units. Beside
 -- demand 3, by the same ledger and lookup. proofs/PlansApart has the theorem.
 use mathlib.Core.List.{List}

@@ -1,4 +1,4 @@
--- All that is promised of a run of calls, in one place.
+-- The theorems of a run of calls, in one place.
 use mathlib.Core.List.{List}
 use Rattle.rules.specs.Calls.{Call, step}
 use Rattle.promises.specs.Ledger.{tableAfter}

@@ -1,6 +1,6 @@
 -- The table has what the calls told it, after any number of them: rig, clock, pool, grace, shares, tickets issued, and of each pending claim what
--- was asked for, whether it is held, and since when. Planned starts alone are the table's own. So what `WholeCalls` says of tables is said of
--- the calls and their answers. proofs/TableKept has the theorem.
+-- was asked for, whether it is held, and since when. Planned starts alone, and the order of the claims in the list, are the table's own.
+-- proofs/TableKept has the theorem.
 use mathlib.Core.Path.{_≡_}
 use mathlib.Core.Bool.{true}
 use mathlib.Core.List.{List}

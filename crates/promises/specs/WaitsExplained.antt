@@ -1,6 +1,6 @@
--- Nobody waits without a reason, overrun or not: behind every waiting claim stands a pending one that has a group or the pool in common with
--- it and ends just as it starts. ("Every waiting claim that no pending claim precedes goes on at the call's clock.") Beside demand 3, by the
--- same ledger and lookup. proofs/WaitsExplained has the theorem.
+-- Whoever waits does so for a pending claim that has a group or the pool in common with it and ends just as it starts, overrun or not. Of a claim
+-- that draws no units that one precedes it: "Every waiting claim that no pending claim precedes goes on at the call's clock." Of one that draws
+-- units and waits at the clock `GrantsDue` says more. Beside demand 3, by the same ledger and lookup. proofs/WaitsExplained has the theorem.
 use mathlib.Core.Path.{_≡_}
 use mathlib.Core.Bool.{Bool, true, _&&_, _||_}
 use mathlib.Core.List.{List}

@@ -163,7 +163,7 @@ abbrev pub overOf : Model → ℕ → Test
 overOf m c = over (shareOf (m .shares) c) (pendingOf (clientsOf (m .pending)) c)
 
 -- "A claim is tested in the order 5, 4, 1, 2, 3, 6, 7; a release 5, 4, 8, 9; a withdrawal 5, 4, 8, 10; a clock call 5, 4": of every timed
--- call 5 and 4, then these; of a claim "16 .. after 2", "17 .. before 1", "18 .. after 6".
+-- call 5 and 4, then these; of a claim "16 .. after 2", "17 .. before 1", "18 .. after 6" (document 02, P3 and P4).
 abbrev pub actionTests : Model → Action → List Test
 actionTests m (claims ask) =
     stranger (shareOf (m .shares) (ask .client)) ∷ nothingAsked (ask .groups) (ask .units)
@@ -173,13 +173,13 @@ actionTests m (releases k) = unknown (named k) (m .pending) ∷ notYetOn (named 
 actionTests m (withdraws k) = unknown (named k) (m .pending) ∷ alreadyOn (named k) on (m .pending) ∷ []
 actionTests m movesClock = []
 
--- "a ticket that isn't pending answers 8": whether a ticket is pending is `known`.
+-- "a ticket that isn't pending answers 8" (document 02, P1; document 01: "gives 8"): whether a ticket is pending is `known`.
 abbrev pub lookTests : (ℕ → Bool) → Look → List Test
 lookTests known (atTicket k) = test (not (known k)) unknownNumber ∷ []
 lookTests known (atTwo j k) = test (not (known j)) unknownNumber ∷ test (not (known k)) unknownNumber ∷ []
 lookTests known atPool = []
 
--- A declaration is answered 13 "before 17", and 19 "after 17"; a grace 21.
+-- A declaration is answered 13 "before 17", and 19 "after 17" (document 02, P4); a grace 21 (P6).
 abbrev pub setupTests : ℕ → List Share → Setup → List Test
 setupTests issued ss (declares c r l) = begun issued ∷ noClient c ∷ overbooked (shareOf ss c) (reservedInAll ss) r l ∷ []
 setupTests issued ss (setsGrace n) = badGrace issued n ∷ []
@@ -311,7 +311,7 @@ lookupGives m k =
       end = valueAt (λ c. cond (on c) (at c + c .length) 0) k (m .pending);
     }
 
--- "A new look takes two tickets and gives that group; a ticket that isn't pending answers 8."
+-- "A new look takes two tickets and gives that group; a ticket that isn't pending answers 8" (document 02, P1).
 -- In numbers: the refusal's, 0 for none; the lowest group that both claims have, where there is one.
 pub record CommonValues : Type 0 where
   pub number : ℕ
@@ -349,7 +349,7 @@ abbrev pub commonGives : Model → ℕ → ℕ → CommonValues
 commonGives m j k =
     record { number = step m (common j k) .answer .number; groups = groupsBetween (keep (named j) (m .pending)) (keep (named k) (m .pending)) }
 
--- "A look gives the units free": of the whole table.
+-- "A look gives the units free" (document 02, P3): of the whole table.
 abbrev pub freeOf : Model → ℕ
 freeOf m = freeUnits (m .pool) (m .pending)
 

@@ -26,7 +26,7 @@ documentedStart v ps f w = greatest (λ c. endOf v (moved f c)) (v .clock) (keep
 abbrev pub documentedFits : Setting → List Claim → Claim → ℕ → Bool
 documentedFits v ps w s = all (clear v w s) ps
 
--- Its tests without "1 is now for a claim with neither group nor unit" and without 16.
+-- Its tests without "1 is now for a claim with neither group nor unit" (document 02, P3) and without 16.
 abbrev pub undrawnTests : Model → ℕ → Request → List Test
 undrawnTests m t ask =
     late t ∷ backward (m .clock) t ∷ stranger (shareOf (m .shares) (ask .client)) ∷ dark (ask .groups) ∷ offRig (m .rig) (ask .groups)

@@ -1,4 +1,4 @@
--- Client 1 alone: tables as loads of editions 1 and 2 make them, "with desk 1 declared, guarantee and limit 64", and nobody else. Then a
+-- Client 1 alone: tables as loads of editions 1 and 2 make them, "with desk 1 declared, guarantee and limit 64" (document 02, P4), and nobody else. Then a
 -- claim is tested as document 01 says: 6 comes as there, and 18 never. proofs/OneClient has it for every such run (`alone-as-ever`).
 use mathlib.Core.Path.{_≡_}
 use mathlib.Core.Logic.{_≢_}

@@ -2,8 +2,8 @@
 -- conflicting claims preceding it and leaves units enough beside the on claims and those already packed" (document 02, P3). For a claim
 -- that draws no units that is document 01's "greatest of the clock and the ends of the claims that precede it" (proofs/NoUnits:
 -- `start-documented`).
--- Packing takes the claims in the order `before`. On every table that calls can make that is the order of `precedes` (proofs/Packing:
--- `pack-as-documented`): of two waiting claims that conflict no two have the same start.
+-- Packing takes the claims in the order `before`. On every table that calls can make that is the order of `precedes` for claims that conflict
+-- (proofs/Calls: `packs-as-documented`): no two waiting claims that conflict have the same start.
 use mathlib.Core.Path.{_≡_}
 use mathlib.Core.Bool.{Bool, true, false, not, _&&_, _||_}
 use mathlib.Core.List.{List, map}

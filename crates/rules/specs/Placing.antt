@@ -29,6 +29,6 @@ place v ps w = seek v (fits v ps w) ps
 unfoldable pub contention : List Claim → Claim → ℕ
 contention ps w = length (rivals ps w)
 
--- Start bound of a claim (document 01: ceiling): "clock + the sum, over those, of remaining time + crowd × (length − 1)".
+-- Start bound of a claim (document 01: ceiling): "clock + the sum, over those, of remaining time .. + crowd × (length − 1)".
 unfoldable pub startBound : Setting → List Claim → Claim → ℕ
 startBound v ps w = v .clock + sum (remaining v) (rivals ps w) + contention ps w * (w .length - 1)

@@ -59,7 +59,7 @@ abbrev pub full : ℕ → Test
 full pending = test (leb mostPending pending) fullNumber
 
 -- "A desk below its guarantee never meets 6. Otherwise a claim is accepted only if pending claims plus the unfilled guarantees of the other
--- desks are below 64; else it gets 6." "over, desk at its limit": of a share and its client's own pending claims.
+-- desks are below 64; else it gets 6." "over, desk at its limit" (document 02, P4): of a share and its client's own pending claims.
 abbrev pub fullFor : Share → ℕ → ℕ → ℕ → Test
 fullFor s own pending unfilled = test (leb (s .reserved) own && leb mostPending (pending + unfilled)) fullNumber
 
@@ -67,7 +67,8 @@ abbrev pub over : Share → ℕ → Test
 over s own = test (leb (s .limit) own) overNumber
 
 -- A declaration: "after an accepted claim the table answers it 13"; "overbooked .. for guarantees adding up to over 64, a guarantee above its
--- limit, a limit over 64, or a desk declared twice". s is the share that the client has, and so many places are reserved in all.
+-- limit, a limit over 64, or a desk declared twice" (document 02, P4). s is the share that the client has, and so many places are
+-- reserved in all.
 abbrev pub begun : ℕ → Test
 begun issued = test (ltb 0 issued) misfitNumber
 

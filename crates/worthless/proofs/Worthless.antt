@@ -11,28 +11,31 @@ use Rattle.groups.specs.Groups.{someFrom, lowestFrom, common, shares, empty, wi
 use Rattle.rules.specs.declared.Claim.{Claim}
 use Rattle.rules.specs.declared.Phase.{Phase}
 use Rattle.rules.specs.Lists.{_∈_, greatest, least, sum, all, any, keep}
-use Rattle.rules.specs.Shares.{shareOf, pendingOf, unfilled, unfilledByOthers}
+use Rattle.rules.specs.Shares.{shareOf, withShare, pendingOf, unfilled, unfilledByOthers, reservedInAll}
 use Rattle.rules.specs.Claims.{on, at, heldUntil, endOf, remaining}
 use Rattle.rules.specs.Order.{precedes, before}
+use Rattle.rules.specs.Plans.{Ascending}
 use Rattle.rules.specs.Pool.{covers, unitsAt, used, enough, spare, heldUnits, freeUnits}
 use Rattle.rules.specs.Seeking.{seek}
 use Rattle.rules.specs.Packing.{ready, startFor, moved, ahead, startWithin, packedStart, pack}
 use Rattle.rules.specs.Placing.{clear, fits, place, contention, startBound}
 use Rattle.rules.specs.Granting.{takenBefore, trulyFree, goesWithin, goes, granted, grant, grants}
 use Rattle.rules.specs.declared.Phase.the-variants.{Waiting, On}
+use Rattle.rules.specs.declared.Common.the-variants.{Shared, Apart}
 use Rattle.rules.specs.declared.Standing.the-variants.{NotPending, Waits, Holds}
 use Rattle.rules.specs.Tests.{firstOf}
-use Rattle.rules.specs.Calls.{asking, atTicket, Call, release, clock, setGrace, lookup, tests, advance, finish, join, remove, admit, act, step, new, standingOf, commonOf, valueAt}
+use Rattle.rules.specs.Calls.{Model, asking, releases, atTicket, Call, release, declare, clock, setGrace, lookup, tests, advance, finish, join, remove, admit, act, step, new, standingOf, commonOf, valueAt}
 use Rattle.rules.proofs.Bools.{clash, by-test}
 use Rattle.rules.proofs.Lists.{here, there, none}
-use Rattle.promises.specs.Ledger.{Entry, turns, tableAfter, issues, stay, sharesBy, graceBy, marked, notedAll, boundOn}
-use Rattle.promises.specs.Runs.{Start, newly, ledgerAfter, toldAfter}
-use Rattle.promises.specs.Plan.{endTold}
+use Rattle.promises.specs.Ledger.{Entry, promised, turns, tableAfter, issues, stay, sharesBy, graceBy, marked, notedAll, boundOn}
+use Rattle.promises.specs.Runs.{tells, Start, newly, ledgerAfter, toldAfter}
+use Rattle.promises.specs.Plan.{endTold, Precedes}
 use Rattle.promises.specs.NumbersTested.{testsBy}
 use Rattle.promises.specs.WaitsExplained.{inCommon}
 use Rattle.promises.specs.TableKept.{Has}
 use Rattle.promises.specs.WholeCalls.{Stays}
-use Rattle.worthless.specs.Worthless.{claim, drawing, turnsDown, fixedStart, untouched, echoes, inventsContention, inventsBound, criesFull, neverGrants, tellsLate, renews, namesBackward, stopsGranting, fidgets, mumbles, blurts, noRig, ignoresGaps, skipsPacking, oneDrawer, crowds, showsNow, leavesGaps, leavesDrawers, reverses, overdraws, keepsUnitsBack, lastFirst, losesUnits, AllRefused}
+use Rattle.promises.proofs.Plan.{precedes-of}
+use Rattle.worthless.specs.Worthless.{claim, drawing, turnsDown, fixedStart, untouched, echoes, inventsContention, inventsBound, criesFull, neverGrants, tellsLate, renews, namesBackward, stopsGranting, fidgets, mumbles, blurts, noRig, ignoresGaps, skipsPacking, oneDrawer, crowds, showsNow, leavesGaps, leavesDrawers, reverses, overdraws, keepsUnitsBack, lastFirst, losesUnits, grantsAll, putsBack, forgetsGroups, pushesIn, hidesUnits, ignoresLimits, AllRefused}
 
 -- Of what holds of each, in a list of two and of three.
 module _ {A : Type 0} (P : A → Type 0) where
@@ -82,14 +85,27 @@ passed-over f d = of-three (λ (y : Claim). Stays 5 (moved f later) y → f late
     (λ s l. ⊎-elim (λ e. (let z : 15 ≡ f later = ap at e in omega arith)) (λ e. clash (ap on (e .2)) refl) s)
     (λ s l. ⊎-elim (λ e. (let z : _≡_ {A = ℕ} 4 3 = ap (λ (c : Claim). c .ticket) e in omega arith)) (λ e. (let z : _≡_ {A = ℕ} 4 3 = ap (λ (c : Claim). c .ticket) (e .2) in omega arith)) s)
 
+-- In a table of two claims nobody precedes the second, where the first does not.
+alone-first : (m : Model) (a b : Claim) → m .pending ≡ a ∷ b ∷ [] → a .ticket < b .ticket → precedes a b ≡ false → precedes b b ≡ false → (j : ℕ) → Precedes (tells m) j (b .ticket) → ⊥
+alone-first m a b e l p q j h =
+    let up : Ascending (m .pending) = subst Ascending (sym e) ((λ y i. rw (List·Memᴰ·eq-of-singleton i) l), (λ y i. none i, tt)) in
+    let x = precedes-of m up h in
+    let inside : (c : Claim) → c ∈ m .pending → c ∈ (a ∷ b ∷ []) = λ c i. subst (λ (y : List Claim). c ∈ y) e i in
+    of-two (λ (y : Claim). y .ticket ≡ b .ticket → precedes (x .one) y ≡ true → ⊥) a b (x .other) (λ z. omega (arith, z))
+    (λ _ z. of-two (λ (y : Claim). precedes y b ≡ true → ⊥) a b (x .one) (λ w. clash w p) (λ w. clash w q) (inside (x .one) (x .one-in)) z)
+    (inside (x .other) (x .other-in)) (x .other-is) (x .before)
+
 pub all-refused : AllRefused
-unfolding someFrom lowestFrom common shares empty within greatest least sum all any keep heldUntil endOf remaining precedes before covers unitsAt used enough spare heldUnits ready startFor moved ahead startWithin packedStart pack clear fits seek place contention startBound takenBefore trulyFree goesWithin goes granted grant grants shareOf pendingOf unfilled unfilledByOthers firstOf tests advance finish join remove admit act step new standingOf commonOf turns tableAfter issues stay sharesBy graceBy marked notedAll boundOn testsBy freeUnits valueAt turnsDown fixedStart untouched echoes inventsContention inventsBound criesFull neverGrants tellsLate renews namesBackward stopsGranting fidgets mumbles blurts noRig ignoresGaps skipsPacking oneDrawer crowds showsNow leavesGaps leavesDrawers reverses overdraws keepsUnitsBack lastFirst losesUnits
+unfolding someFrom lowestFrom common shares empty within greatest least sum all any keep heldUntil endOf remaining precedes before covers unitsAt used enough spare heldUnits ready startFor moved ahead startWithin packedStart pack clear fits seek place contention startBound takenBefore trulyFree goesWithin goes granted grant grants shareOf pendingOf unfilled unfilledByOthers firstOf tests advance finish join remove admit act step new standingOf commonOf turns tableAfter issues stay sharesBy graceBy marked notedAll boundOn testsBy freeUnits valueAt turnsDown fixedStart untouched echoes inventsContention inventsBound criesFull neverGrants tellsLate renews namesBackward stopsGranting fidgets mumbles blurts noRig ignoresGaps skipsPacking oneDrawer crowds showsNow leavesGaps leavesDrawers reverses overdraws keepsUnitsBack lastFirst losesUnits grantsAll putsBack forgetsGroups pushesIn hidesUnits ignoresLimits withShare reservedInAll
 all-refused = record {
   turns-down = λ d.
       let z : _≡_ {A = ℕ} 3 0 = d [] (claim 0 0x1 10) [] refl in
       omega arith;
   fixed-start = λ d.
       let z : 1000 ≤ 0 = d [] (claim 0 0x1 10) [] refl 0 _ refl refl .least 0 (omega arith) (record { room = λ e i. none i; spare = λ u. absurd (omega arith) }) in
+      omega arith;
+  fixed-start-late = λ d.
+      let z : 1000 ≤ 0 = d .at-any-call [] (claim 0 0x1 10) [] refl .of-claim 0 _ refl refl .start-bounded refl in
       omega arith;
   untouched-table = λ d.
       let e : NotPending ≡ Holds 10 = d .at-any-time (claim 0 0x1 10 ∷ []) [] refl .lookup-agrees 1 .held _ here refl refl in
@@ -120,6 +136,15 @@ all-refused = record {
   renewed = λ d.
       let r = d .at-any-call (claim 0 0x1 10 ∷ []) (clock 5) [] refl .of-grants .grants-waited 1 here in
       clash (ap (λ (x : Entry). x .held) (List·Memᴰ·eq-of-singleton (r .1))) (r .3);
+  granted-all = λ d. clash refl (d .at-any-time (claim 0 0x1 10 ∷ claim 0 0x1 10 ∷ []) [] refl .holders-apart _ _ here (there here) (λ (e : _≡_ {A = ℕ} 1 2). omega arith) refl refl);
+  put-back = λ d.
+      let z : 11 ≤ 10 = d .at-any-call (claim 0 0x1 10 ∷ claim 0 0x1 10 ∷ []) (clock 1) [] refl .never-raised
+      (λ _ e. of-two (λ (x : Entry). x .held ≡ true → 1 ≤ promised x) (entry 1 0x1 10 0 true) (entry 2 0x1 10 10 false) e (λ _. omega arith) (λ h. clash h refl)) 2 10 refl .0 11 refl in
+      omega arith;
+  groups-forgotten = λ d.
+      let e : Apart ≡ Shared 0 = d .at-any-time (claim 0 0x1 10 ∷ claim 0 0x1 10 ∷ []) [] refl .common-agrees 1 2 .pending (entry 1 0x1 10 0 true) (entry 2 0x1 10 10 false) here (there here) refl refl in
+      let z : _≡_ {A = ℕ} 0 1 = cc in
+      omega arith;
   named-backward = λ d.
       let z : 3 < 2 = d .at-any-call (claim 0 0x3 10 ∷ claim 0 0x1 10 ∷ claim 0 0x2 10 ∷ []) (release 5 1) [] refl .of-grants .grants-ascend .0 2 here in
       omega arith;
@@ -151,6 +176,17 @@ all-refused = record {
             (λ (x : Entry). shares (x .asked .groups) 0x3 ≡ true → (endTold (ledgerAfter ignoresGaps s all) (toldAfter ignoresGaps s all) x ≤ 0) ⊎ ((r : ℕ) × (toldAfter ignoresGaps s all (atTicket (x .ticket)) ≡ Waits r) × (0 + 20 ≤ r)))
             (entry 1 0x8 10 0 true) (entry 2 0xC 10 10 false) (entry 3 0x6 11 20 false) e
             (λ h. clash h refl) (λ h. clash h refl) (λ h. inr (20, refl, omega arith)) i;
+        spare = λ u. absurd (omega arith);
+      }) in
+      omega arith;
+  pushed-in = λ d.
+      let calls : List Call = claim 0 0x1 10 ∷ claim 0 0x1 10 ∷ [] in
+      let all : List Call = claim 0 0x1 10 ∷ claim 0 0x1 10 ∷ claim 12 0x1 5 ∷ [] in
+      let s : Start = newly 0x1 0 true in
+      let one : Entry = entry 1 0x1 10 0 true in
+      let due : 12 ≤ 12 = omega arith in
+      let z : 17 ≤ 12 = d calls (claim 12 0x1 5) [] refl 12 _ refl refl .others-packed (entry 2 0x1 10 10 false) (there {y = one} here) 17 refl .least 12 (omega arith) (record {
+        after = λ e i h. subst (λ (x : Entry). endTold (ledgerAfter pushesIn s all) (toldAfter pushesIn s all) x ≤ 12) (sym (List·Memᴰ·eq-of-singleton i)) due;
         spare = λ u. absurd (omega arith);
       }) in
       omega arith;
@@ -198,16 +234,23 @@ all-refused = record {
       let z : 2 ≤ 1 = d (drawing 0 10 1 ∷ drawing 0 10 1 ∷ []) [] refl .units-enough 0 (omega arith) in
       omega arith;
   units-kept-back = λ d.
-      let w : Claim = drawer 2 (Waiting 5) 8 1 in
-      let z : 3 < 3 = d .units-wanting w (there {y = drawer 1 (On 0) 1 2} here) refl refl
-      (λ c. of-two (λ (x : Claim). precedes x w ≡ false) (drawer 1 (On 0) 1 2) w c refl refl) in
+      let z : 3 < 3 = d (drawing 0 10 2 ∷ []) (drawing 10 8 1) [] refl refl
+      (record { ticket = 2; asked = record { groups = 0; length = 8; units = 1; client = 1 }; first = 10; held = false; grant = 0 }) (there here) refl
+      (alone-first (tableAfter keepsUnitsBack (newly 0x1 3 true .table) (drawing 0 10 2 ∷ drawing 10 8 1 ∷ [])) (drawer 1 (On 0) 10 2) (drawer 2 (Waiting 10) 8 1) refl (omega arith) refl refl) in
+      omega arith;
+  units-hidden = λ d.
+      let z : _≡_ {A = ℕ} 2 1 = d (drawing 0 10 1 ∷ []) [] refl .free-and-held in
+      omega arith;
+  limit-ignored = λ d.
+      let z : 1 ≤ 0 = d .at-any-time (declare 1 0 0 ∷ claim 0 0x1 10 ∷ []) [] refl .within-limit 1 in
       omega arith;
   last-granted = λ d.
       let w : Claim = drawer 3 (Waiting 10) 10 1 in
-      let z : 2 < 2 = d .units-wanting w (there {y = drawer 2 (On 0) 5 1} (here {l = drawer 4 (On 10) 10 1 ∷ []})) refl refl
+      let z : 2 < 2 = d .of-timed 10 (releases 1) refl .0 .units-wanting w (there {y = drawer 2 (On 0) 5 1} (here {l = drawer 4 (On 10) 10 1 ∷ []})) refl refl
       (λ c. of-three (λ (x : Claim). precedes x w ≡ false) (drawer 2 (On 0) 5 1) w (drawer 4 (On 10) 10 1) c refl refl refl) in
       omega arith;
-  last-packed = λ d.
+  last-packed = λ p.
+      let d = p .of-timed 5 (releases 2) refl .1 in
       let x = d .all-stay later (there {y = drawer 1 (On 0) 20 1} (there {y = drawer 2 (On 0) 20 1} (here {l = drawer 4 (Waiting 20) 10 1 ∷ []}))) (λ (e : _≡_ {A = ℕ} 3 2). omega arith) in
       let z : d .starts later ≤ 5 = d .packs later (there {y = drawer 1 (On 0) 20 1} (here {l = drawer 4 (Waiting 20) 10 1 ∷ []})) refl .1 5 (record {
         from-clock = omega arith;

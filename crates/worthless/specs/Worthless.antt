@@ -1,7 +1,7 @@
 -- Wrong tables, as steps run in place of the rules', each with a short list of calls at which a theorem is false of it: document 01's "Worthless
 -- versions and their undoing", and tables that keep some of the promises and break another. proofs/Worthless has the proofs; each goes by the
 -- clause that is named here.
-use mathlib.Core.Bool.{Bool, true, not, _&&_, cond}
+use mathlib.Core.Bool.{Bool, true, false, not, _&&_, cond}
 use mathlib.Core.List.{List, [], _∷_, _++_, map}
 use Prim.Native.Nat.{ℕ, _+_, _-_}
 use lib.Dec.{eqb, ltb}
@@ -15,8 +15,11 @@ use Rattle.rules.specs.Lists.{any, keep, greatest}
 use Rattle.rules.specs.Claims.{on, at, withPhase, endOf}
 use Rattle.rules.specs.Order.{rivals}
 use Rattle.rules.specs.Packing.{moved}
+use Rattle.rules.specs.Placing.{place}
+use Rattle.rules.specs.Shares.{firstShares}
+use Rattle.rules.specs.Tests.{firstOf}
 use Rattle.rules.specs.NoUnits.{withPool}
-use Rattle.rules.specs.Calls.{Model, withClock, withPending, withGrace, settingOf, asking, Action, claims, releases, withdraws, movesClock, Call, timed, looks, setsUp, release, clock, lookup, setGrace, isLook, Answer, Step, unchanged, advance, plain, finish, join, remove, fresh, placing, admit, step, blank, valueAt, freeOf}
+use Rattle.rules.specs.Calls.{Model, withClock, withPending, withGrace, withShares, settingOf, asking, Action, claims, releases, withdraws, movesClock, Call, timed, looks, setsUp, release, clock, lookup, declare, setGrace, isTimed, isLook, Answer, Step, tests, unchanged, unless, advance, plain, finish, join, remove, fresh, placing, admit, step, blank, valueAt, freeOf}
 use Rattle.promises.specs.Ledger.{Steps, tableAfter}
 use Rattle.promises.specs.Runs.{newly}
 use Rattle.promises.specs.Demand3.{Demand3Of}
@@ -30,7 +33,8 @@ use Rattle.promises.specs.NeverOvertaken.{NeverOvertakenOf}
 use Rattle.promises.specs.PoolKept.{PoolKeptOf}
 use Rattle.promises.specs.SharesKept.{SharesKeptOf}
 use Rattle.promises.specs.TableKept.{TableKeptOf}
-use Rattle.promises.specs.WholeCalls.{TimedCall, LeaveCall}
+use Rattle.promises.specs.GrantsDue.{GrantsDueOf}
+use Rattle.promises.specs.WholeCalls.{WholeCallsOf}
 
 -- A claim at a clock, of groups (hex) and a length; and one of a length and units alone.
 abbrev pub claim : ℕ → ℕ → ℕ → Call
@@ -40,9 +44,9 @@ abbrev pub drawing : ℕ → ℕ → ℕ → Call
 drawing t n u = timed t (claims (record { groups = 0; length = n; units = u; client = 1 }))
 
 -- ── how a step is changed ──
--- As the rules, but for these actions.
+-- As the rules, but for what accepted timed calls do.
 abbrev pub actsBy : (Model → ℕ → Action → Step) → Steps
-actsBy f m (timed t x) = f m t x
+actsBy f m (timed t x) = unless m (firstOf (tests m (timed t x))) (f m t x)
 actsBy f m (looks q) = step m (looks q)
 actsBy f m (setsUp p) = step m (setsUp p)
 
@@ -65,8 +69,8 @@ claimsAs f m = withPending m (map f (m .pending))
 abbrev pub startsAs : (Claim → ℕ) → Model → Model
 startsAs f m = claimsAs (moved f) m
 
-abbrev pub told : Answer → ℕ → ℕ → Answer
-told a k s = record { number = a .number; ticket = k; start = s; contention = a .contention; bound = a .bound; grants = a .grants }
+abbrev pub answering : Answer → ℕ → ℕ → Answer
+answering a k s = record { number = a .number; ticket = k; start = s; contention = a .contention; bound = a .bound; grants = a .grants }
 
 abbrev pub counting : Answer → ℕ → ℕ → Answer
 counting a i j = record { number = a .number; ticket = a .ticket; start = a .start; contention = i; bound = j; grants = a .grants }
@@ -74,8 +78,8 @@ counting a i j = record { number = a .number; ticket = a .ticket; start = a .sta
 abbrev pub naming : Answer → List ℕ → Answer
 naming a ks = record { number = a .number; ticket = a .ticket; start = a .start; contention = a .contention; bound = a .bound; grants = ks }
 
-abbrev pub named : List ℕ → Claim → Bool
-named ks d = any (λ k. eqb k (d .ticket)) ks
+abbrev pub isNamed : List ℕ → Claim → Bool
+isNamed ks d = any (λ k. eqb k (d .ticket)) ks
 
 -- A claim that waits on where it would have gone on.
 abbrev pub waitsOn : Claim → Claim
@@ -95,7 +99,7 @@ unfoldable pub fixedStart : Steps
 fixedStart =
     actsBy (claimsBy (λ m t ask.
     let s : Step = step m (timed t (claims ask)) in
-    record { model = startsAs (λ d. 1000) (claimsAs waitsOn (s .model)); answer = naming (told (s .answer) (s .answer .ticket) 1000) [] }))
+    record { model = startsAs (λ d. 1000) (claimsAs waitsOn (s .model)); answer = naming (answering (s .answer) (s .answer .ticket) 1000) [] }))
 
 -- "hands the table back untouched": the rules' answers.
 unfoldable pub untouched : Steps
@@ -136,6 +140,23 @@ renews =
     let s : Step = step m (timed t x) in
     record { model = claimsAs (λ d. cond (on d) (withPhase d (On t)) d) (s .model); answer = naming (s .answer) (map (λ d. d .ticket) (keep (λ d. on d) (s .model .pending))) })
 
+-- Whoever asks goes on at once.
+unfoldable pub grantsAll : Steps
+grantsAll =
+    actsBy (claimsBy (λ m t ask.
+    let s : Step = step m (timed t (claims ask)) in
+    record { model = claimsAs (λ d. cond (eqb (d .ticket) (s .answer .ticket)) (withPhase d (On t)) d) (s .model); answer = naming (answering (s .answer) (s .answer .ticket) t) (s .answer .ticket ∷ []) }))
+
+-- A clock call puts every start back.
+unfoldable pub putsBack : Steps
+putsBack m c = let s : Step = step m c in cond (isTimed c && not (isClaim c)) (record { model = startsAs (λ d. at d + 1) (s .model); answer = s .answer }) s
+
+-- Waiting claims whose groups are forgotten.
+unfoldable pub forgetsGroups : Steps
+forgetsGroups m c =
+    let s : Step = step m c in
+    record { model = claimsAs (λ d. cond (on d) d (record { groups = 0; phase = d .phase; length = d .length; ticket = d .ticket; units = d .units; client = d .client })) (s .model); answer = s .answer }
+
 -- "Naming grants in the order that their planned starts had, and not by ticket", or in any other.
 unfoldable pub namesBackward : Steps
 namesBackward m c = let s : Step = step m c in record { model = s .model; answer = naming (s .answer) (backward (s .answer .grants)) }
@@ -146,7 +167,7 @@ namesBackward m c = let s : Step = step m c in record { model = s .model; answer
 
 -- While somebody overruns, nobody goes on.
 unfoldable pub stopsGranting : Steps
-stopsGranting m c = let s : Step = step m c in cond (overrun (s .model)) (record { model = claimsAs (λ d. cond (named (s .answer .grants) d) (waitsOn d) d) (s .model); answer = naming (s .answer) [] }) s
+stopsGranting m c = let s : Step = step m c in cond (overrun (s .model)) (record { model = claimsAs (λ d. cond (isNamed (s .answer .grants) d) (waitsOn d) d) (s .model); answer = naming (s .answer) [] }) s
 
 -- A lookup pushes everybody back.
 unfoldable pub fidgets : Steps
@@ -154,10 +175,10 @@ fidgets m c = cond (isLook c) (record { model = startsAs (λ d. at d + 1) m; ans
 
 -- A release answers no ticket; and a refused call answers one.
 unfoldable pub mumbles : Steps
-mumbles m c = let s : Step = step m c in record { model = s .model; answer = told (s .answer) (cond (isClaim c) (s .answer .ticket) 0) (s .answer .start) }
+mumbles m c = let s : Step = step m c in record { model = s .model; answer = answering (s .answer) (cond (isClaim c) (s .answer .ticket) 0) (s .answer .start) }
 
 unfoldable pub blurts : Steps
-blurts m c = let s : Step = step m c in record { model = s .model; answer = cond (eqb (s .answer .number) 0) (s .answer) (told (s .answer) 7 0) }
+blurts m c = let s : Step = step m c in record { model = s .model; answer = cond (eqb (s .answer .number) 0) (s .answer) (answering (s .answer) 7 0) }
 
 -- A call for a new table that is never satisfied.
 unfoldable pub noRig : ℕ → ℕ → Bool → Step
@@ -173,6 +194,18 @@ ignoresGaps =
     let s = greatest (endOf (settingOf n)) (n .clock) (rivals (n .pending) w) in
     let r : Reply = placing n w in
     finish (join n (withPhase w (Waiting s))) (record { ticket = r .ticket; start = s; contention = r .contention; bound = r .bound })))
+
+-- While somebody overruns, whoever comes last is placed beside the holders alone, and the others make room.
+unfoldable pub pushesIn : Steps
+pushesIn =
+    actsBy (claimsBy (λ m t ask.
+    let n : Model = advance m t in
+    let w : Claim = fresh n ask in
+    let s = place (settingOf n) (keep on (n .pending)) w in
+    let r : Reply = placing n w in
+    cond (overrun n)
+    (finish (join (startsAs (λ d. at d + 1) n) (withPhase w (Waiting s))) (record { ticket = r .ticket; start = s; contention = r .contention; bound = r .bound }))
+    (step m (timed t (claims ask)))))
 
 -- The first packing left out: a claim is placed beside starts that are past.
 unfoldable pub skipsPacking : Steps
@@ -216,14 +249,26 @@ reverses m c = let s : Step = step m c in record { model = startsAs (λ d. 1000 
 unfoldable pub overdraws : Steps
 overdraws m c = let s : Step = step (withPool 100 m) c in record { model = withPool (m .pool) (s .model); answer = s .answer }
 
--- Units that are free and stay in the cupboard: while units are held, whoever draws waits on, and nobody is named.
+-- Holders that hand their units back at once.
+unfoldable pub hidesUnits : Steps
+hidesUnits m c =
+    let s : Step = step m c in
+    record { model = claimsAs (λ d. cond (on d) (record { groups = d .groups; phase = d .phase; length = d .length; ticket = d .ticket; units = 0; client = d .client }) d) (s .model); answer = s .answer }
+
+-- Limits that are not looked at.
+unfoldable pub ignoresLimits : Steps
+ignoresLimits m (timed t x) = let s : Step = step (withShares m (firstShares true)) (timed t x) in record { model = withShares (s .model) (m .shares); answer = s .answer }
+ignoresLimits m (looks q) = step m (looks q)
+ignoresLimits m (setsUp p) = step m (setsUp p)
+
+-- Units that are free and stay in the cupboard: while units are held, whoever draws waits on, and is not named.
 unfoldable pub keepsUnitsBack : Steps
 keepsUnitsBack m c =
     let s : Step = step m c in
     cond (eqb (freeOf m) (m .pool)) s
     (record {
-      model = claimsAs (λ d. cond (named (s .answer .grants) d && ltb 0 (d .units)) (waitsOn d) d) (s .model);
-      answer = naming (s .answer) (keep (λ k. not (eqb k (s .answer .ticket))) (s .answer .grants));
+      model = claimsAs (λ d. cond (isNamed (s .answer .grants) d && ltb 0 (d .units)) (waitsOn d) d) (s .model);
+      answer = naming (s .answer) (keep (λ k. not (any (λ d. eqb (d .ticket) k && ltb 0 (d .units)) (s .model .pending))) (s .answer .grants));
     })
 
 -- What a release sets free goes to the last comer first: in packing and in granting the higher ticket has the turn.
@@ -248,6 +293,8 @@ pub record AllRefused : Type 0 where
   pub turns-down : NumbersTestedOf turnsDown (newly 0x1 0 true) (claim 0 0x1 10 ∷ []) → ⊥
   -- By `least`: 0 fits, in an empty table.
   pub fixed-start : LeastStartOf fixedStart (newly 0x1 0 true) (claim 0 0x1 10 ∷ []) → ⊥
+  -- By `start-bounded`: 1000, and the bound is 0.
+  pub fixed-start-late : Demand3Of fixedStart (newly 0x1 0 true) (claim 0 0x1 10 ∷ []) → ⊥
   -- By `lookup-agrees`: the claim is granted, and lookup does not know it.
   pub untouched-table : Demand3Of untouched (newly 0x1 0 true) (claim 0 0x1 10 ∷ []) → ⊥
   -- By `ticket-next`: the second claim is told ticket 1.
@@ -264,6 +311,12 @@ pub record AllRefused : Type 0 where
   pub told-late : Demand3Of tellsLate (newly 0x1 0 true) (claim 0 0x1 10 ∷ claim 0 0x1 10 ∷ []) → ⊥
   -- By `grants-waited`: ticket 1 was on before.
   pub renewed : Demand3Of renews (newly 0x1 0 true) (claim 0 0x1 10 ∷ clock 5 ∷ []) → ⊥
+  -- By `holders-apart`: two are on the one group.
+  pub granted-all : Demand3Of grantsAll (newly 0x1 0 true) (claim 0 0x1 10 ∷ claim 0 0x1 10 ∷ []) → ⊥
+  -- By `never-raised`: ticket 2 waits for 10, and at clock 1 for 11.
+  pub put-back : Demand3Of putsBack (newly 0x1 0 true) (claim 0 0x1 10 ∷ claim 0 0x1 10 ∷ clock 1 ∷ []) → ⊥
+  -- By `common-agrees`: both asked for group 0.
+  pub groups-forgotten : Demand3Of forgetsGroups (newly 0x1 0 true) (claim 0 0x1 10 ∷ claim 0 0x1 10 ∷ []) → ⊥
   -- By `grants-ascend`: 3, then 2.
   pub named-backward : Demand3Of namesBackward (newly 0x3 0 true) (claim 0 0x3 10 ∷ claim 0 0x1 10 ∷ claim 0 0x2 10 ∷ release 5 1 ∷ []) → ⊥
   -- By `Explained`: ticket 2 has nothing in common with ticket 1, and waits.
@@ -277,6 +330,8 @@ pub record AllRefused : Type 0 where
   pub no-rig : NewTestedOf noRig → ⊥
   -- By `least`: document 01's case 5, which fits at 0.
   pub gaps-ignored : LeastStartOf ignoresGaps (newly 0xF 0 true) (claim 0 0x8 10 ∷ claim 0 0xC 10 ∷ claim 0 0x6 11 ∷ claim 0 0x3 20 ∷ []) → ⊥
+  -- By `others-packed`: behind ticket 1, which ends at 12, ticket 2 waits for 17.
+  pub pushed-in : LeastStartOf pushesIn (newly 0x1 0 true) (claim 0 0x1 10 ∷ claim 0 0x1 10 ∷ claim 12 0x1 5 ∷ []) → ⊥
   -- By `first-told`: at clock 15 ticket 2 is still planned for 10, so that ticket 3 is answered 20; lookup tells 25.
   pub packing-skipped : Demand3Of skipsPacking (newly 0x3 0 true) (claim 0 0x1 10 ∷ claim 0 0x3 10 ∷ claim 15 0x2 3 ∷ []) → ⊥
   -- By `least`: one of two units is free at 0, and one is asked for.
@@ -294,11 +349,15 @@ pub record AllRefused : Type 0 where
   -- By `never-more`: two units held of one; and by `units-enough`: two planned in use.
   pub overdrawn : PoolKeptOf overdraws (newly 0x1 1 true) (drawing 0 10 1 ∷ drawing 0 10 1 ∷ []) → ⊥
   pub overplanned : PlansApartOf overdraws (newly 0x1 1 true) (drawing 0 10 1 ∷ drawing 0 10 1 ∷ []) → ⊥
-  -- By `units-wanting`: two units are held, long overdue, one of three is free, and ticket 2, which asks for one, waits.
-  pub units-kept-back : (let m = tableAfter keepsUnitsBack (newly 0x1 3 true .table) (drawing 0 1 2 ∷ []) in TimedCall m 5 (keepsUnitsBack m (drawing 5 8 1)) → ⊥)
+  -- By `free-and-held`: one is held of one, and one is told to be free.
+  pub units-hidden : PoolKeptOf hidesUnits (newly 0x1 1 true) (drawing 0 10 1 ∷ []) → ⊥
+  -- By `within-limit`: client 1 has one claim pending, and its limit is 0.
+  pub limit-ignored : SharesKeptOf ignoresLimits (newly 0x1 0 false) (declare 1 0 0 ∷ claim 0 0x1 10 ∷ []) → ⊥
+  -- By `Due`: two of three units are held, and ticket 2, which asks for one, waits at its start.
+  pub units-kept-back : GrantsDueOf keepsUnitsBack (newly 0x1 3 true) (drawing 0 10 2 ∷ drawing 10 8 1 ∷ []) → ⊥
   -- By `units-wanting`: both holders are overdue and one is released; ticket 4 has the unit, and ticket 3 waits.
-  pub last-granted : (let m = tableAfter step (newly 0x1 2 true .table) (drawing 0 5 1 ∷ drawing 0 5 1 ∷ drawing 10 10 1 ∷ drawing 10 10 1 ∷ []) in TimedCall m 10 (lastFirst m (release 10 1)) → ⊥)
+  pub last-granted : WholeCallsOf lastFirst (tableAfter step (newly 0x1 2 true .table) (drawing 0 5 1 ∷ drawing 0 5 1 ∷ drawing 10 10 1 ∷ drawing 10 10 1 ∷ [])) → ⊥
   -- By `packs` of a release: at 5 ticket 4 goes on, and ticket 3, which is before it, waits for 15.
-  pub last-packed : (let m = tableAfter step (newly 0x1 2 true .table) (drawing 0 20 1 ∷ drawing 0 20 1 ∷ drawing 0 10 1 ∷ drawing 0 10 1 ∷ []) in LeaveCall m 5 2 (lastFirst m (release 5 2)) → ⊥)
+  pub last-packed : WholeCallsOf lastFirst (tableAfter step (newly 0x1 2 true .table) (drawing 0 20 1 ∷ drawing 0 20 1 ∷ drawing 0 10 1 ∷ drawing 0 10 1 ∷ [])) → ⊥
   -- By `units` of what the table has: ticket 2 asked for one.
   pub units-lost : TableKeptOf losesUnits (newly 0x1 1 true) (drawing 0 10 1 ∷ drawing 0 10 1 ∷ []) → ⊥
