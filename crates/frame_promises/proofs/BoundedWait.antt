@@ -9,7 +9,8 @@ use native.Mathlib.Omega.{arith}
 use lib.Dec.{eqb}
 use lib.ListN.{length, length-map}
 use borrow.Author.Tests.{eqb-true, eqb-false, eq-eqb, ne-eqb}
-use Rattle.groups.specs.Groups.{shares}
+use Rattle.groups.specs.Groups.{someFrom, shares, empty, within}
+use Rattle.groups.proofs.Groups.{within-none}
 use Rattle.rules.specs.Lists.{_∈_, any, keep, Ascends}
 use Rattle.rules.specs.Tests.{firstOf}
 use Rattle.rules.proofs.Bools.{by-test, by-order, both-ways, clash}
@@ -22,7 +23,7 @@ use Rattle.frames.proofs.Rows.{taken-none, taken-some, row-joins, row-bound, he
 use Rattle.frames.proofs.Calls.{Admissible, Releasable, step-cases, step-number, new-cases, admit-invariant, remove-invariant, blank-invariant}
 use Rattle.frame_promises.specs.Ledger.{Turn, Steps, turns, tableAfter, Entry, Ledger, opening, issues, stay, some, headChange, marked, rowNow, testsOf, noted, notedAll, ledgerOf}
 use Rattle.frame_promises.specs.Ledger as entry
-use Rattle.frame_promises.specs.BoundedWait.{Now, OfClaim, OfGrants, Next, BoundedWaitOf, BoundedWait}
+use Rattle.frame_promises.specs.BoundedWait.{Now, OfClaim, OfGrants, OfReply, Next, BoundedWaitOf, BoundedWait, NewNumber, NewTested}
 
 -- The claim of the table that an entry tells of.
 abbrev pub claimOf : Entry → Claim
@@ -34,10 +35,11 @@ pub record Kept (e : Entry) : Type 0 where
   pub ahead : e .held ≡ false → e .seen < e .row
   pub reached : e .held ≡ true → e .seen ≡ e .row
 
--- The ledger and the table of a rig between calls.
+-- The ledger and the table of a rig between calls. (A rig without groups gives the table of no groups, and what is within the one is
+-- within the other.)
 pub record Story (rig : ℕ) (l : Ledger) (m : Model) : Type 0 where
   pub inv : Invariant m
-  pub rigged : m .rig ≡ rig
+  pub rigged : (g : ℕ) → within g (m .rig) ≡ within g rig
   pub issued : m .issued ≡ l .issued
   pub pending : m .pending ≡ map claimOf (l .claims)
   pub kept : Each Kept (l .claims)
@@ -146,7 +148,7 @@ still-markable t e z k n = record {
 }
 
 -- The ledger and the table after an accepted call that leaves the entries es, and moves their claims by d rows.
-story-marked : (rig : ℕ) (n : Model) (j : ℕ) (t : Turn) (d : ℕ) (es : List Entry) → Invariant n → n .rig ≡ rig → n .issued ≡ j
+story-marked : (rig : ℕ) (n : Model) (j : ℕ) (t : Turn) (d : ℕ) (es : List Entry) → Invariant n → ((g : ℕ) → within g (n .rig) ≡ within g rig) → n .issued ≡ j
     → n .pending ≡ map (moved d) (map claimOf es) → Each (Markable t d) es → Story rig (record { issued = j; claims = map (marked t) es }) n
 story-marked rig n j t d es i r is q h = record {
   inv = i;
@@ -167,7 +169,7 @@ Told rig l c s =
 abbrev Does : ℕ → Ledger → Call → Step → Type 0
 Does rig l c s =
     let t : Turn = record { call = c; answer = s .answer } in
-    ((g : ℕ) → c ≡ claim g → s .answer .number ≡ 0 → OfClaim l g (s .answer)) × OfGrants l t × Story rig (noted l t) (s .model)
+    ((g : ℕ) → c ≡ claim g → s .answer .number ≡ 0 → OfClaim l g (s .answer)) × OfGrants l t × OfReply t × Story rig (noted l t) (s .model)
 
 module _ (rig : ℕ) (l : Ledger) (m : Model) (s : Story rig l m) where
   -- A refused call changes nothing.
@@ -175,6 +177,7 @@ module _ (rig : ℕ) (l : Ledger) (m : Model) (s : Story rig l m) where
   does-refused c n z = (
     λ g q e. absurd (z e),
     record { grants-ascend = tt; grants-pending = λ k i. none i; refused-none = λ e. refl; change-last = λ h. clash h (rw (ne-eqb n 0 z) refl) },
+    record { release-plain = λ k q e. absurd (z e); refused-plain = λ e. record { ticket-is = refl; row-none = refl; contention-none = refl } },
     rw (ne-eqb n 0 z) s,
   )
 
@@ -253,6 +256,10 @@ module _ (rig : ℕ) (l : Ledger) (m : Model) (s : Story rig l m) where
       row-first = taken-row;
     }
 
+    -- A claim is no release.
+    no-release : {A : Type 0} {k : ℕ} → claim g ≡ release k → A
+    no-release e = let z : _≡_ {A = ℕ} 0 1 = cc in absurd (omega arith)
+
     -- So with an accepted claim they go on side by side.
     does-claim : Admissible m g → Does rig l (claim g) (admit m g)
     unfolding admit issues stay
@@ -264,6 +271,7 @@ module _ (rig : ℕ) (l : Ledger) (m : Model) (s : Story rig l m) where
         refused-none = λ n. absurd (n refl);
         change-last = λ h. clash h refl;
       },
+      record { release-plain = λ k q. no-release q; refused-plain = λ n. absurd (n refl) },
       story-marked rig (admit m g .model) (l .issued + 1) claim-turn 0 (l .claims ++ (new-entry ∷ []))
           (admit-invariant m g (s .inv)) (s .rigged) (omega (arith, s .issued)) joined-is
           (snoc-each (Markable claim-turn 0) (l .claims) new-entry old-markable new-markable),
@@ -323,6 +331,10 @@ module _ (rig : ℕ) (l : Ledger) (m : Model) (s : Story rig l m) where
         grants-pending = waiting;
         refused-none = λ n. absurd (n refl);
         change-last = λ z e j. last z e (subst (λ (es : List Entry). e ∈ es) (sym (append-nil staying)) j);
+      },
+      record {
+        release-plain = λ j e _. record { ticket-is = cc; row-none = refl; contention-none = refl };
+        refused-plain = λ n. absurd (n refl);
       },
       story-marked rig (leaves qs ks .model) (l .issued + 0) (release-turn ks) d left i (s .rigged) (omega (arith, s .issued)) q h,
     )
@@ -408,7 +420,7 @@ module _ (rig : ℕ) (l : Ledger) (m : Model) (s : Story rig l m) where
   unfolding tests testsOf
   tests-told (claim g) =
       let n : length (m .pending) ≡ length (l .claims) = ap length (s .pending) ∙ length-map (l .claims) claimOf in
-      rw (s .rigged, n, s .issued)
+      rw (s .rigged g, n, s .issued)
   tests-told (release k) =
       rw (
         any-entry (named k) (entry.named k) (λ e i. refl),
@@ -419,15 +431,16 @@ module _ (rig : ℕ) (l : Ledger) (m : Model) (s : Story rig l m) where
   pub told : (c : Call) → Told rig l c (step m c)
   told c =
       let d = step-cases (Does rig l) m does-refused does-claim does-release c in
-      (record { number-tested = step-number m c ∙ ap firstOf (tests-told c); claim-answered = d .0; granted = d .1 }, d .2)
+      (record { number-tested = step-number m c ∙ ap firstOf (tests-told c); claim-answered = d .0; granted = d .1; replied = d .2 }, d .3)
 
 -- ── the run ──
 -- A new table, and the ledger before any call.
-pub story-new : (g : ℕ) → Story (new g .model .rig) opening (new g .model)
-story-new g = new-cases (λ (s : Step). Story (s .model .rig) opening (s .model)) g (λ e. blank-story 0) (λ e. blank-story g)
+pub story-new : (rig : ℕ) → Story rig opening (new rig .model)
+unfolding empty someFrom
+story-new rig = new-cases (λ (s : Step). Story rig opening (s .model)) rig (λ e. blank-story 0 (λ g. within-none g 0 rig refl e)) (λ e. blank-story rig (λ g. refl))
   where
-    blank-story : (r : ℕ) → Story r opening (blank r)
-    blank-story r = record { inv = blank-invariant r; rigged = refl; issued = refl; pending = refl; kept = λ e i. none i }
+    blank-story : (r : ℕ) → ((g : ℕ) → within g r ≡ within g rig) → Story rig opening (blank r)
+    blank-story r h = record { inv = blank-invariant r; rigged = h; issued = refl; pending = refl; kept = λ e i. none i }
 
 -- Calls that are run by any `run` whose steps tell that.
 module _ (run : Steps) (tells : (rig : ℕ) (l : Ledger) (m : Model) → Story rig l m → (c : Call) → Told rig l c (run m c)) where
@@ -438,7 +451,7 @@ module _ (run : Steps) (tells : (rig : ℕ) (l : Ledger) (m : Model) → Story r
   story-after (c ∷ cs) rig l m s = story-after cs rig _ (run m c .model) (tells rig l m s c .1)
 
   -- and from a new table.
-  pub story-of : (rig : ℕ) (cs : List Call) → Story (new rig .model .rig) (ledgerOf (turns run (new rig .model) cs)) (tableAfter run (new rig .model) cs)
+  pub story-of : (rig : ℕ) (cs : List Call) → Story rig (ledgerOf (turns run (new rig .model) cs)) (tableAfter run (new rig .model) cs)
   story-of rig cs = story-after cs _ opening (new rig .model) (story-new rig)
 
   -- So the request's words hold of every list of calls.
@@ -451,6 +464,11 @@ module _ (run : Steps) (tells : (rig : ℕ) (l : Ledger) (m : Model) → Story r
 -- Request P2 of the rules, whole.
 pub bounded-wait : (rig : ℕ) (calls : List Call) → BoundedWait rig calls
 bounded-wait = bounded-wait-of step told
+
+-- A new table's number.
+pub new-tested : NewTested
+unfolding firstOf
+new-tested rig = new-cases (λ (s : Step). NewNumber rig (s .answer .number)) rig (λ e. rw e) (λ e. rw e)
 
 -- The rules' own name for the table after a list of calls.
 pub table-after : (m : Model) (cs : List Call) → tableAfter step m cs ≡ after m cs

@@ -12,10 +12,10 @@ use Rattle.rules.proofs.Lists.{here, there}
 use Rattle.frames.specs.Rows.{contention, taken, rowFrom, rowFor, turned, headTickets, turnedOn}
 use Rattle.frames.specs.Calls.{claim, release, tests, admit, without, remove, act, step, new}
 use Rattle.frame_promises.specs.Ledger.{Entry, turns, tableAfter, issues, stay, marked, testsOf, notedAll}
-use Rattle.frame_promises.specs.Worthless.{headOnly, neverTurns, tooFar, headUncounted, refusesAll, AllRefused}
+use Rattle.frame_promises.specs.Worthless.{headOnly, neverTurns, tooFar, headUncounted, refusesAll, tellsRow, lastTicket, noRig, AllRefused}
 
 pub all-refused : AllRefused
-unfolding someFrom lowestFrom common shares empty within any keep firstOf contention taken rowFrom rowFor turned headTickets turnedOn tests admit without remove act step new turns tableAfter issues stay marked testsOf notedAll headOnly neverTurns tooFar headUncounted refusesAll
+unfolding someFrom lowestFrom common shares empty within any keep firstOf contention taken rowFrom rowFor turned headTickets turnedOn tests admit without remove act step new turns tableAfter issues stay marked testsOf notedAll headOnly neverTurns tooFar headUncounted refusesAll tellsRow lastTicket noRig
 all-refused = (
   λ d.
       let z : true ≡ false = d .at-any-time (claim 0x1 ∷ claim 0x1 ∷ []) [] refl .holders-apart _ _ here (there here) (λ e. omega arith) refl refl in
@@ -34,5 +34,17 @@ all-refused = (
       omega arith,
   λ d.
       let z : _≡_ {A = ℕ} 6 0 = d .at-any-call [] (claim 0x1) [] refl .number-tested in
+      omega arith,
+  λ d.
+      let z : _≡_ {A = ℕ} 1 0 = d .at-any-call (claim 0x1 ∷ []) (release 1) [] refl .replied .release-plain 1 refl refl .row-none in
+      omega arith,
+  λ d.
+      let z : _≡_ {A = ℕ} 2 1 = d .at-any-call (claim 0x1 ∷ claim 0x1 ∷ []) (release 1) [] refl .replied .release-plain 1 refl refl .ticket-is in
+      omega arith,
+  λ d.
+      let z : _≡_ {A = ℕ} 1 0 = d .at-any-call (claim 0x1 ∷ []) (release 9) [] refl .replied .refused-plain (λ e. omega arith) .ticket-is in
+      omega arith,
+  λ d.
+      let z : _≡_ {A = ℕ} 1 0 = d 0x1 in
       omega arith,
 )

@@ -67,7 +67,8 @@ stay (release k) l = keep (λ e. not (named k e)) l
 abbrev pub pendingAt : Ledger → Turn → List Entry
 pendingAt l t = stay (t .call) (l .claims) ++ issues (t .call) (t .answer)
 
--- A head change: "an accepted release whose answer names grants".
+-- A head change, "the next row becomes the head and all of it goes on", as calls and answers tell it: an accepted release whose answer names
+-- grants. (The request does not say how it is told; this is our definition.)
 abbrev pub releases : Call → Bool
 releases (claim g) = false
 releases (release k) = true

@@ -1,15 +1,15 @@
--- Wrong frame tables, as steps run in place of the rules', each with a short list of calls at which the theorem is false of it.
+-- Wrong frame tables, as steps run in place of the rules', each with a short list of calls at which the theorem is false of it; and a wrong
+-- call for a new one.
 -- proofs/Worthless has the proofs; each goes by the clause that is named here.
 use mathlib.Core.Bool.{not}
 use mathlib.Core.List.{List, [], _∷_}
 use Prim.Native.Nat.{ℕ, _+_}
-use lib.ListN.{length}
-use Rattle.numbers.specs.Numbers.{fullNumber}
+use Rattle.numbers.specs.Numbers.{darkNumber, fullNumber}
 use Rattle.rules.specs.Lists.{keep}
 use Rattle.frames.specs.Rows.{on, contention}
-use Rattle.frames.specs.Calls.{Call, claim, release, Answer, Model, unchanged, without, step}
+use Rattle.frames.specs.Calls.{Call, claim, release, Answer, Model, Step, unchanged, without, step, blank}
 use Rattle.frame_promises.specs.Ledger.{Steps}
-use Rattle.frame_promises.specs.BoundedWait.{BoundedWaitOf}
+use Rattle.frame_promises.specs.BoundedWait.{BoundedWaitOf, NewTestedOf}
 
 -- The theorem does not hold of these steps, this rig and these calls.
 abbrev pub Refused : Steps → ℕ → List Call → Type 0
@@ -71,5 +71,39 @@ refusesAll m c = unchanged m fullNumber
 abbrev pub RefusesAllRefused : Type 0
 RefusesAllRefused = Refused refusesAll 0x1 (claim 0x1 ∷ [])
 
+-- A release answers row 1.
+unfoldable pub tellsRow : Steps
+tellsRow m (claim g) = step m (claim g)
+tellsRow m (release k) = let s = step m (release k) in record { model = s .model; answer = answering (s .answer) 1 (s .answer .contention) (s .answer .grants) }
+
+-- Shut out by `release-plain`: a release answers its ticket, 0 and 0.
+abbrev pub TellsRowRefused : Type 0
+TellsRowRefused = Refused tellsRow 0x1 (claim 0x1 ∷ release 1 ∷ [])
+
+-- Every call answers the last ticket issued.
+unfoldable pub lastTicket : Steps
+lastTicket m c =
+    let s = step m c in
+    let a = s .answer in
+    record { model = s .model; answer = record { number = a .number; ticket = s .model .issued; row = a .row; contention = a .contention; grants = a .grants } }
+
+-- Shut out by `release-plain`: ticket 1 is released, and the answer says 2;
+abbrev pub LastReleasedRefused : Type 0
+LastReleasedRefused = Refused lastTicket 0x1 (claim 0x1 ∷ claim 0x1 ∷ release 1 ∷ [])
+
+-- and by `refused-plain`: ticket 9 is unknown, and the answer says 1.
+abbrev pub LastUnknownRefused : Type 0
+LastUnknownRefused = Refused lastTicket 0x1 (claim 0x1 ∷ release 9 ∷ [])
+
+-- A call for a new table that is never satisfied.
+unfoldable pub noRig : ℕ → Step
+noRig rig = unchanged (blank 0) darkNumber
+
+-- Shut out by its condition: a rig of group 0 is not dark.
+abbrev pub NoRigRefused : Type 0
+NoRigRefused = NewTestedOf noRig → ⊥
+
 abbrev pub AllRefused : Type 0
-AllRefused = HeadOnlyRefused × HeadFitsRefused × NeverTurnsRefused × TooFarRefused × HeadUncountedRefused × RefusesAllRefused
+AllRefused =
+    HeadOnlyRefused × HeadFitsRefused × NeverTurnsRefused × TooFarRefused × HeadUncountedRefused × RefusesAllRefused
+    × TellsRowRefused × LastReleasedRefused × LastUnknownRefused × NoRigRefused

@@ -6,11 +6,11 @@ use Rattle.frames.specs.declared.Table.{Table}
 use Rattle.frames.specs.Calls.{Model, Call, claim, release, Answer, Step, step, new}
 use Rattle.frames.specs.Tables.{model}
 use Rattle.frame_promises.specs.Ledger.{Turn, turns, tableAfter}
-use Rattle.frame_promises.proofs.BoundedWait.{bounded-wait}
+use Rattle.frame_promises.proofs.BoundedWait.{bounded-wait, new-tested}
 use Rattle.frame_table.specs.declared.Outcome.{Outcome}
 use Rattle.frame_table.specs.Outcomes.{outcome}
 use Rattle.frame_table.specs.Valid.{Valid}
-use Rattle.frame_runs.specs.Runs.{answered, Promised, PromisedNew, Run, done, then, CodeBoundedWait, CodeTables}
+use Rattle.frame_runs.specs.Runs.{answered, Promised, PromisedNew, Run, done, then, CodeBoundedWait, CodeNewTested, CodeTables}
 use Rattle.frame_table.proofs.Promised.{outcome-model, outcome-grants}
 
 -- ── what the contracts say ──
@@ -70,6 +70,9 @@ code-bounded-wait rig calls = record {
       let answer = made-is (a .2) c r o .0 ∙ ap (λ (x : Model). step x c .answer) (a .1) in
       rw (a .0, answer) (bounded-wait rig calls .at-any-call before c rest e);
 }
+
+pub code-new-tested : CodeNewTested
+code-new-tested rig r p = ap (λ (a : Answer). a .number) (answer-of r (new rig) (p .0)) ∙ new-tested rig
 
 pub code-tables : (rig : ℕ) (calls : List Call) → CodeTables rig calls
 code-tables rig calls = record {

@@ -6,10 +6,10 @@ use mathlib.Core.List.{List, [], _∷_, _++_}
 use Prim.Native.Nat.{ℕ}
 use lib.ListN.{take}
 use Rattle.frames.specs.declared.Table.{Table}
-use Rattle.frames.specs.Calls.{Call, claim, release, Answer, step, new}
+use Rattle.frames.specs.Calls.{Call, claim, release, Answer, step}
 use Rattle.frames.specs.Tables.{model}
 use Rattle.frame_promises.specs.Ledger.{Turn, ledgerOf}
-use Rattle.frame_promises.specs.BoundedWait.{Now, Next}
+use Rattle.frame_promises.specs.BoundedWait.{Now, Next, NewNumber}
 use Rattle.frame_table.specs.declared.Outcome.{Outcome}
 use Rattle.frame_table.specs.Valid.{Valid}
 use Rattle.frame_table.proofs.new.Reads as new-contract
@@ -47,7 +47,11 @@ pub record CodeBoundedWait (rig : ℕ) (calls : List Call) : Type 0 where
   pub at-any-time : (before rest : List Call) → before ++ rest ≡ calls → CodeAfter rig before (λ ts t. Now (ledgerOf ts))
   pub at-any-call : (before : List Call) (c : Call) (rest : List Call) → before ++ (c ∷ rest) ≡ calls
       → CodeAfter rig before (λ ts t. (r : Outcome) → Promised t c r
-      → Next (new rig .model .rig) (ledgerOf ts) (record { call = c; answer = answered r }))
+      → Next rig (ledgerOf ts) (record { call = c; answer = answered r }))
+
+-- The number of the call for a new table.
+abbrev pub CodeNewTested : Type 0
+CodeNewTested = (rig : ℕ) (r : Outcome) → new-contract.Learnt tt (rig, tt) r (rig, tt) → NewNumber rig (r .number)
 
 -- Every table of a run is valid: what the calls ask of it always holds. And the code's next call is the rules' step.
 pub record CodeTables (rig : ℕ) (calls : List Call) : Type 0 where

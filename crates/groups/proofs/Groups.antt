@@ -10,7 +10,7 @@ use lib.Dec.{eqb, ltb}
 use lib.Pow.{shr-shr}
 use borrow.Author.Tests.{eqb-true, eqb-false, ltb-true, ltb-false, not-true, not-false}
 use Rattle.groups.specs.declared.MaybeGroup.the-variants.{Group, NoGroup}
-use Rattle.groups.specs.Groups.{has, someFrom, someGroup, common, found, shares, setFrom, setWhere, union, without, only, lowestFrom, lowest, lowestMissing, others}
+use Rattle.groups.specs.Groups.{has, someFrom, someGroup, common, CommonLowest, found, shares, empty, within, setFrom, setWhere, union, without, only, lowestFrom, lowest, lowestMissing, others}
 
 -- Group j + 1 from g on is group j from the next one on.
 next : (g j : ℕ) → g + suc j ≡ suc g + j
@@ -181,6 +181,12 @@ union-shares a b x = rw (shares-some (union a b) x, shares-some a x, shares-some
     at-group : (g : ℕ) → g < 64 → (has (union a b) g && has x g) ≡ (has a g && has x g || has b g && has x g)
     at-group g h = rw (has-set _ g h) (and-or-distrib-right (has a g) (has b g) (has x g))
 
+-- A set is within another by the other's groups 0 to 63 alone: two that have none are alike.
+pub within-none : (a b c : ℕ) → empty b ≡ true → empty c ≡ true → within a b ≡ within a c
+unfolding empty within
+within-none a b c p q =
+    ap not (from-same _ 0 _ _ (λ g h. ap (λ (t : Bool). has a g && not t) (none-elim (has b) (not-true _ p) g h ∙ sym (none-elim (has c) (not-true _ q) g h))))
+
 -- The groups of a union, those of a set of one group,
 pub union-has : (a b g : ℕ) → g < 64 → has (union a b) g ≡ (has a g || has b g)
 unfolding union
@@ -217,6 +223,26 @@ none-from (suc k) g p e = go (none-from k (suc g) p) (p g) e
         → (t || someFrom k (suc g) p) ≡ false
     go later true e = let z : _≡_ {A = ℕ} 0 1 = cc in absurd (omega arith)
     go later false e = later e
+
+-- The lowest common group of two sets is in both, and no lower one is; where there is none, no group is in both.
+pub common-lowest : (a b : ℕ) → CommonLowest a b
+unfolding common
+common-lowest a b = record {
+  in-both = λ g e.
+      let r = lowest-from _ 0 both g e in
+      let t = and-eq-true-iff (has a g) (has b g) .0 (r .3) in
+      (omega (arith, r .1, r .2), t .0, t .1);
+  none-lower = λ g e h l p q.
+      let r = lowest-from _ 0 both g e in
+      apart h (rw zero-add at (from-none (r .0) 0 both (r .4) h (omega (arith, r .2)))) p q;
+  none-common = λ e h l. apart h (none-elim both (none-from _ 0 both e) h l);
+}
+  where
+    both : ℕ → Bool
+    both g = has a g && has b g
+
+    apart : (h : ℕ) → both h ≡ false → has a h ≡ true → has b h ≡ true → ⊥
+    apart h f p q = false≢true (sym f ∙ rw (p, q) refl)
 
 -- The lowest group of a set is in it.
 pub lowest-in : (a g : ℕ) → lowest a ≡ Group g → (g < 64) × (has a g ≡ true)

@@ -1,7 +1,8 @@
 -- Sets of groups. Document 01: "Groups are numbered 0 to 63; a set of groups is a 64-bit number, group g standing for 2^g."
 -- What is said here is said of the groups 0 to 63, one by one; that the code may work on all bits at once is proved.
+use mathlib.Core.Path.{_≡_}
 use mathlib.Core.Bool.{Bool, true, false, not, _&&_, _||_, cond}
-use Prim.Native.Nat.{ℕ, zero, suc, _+_, _*_, _/_, _%_, _^_}
+use Prim.Native.Nat.{ℕ, zero, suc, _+_, _*_, _/_, _%_, _^_, _<_}
 use lib.Dec.{eqb}
 use Rattle.groups.specs.declared.MaybeGroup.{MaybeGroup}
 use Rattle.groups.specs.declared.MaybeGroup.the-variants.{Group, NoGroup}
@@ -23,6 +24,13 @@ lowestFrom (suc k) g p = cond (p g) (Group g) (lowestFrom k (suc g) p)
 -- "the lowest common group number, or none": the first from group 0 up that is in both sets.
 unfoldable pub common : ℕ → ℕ → MaybeGroup
 common a b = lowestFrom 64 0 (λ g. has a g && has b g)
+
+-- What these words say: a group that is in both sets, and no lower one is; none only where no group is. proofs/Groups has the theorem, of
+-- any two sets.
+pub record CommonLowest (a b : ℕ) : Type 0 where
+  pub in-both : (g : ℕ) → common a b ≡ Group g → (g < 64) × (has a g ≡ true) × (has b g ≡ true)
+  pub none-lower : (g : ℕ) → common a b ≡ Group g → (h : ℕ) → h < g → has a h ≡ true → has b h ≡ true → ⊥
+  pub none-common : common a b ≡ NoGroup → (h : ℕ) → h < 64 → has a h ≡ true → has b h ≡ true → ⊥
 
 -- "share a group": yes or no of that.
 unfoldable pub shares : ℕ → ℕ → Bool

@@ -11,8 +11,8 @@ use Rattle.load.specs.declared.Call.{Call}
 use Rattle.load.specs.Reading.{Walk, walk, editionOf, openNumber}
 use Rattle.listing.specs.Lines.{header, lineOf, onLines, stopLine}
 
--- The call of the table that a record says: "2 claim", "3 release", "4 withdraw", "5 clock", kind 6, "a record of desk, guarantee and limit"
--- (document 02, P4), and kind 8, "the grace in four bytes" (P6). (The reader gives no other kind: specs/RecordKinds.)
+-- The call of the table that a record says: "2 claim", "3 release", "4 withdraw", "5 clock", "a kind 6 record of desk, guarantee and limit"
+-- (document 02, P4), and "kind 8, the grace in four bytes" (P6). (The reader gives no other kind: specs/RecordKinds.)
 unfoldable pub saysCall : Call → TableCall
 saysCall c =
     cond (eqb (c .kind) 2) (claim (c .clock) (record { groups = c .groups; length = c .length; units = c .units; client = c .client }))

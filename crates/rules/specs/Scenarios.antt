@@ -101,7 +101,7 @@ outcome x =
       standings = map (λ k. standingOf k (after m (x .calls) .pending)) (1 ∷ 2 ∷ 3 ∷ 4 ∷ []);
     }
 
--- What the paper gives.
+-- What is expected: of the plots what the paper gives, and by its rules what it leaves out; the last two rows are not the paper's but ours.
 abbrev pub expected : Scenario → Outcome
 expected x = record { answers = x .answers; standings = x .standings }
 
@@ -224,7 +224,7 @@ pair calls first second told = record { calls = calls; first = first; second = s
 
 unfoldable pub pairs : List Pair
 pairs =
-    -- claims of 8, C and 6 hex: "tickets 1 and 2 (group 3), 2 and 3 (group 2), 1 and 3 (none)", in either order
+    -- claims of 8, C and 6 hex: tickets 1 and 2 share group 3, in either order, 2 and 3 group 2, 1 and 3 none
     pair S 1 2 (Shared 3)
     ∷ pair S 2 1 (Shared 3)
     ∷ pair S 2 3 (Shared 2)
