@@ -21,7 +21,7 @@ use Rattle.rules.specs.Invariants.{Invariant, Settled}
 use Rattle.rules.specs.Calls.{Model, ruled, settingOf, Call, claim, standing, isTimed, isLook, Step, advance, plain, finish, join, admit, step}
 use Rattle.rules.proofs.Bools.{clash, by-test}
 use Rattle.rules.proofs.Lists.{map-e, map-i, keep-snoc, keep-all}
-use Rattle.rules.proofs.Granting.{granted-cases, granted-ticket, goes-at, end-granted, granted-on, grant-uses}
+use Rattle.rules.proofs.Granting.{granted-cases, granted-ticket, goes-at, end-granted, granted-go, granted-stay, grant-uses}
 use Rattle.rules.proofs.Calls.{Admissible, advance-packed, finish-invariant, advance-e, clock-accepted, Leaves, by-release, by-withdraw, by-clock, Idle, step-cases}
 use Rattle.promises.specs.Ledger.{Turn, turns, tableAfter, Ledger, Entry, without, noted, notedAll, NoOverrun}
 use Rattle.promises.specs.Runs.{tells, Start, Begins}
@@ -118,7 +118,7 @@ module _ (Q : Type 0) (l : Ledger) (m : Model) (i : Invariant m) (t : ℕ) (ask 
       by-test (goes (ruled m t) ps c)
       (λ g. absurd (omega (arith, goes-at (ruled m t) ps c g, z .1, whole .length, a .long)))
       (λ g.
-      let same : after c ≡ c = granted-cases (λ (y : Claim). y ≡ c) (ruled m t) ps c (λ q. clash q g) (λ q. refl) in
+      let same : after c ≡ c = granted-stay (ruled m t) ps c g in
       inr (at c, told-is Q l n st (after c) e (r .0) (r .1) ∙ ap standing same ∙ standing-wait c (z .0), omega (arith, z .1, whole .length)))
 
   room-of : (x : ℕ) → (c : Claim) (e : Entry) → Of c e → RoomTold l (tells n) ask x e → Room (ruled m t) (whole .new) x c
@@ -127,9 +127,9 @@ module _ (Q : Type 0) (l : Ledger) (m : Model) (i : Invariant m) (t : ℕ) (ask 
   room-of x c e r (inr z) =
       let w = waits-at Q l n st (after c) e (r .0) (r .1) (z .0) (z .1) in
       by-test (goes (ruled m t) ps c)
-      (λ g. clash (ap on (granted-on (ruled m t) ps c g)) (w .0))
+      (λ g. clash (ap on (granted-go (ruled m t) ps c g)) (w .0))
       (λ g.
-      let same : after c ≡ c = granted-cases (λ (y : Claim). y ≡ c) (ruled m t) ps c (λ q. clash q g) (λ q. refl) in
+      let same : after c ≡ c = granted-stay (ruled m t) ps c g in
       inr (sym (ap on same) ∙ w .0, omega (arith, ap at same, w .1, z .2, whole .length)))
 
   use-same : (y : ℕ) → t ≤ y → plannedUse l (tells n) y (without k (l .claims)) ≡ used (ruled m t) y ps

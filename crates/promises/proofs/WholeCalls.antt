@@ -1,13 +1,13 @@
 -- Whole calls are as document 01 says, in every table that calls can make.
 use mathlib.Core.Path.{_≡_, refl, sym, _∙_, ap, subst}
 use mathlib.Core.Logic.{_⊎_, inl, inr, _≢_}
-use mathlib.Core.Bool.{Bool, true, false, not, _&&_, _||_}
+use mathlib.Core.Bool.{Bool, true, false, not, _&&_}
 use mathlib.Core.List.{List, [], _∷_, _++_, map}
 use Prim.Native.Nat.{ℕ, suc, _+_, _-_, _*_, _≤_, _<_}
 use native.Mathlib.Omega.{arith}
-use lib.Dec.{eqb, ltb, leb}
+use lib.Dec.{eqb, ltb}
 use lib.ListN.{length as count}
-use borrow.Author.Tests.{not-true, eqb-false, ne-eqb, eq-eqb, leb-false, ltb-true, le-ltb}
+use borrow.Author.Tests.{not-true, eqb-false, ne-eqb, ltb-true, le-ltb}
 use Rattle.numbers.specs.Numbers.{mostTickets}
 use Rattle.rules.specs.declared.Claim.{Claim}
 use Rattle.rules.specs.declared.Request.{Request}
@@ -18,20 +18,21 @@ use Rattle.rules.specs.Order.{precedes, rivals}
 use Rattle.rules.specs.Packing.{packedStart, moved, pack, Packs}
 use Rattle.rules.specs.Placing.{place, contention, startBound}
 use Rattle.rules.specs.Plans.{Ascending, Sane, Fits}
-use Rattle.rules.specs.Granting.{takenBefore, trulyFree, goes, granted, grant, grants}
+use Rattle.rules.specs.Granting.{takenBefore, goes, granted, grant, grants}
 use Rattle.rules.specs.Pool.{heldBy, heldUnits}
 use Rattle.rules.specs.Tests.{named}
 use Rattle.rules.specs.declared.Reply.{Reply}
 use Rattle.rules.specs.Calls.{Model, ruled, settingOf, claims, Call, timed, looks, setsUp, claim, release, clock, isTimed, declared, withGrace, Step, advance, plain, finish, join, remove, fresh, admit, step}
 use Rattle.rules.specs.Invariants.{IsSpaced, IsPacked, Still, Invariant}
-use Rattle.rules.proofs.Bools.{clash, by-test, or-fr}
-use Rattle.rules.proofs.Lists.{map-e, map-i, keep-e, keep-i, any-some, named-keep, sum-map, sum-le, sum-both}
+use Rattle.rules.proofs.Bools.{clash, by-test}
+use Rattle.rules.proofs.Lists.{map-e, map-i, keep-e, keep-i, named-keep, sum-map, sum-le, sum-both}
 use Rattle.rules.proofs.Claims.{waiting-is}
 use Rattle.rules.proofs.Order.{meets-none, ends-precedes, ascending-same}
 use Rattle.rules.proofs.NoUnits.{start-documented}
 use Rattle.rules.proofs.Packing.{moved-cases, moved-phase, pack-precedes, pack-no-later}
 use Rattle.rules.proofs.Placing.{place-low, place-least}
-use Rattle.rules.proofs.Granting.{goes-eq, taken-ticket, goes-wait, goes-at, granted-cases, granted-on, grant-precedes}
+use Rattle.rules.proofs.Granting.{stays, taken-ticket, goes-wait, goes-at, granted-cases, granted-go, granted-stay, grant-precedes}
+use Rattle.rules.proofs.Granting as granting
 use Rattle.rules.proofs.Invariants.{settled-packs, spaced-packs}
 use Rattle.rules.proofs.Calls.{Clocked, Admissible, advance-drawn, fresh-sane, placed-fits, advance-packed, finish-invariant, placed, join-spaced, Leaves, by-release, by-withdraw, by-clock, leaves-spaced, remove-spaced, Idle, looks-untimed, step-cases, clock-accepted, step-invariant, advance-same, finish-e, finish-clock, leaves-old, leaves-clock, join-old, advance-spare, packs-as-documented}
 use Rattle.rules.proofs.OnePacking.{advance-still, finish-still, joined, joined-cases, claim-pending, joined-at}
@@ -87,20 +88,6 @@ finish-order m q t rep i sp old d d′ w w′ f g o p =
     mine d di x e (inr l) = absurd (omega (arith, i .spaced .proper d di .issued))
 
 -- ── who stays for want of units ──
-data Why (v : Setting) (ps : List Claim) (w : Claim) : Type 0 where
-  preceded : (d : Claim) → d ∈ ps → precedes d w ≡ true → Why v ps w
-  unspared : v .pool < heldUnits ps + sum (takenBefore (goes v ps) w) ps + w .units → Why v ps w
-
-why : (v : Setting) (ps : List Claim) (w : Claim) → goes v ps w ≡ false → on w ≡ false → at w ≡ v .clock → Why v ps w
-unfolding trulyFree
-why v ps w e o c =
-    let f : (not (any (λ d. precedes d w) ps) && trulyFree v ps (goes v ps) w) ≡ false = simp (o, eq-eqb (at w) (v .clock) c) at (sym (goes-eq v ps w) ∙ e) in
-    by-test (any (λ d. precedes d w) ps)
-    (λ q. let r = any-some (λ x. precedes x w) ps q in preceded (r .0) (r .1) (r .2))
-    (λ q.
-    let h : (eqb (w .units) 0 || leb (heldUnits ps + sum (takenBefore (goes v ps) w) ps + w .units) (v .pool)) ≡ false = rw q at f in
-    unspared (leb-false _ _ (or-fr (eqb (w .units) 0) _ h)))
-
 and-no : (b : Bool) → b && false ≡ false
 and-no true = refl
 and-no false = refl
@@ -129,11 +116,11 @@ module _ (v : Setting) (ps : List Claim) (sane : (c : Claim) → c ∈ ps → Sa
 
   wanting-at : on w ≡ false → goes v ps w ≡ false → ((d : Claim) → d ∈ grant v ps → precedes d w ≡ false) → v .pool < sum (keptFrom (grants v ps) w) (grant v ps) + w .units
   unfolding grant
-  wanting-at o g none = go (why v ps w g o due)
+  wanting-at o g none = go (stays v ps w g o due)
     where
-      go : Why v ps w → v .pool < sum (keptFrom (grants v ps) w) (grant v ps) + w .units
-      go (preceded d di p) = clash (grant-precedes v ps d w di p .1) (none (granted v ps d) (map-i (granted v ps) di))
-      go (unspared l) = omega (arith, kept-sum)
+      go : granting.Stays v ps w → v .pool < sum (keptFrom (grants v ps) w) (grant v ps) + w .units
+      go (granting.preceded d di p) = clash (grant-precedes v ps d w di p .1) (none (granted v ps d) (map-i (granted v ps) di))
+      go (granting.unspared z l) = omega (arith, kept-sum)
 
 finish-wanting : (q : Model) (rep : Reply) → IsSpaced q → (w : Claim) → w ∈ finish q rep .model .pending → on w ≡ false → at w ≡ q .clock
     → ((d : Claim) → d ∈ finish q rep .model .pending → precedes d w ≡ false)
@@ -145,8 +132,8 @@ finish-wanting q rep sp w wi o a none =
     let s = spaced-packs (q .issued) v (q .pending) sp .spaced in
     let r = finish-e q rep wi in
     let y : Claim = moved (packedStart v (q .pending)) (r .0) in
-    let g : goes v ps y ≡ false = by-test (goes v ps y) (λ h. clash (ap on (granted-on v ps y h)) (sym (ap on (r .3 .1)) ∙ o)) (λ h. h) in
-    let same : w ≡ y = r .3 .1 ∙ granted-cases (λ (x : Claim). x ≡ y) v ps y (λ h. clash h g) (λ h. refl) in
+    let g : goes v ps y ≡ false = by-test (goes v ps y) (λ h. clash (ap on (granted-go v ps y h)) (sym (ap on (r .3 .1)) ∙ o)) (λ h. h) in
+    let same : w ≡ y = r .3 .1 ∙ granted-stay v ps y g in
     let wp : w ∈ ps = subst (λ (x : Claim). x ∈ ps) (sym same) (r .3 .0) in
     wanting-at v ps (λ c k. s .proper c k .sane) (s .ascending) w wp a o (ap (goes v ps) same ∙ g) none
 

@@ -116,7 +116,7 @@ pub data Stays (v : Setting) (ps : List Claim) (w : Claim) : Type 0 where
   preceded : (d : Claim) → d ∈ ps → precedes d w ≡ true → Stays v ps w
   unspared : 0 < w .units → v .pool < heldUnits ps + sum (takenBefore (goes v ps) w) ps + w .units → Stays v ps w
 
-stays : (v : Setting) (ps : List Claim) (w : Claim) → goes v ps w ≡ false → on w ≡ false → at w ≡ v .clock → Stays v ps w
+pub stays : (v : Setting) (ps : List Claim) (w : Claim) → goes v ps w ≡ false → on w ≡ false → at w ≡ v .clock → Stays v ps w
 unfolding trulyFree
 stays v ps w e o c =
     let f : (not (any (λ d. precedes d w) ps) && trulyFree v ps (goes v ps) w) ≡ false = simp (o, eq-eqb (at w) (v .clock) c) at (sym (goes-eq v ps w) ∙ e) in
@@ -128,11 +128,11 @@ stays v ps w e o c =
     unspared (omega arith) (leb-false _ _ (or-fr (eqb (w .units) 0) _ h)))
 
 -- ── a claim as granted ──
-granted-go : (v : Setting) (ps : List Claim) (c : Claim) → goes v ps c ≡ true → granted v ps c ≡ withPhase c (On (v .clock))
+pub granted-go : (v : Setting) (ps : List Claim) (c : Claim) → goes v ps c ≡ true → granted v ps c ≡ withPhase c (On (v .clock))
 unfolding granted
 granted-go v ps c e = rw (e, granted)
 
-granted-stay : (v : Setting) (ps : List Claim) (c : Claim) → goes v ps c ≡ false → granted v ps c ≡ c
+pub granted-stay : (v : Setting) (ps : List Claim) (c : Claim) → goes v ps c ≡ false → granted v ps c ≡ c
 unfolding granted
 granted-stay v ps c e = rw (e, granted)
 
@@ -156,9 +156,6 @@ grant-precedes v ps c w m p = (
   granted-cases (λ (x : Claim). x ≡ w) v ps w (λ g. clash p (goes-free v ps w g c m)) (λ g. refl),
   granted-cases (λ (x : Claim). precedes x w ≡ true) v ps c (λ g. precedes-on (withPhase c (On (v .clock))) w (precedes-conflicts c w p) refl) (λ g. p),
 )
-
-pub granted-on : (v : Setting) (ps : List Claim) (c : Claim) → goes v ps c ≡ true → granted v ps c ≡ withPhase c (On (v .clock))
-granted-on v ps c h = granted-cases (λ (x : Claim). x ≡ withPhase c (On (v .clock))) v ps c (λ g. refl) (λ g. clash h g)
 
 -- Its end is not changed by going on.
 pub end-granted : (v : Setting) (ps : List Claim) (c : Claim) → goes v ps c ≡ true → endOf v (withPhase c (On (v .clock))) ≡ endOf v c
