@@ -606,7 +606,7 @@ module _ (P : Type 0) (l : Ledger) (m : Model) (s : Story P l m) where
     },
   )
 
-  told : (c : Call) → Told P l m c (step m c)
+  pub told : (c : Call) → Told P l m c (step m c)
   told = step-cases (Told P l m) m told-idle told-claim told-left told-declare told-grace
 
 -- ── the run ──

@@ -28,7 +28,7 @@ leaves-issues (by-release t k) = refl
 leaves-issues (by-withdraw t k) = refl
 leaves-issues (by-clock t) = refl
 
-issued-grows : (m : Model) (c : Call) → m .issued ≤ step m c .model .issued
+pub issued-grows : (m : Model) (c : Call) → m .issued ≤ step m c .model .issued
 unfolding admit finish join advance
 issued-grows m =
     step-cases (λ c s. m .issued ≤ s .model .issued) m (λ c n i. omega arith) (λ t ask a. omega arith) (λ c t k q o v. omega (arith, leaves-issues v)) (λ c r l d. omega arith) (λ n d. omega arith)
@@ -50,7 +50,7 @@ was-pending m c k l =
     from : (t : ℕ) (x : Claim) → x ∈ advance m t .pending → x .ticket ≡ k → Pending m k
     from t x i e = let r = advance-e m t i in (r .0, r .1, sym (r .2) ∙ e)
 
-pending-all-along : (m : Model) (cs : List Call) (k : ℕ) → k ≤ m .issued → Pending (tableAfter step m cs) k → Pending m k
+pub pending-all-along : (m : Model) (cs : List Call) (k : ℕ) → k ≤ m .issued → Pending (tableAfter step m cs) k → Pending m k
 unfolding tableAfter
 pending-all-along m [] k l p = p
 pending-all-along m (c ∷ cs) k l p = was-pending m c k l (pending-all-along (step m c .model) cs k (omega (arith, issued-grows m c)) p)

@@ -11,6 +11,7 @@ use Rattle.promises.proofs.StartsPacked.{starts-packed}
 use Rattle.promises.proofs.PlansApart.{plans-apart}
 use Rattle.promises.proofs.WaitsExplained.{waits-explained}
 use Rattle.promises.proofs.NeverOvertaken.{never-overtaken}
+use Rattle.promises.proofs.StartsHold.{starts-hold}
 use Rattle.promises.proofs.GrantsDue.{grants-due}
 use Rattle.promises.proofs.PoolKept.{pool-kept}
 use Rattle.promises.proofs.SharesKept.{shares-kept}
@@ -27,6 +28,7 @@ promises s b calls = record {
   waits-explained = waits-explained s b calls;
   never-overtaken = never-overtaken s b calls;
   grants-due = grants-due s b calls;
+  starts-hold = starts-hold s b calls;
   pool-kept = pool-kept s b calls;
   shares-kept = shares-kept s b calls;
   table-kept = table-kept s b calls;

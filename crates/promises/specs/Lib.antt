@@ -10,6 +10,7 @@ pub mod PlansApart
 pub mod WaitsExplained
 pub mod GrantsDue
 pub mod NeverOvertaken
+pub mod StartsHold
 pub mod PoolKept
 pub mod SharesKept
 pub mod TableKept

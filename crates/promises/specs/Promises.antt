@@ -11,6 +11,7 @@ use Rattle.promises.specs.StartsPacked.{StartsPacked}
 use Rattle.promises.specs.PlansApart.{PlansApart}
 use Rattle.promises.specs.WaitsExplained.{WaitsExplained}
 use Rattle.promises.specs.NeverOvertaken.{NeverOvertaken}
+use Rattle.promises.specs.StartsHold.{StartsHold}
 use Rattle.promises.specs.GrantsDue.{GrantsDue}
 use Rattle.promises.specs.PoolKept.{PoolKept}
 use Rattle.promises.specs.SharesKept.{SharesKept}
@@ -28,6 +29,7 @@ pub record Promises (s : Start) (calls : List Call) : Type 0 where
   pub waits-explained : WaitsExplained s calls
   pub never-overtaken : NeverOvertaken s calls
   pub grants-due : GrantsDue s calls
+  pub starts-hold : StartsHold s calls
   pub pool-kept : PoolKept s calls
   pub shares-kept : SharesKept s calls
   pub table-kept : TableKept s calls

@@ -29,6 +29,7 @@ use Rattle.promises.proofs.StartsPacked.{starts-packed}
 use Rattle.promises.proofs.PlansApart.{plans-apart}
 use Rattle.promises.proofs.WaitsExplained.{waits-explained}
 use Rattle.promises.proofs.NeverOvertaken.{never-overtaken}
+use Rattle.promises.proofs.StartsHold.{starts-hold}
 use Rattle.promises.proofs.GrantsDue.{grants-due}
 use Rattle.promises.proofs.PoolKept.{pool-kept}
 use Rattle.promises.proofs.SharesKept.{shares-kept}
@@ -36,7 +37,7 @@ use Rattle.promises.proofs.TableKept.{table-kept}
 use Rattle.table.specs.declared.Outcome.{Outcome}
 use Rattle.table.specs.Outcomes.{outcome}
 use Rattle.table.specs.Valid.{Valid}
-use Rattle.table_runs.specs.Runs.{answered, looked, lookNumber, Promised, Shows, Made, by-call, by-look, Run, done, then, Looks, BeganAs, by-new, CodeAtAnyTime, CodeWhileNobodyOverruns, CodeAtAnyLater, CodeAtAnyCall, CodeDemand3, CodeNumbersTested, CodeNewTested, CodeReplies, CodeLeastStart, CodeStartsPacked, CodePlansApart, CodeWaitsExplained, CodeNeverOvertaken, CodeGrantsDue, CodePoolKept, CodeSharesKept, CodeTables}
+use Rattle.table_runs.specs.Runs.{answered, looked, lookNumber, Promised, Shows, Made, by-call, by-look, Run, done, then, Looks, BeganAs, by-new, CodeAtAnyTime, CodeWhileNobodyOverruns, CodeAtAnyLater, CodeAtAnyCall, CodeDemand3, CodeNumbersTested, CodeNewTested, CodeReplies, CodeLeastStart, CodeStartsPacked, CodePlansApart, CodeWaitsExplained, CodeNeverOvertaken, CodeStartsHold, CodeGrantsDue, CodePoolKept, CodeSharesKept, CodeTables}
 use Rattle.table.proofs.Promised.{outcome-model, outcome-grants}
 
 -- ── what the contracts say ──
@@ -168,6 +169,18 @@ code-waits-explained calls = any-time-of-code calls Explained (λ s b. waits-exp
 
 pub code-never-overtaken : (calls : List Call) → CodeNeverOvertaken calls
 code-never-overtaken calls = any-later-of-code calls NotOvertaken (λ s b. never-overtaken s b calls)
+
+pub code-starts-hold : (calls : List Call) → CodeStartsHold calls
+code-starts-hold calls before between rest e t s b ts u p old k us w q new k′ =
+    let r = ran b p in
+    let d = run-is (r .3) q in
+    rw (
+      r .1,
+      d .0 ∙ ap (λ (x : Model). turns step x between) (r .2),
+      looks-are u _ old (r .3) (r .2) k,
+      looks-are w _ new (d .2) (d .1 ∙ ap (λ (x : Model). tableAfter step x between) (r .2)) k′,
+    )
+    (starts-hold s (r .0) calls before between rest e)
 
 pub code-grants-due : (calls : List Call) → CodeGrantsDue calls
 code-grants-due calls = any-call-of-code calls Due (λ s b. grants-due s b calls)

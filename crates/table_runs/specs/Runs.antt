@@ -20,6 +20,7 @@ use Rattle.promises.specs.StartsPacked.{AllPacked}
 use Rattle.promises.specs.PlansApart.{Apart}
 use Rattle.promises.specs.WaitsExplained.{Explained}
 use Rattle.promises.specs.NeverOvertaken.{NotOvertaken}
+use Rattle.promises.specs.StartsHold.{Holds}
 use Rattle.promises.specs.GrantsDue.{Due}
 use Rattle.promises.specs.PoolKept.{Kept}
 use Rattle.promises.specs.SharesKept.{SharesNow, SharesNext}
@@ -163,6 +164,14 @@ CodeWaitsExplained calls = CodeAtAnyTime calls Explained
 
 abbrev pub CodeNeverOvertaken : List Call → Type 0
 CodeNeverOvertaken calls = CodeAtAnyLater calls NotOvertaken
+
+-- From any time on for as long as nobody overruns, whoever did before.
+abbrev pub CodeStartsHold : List Call → Type 0
+CodeStartsHold calls =
+    (before between rest : List Call) → before ++ (between ++ rest) ≡ calls
+    → (t : Table) (s : Start) → BeganAs t s → (ts : List Turn) (u : Table) → Run t before ts u → (old : Told) → Looks u old
+    → (us : List Turn) (w : Table) → Run u between us w → (new : Told) → Looks w new
+    → (let l = notedAll (s .ledger) ts in NoOverruns l us → Holds old (notedAll l us) new)
 
 abbrev pub CodeGrantsDue : List Call → Type 0
 CodeGrantsDue calls = CodeAtAnyCall calls Due

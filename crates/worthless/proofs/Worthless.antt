@@ -141,6 +141,10 @@ all-refused = record {
       let z : 11 ≤ 10 = d .at-any-call (claim 0 0x1 10 ∷ claim 0 0x1 10 ∷ []) (clock 1) [] refl .never-raised
       (λ _ e. of-two (λ (x : Entry). x .held ≡ true → 1 ≤ promised x) (entry 1 0x1 10 0 true) (entry 2 0x1 10 10 false) e (λ _. omega arith) (λ h. clash h refl)) 2 10 refl .0 11 refl in
       omega arith;
+  put-back-later = λ d.
+      let z : 11 ≤ 10 = d (claim 0 0x1 10 ∷ claim 0 0x1 10 ∷ []) (clock 1 ∷ []) [] refl
+      (λ _ e. of-two (λ (x : Entry). x .held ≡ true → 1 ≤ promised x) (entry 1 0x1 10 0 true) (entry 2 0x1 10 10 false) e (λ _. omega arith) (λ h. clash h refl), tt) .not-raised 2 10 refl 11 refl in
+      omega arith;
   groups-forgotten = λ d.
       let e : Apart ≡ Shared 0 = d .at-any-time (claim 0 0x1 10 ∷ claim 0 0x1 10 ∷ []) [] refl .common-agrees 1 2 .pending (entry 1 0x1 10 0 true) (entry 2 0x1 10 10 false) here (there here) refl refl in
       let z : _≡_ {A = ℕ} 0 1 = cc in

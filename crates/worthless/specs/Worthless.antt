@@ -33,6 +33,7 @@ use Rattle.promises.specs.NeverOvertaken.{NeverOvertakenOf}
 use Rattle.promises.specs.PoolKept.{PoolKeptOf}
 use Rattle.promises.specs.SharesKept.{SharesKeptOf}
 use Rattle.promises.specs.TableKept.{TableKeptOf}
+use Rattle.promises.specs.StartsHold.{StartsHoldOf}
 use Rattle.promises.specs.GrantsDue.{GrantsDueOf}
 use Rattle.promises.specs.WholeCalls.{WholeCallsOf}
 
@@ -315,6 +316,8 @@ pub record AllRefused : Type 0 where
   pub granted-all : Demand3Of grantsAll (newly 0x1 0 true) (claim 0 0x1 10 ∷ claim 0 0x1 10 ∷ []) → ⊥
   -- By `never-raised`: ticket 2 waits for 10, and at clock 1 for 11.
   pub put-back : Demand3Of putsBack (newly 0x1 0 true) (claim 0 0x1 10 ∷ claim 0 0x1 10 ∷ clock 1 ∷ []) → ⊥
+  -- By `not-raised`: the same from the second claim on.
+  pub put-back-later : StartsHoldOf putsBack (newly 0x1 0 true) (claim 0 0x1 10 ∷ claim 0 0x1 10 ∷ clock 1 ∷ []) → ⊥
   -- By `common-agrees`: both asked for group 0.
   pub groups-forgotten : Demand3Of forgetsGroups (newly 0x1 0 true) (claim 0 0x1 10 ∷ claim 0 0x1 10 ∷ []) → ⊥
   -- By `grants-ascend`: 3, then 2.
