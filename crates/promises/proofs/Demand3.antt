@@ -46,7 +46,7 @@ use Rattle.promises.specs.Ledger.{Turn, turns, tableAfter, accepted, Ent
 use Rattle.promises.specs.Runs.{tells, Start, newly, Begins, by-new}
 use Rattle.promises.specs.Demand3.{TicketsAscend, Now, NoWaitPast, OfClaim, OfGrants, Next, Demand3}
 use Rattle.promises.specs.WholeCalls.{WholeCalls}
-use Rattle.promises.proofs.WholeCalls.{claim-whole, whole-calls}
+use Rattle.promises.proofs.WholeCalls.{and-no, claim-whole, whole-calls}
 use Rattle.promises.proofs.Matching.{Match, m-nil, m-cons, match-map, match-left, match-weaken, match-snoc, match-none, match-keep, match-length, match-sum, partner, partner-of}
 
 -- A pending claim and its entry. P: no accepted call so far bore a clock past the promised end of a holder.
@@ -247,7 +247,7 @@ leaves-pool (by-withdraw t k) = refl
 leaves-pool (by-clock t) = refl
 
 -- The holders are prompt where the call's clock is past no promised end.
-no-overrun-of : (P : Type 0) (t : ℕ) (ps : List Claim) (l : List Entry) → Match (Tracks P) ps l → ((e : Entry) → e ∈ l → e .held ≡ true → t ≤ promised e) → NoOverrunAt t ps
+pub no-overrun-of : (P : Type 0) (t : ℕ) (ps : List Claim) (l : List Entry) → Match (Tracks P) ps l → ((e : Entry) → e ∈ l → e .held ≡ true → t ≤ promised e) → NoOverrunAt t ps
 no-overrun-of P t ps l ma h c i o =
     let r = partner-of ma i in
     omega (arith, h (r .0) (r .1) (sym (r .2 .held) ∙ o), r .2 .grant o, r .2 .length)
@@ -392,15 +392,11 @@ Told P l m c s =
     let t : Turn = record { call = c; answer = s .answer } in
     Next l t (tells m) (tells (s .model)) × Story (P × NoOverrun l t) (noted l t) (s .model)
 
-module _ (P : Type 0) (l : Ledger) (m : Model) (s : Story P l m) where
-  idle-refused : (c : Call) (n : ℕ) → Idle c n → isTimed c && eqb n 0 ≡ false
-  idle-refused c n (inl e) = rw (looks-untimed c e)
-  idle-refused c n (inr e) = rw (ne-eqb n 0 e) (go (isTimed c))
-    where
-      go : (b : Bool) → b && false ≡ false
-      go true = refl
-      go false = refl
+pub idle-refused : (c : Call) (n : ℕ) → Idle c n → isTimed c && eqb n 0 ≡ false
+idle-refused c n (inl e) = rw (looks-untimed c e)
+idle-refused c n (inr e) = rw (ne-eqb n 0 e) (and-no (isTimed c))
 
+module _ (P : Type 0) (l : Ledger) (m : Model) (s : Story P l m) where
   still : NotRaised (m .pending) (m .pending)
   still c d ci di e o = omega (arith, ap at (ascending-same (m .pending) (s .inv .spaced .ascending) d c di ci e))
 

@@ -1,20 +1,18 @@
 -- Who waits at the clock, and is preceded by nobody, wanted units: `units-wanting` of whole calls, read in the ledger.
-use mathlib.Core.Path.{_≡_, refl, sym, _∙_, ap}
-use mathlib.Core.Bool.{Bool, true, false, _&&_, cond}
+use mathlib.Core.Path.{_≡_, refl, sym}
+use mathlib.Core.Bool.{false}
 use mathlib.Core.List.{List, [], _∷_}
 use Prim.Native.Nat.{ℕ}
 use native.Mathlib.Omega.{arith}
-use lib.Dec.{eqb, ltb}
 use borrow.Author.Tests.{eqb-true}
 use Rattle.rules.specs.declared.Claim.{Claim}
-use Rattle.rules.specs.Lists.{_∈_, any}
+use Rattle.rules.specs.Lists.{_∈_}
 use Rattle.rules.specs.Order.{precedes}
 use Rattle.rules.specs.Invariants.{Invariant}
 use Rattle.rules.specs.Calls.{Model, Call, timed, looks, setsUp, step}
 use Rattle.rules.proofs.Bools.{by-test, clash}
-use Rattle.promises.specs.Ledger.{Turn, turns, tableAfter, Ledger, Entry, noted, notedAll, NoOverrun}
+use Rattle.promises.specs.Ledger.{Turn, turns, tableAfter, Ledger, Entry, noted, notedAll}
 use Rattle.promises.specs.Runs.{tells, Start, Begins}
-use Rattle.promises.specs.Plan.{Precedes}
 use Rattle.promises.specs.WholeCalls.{keptFrom as claimKeptFrom}
 use Rattle.promises.specs.GrantsDue.{keptFrom, Due, GrantsDue}
 use Rattle.promises.proofs.Matching.{match-sum, partner}

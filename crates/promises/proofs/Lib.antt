@@ -5,6 +5,7 @@ pub mod Plan
 pub mod NumbersTested
 pub mod Replies
 pub mod StartsPacked
+pub mod PackedInTurn
 pub mod LeastStart
 pub mod PlansApart
 pub mod WaitsExplained

@@ -1,30 +1,30 @@
 -- What ledger and lookups tell of a plan is the table's plan.
 use mathlib.Core.Path.{_≡_, sym, _∙_, ap}
 use mathlib.Core.Logic.{inl, inr, ⊎-elim}
-use mathlib.Core.Bool.{Bool, true, false, _||_, cond}
+use mathlib.Core.Bool.{Bool, true, false, _&&_, _||_, cond}
 use mathlib.Core.List.{List}
-use Prim.Native.Nat.{ℕ, _+_}
+use Prim.Native.Nat.{ℕ, _+_, _*_, _<_}
 use native.Mathlib.Omega.{arith}
-use lib.Dec.{leb}
-use borrow.Author.Tests.{le-leb}
+use lib.Dec.{leb, ltb, eqb}
+use borrow.Author.Tests.{le-leb, lt-ltb, le-ltb, eq-eqb, ne-eqb}
 use Rattle.rules.specs.declared.Claim.{Claim}
 use Rattle.rules.specs.declared.Setting.{Setting}
 use Rattle.rules.specs.declared.Standing.{Standing}
 use Rattle.rules.specs.declared.Standing.the-variants.{Waits, Holds}
-use Rattle.rules.specs.Lists.{_∈_}
+use Rattle.rules.specs.Lists.{_∈_, keep}
 use Rattle.rules.specs.Claims.{on, at, rival, heldUntil, endOf}
-use Rattle.rules.specs.Order.{precedes}
+use Rattle.rules.specs.Order.{before, precedes}
 use Rattle.rules.specs.Plans.{Ascending}
 use Rattle.rules.specs.Pool.{covers, unitsAt, used}
 use Rattle.rules.specs.Calls.{Model, settingOf, atTicket, standing, standingOf}
-use Rattle.rules.proofs.Bools.{by-test, clash}
+use Rattle.rules.proofs.Bools.{by-test, by-order, clash}
 use Rattle.rules.proofs.Claims.{end-on, end-wait}
-use Rattle.rules.proofs.Order.{ascending-same, precedes-conflicts, precedes-e, precedes-on, precedes-lt}
+use Rattle.rules.proofs.Order.{before-on, ascending-same, precedes-conflicts, precedes-e, precedes-on, precedes-lt}
 use Rattle.rules.proofs.Lookup.{lookup-found, lookup-waits, lookup-holds, common-found, shared-rival, rival-shared}
 use Rattle.promises.specs.Ledger.{Ledger, Entry, ruledBy}
 use Rattle.promises.specs.Runs.{tells}
-use Rattle.promises.specs.Plan.{endAs, endTold, Precedes, beginsAs, coversTold, plannedUse}
-use Rattle.promises.proofs.Matching.{Match, match-sum}
+use Rattle.promises.specs.Plan.{endAs, endTold, Precedes, beginsAs, coversTold, plannedUse, aheadAs, aheadTold}
+use Rattle.promises.proofs.Matching.{Match, match-keep, match-sum}
 use Rattle.promises.proofs.Demand3.{Tracks, Story, ruled-is}
 
 pub standing-on : (c : Claim) → on c ≡ true → standing c ≡ Holds (at c + c .length)
@@ -75,6 +75,12 @@ module _ (m : Model) (up : Ascending (m .pending)) where
       }
 
 -- ── ends and units ──
+pub begins-is : (c : Claim) (x : ℕ) → leb (beginsAs (standing c)) x ≡ (on c || leb (at c) x)
+begins-is c x =
+    by-test (on c)
+    (λ o. ap (λ (s : Standing). leb (beginsAs s) x) (standing-on c o) ∙ le-leb 0 x (omega arith) ∙ rw o)
+    (λ o. ap (λ (s : Standing). leb (beginsAs s) x) (standing-wait c o) ∙ rw o)
+
 module _ (P : Type 0) (l : Ledger) (m : Model) (st : Story P l m) where
   pub told-is : (c : Claim) (e : Entry) → c ∈ m .pending → Tracks P c e → tells m (atTicket (e .ticket)) ≡ standing c
   told-is c e j r = ap (λ (k : ℕ). standingOf k (m .pending)) (sym (r .ticket)) ∙ lookup-found (m .pending) (st .inv .spaced .ascending) c j
@@ -85,28 +91,51 @@ module _ (P : Type 0) (l : Ledger) (m : Model) (st : Story P l m) where
       let same : d .0 ≡ c = ascending-same (m .pending) (st .inv .spaced .ascending) (d .0) c (d .1) j (d .2 ∙ sym (r .ticket)) in
       (sym (ap on same) ∙ d .3, sym (ap at same) ∙ d .4)
 
-  end-as : (c : Claim) (e : Entry) → Tracks P c e → endAs l e (standing c) ≡ endOf (settingOf m) c
+  pub end-as : (c : Claim) (e : Entry) → c .length ≡ e .asked .length → endAs l e (standing c) ≡ endOf (settingOf m) c
   end-as c e r =
       by-test (on c)
       (λ o.
       ap (endAs l e) (standing-on c o) ∙ ap (λ (v : Setting). heldUntil v (at c + c .length)) (sym (ruled-is P l m st (m .clock) ∙ ap (ruledBy l) (st .clock)))
       ∙ sym (end-on (settingOf m) c o))
-      (λ o. ap (endAs l e) (standing-wait c o) ∙ omega (arith, end-wait (settingOf m) c o, r .length))
+      (λ o. ap (endAs l e) (standing-wait c o) ∙ omega (arith, end-wait (settingOf m) c o, r))
 
   pub end-is : (c : Claim) (e : Entry) → c ∈ m .pending → Tracks P c e → endTold l (tells m) e ≡ endOf (settingOf m) c
-  end-is c e j r = ap (endAs l e) (told-is c e j r) ∙ end-as c e r
-
-  begins-is : (c : Claim) (x : ℕ) → leb (beginsAs (standing c)) x ≡ (on c || leb (at c) x)
-  begins-is c x =
-      by-test (on c)
-      (λ o. ap (λ (s : Standing). leb (beginsAs s) x) (standing-on c o) ∙ le-leb 0 x (omega arith) ∙ rw o)
-      (λ o. ap (λ (s : Standing). leb (beginsAs s) x) (standing-wait c o) ∙ rw o)
+  end-is c e j r = ap (endAs l e) (told-is c e j r) ∙ end-as c e (r .length)
 
   units-are : (x : ℕ) (c : Claim) (e : Entry) → c ∈ m .pending → Tracks P c e → unitsAt (settingOf m) x c ≡ cond (coversTold l (tells m) x e) (e .asked .units) 0
   unfolding unitsAt covers
-  units-are x c e j r = rw (told-is c e j r, begins-is c x, end-as c e r, r .units)
+  units-are x c e j r = rw (told-is c e j r, begins-is c x, end-as c e (r .length), r .units)
 
   -- Of claims of the table, side by side with theirs in the ledger.
   pub use-is : (x : ℕ) (ps : List Claim) (es : List Entry) → ((c : Claim) → c ∈ ps → c ∈ m .pending) → Match (Tracks P) ps es → used (settingOf m) x ps ≡ plannedUse l (tells m) x es
   unfolding used
   use-is x ps es h ma = match-sum (unitsAt (settingOf m) x) (λ e. cond (coversTold l (tells m) x e) (e .asked .units) 0) (λ c e i r. units-are x c e (h c i) r) ma
+
+-- ── the order of packing ──
+-- Start, then ticket, as one number and as two.
+key-order : (r j s k : ℕ) → j < 65536 → k < 65536 → ltb (r * 65536 + j) (s * 65536 + k) ≡ (ltb r s || (eqb r s && ltb j k))
+key-order r j s k a b =
+    by-order s r
+    (λ l. by-order r s (λ h. same (omega arith)) (λ h. le-ltb (r * 65536 + j) (s * 65536 + k) (omega arith) ∙ rw (le-ltb r s l, ne-eqb r s (λ e. omega arith))))
+    (λ l. lt-ltb (r * 65536 + j) (s * 65536 + k) (omega arith) ∙ rw (lt-ltb r s l))
+  where
+    same : r ≡ s → ltb (r * 65536 + j) (s * 65536 + k) ≡ (ltb r s || (eqb r s && ltb j k))
+    same e =
+        by-order k j
+        (λ h. le-ltb (r * 65536 + j) (s * 65536 + k) (omega arith) ∙ rw (le-ltb r s (omega arith), eq-eqb r s e, le-ltb j k h))
+        (λ h. lt-ltb (r * 65536 + j) (s * 65536 + k) (omega arith) ∙ rw (le-ltb r s (omega arith), eq-eqb r s e, lt-ltb j k h))
+
+module _ (P : Type 0) (l : Ledger) (m : Model) (st : Story P l m) (w : Claim) (f : Entry) (wi : w ∈ m .pending) (t : Tracks P w f) where
+  ahead-is : (c : Claim) (e : Entry) → c ∈ m .pending → Tracks P c e → before c w ≡ aheadAs (tells m (atTicket (e .ticket))) (e .ticket) (at w) (f .ticket)
+  unfolding before
+  ahead-is c e i r =
+      by-test (on c)
+      (λ h. before-on c w h ∙ sym (ap (λ (x : Standing). aheadAs x (e .ticket) (at w) (f .ticket)) (told-is P l m st c e i r ∙ standing-on c h)))
+      (λ h.
+      rw (told-is P l m st c e i r ∙ standing-wait c h, h)
+      (key-order (at c) (c .ticket) (at w) (w .ticket) (st .inv .spaced .proper c i .sane .small) (st .inv .spaced .proper w wi .sane .small) ∙ rw (r .ticket, t .ticket)))
+
+  -- The claims before w, side by side with theirs in the ledger.
+  pub ahead-match : {ps : List Claim} {es : List Entry} → ((c : Claim) → c ∈ ps → c ∈ m .pending) → Match (Tracks P) ps es
+      → Match (Tracks P) (keep (λ c. before c w) ps) (aheadTold (tells m) (at w) (f .ticket) es)
+  ahead-match h ma = match-keep (λ c. before c w) (λ e. aheadAs (tells m (atTicket (e .ticket))) (e .ticket) (at w) (f .ticket)) (λ c e i r. ahead-is c e (h c i) r) ma

@@ -8,6 +8,7 @@ use Rattle.promises.proofs.NumbersTested.{numbers-tested}
 use Rattle.promises.proofs.Replies.{replies}
 use Rattle.promises.proofs.LeastStart.{least-start}
 use Rattle.promises.proofs.StartsPacked.{starts-packed}
+use Rattle.promises.proofs.PackedInTurn.{packed-in-turn}
 use Rattle.promises.proofs.PlansApart.{plans-apart}
 use Rattle.promises.proofs.WaitsExplained.{waits-explained}
 use Rattle.promises.proofs.NeverOvertaken.{never-overtaken}
@@ -24,6 +25,7 @@ promises s b calls = record {
   replies = replies s b calls;
   least-start = least-start s b calls;
   starts-packed = starts-packed s b calls;
+  packed-in-turn = packed-in-turn s b calls;
   plans-apart = plans-apart s b calls;
   waits-explained = waits-explained s b calls;
   never-overtaken = never-overtaken s b calls;

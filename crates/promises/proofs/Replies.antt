@@ -1,29 +1,20 @@
 -- Every call of a run replies as document 01 says.
 use mathlib.Core.Path.{_≡_, refl}
-use mathlib.Core.Logic.{inl, inr}
-use mathlib.Core.Bool.{Bool, true, false, _&&_}
+use mathlib.Core.Bool.{false, _&&_}
 use mathlib.Core.List.{List}
 use Prim.Native.Nat.{ℕ}
 use lib.Dec.{eqb}
-use borrow.Author.Tests.{ne-eqb}
 use Rattle.rules.specs.declared.Request.{Request}
 use Rattle.rules.specs.Calls.{Model, withGrace, declared, Look, Call, claim, isTimed, Step, unchanged, advance, plain, finish, admit, step}
 use Rattle.rules.proofs.Bools.{clash}
-use Rattle.rules.proofs.Calls.{Leaves, by-release, by-withdraw, by-clock, Idle, looks-untimed, step-cases}
+use Rattle.rules.proofs.Calls.{Leaves, by-release, by-withdraw, by-clock, step-cases}
 use Rattle.promises.specs.Ledger.{tableAfter, Ledger}
 use Rattle.promises.specs.Runs.{tells, Start, Begins}
 use Rattle.promises.specs.Replies.{Replied, Replies}
+use Rattle.promises.proofs.Demand3.{idle-refused}
 
 abbrev Reply : Ledger → Model → Call → Step → Type 0
 Reply l m c s = Replied l (record { call = c; answer = s .answer }) (tells m) (tells (s .model))
-
-and-no : (b : Bool) → b && false ≡ false
-and-no true = refl
-and-no false = refl
-
-never : (c : Call) (n : ℕ) → Idle c n → isTimed c && eqb n 0 ≡ false
-never c n (inl e) = rw (looks-untimed c e)
-never c n (inr e) = rw (ne-eqb n 0 e) (and-no (isTimed c))
 
 same-tells : (m n : Model) → n .pending ≡ m .pending → n .pool ≡ m .pool → (q : Look) → tells n q ≡ tells m q
 same-tells m n e p q = rw (e, p)
@@ -47,7 +38,7 @@ left l (by-clock t) = record { three-plain = λ h n. record { ticket-is = refl; 
 
 reply-of : (l : Ledger) (m : Model) (c : Call) → Reply l m c (step m c)
 reply-of l m =
-    step-cases (Reply l m) m (λ c n z. untimed l m m c n refl refl (never c n z)) (λ t ask a. claimed l m t ask) (λ c t k q o v. left l v)
+    step-cases (Reply l m) m (λ c n z. untimed l m m c n refl refl (idle-refused c n z)) (λ t ask a. claimed l m t ask) (λ c t k q o v. left l v)
     (λ c r k d. untimed l m (declared m c r k) _ 0 refl refl refl) (λ n d. untimed l m (withGrace m n) _ 0 refl refl refl)
 
 pub replies : (s : Start) → Begins s → (calls : List Call) → Replies s calls

@@ -1,48 +1,30 @@
 -- Every waiting start is packed: the rules' `Separated` and `Earliest`, read in the ledger.
-use mathlib.Core.Path.{_≡_, refl, sym, _∙_, ap, subst}
-use mathlib.Core.Bool.{false, _&&_, _||_}
+use mathlib.Core.Path.{_≡_, refl, sym, _∙_, subst}
+use mathlib.Core.Bool.{false}
 use mathlib.Core.List.{List}
-use Prim.Native.Nat.{ℕ, _+_, _*_, _<_}
+use Prim.Native.Nat.{ℕ}
 use native.Mathlib.Omega.{arith}
-use lib.Dec.{ltb, eqb}
-use borrow.Author.Tests.{lt-ltb, le-ltb, eq-eqb, ne-eqb}
 use Rattle.groups.specs.Groups.{shares}
 use Rattle.rules.specs.declared.Claim.{Claim}
 use Rattle.rules.specs.declared.Setting.{Setting}
-use Rattle.rules.specs.declared.Standing.{Standing}
 use Rattle.rules.specs.Lists.{_∈_, keep}
 use Rattle.rules.specs.Claims.{on, at, rival}
 use Rattle.rules.specs.Order.{before}
 use Rattle.rules.specs.Packing.{moved, ahead}
-use Rattle.rules.specs.Plans.{Sane, Spare, Behind}
+use Rattle.rules.specs.Plans.{Spare, Behind}
 use Rattle.rules.specs.Invariants.{Settled}
-use Rattle.rules.specs.Calls.{Model, settingOf, atTicket, Call}
-use Rattle.rules.proofs.Bools.{by-test, by-order}
+use Rattle.rules.specs.Calls.{Model, settingOf, Call}
 use Rattle.rules.proofs.Lists.{keep-e, map-id}
 use Rattle.rules.proofs.Claims.{waiting-is}
-use Rattle.rules.proofs.Order.{before-on}
 use Rattle.rules.proofs.Packing.{moved-cases}
 use Rattle.rules.proofs.Invariants.{settled-packs}
 use Rattle.promises.specs.Ledger.{Ledger, Entry}
 use Rattle.promises.specs.Runs.{tells, Start, Begins}
-use Rattle.promises.specs.Plan.{aheadAs, aheadTold}
+use Rattle.promises.specs.Plan.{aheadTold}
 use Rattle.promises.specs.StartsPacked.{BehindTold, PackedAt, Packed, StartsPacked}
-use Rattle.promises.proofs.Matching.{Match, match-keep, partner, partner-of}
+use Rattle.promises.proofs.Matching.{Match, partner, partner-of}
 use Rattle.promises.proofs.Demand3.{Tracks, Story, after-calls}
-use Rattle.promises.proofs.Plan.{told-is, waits-at, end-is, use-is, standing-on, standing-wait}
-
--- Start, then ticket, as one number and as two.
-key-order : (r j s k : ℕ) → j < 65536 → k < 65536 → ltb (r * 65536 + j) (s * 65536 + k) ≡ (ltb r s || (eqb r s && ltb j k))
-key-order r j s k a b =
-    by-order s r
-    (λ l. by-order r s (λ h. same (omega arith)) (λ h. le-ltb (r * 65536 + j) (s * 65536 + k) (omega arith) ∙ rw (le-ltb r s l, ne-eqb r s (λ e. omega arith))))
-    (λ l. lt-ltb (r * 65536 + j) (s * 65536 + k) (omega arith) ∙ rw (lt-ltb r s l))
-  where
-    same : r ≡ s → ltb (r * 65536 + j) (s * 65536 + k) ≡ (ltb r s || (eqb r s && ltb j k))
-    same e =
-        by-order k j
-        (λ h. le-ltb (r * 65536 + j) (s * 65536 + k) (omega arith) ∙ rw (le-ltb r s (omega arith), eq-eqb r s e, le-ltb j k h))
-        (λ h. lt-ltb (r * 65536 + j) (s * 65536 + k) (omega arith) ∙ rw (le-ltb r s (omega arith), eq-eqb r s e, lt-ltb j k h))
+use Rattle.promises.proofs.Plan.{waits-at, end-is, use-is, ahead-match}
 
 -- Of claims ps of the table that are settled among themselves, side by side with theirs in the ledger.
 module _ (P : Type 0) (l : Ledger) (m : Model) (st : Story P l m) (ps : List Claim) (es : List Entry) (ma : Match (Tracks P) ps es) (inside : (c : Claim) → c ∈ ps → c ∈ m .pending)
@@ -59,20 +41,8 @@ module _ (P : Type 0) (l : Ledger) (m : Model) (st : Story P l m) (ps : List Cla
     abbrev ahead-of : List Entry
     ahead-of = aheadTold (tells m) (at w) (f .ticket) es
 
-    sane : (c : Claim) → c ∈ ps → Sane (settingOf m) c
-    sane c i = se .spaced .proper c i .sane
-
-    ahead-is : (c : Claim) (e : Entry) → c ∈ ps → Tracks P c e → before c w ≡ aheadAs (tells m (atTicket (e .ticket))) (e .ticket) (at w) (f .ticket)
-    unfolding before
-    ahead-is c e i r =
-        by-test (on c)
-        (λ h. before-on c w h ∙ sym (ap (λ (x : Standing). aheadAs x (e .ticket) (at w) (f .ticket)) (told-is P l m st c e (inside c i) r ∙ standing-on c h)))
-        (λ h.
-        rw (told-is P l m st c e (inside c i) r ∙ standing-wait c h, h)
-        (key-order (at c) (c .ticket) (at w) (w .ticket) (sane c i .small) (sane w wi .small) ∙ rw (r .ticket, t .ticket)))
-
     matched : Match (Tracks P) qs ahead-of
-    matched = match-keep (λ c. before c w) (λ e. aheadAs (tells m (atTicket (e .ticket))) (e .ticket) (at w) (f .ticket)) ahead-is ma
+    matched = ahead-match P l m st w f (inside w wi) t inside ma
 
     pending : (c : Claim) → c ∈ qs → c ∈ m .pending
     pending c i = inside c (keep-e (λ c. before c w) ps i .0)

@@ -22,7 +22,7 @@ use Rattle.rules.specs.Granting.{takenBefore, goes, granted, grant, grants}
 use Rattle.rules.specs.Pool.{heldBy, heldUnits}
 use Rattle.rules.specs.Tests.{named}
 use Rattle.rules.specs.declared.Reply.{Reply}
-use Rattle.rules.specs.Calls.{Model, ruled, settingOf, claims, Call, timed, looks, setsUp, claim, release, clock, isTimed, declared, withGrace, Step, advance, plain, finish, join, remove, fresh, admit, step}
+use Rattle.rules.specs.Calls.{Model, ruled, settingOf, Call, timed, looks, setsUp, clock, isTimed, declared, withGrace, Step, advance, plain, finish, join, remove, fresh, admit, step}
 use Rattle.rules.specs.Invariants.{IsSpaced, IsPacked, Still, Invariant}
 use Rattle.rules.proofs.Bools.{clash, by-test}
 use Rattle.rules.proofs.Lists.{map-e, map-i, keep-e, keep-i, named-keep, sum-map, sum-le, sum-both}
@@ -88,7 +88,7 @@ finish-order m q t rep i sp old d d′ w w′ f g o p =
     mine d di x e (inr l) = absurd (omega (arith, i .spaced .proper d di .issued))
 
 -- ── who stays for want of units ──
-and-no : (b : Bool) → b && false ≡ false
+pub and-no : (b : Bool) → b && false ≡ false
 and-no true = refl
 and-no false = refl
 
@@ -318,7 +318,7 @@ module _ (m : Model) (i : Invariant m) (t k : ℕ) (o : Clocked m t) where
   unfolding remove advance
   packs-again = packs-as-documented q q-spaced t .0
 
-  leave-whole : LeaveCall m t k (finish (remove (advance m t) k) (plain k t))
+  pub leave-whole : LeaveCall m t k (finish (remove (advance m t) k) (plain k t))
   leave-whole = record {
     starts = starts;
     packs = packs-again;
@@ -331,7 +331,7 @@ module _ (m : Model) (i : Invariant m) (t k : ℕ) (o : Clocked m t) where
   }
 
 -- ── the first packing, and a clock call ──
-first-packing : (m : Model) → Invariant m → (t : ℕ) → FirstPacking m t
+pub first-packing : (m : Model) → Invariant m → (t : ℕ) → FirstPacking m t
 unfolding advance pack
 first-packing m i t = record { starts = packedStart (ruled m t) (m .pending); packs = packs-as-documented m (i .spaced) t .0; packed = refl; no-other = packs-as-documented m (i .spaced) t .1 }
 

@@ -5,6 +5,7 @@ pub mod Demand3
 pub mod NumbersTested
 pub mod Replies
 pub mod StartsPacked
+pub mod PackedInTurn
 pub mod LeastStart
 pub mod PlansApart
 pub mod WaitsExplained

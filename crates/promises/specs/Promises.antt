@@ -8,6 +8,7 @@ use Rattle.promises.specs.NumbersTested.{NumbersTested}
 use Rattle.promises.specs.Replies.{Replies}
 use Rattle.promises.specs.LeastStart.{LeastStart}
 use Rattle.promises.specs.StartsPacked.{StartsPacked}
+use Rattle.promises.specs.PackedInTurn.{PackedInTurn}
 use Rattle.promises.specs.PlansApart.{PlansApart}
 use Rattle.promises.specs.WaitsExplained.{WaitsExplained}
 use Rattle.promises.specs.NeverOvertaken.{NeverOvertaken}
@@ -25,6 +26,7 @@ pub record Promises (s : Start) (calls : List Call) : Type 0 where
   pub replies : Replies s calls
   pub least-start : LeastStart s calls
   pub starts-packed : StartsPacked s calls
+  pub packed-in-turn : PackedInTurn s calls
   pub plans-apart : PlansApart s calls
   pub waits-explained : WaitsExplained s calls
   pub never-overtaken : NeverOvertaken s calls

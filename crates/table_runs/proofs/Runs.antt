@@ -14,6 +14,7 @@ use Rattle.promises.specs.NumbersTested.{NumberTested}
 use Rattle.promises.specs.Replies.{Replied}
 use Rattle.promises.specs.LeastStart.{Least}
 use Rattle.promises.specs.StartsPacked.{AllPacked}
+use Rattle.promises.specs.PackedInTurn.{InTurn}
 use Rattle.promises.specs.PlansApart.{Apart}
 use Rattle.promises.specs.WaitsExplained.{Explained}
 use Rattle.promises.specs.NeverOvertaken.{NotOvertaken}
@@ -26,6 +27,7 @@ use Rattle.promises.proofs.NumbersTested.{numbers-tested, new-tested}
 use Rattle.promises.proofs.Replies.{replies}
 use Rattle.promises.proofs.LeastStart.{least-start}
 use Rattle.promises.proofs.StartsPacked.{starts-packed}
+use Rattle.promises.proofs.PackedInTurn.{packed-in-turn}
 use Rattle.promises.proofs.PlansApart.{plans-apart}
 use Rattle.promises.proofs.WaitsExplained.{waits-explained}
 use Rattle.promises.proofs.NeverOvertaken.{never-overtaken}
@@ -37,7 +39,7 @@ use Rattle.promises.proofs.TableKept.{table-kept}
 use Rattle.table.specs.declared.Outcome.{Outcome}
 use Rattle.table.specs.Outcomes.{outcome}
 use Rattle.table.specs.Valid.{Valid}
-use Rattle.table_runs.specs.Runs.{answered, looked, lookNumber, Promised, Shows, Made, by-call, by-look, Run, done, then, Looks, BeganAs, by-new, CodeAtAnyTime, CodeWhileNobodyOverruns, CodeAtAnyLater, CodeAtAnyCall, CodeDemand3, CodeNumbersTested, CodeNewTested, CodeReplies, CodeLeastStart, CodeStartsPacked, CodePlansApart, CodeWaitsExplained, CodeNeverOvertaken, CodeStartsHold, CodeGrantsDue, CodePoolKept, CodeSharesKept, CodeTables}
+use Rattle.table_runs.specs.Runs.{answered, looked, lookNumber, Promised, Shows, Made, by-call, by-look, Run, done, then, Looks, BeganAs, by-new, CodeAtAnyTime, CodeWhileNobodyOverruns, CodeAtAnyLater, CodeAtAnyCall, CodeDemand3, CodeNumbersTested, CodeNewTested, CodeReplies, CodeLeastStart, CodeStartsPacked, CodePackedInTurn, CodePlansApart, CodeWaitsExplained, CodeNeverOvertaken, CodeStartsHold, CodeGrantsDue, CodePoolKept, CodeSharesKept, CodeTables}
 use Rattle.table.proofs.Promised.{outcome-model, outcome-grants}
 
 -- ── what the contracts say ──
@@ -160,6 +162,9 @@ code-least-start calls = any-call-of-code calls Least (λ s b. least-start s b c
 
 pub code-starts-packed : (calls : List Call) → CodeStartsPacked calls
 code-starts-packed calls = any-time-of-code calls AllPacked (λ s b. starts-packed s b calls)
+
+pub code-packed-in-turn : (calls : List Call) → CodePackedInTurn calls
+code-packed-in-turn calls = any-call-of-code calls InTurn (λ s b. packed-in-turn s b calls)
 
 pub code-plans-apart : (calls : List Call) → CodePlansApart calls
 code-plans-apart calls = any-time-of-code calls Apart (λ s b. plans-apart s b calls)

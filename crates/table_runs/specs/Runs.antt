@@ -17,6 +17,7 @@ use Rattle.promises.specs.NumbersTested.{NumberTested}
 use Rattle.promises.specs.Replies.{Replied}
 use Rattle.promises.specs.LeastStart.{Least}
 use Rattle.promises.specs.StartsPacked.{AllPacked}
+use Rattle.promises.specs.PackedInTurn.{InTurn}
 use Rattle.promises.specs.PlansApart.{Apart}
 use Rattle.promises.specs.WaitsExplained.{Explained}
 use Rattle.promises.specs.NeverOvertaken.{NotOvertaken}
@@ -155,6 +156,9 @@ CodeLeastStart calls = CodeAtAnyCall calls Least
 
 abbrev pub CodeStartsPacked : List Call → Type 0
 CodeStartsPacked calls = CodeAtAnyTime calls AllPacked
+
+abbrev pub CodePackedInTurn : List Call → Type 0
+CodePackedInTurn calls = CodeAtAnyCall calls InTurn
 
 abbrev pub CodePlansApart : List Call → Type 0
 CodePlansApart calls = CodeAtAnyTime calls Apart

@@ -35,7 +35,7 @@ use Rattle.promises.specs.WaitsExplained.{inCommon}
 use Rattle.promises.specs.TableKept.{Has}
 use Rattle.promises.specs.WholeCalls.{Stays}
 use Rattle.promises.proofs.Plan.{precedes-of}
-use Rattle.worthless.specs.Worthless.{claim, drawing, turnsDown, fixedStart, untouched, echoes, inventsContention, inventsBound, criesFull, neverGrants, tellsLate, renews, namesBackward, stopsGranting, fidgets, mumbles, blurts, noRig, ignoresGaps, skipsPacking, oneDrawer, crowds, showsNow, leavesGaps, leavesDrawers, reverses, overdraws, keepsUnitsBack, lastFirst, losesUnits, grantsAll, putsBack, forgetsGroups, pushesIn, hidesUnits, ignoresLimits, AllRefused}
+use Rattle.worthless.specs.Worthless.{claim, drawing, turnsDown, fixedStart, untouched, echoes, inventsContention, inventsBound, criesFull, neverGrants, tellsLate, renews, namesBackward, stopsGranting, fidgets, mumbles, blurts, noRig, ignoresGaps, skipsPacking, oneDrawer, crowds, showsNow, leavesGaps, leavesDrawers, reverses, changesTurns, overdraws, keepsUnitsBack, lastFirst, losesUnits, grantsAll, putsBack, forgetsGroups, pushesIn, hidesUnits, ignoresLimits, AllRefused}
 
 -- Of what holds of each, in a list of two and of three.
 module _ {A : Type 0} (P : A → Type 0) where
@@ -70,9 +70,9 @@ two-of-two : (b : Bool) → cond b 1 0 + 0 + 1 ≤ 2
 two-of-two true = omega arith
 two-of-two false = omega arith
 
--- One of two units is held until 10: from then on both are free.
-both-free : (y : ℕ) → 10 ≤ y → cond (leb 0 y && ltb y 10) 1 0 + 0 + 2 ≤ 2
-both-free y h = rw (le-ltb y 10 h) (by-test (leb 0 y) (λ p. rw p (omega arith)) (λ p. rw p (omega arith)))
+-- One unit of n is held until x: from then on all are free.
+all-free : (x n y : ℕ) → x ≤ y → cond (leb 0 y && ltb y x) 1 0 + 0 + n ≤ n
+all-free x n y h = rw (le-ltb y x h) (by-test (leb 0 y) (λ p. rw p (omega arith)) (λ p. rw p (omega arith)))
 
 -- Ticket 3 of the last case: it stays at 15, whatever start it was given.
 abbrev later : Claim
@@ -96,7 +96,7 @@ alone-first m a b e l p q j h =
     (inside (x .other) (x .other-in)) (x .other-is) (x .before)
 
 pub all-refused : AllRefused
-unfolding someFrom lowestFrom common shares empty within greatest least sum all any keep heldUntil endOf remaining precedes before covers unitsAt used enough spare heldUnits ready startFor moved ahead startWithin packedStart pack clear fits seek place contention startBound takenBefore trulyFree goesWithin goes granted grant grants shareOf pendingOf unfilled unfilledByOthers firstOf tests advance finish join remove admit act step new standingOf commonOf turns tableAfter issues stay sharesBy graceBy marked notedAll boundOn testsBy freeUnits valueAt turnsDown fixedStart untouched echoes inventsContention inventsBound criesFull neverGrants tellsLate renews namesBackward stopsGranting fidgets mumbles blurts noRig ignoresGaps skipsPacking oneDrawer crowds showsNow leavesGaps leavesDrawers reverses overdraws keepsUnitsBack lastFirst losesUnits grantsAll putsBack forgetsGroups pushesIn hidesUnits ignoresLimits withShare reservedInAll
+unfolding someFrom lowestFrom common shares empty within greatest least sum all any keep heldUntil endOf remaining precedes before covers unitsAt used enough spare heldUnits ready startFor moved ahead startWithin packedStart pack clear fits seek place contention startBound takenBefore trulyFree goesWithin goes granted grant grants shareOf pendingOf unfilled unfilledByOthers firstOf tests advance finish join remove admit act step new standingOf commonOf turns tableAfter issues stay sharesBy graceBy marked notedAll boundOn testsBy freeUnits valueAt turnsDown fixedStart untouched echoes inventsContention inventsBound criesFull neverGrants tellsLate renews namesBackward stopsGranting fidgets mumbles blurts noRig ignoresGaps skipsPacking oneDrawer crowds showsNow leavesGaps leavesDrawers reverses changesTurns overdraws keepsUnitsBack lastFirst losesUnits grantsAll putsBack forgetsGroups pushesIn hidesUnits ignoresLimits withShare reservedInAll
 all-refused = record {
   turns-down = λ d.
       let z : _≡_ {A = ℕ} 3 0 = d [] (claim 0 0x1 10) [] refl in
@@ -223,7 +223,7 @@ all-refused = record {
       let f : Entry = record { ticket = 3; asked = record { groups = 0; length = 10; units = 2; client = 1 }; first = 20; held = false; grant = 0 } in
       let z : 20 ≤ 10 = d (drawing 0 10 1 ∷ drawing 0 20 1 ∷ drawing 0 10 2 ∷ release 5 2 ∷ []) [] refl f (there {y = drawerEntry 1 10 0 true} here) 20 refl .least 10 (omega arith) (record {
         after = λ e i h. clash h (ap (λ (x : Entry). shares (x .asked .groups) 0) (List·Memᴰ·eq-of-singleton i));
-        spare = λ u y p q. both-free y p;
+        spare = λ u y p q. all-free 10 2 y p;
       }) in
       omega arith;
   reversed = λ d.
@@ -231,6 +231,13 @@ all-refused = record {
       d (claim 0 0x1 10 ∷ claim 0 0x1 10 ∷ claim 0 0x1 10 ∷ []) (clock 0 ∷ []) [] refl 3 2
       (record { group = 0; start = 990; conflict = refl; waits = refl; sooner = inr (980, refl, omega arith) }) (waits-pending 990) (waits-pending 980) in
       ⊎-elim (λ h. waits-not-on 990 (h .0) (h .1)) (λ h. omega (arith, waits-once 990 (h .0) (h .1), waits-once 980 (r .start) (r .waits), h .2)) (r .sooner);
+  turns-changed = λ d.
+      let z : 22 ≤ 12 = d (drawing 0 10 1 ∷ drawing 0 10 1 ∷ drawing 0 10 1 ∷ []) (clock 12) [] refl refl (inl refl) (drawerEntry 2 10 10 false) (there {y = drawerEntry 1 10 0 true} here) 10 refl .least 12
+      (omega arith) (record {
+        after = λ e i h. clash h (ap (λ (x : Entry). shares (x .asked .groups) 0) (List·Memᴰ·eq-of-singleton i));
+        spare = λ u y p q. all-free 12 1 y p;
+      }) in
+      omega arith;
   overdrawn = λ d.
       let z : 2 ≤ 1 = d (drawing 0 10 1 ∷ drawing 0 10 1 ∷ []) [] refl .never-more in
       omega arith;

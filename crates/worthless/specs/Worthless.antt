@@ -27,6 +27,7 @@ use Rattle.promises.specs.NumbersTested.{NumbersTestedOf, NewTestedOf}
 use Rattle.promises.specs.Replies.{isClaim, RepliesOf}
 use Rattle.promises.specs.LeastStart.{LeastStartOf}
 use Rattle.promises.specs.StartsPacked.{StartsPackedOf}
+use Rattle.promises.specs.PackedInTurn.{PackedInTurnOf}
 use Rattle.promises.specs.PlansApart.{PlansApartOf}
 use Rattle.promises.specs.WaitsExplained.{WaitsExplainedOf}
 use Rattle.promises.specs.NeverOvertaken.{NeverOvertakenOf}
@@ -245,6 +246,13 @@ leavesDrawers =
 unfoldable pub reverses : Steps
 reverses m c = let s : Step = step m c in record { model = startsAs (λ d. 1000 - at d) (s .model); answer = s .answer }
 
+-- While somebody overruns, two that wait for the pool, for 10 each, change places.
+unfoldable pub changesTurns : Steps
+changesTurns m c =
+    let s : Step = step m c in
+    let t = s .model .clock in
+    cond (overrun (s .model)) (record { model = startsAs (λ d. t + (t + 10) - at d) (s .model); answer = s .answer }) s
+
 -- ── units ──
 -- A pool that is not looked at.
 unfoldable pub overdraws : Steps
@@ -349,6 +357,8 @@ pub record AllRefused : Type 0 where
   pub drawers-left : StartsPackedOf leavesDrawers (newly 0x1 2 true) (drawing 0 10 1 ∷ drawing 0 20 1 ∷ drawing 0 10 2 ∷ release 5 2 ∷ []) → ⊥
   -- By `NotOvertaken`: ticket 3 waits before ticket 2, and at the next call behind it.
   pub reversed : NeverOvertakenOf reverses (newly 0x1 0 true) (claim 0 0x1 10 ∷ claim 0 0x1 10 ∷ claim 0 0x1 10 ∷ clock 0 ∷ []) → ⊥
+  -- By `least` of the start packed in turn: ticket 2, which came next, waits for 22; at 12, the clock, it could go on behind ticket 1.
+  pub turns-changed : PackedInTurnOf changesTurns (newly 0x1 1 true) (drawing 0 10 1 ∷ drawing 0 10 1 ∷ drawing 0 10 1 ∷ clock 12 ∷ []) → ⊥
   -- By `never-more`: two units held of one; and by `units-enough`: two planned in use.
   pub overdrawn : PoolKeptOf overdraws (newly 0x1 1 true) (drawing 0 10 1 ∷ drawing 0 10 1 ∷ []) → ⊥
   pub overplanned : PlansApartOf overdraws (newly 0x1 1 true) (drawing 0 10 1 ∷ drawing 0 10 1 ∷ []) → ⊥
