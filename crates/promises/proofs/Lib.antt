@@ -4,6 +4,7 @@ pub mod Demand3
 pub mod Plan
 pub mod NumbersTested
 pub mod Replies
+pub mod Packed
 pub mod StartsPacked
 pub mod PackedInTurn
 pub mod LeastStart

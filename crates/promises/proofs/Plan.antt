@@ -27,7 +27,7 @@ use Rattle.promises.specs.Plan.{endAs, endTold, Precedes, beginsAs, cove
 use Rattle.promises.proofs.Matching.{Match, match-keep, match-sum}
 use Rattle.promises.proofs.Demand3.{Tracks, Story, ruled-is}
 
-pub standing-on : (c : Claim) → on c ≡ true → standing c ≡ Holds (at c + c .length)
+standing-on : (c : Claim) → on c ≡ true → standing c ≡ Holds (at c + c .length)
 standing-on c o = ap (λ (b : Bool). cond b (Holds (at c + c .length)) (Waits (at c))) o
 
 pub standing-wait : (c : Claim) → on c ≡ false → standing c ≡ Waits (at c)

@@ -12,9 +12,9 @@ use Rattle.rules.specs.Claims.{on, at}
 use Rattle.rules.specs.Packing.{packedStart, moved, pack}
 use Rattle.rules.specs.Invariants.{Invariant}
 use Rattle.rules.specs.Calls.{Model, ruled, settingOf, atTicket, Call, declared, withGrace, advance, plain, finish, admit, step}
-use Rattle.rules.proofs.Bools.{by-test, clash}
+use Rattle.rules.proofs.Bools.{by-test}
 use Rattle.rules.proofs.Order.{ascending-same}
-use Rattle.rules.proofs.Packing.{moved-cases}
+use Rattle.rules.proofs.Packing.{moved-on}
 use Rattle.rules.proofs.Granting.{granted-at}
 use Rattle.rules.proofs.Calls.{advance-same, finish-e, join-old, leaves-old, placed, step-cases}
 use Rattle.rules.proofs.Lookup.{lookup-found, lookup-waits}
@@ -28,9 +28,6 @@ use Rattle.promises.proofs.Plan.{standing-wait}
 use Rattle.promises.proofs.NeverOvertaken.{issued-grows, pending-all-along}
 
 -- ── who is on stays so ──
-moved-on : (f : Claim → ℕ) (c : Claim) → on c ≡ true → moved f c ≡ c
-moved-on f c o = moved-cases (λ (x : Claim). x ≡ c) f c (λ _. refl) (λ h. clash o h)
-
 -- Of a call from m to `finish q`, where each claim of q that is not new is one of those that the first packing gave.
 finish-on : (m q : Model) (t : ℕ) (rep : Reply) → Invariant m → ((x : Claim) → x ∈ q .pending → (x ∈ advance m t .pending) ⊎ (m .issued < x .ticket))
     → (c d : Claim) → Becomes m (finish q rep .model) c d → on c ≡ true → at d ≡ at c

@@ -26,10 +26,9 @@ use Rattle.rules.specs.Calls.{Model, ruled, settingOf, Call, timed, looks, sets
 use Rattle.rules.specs.Invariants.{IsSpaced, IsPacked, Still, Invariant}
 use Rattle.rules.proofs.Bools.{clash, by-test}
 use Rattle.rules.proofs.Lists.{map-e, map-i, keep-e, keep-i, named-keep, sum-map, sum-le, sum-both}
-use Rattle.rules.proofs.Claims.{waiting-is}
 use Rattle.rules.proofs.Order.{meets-none, ends-precedes, ascending-same}
 use Rattle.rules.proofs.NoUnits.{start-documented}
-use Rattle.rules.proofs.Packing.{moved-cases, moved-phase, pack-precedes, pack-no-later}
+use Rattle.rules.proofs.Packing.{moved-same, moved-phase, pack-precedes, pack-no-later}
 use Rattle.rules.proofs.Placing.{place-low, place-least}
 use Rattle.rules.proofs.Granting.{stays, taken-ticket, goes-wait, goes-at, granted-cases, granted-go, granted-stay, grant-precedes}
 use Rattle.rules.proofs.Granting as granting
@@ -145,7 +144,7 @@ timed-finish m q t rep i sp e old = record {
   starts-packed = packs;
   starts-documented = λ w wi o z.
       start-documented v ps w z at packs wi o
-      ∙ ap (λ (f : Claim → ℕ). greatest f (v .clock) (keep (λ c. precedes c w) ps)) (λ i c. endOf v (moved-same c i))
+      ∙ ap (λ (f : Claim → ℕ). greatest f (v .clock) (keep (λ c. precedes c w) ps)) (λ i c. endOf v (moved-same at c (λ _. refl) i))
       ∙ ap (λ (n : ℕ). greatest (endOf v) n (keep (λ c. precedes c w) ps)) (finish-clock q rep ∙ e);
   none-overtaken = finish-order m q t rep i sp old;
   units-wanting = λ w wi o a none. finish-wanting q rep sp w wi o (a ∙ sym e) none;
@@ -166,9 +165,6 @@ timed-finish m q t rep i sp e old = record {
 
     packs : Packs v ps at
     packs = settled-packs (finish q rep .model .issued) v ps inv
-
-    moved-same : (c : Claim) → moved at c ≡ c
-    moved-same c = moved-cases (λ (x : Claim). x ≡ c) at c (λ o. refl) (λ o. waiting-is c o)
 
 -- A claim stays or is granted at its start.
 granted-stays : (v : Setting) (ps : List Claim) (x : Claim) → Stays (v .clock) x (granted v ps x)
