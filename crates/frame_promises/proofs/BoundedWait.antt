@@ -17,7 +17,7 @@ use Rattle.rules.proofs.Bools.{by-test, by-order, both-ways, clash}
 use Rattle.rules.proofs.Lists.{Each, here, none, any-false, any-cong, any-map, keep-e, keep-map, snoc-each, map-id, map-e, map-i, map-each, map-cong, ascends-unmap}
 use Rattle.frames.specs.declared.Claim.{Claim}
 use Rattle.frames.specs.Rows.{on, named, rival, contention, rowFor, nearer, headTickets}
-use Rattle.frames.specs.Calls.{Model, Call, claim, release, Step, tests, unchanged, fresh, admit, without, remove, step, blank, new, after}
+use Rattle.frames.specs.Calls.{Model, Call, claim, release, Step, tests, unchanged, fresh, admit, lacking, remove, step, blank, new, after}
 use Rattle.frames.specs.Invariants.{ticketOf, Invariant}
 use Rattle.frames.proofs.Rows.{taken-none, taken-some, row-joins, row-bound, head-ascends, head-i, head-e, head-named, behind-head, turned-cases}
 use Rattle.frames.proofs.Calls.{Admissible, Releasable, step-cases, step-number, new-cases, admit-invariant, remove-invariant, blank-invariant}
@@ -250,7 +250,7 @@ module _ (rig : ℕ) (l : Ledger) (m : Model) (s : Story rig l m) where
       ticket-next = omega (arith, s .issued);
       contention-counted = contention-is;
       row-bounded = row-bound g (m .pending);
-      row-alone = λ e. row-joins g (m .pending) .alone (s .pending ∙ ap (map claimOf) e);
+      row-when-empty = λ e. row-joins g (m .pending) .when-empty (s .pending ∙ ap (map claimOf) e);
       row-behind = λ e i. row-joins g (m .pending) .behind (λ z. none (subst (λ (ps : List Claim). claimOf e ∈ ps) z (claim-in (s .pending) i)));
       row-free = free-row;
       row-first = taken-row;
@@ -281,7 +281,7 @@ module _ (rig : ℕ) (l : Ledger) (m : Model) (s : Story rig l m) where
   module _ (k : ℕ) (a : Releasable m k) where
     -- What it leaves of the table and of the ledger.
     abbrev rest : List Claim
-    rest = without k (m .pending)
+    rest = lacking k (m .pending)
 
     abbrev staying : List Entry
     staying = keep (λ e. not (eqb (e .ticket) k)) (l .claims)
@@ -291,7 +291,7 @@ module _ (rig : ℕ) (l : Ledger) (m : Model) (s : Story rig l m) where
 
     -- The one is the claims of the other,
     rest-is : rest ≡ map claimOf left
-    unfolding without
+    unfolding lacking
     rest-is =
         ap (keep (λ c. not (named k c))) (s .pending) ∙ keep-map (λ c. not (named k c)) claimOf (l .claims)
         ∙ ap (map claimOf) (sym (append-nil staying))

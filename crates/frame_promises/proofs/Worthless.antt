@@ -10,12 +10,12 @@ use Rattle.rules.specs.Tests.{firstOf}
 use Rattle.rules.proofs.Bools.{clash}
 use Rattle.rules.proofs.Lists.{here, there}
 use Rattle.frames.specs.Rows.{contention, taken, rowFrom, rowFor, turned, headTickets, turnedOn}
-use Rattle.frames.specs.Calls.{claim, release, tests, admit, without, remove, act, step, new}
+use Rattle.frames.specs.Calls.{claim, release, tests, admit, lacking, remove, act, step, new}
 use Rattle.frame_promises.specs.Ledger.{Entry, turns, tableAfter, issues, stay, marked, testsOf, notedAll}
 use Rattle.frame_promises.specs.Worthless.{headOnly, neverTurns, tooFar, headUncounted, refusesAll, tellsRow, lastTicket, noRig, AllRefused}
 
 pub all-refused : AllRefused
-unfolding someFrom lowestFrom common shares empty within any keep firstOf contention taken rowFrom rowFor turned headTickets turnedOn tests admit without remove act step new turns tableAfter issues stay marked testsOf notedAll headOnly neverTurns tooFar headUncounted refusesAll tellsRow lastTicket noRig
+unfolding someFrom lowestFrom common shares empty within any keep firstOf contention taken rowFrom rowFor turned headTickets turnedOn tests admit lacking remove act step new turns tableAfter issues stay marked testsOf notedAll headOnly neverTurns tooFar headUncounted refusesAll tellsRow lastTicket noRig
 all-refused = (
   λ d.
       let z : true ≡ false = d .at-any-time (claim 0x1 ∷ claim 0x1 ∷ []) [] refl .holders-apart _ _ here (there here) (λ e. omega arith) refl refl in

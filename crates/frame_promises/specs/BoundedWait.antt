@@ -38,7 +38,7 @@ pub record OfClaim (l : Ledger) (g : ℕ) (a : Answer) : Type 0 where
   pub contention-counted : a .contention ≡ length (keep (λ e. shares (e .groups) g) (l .claims))
   pub row-bounded : a .row ≤ 1 + a .contention
   -- "With nothing pending a claim joins the head row",
-  pub row-alone : l .claims ≡ [] → a .row ≡ 0
+  pub row-when-empty : l .claims ≡ [] → a .row ≡ 0
   -- "otherwise .. the first row after the head in which no claim shares a group with it".
   pub row-behind : (e : Entry) → e ∈ l .claims → 1 ≤ a .row
   pub row-free : (e : Entry) → e ∈ l .claims → rowNow e ≡ a .row → shares (e .groups) g ≡ false

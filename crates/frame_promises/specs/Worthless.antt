@@ -7,7 +7,7 @@ use Prim.Native.Nat.{ℕ, _+_}
 use Rattle.numbers.specs.Numbers.{darkNumber, fullNumber}
 use Rattle.rules.specs.Lists.{keep}
 use Rattle.frames.specs.Rows.{on, contention}
-use Rattle.frames.specs.Calls.{Call, claim, release, Answer, Model, Step, unchanged, without, step, blank}
+use Rattle.frames.specs.Calls.{Call, claim, release, Answer, Model, Step, unchanged, lacking, step, blank}
 use Rattle.frame_promises.specs.Ledger.{Steps}
 use Rattle.frame_promises.specs.BoundedWait.{BoundedWaitOf, NewTestedOf}
 
@@ -37,7 +37,7 @@ unfoldable pub neverTurns : Steps
 neverTurns m (claim g) = step m (claim g)
 neverTurns m (release k) =
     let s = step m (release k) in
-    record { model = record { rig = m .rig; issued = m .issued; pending = without k (m .pending) }; answer = answering (s .answer) 0 0 [] }
+    record { model = record { rig = m .rig; issued = m .issued; pending = lacking k (m .pending) }; answer = answering (s .answer) 0 0 [] }
 
 -- Shut out by `somebody-holds`: ticket 2 waits, and nobody holds.
 abbrev pub NeverTurnsRefused : Type 0

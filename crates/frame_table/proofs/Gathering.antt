@@ -114,7 +114,7 @@ module _ (g : ℕ) (ps : List Claim) (some : 1 ≤ length ps) (few : length ps <
       let q : suc (r - 1) ≡ r = omega (arith, f .low) in
       row-unique g ps r
       (record {
-        alone = λ e. absurd (there-is e);
+        when-empty = λ e. absurd (there-is e);
         behind = λ h. f .low;
         free = rw q at (sym (s .rows (r - 1) (omega (arith, free-small, f .low))) ∙ f .free free-small);
         first = first;

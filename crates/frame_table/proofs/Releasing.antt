@@ -16,7 +16,7 @@ use Rattle.rules.proofs.Lists.{Each, here, there, map-id}
 use Rattle.frames.specs.declared.Claim.{Claim}
 use Rattle.frames.specs.declared.Table.{Table}
 use Rattle.frames.specs.Rows.{on, named}
-use Rattle.frames.specs.Calls.{Model, Step, release, tests, without, remove, act, step}
+use Rattle.frames.specs.Calls.{Model, Step, release, tests, lacking, remove, act, step}
 use Rattle.frames.specs.Invariants.{ticketOf}
 use Rattle.frames.specs.Tables.{model}
 use Rattle.frames.proofs.Rows.{turned-cases}
@@ -43,22 +43,22 @@ keep-none [] e = refl
 keep-none (c ∷ ps) e = by-test (on c) (λ o. clash refl (rw o at e)) (λ o. rw o (keep-none ps (rw o at e)))
 
 -- Without a ticket that no claim has they are all there.
-without-none : (k : ℕ) (ps : List Claim) → Each (λ c. c .ticket ≢ k) ps → without k ps ≡ ps
-unfolding without keep
-without-none k [] h = refl
-without-none k (c ∷ ps) h = rw (ne-eqb (c .ticket) k (h c here)) (ap (λ (l : List Claim). c ∷ l) (without-none k ps (λ d i. h d (there i))))
+lacking-none : (k : ℕ) (ps : List Claim) → Each (λ c. c .ticket ≢ k) ps → lacking k ps ≡ ps
+unfolding lacking keep
+lacking-none k [] h = refl
+lacking-none k (c ∷ ps) h = rw (ne-eqb (c .ticket) k (h c here)) (ap (λ (l : List Claim). c ∷ l) (lacking-none k ps (λ d i. h d (there i))))
 
 -- Without that of a claim that is on, one less is.
 one-less : (k : ℕ) (ps : List Claim) → Ascends ticketOf ps → any (named k) ps ≡ true → Each (λ c. c .ticket ≡ k → c .row ≡ 0) ps
-    → length (keep on (without k ps)) + 1 ≡ length (keep on ps)
-unfolding any without keep
+    → length (keep on (lacking k ps)) + 1 ≡ length (keep on ps)
+unfolding any lacking keep
 one-less k [] a e h = clash e refl
 one-less k (c ∷ ps) a e h =
     by-test (named k c)
     (λ q.
     let z = eqb-true (c .ticket) k q in
     let o : on c ≡ true = eq-eqb (c .row) 0 (h c here z) in
-    rw (q, o, without-none k ps (λ d i y. omega (arith, a .0 d i))) (omega arith))
+    rw (q, o, lacking-none k ps (λ d i y. omega (arith, a .0 d i))) (omega arith))
     (λ q.
     let ih = one-less k ps (a .1) (rw q at e) (λ d i. h d (there i)) in
     by-test (on c) (λ o. rw (q, o) (omega (arith, ih))) (λ o. rw (q, o) ih))
@@ -71,9 +71,9 @@ same-row c =
     ap (λ (r : ℕ). record { groups = c .groups; ticket = c .ticket; row = r }) e
 
 -- and so are those that stay.
-stay-put : (k : ℕ) (ps : List Claim) → remaining k 0 ps ≡ without k ps
+stay-put : (k : ℕ) (ps : List Claim) → remaining k 0 ps ≡ lacking k ps
 unfolding remaining
-stay-put k ps = map-id (nearerBy 0) (without k ps) (λ c i. same-row c)
+stay-put k ps = map-id (nearerBy 0) (lacking k ps) (λ c i. same-row c)
 
 -- The step of an accepted release, with ps pending after it and ks granted.
 abbrev turnedTo : Model → ℕ → List Claim → List ℕ → Step
@@ -93,7 +93,7 @@ module _ (t : Table) (k : ℕ) (r : Outcome) (v : Valid t) (e : r ≡ removedIn 
   module _ (z : r .number ≡ 0) where
     -- The claims that stay.
     abbrev left : List Claim
-    left = without k (model t .pending)
+    left = lacking k (model t .pending)
 
     -- One less is on than the table counts.
     left-on : length (keep on left) + 1 ≡ t .held

@@ -17,7 +17,7 @@ use Rattle.rules.proofs.Places.{prefix-end, pad-over, pad-less, pad-stored, Sto
 use Rattle.frames.specs.declared.Claim.{Claim}
 use Rattle.frames.specs.declared.Table.{Table}
 use Rattle.frames.specs.Rows.{on, named, headTickets}
-use Rattle.frames.specs.Calls.{without}
+use Rattle.frames.specs.Calls.{lacking}
 use Rattle.frames.specs.Invariants.{ticketOf}
 use Rattle.frames.specs.Tables.{model, vacant}
 use Rattle.frame_table.specs.declared.Outcome.{Outcome}
@@ -33,7 +33,7 @@ module _ (k by : ℕ) (c : Claim) (l : List Claim) where
 
   -- and goes.
   here-goes : c .ticket ≡ k → remaining k by (c ∷ l) ≡ remaining k by l
-  unfolding remaining without keep
+  unfolding remaining lacking keep
   here-goes e = rw (eq-eqb (c .ticket) k e)
 
   -- Another decides nothing,
@@ -43,7 +43,7 @@ module _ (k by : ℕ) (c : Claim) (l : List Claim) where
 
   -- and stays, nearer to the head.
   here-stays : c .ticket ≢ k → remaining k by (c ∷ l) ≡ nearerBy by c ∷ remaining k by l
-  unfolding remaining without keep
+  unfolding remaining lacking keep
   here-stays e = rw (ne-eqb (c .ticket) k e)
 
 module _ (c : Claim) (l : List Claim) where
@@ -59,8 +59,8 @@ module _ (c : Claim) (l : List Claim) where
 
 -- No more stay than there were,
 remaining-few : (k by : ℕ) (ps : List Claim) → length (remaining k by ps) ≤ length ps
-unfolding remaining without
-remaining-few k by ps = omega (arith, length-map (without k ps) (nearerBy by), keep-length (λ c. not (named k c)) ps)
+unfolding remaining lacking
+remaining-few k by ps = omega (arith, length-map (lacking k ps) (nearerBy by), keep-length (λ c. not (named k c)) ps)
 
 -- and no more claims are in the head row than there are.
 head-few : (ps : List Claim) → length (headTickets ps) ≤ length ps
@@ -191,7 +191,7 @@ module _ {k by : ℕ} {l : List Claim} {n i number : ℕ} {head : List ℕ} {hel
 
     -- The claims that stay are stored over the others.
     stored : (m ≡ length staying) × (new ≡ staying ++ drop (length staying) l)
-    unfolding remaining without keep
+    unfolding remaining lacking keep
     stored = store-end (rw done at (w .stays)) (omega (arith, remaining-few k by pending, row-count (w .row), w .row .few, w .row .places))
 
     -- They are m,
@@ -205,7 +205,7 @@ module _ {k by : ℕ} {l : List Claim} {n i number : ℕ} {head : List ℕ} {hel
 
     -- and the tickets are those of the head row.
     taking-head : (held ≡ length (headTickets staying)) × (head ≡ pad 0 (headTickets staying))
-    unfolding remaining without keep headTickets
+    unfolding remaining lacking keep headTickets
     taking-head =
         let few : length (headTickets staying) ≤ 64 = omega (arith, head-few staying, remaining-few k by pending, row-count (w .row), w .row .few) in
         let s = store-end (rw done at (w .goes-on)) (omega (arith, length-replicate {A = ℕ} 64 0)) in

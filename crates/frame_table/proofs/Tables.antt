@@ -15,11 +15,11 @@ use Rattle.rules.proofs.Places.{pad-length, pad-take, prefix-step, prefix-end}
 use Rattle.frames.specs.declared.Claim.{Claim}
 use Rattle.frames.specs.declared.Table.{Table}
 use Rattle.frames.specs.Rows.{on, named, nearer}
-use Rattle.frames.specs.Calls.{Model, Call, fresh, admit, without, remove, step, blank}
+use Rattle.frames.specs.Calls.{Model, Call, fresh, admit, lacking, remove, step, blank}
 use Rattle.frames.specs.Tables.{encode, model, vacant}
 use Rattle.frames.specs.Invariants.{ticketOf, Invariant}
 use Rattle.frames.proofs.Rows.{row-bound, contention-few, turned-cases}
-use Rattle.frames.proofs.Calls.{step-cases, without-e}
+use Rattle.frames.proofs.Calls.{step-cases, lacking-e}
 use Rattle.frame_table.specs.Valid.{Ranged, Valid}
 
 -- ── tables and models ──
@@ -116,11 +116,11 @@ admit-ranged m g r a b = record {
 
 -- Fewer claims, none farther from the head.
 pub remove-ranged : (m : Model) (k : ℕ) → Ranged m → Ranged (remove m k .model)
-unfolding remove without
+unfolding remove lacking
 remove-ranged m k r =
-    let rest : List Claim = without k (m .pending) in
+    let rest : List Claim = lacking k (m .pending) in
     let some : length rest ≤ mostPending = omega (arith, keep-length (λ c. not (named k c)) (m .pending), r .few) in
-    let close : Each (λ c. c .row ≤ mostPending) rest = λ c i. r .near c (without-e k (m .pending) i .0) in
+    let close : Each (λ c. c .row ≤ mostPending) rest = λ c i. r .near c (lacking-e k (m .pending) i .0) in
     record {
       few = turned-cases (λ qs ks. length qs ≤ mostPending) rest (λ e. some) (λ e. omega (arith, length-map rest nearer));
       numbered = r .numbered;

@@ -11,7 +11,7 @@ use Rattle.rules.specs.Tables.{pad}
 use Rattle.frames.specs.declared.Claim.{Claim}
 use Rattle.frames.specs.declared.Table.{Table}
 use Rattle.frames.specs.Rows.{named, contention, taken, headTickets}
-use Rattle.frames.specs.Calls.{Model, without}
+use Rattle.frames.specs.Calls.{Model, lacking}
 use Rattle.frames.specs.Tables.{encode, model}
 use Rattle.frame_table.specs.declared.Rivals.{Rivals}
 use Rattle.frame_table.specs.declared.Outcome.{Outcome}
@@ -47,7 +47,7 @@ releaseNumber k (c ∷ cs) = cond (named k c) (rowNumber (c .row)) (releaseNumbe
 
 -- The claims but that of ticket k, n rows nearer to the head.
 unfoldable pub remaining : ℕ → ℕ → List Claim → List Claim
-remaining k n ps = map (nearerBy n) (without k ps)
+remaining k n ps = map (nearerBy n) (lacking k ps)
 
 abbrev pub withPending : Model → List Claim → Model
 withPending m ps = record { rig = m .rig; issued = m .issued; pending = ps }

@@ -18,7 +18,7 @@ use Rattle.rules.proofs.Lists.{Each, here, none, any-some, any-none, keep-e, ke
 use Rattle.rules.proofs.Tests.{passes}
 use Rattle.frames.specs.declared.Claim.{Claim}
 use Rattle.frames.specs.Rows.{on, named, rowFor, nearer, turned}
-use Rattle.frames.specs.Calls.{Model, Call, claim, release, Step, tests, unchanged, fresh, admit, without, remove, act, unless, step, blank, new, after}
+use Rattle.frames.specs.Calls.{Model, Call, claim, release, Step, tests, unchanged, fresh, admit, lacking, remove, act, unless, step, blank, new, after}
 use Rattle.frames.specs.Invariants.{ticketOf, RowsApart, NoGaps, Invariant}
 use Rattle.frames.proofs.Rows.{taken-none, taken-some, row-joins, behind-head, turned-cases}
 
@@ -152,7 +152,7 @@ join-filled m g i = snoc-each (Reached (joined m g)) (m .pending) (fresh m g) (�
         (λ l. (fresh m g, Memᴰ·append-right (m .pending) here, omega arith))
         (λ l. by-order 1 j
         (λ q. let x = taken-some g (m .pending) j (r .first j q l) in old (x .0, x .1, x .3))
-        (λ q. let x = some-of (m .pending) (λ e. omega (arith, r .alone e)) in old (i .filled (x .0) (x .1) j (omega arith) (omega arith))))
+        (λ q. let x = some-of (m .pending) (λ e. omega (arith, r .when-empty e)) in old (i .filled (x .0) (x .1) j (omega arith) (omega arith))))
 
 -- So an accepted claim keeps the invariant.
 pub admit-invariant : (m : Model) (g : ℕ) → Invariant m → Invariant (admit m g .model)
@@ -167,22 +167,22 @@ admit-invariant m g i = record {
 
 -- ── a release ──
 -- Only claims of other tickets stay,
-pub without-e : (k : ℕ) (ps : List Claim) {c : Claim} → c ∈ without k ps → c ∈ ps × (c .ticket ≢ k)
-unfolding without
-without-e k ps {c} i =
+pub lacking-e : (k : ℕ) (ps : List Claim) {c : Claim} → c ∈ lacking k ps → c ∈ ps × (c .ticket ≢ k)
+unfolding lacking
+lacking-e k ps {c} i =
     let r = keep-e (λ c. not (named k c)) ps i in
     (r .0, eqb-false (c .ticket) k (not-true (named k c) (r .1)))
 
 -- and all of them do.
-pub without-i : (k : ℕ) {ps : List Claim} {c : Claim} → c .ticket ≢ k → c ∈ ps → c ∈ without k ps
-unfolding without
-without-i k {ps} {c} n i = keep-i (λ c. not (named k c)) (ap not (ne-eqb (c .ticket) k n)) i
+pub lacking-i : (k : ℕ) {ps : List Claim} {c : Claim} → c .ticket ≢ k → c ∈ ps → c ∈ lacking k ps
+unfolding lacking
+lacking-i k {ps} {c} n i = keep-i (λ c. not (named k c)) (ap not (ne-eqb (c .ticket) k n)) i
 
 -- A released claim is on, so that no row behind the head row loses a claim.
-pub without-filled : (m : Model) (k : ℕ) → Releasable m k → Invariant m → NoGaps 1 (without k (m .pending))
-without-filled m k r i c ci j a b =
-    let x = i .filled c (without-e k (m .pending) ci .0) j (omega arith) b in
-    (x .0, without-i k (λ e. omega (arith, r .held (x .0) (x .1) e, x .2)) (x .1), x .2)
+pub lacking-filled : (m : Model) (k : ℕ) → Releasable m k → Invariant m → NoGaps 1 (lacking k (m .pending))
+lacking-filled m k r i c ci j a b =
+    let x = i .filled c (lacking-e k (m .pending) ci .0) j (omega arith) b in
+    (x .0, lacking-i k (λ e. omega (arith, r .held (x .0) (x .1) e, x .2)) (x .1), x .2)
 
 -- A head change keeps tickets,
 pub turned-tickets : (P : ℕ → Type 0) (ps : List Claim) → Each (λ c. P (c .ticket)) ps → Each (λ c. P (c .ticket)) (turned ps)
@@ -213,14 +213,14 @@ turned-filled ps f = turned-cases (λ qs ks. NoGaps 0 qs) ps stays moves
 
 -- So an accepted release keeps the invariant.
 pub remove-invariant : (m : Model) (k : ℕ) → Releasable m k → Invariant m → Invariant (remove m k .model)
-unfolding remove without
+unfolding remove lacking
 remove-invariant m k r i =
-    let rest : List Claim = without k (m .pending) in
+    let rest : List Claim = lacking k (m .pending) in
     record {
       ascending = turned-ascending rest (ascends-keep ticketOf (λ c. not (named k c)) (m .pending) (i .ascending));
-      issued = turned-tickets (λ n. (1 ≤ n) × (n ≤ m .issued)) rest (λ c ci. i .issued c (without-e k (m .pending) ci .0));
-      apart = turned-apart rest (λ c d ci di. i .apart c d (without-e k (m .pending) ci .0) (without-e k (m .pending) di .0));
-      filled = turned-filled rest (without-filled m k r i);
+      issued = turned-tickets (λ n. (1 ≤ n) × (n ≤ m .issued)) rest (λ c ci. i .issued c (lacking-e k (m .pending) ci .0));
+      apart = turned-apart rest (λ c d ci di. i .apart c d (lacking-e k (m .pending) ci .0) (lacking-e k (m .pending) di .0));
+      filled = turned-filled rest (lacking-filled m k r i);
     }
 
 -- ── every call keeps the invariant ──

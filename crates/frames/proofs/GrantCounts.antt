@@ -10,7 +10,7 @@ use Rattle.rules.specs.Lists.{any, keep}
 use Rattle.rules.proofs.Bools.{by-test, or-fl, or-fr}
 use Rattle.frames.specs.declared.Claim.{Claim}
 use Rattle.frames.specs.Rows.{on, named, nearer, headTickets}
-use Rattle.frames.specs.Calls.{Model, Call, Step, unchanged, fresh, admit, without, remove, step, blank, new}
+use Rattle.frames.specs.Calls.{Model, Call, Step, unchanged, fresh, admit, lacking, remove, step, blank, new}
 use Rattle.frames.proofs.Rows.{turned-cases}
 use Rattle.frames.proofs.Calls.{step-cases, new-cases}
 
@@ -85,9 +85,9 @@ module _ (m : Model) where
 
   -- Where the head row has emptied, those granted waited.
   removed : (k : ℕ) → Counted m (remove m k)
-  unfolding waiting remove without
+  unfolding waiting remove lacking
   removed k =
-      let rest : List Claim = without k (m .pending) in
+      let rest : List Claim = lacking k (m .pending) in
       let fewer = waiting-keep (λ c. not (named k c)) (m .pending) in
       let t = turned-cases (λ qs ks. (length ks ≤ length qs) × (length ks + waitingIn qs ≤ waitingIn rest)) rest
       (λ e. (omega arith, omega arith))

@@ -95,10 +95,10 @@ found g c ps = search-finds (contention g (c ∷ ps)) g (c ∷ ps) 1 (keep-le (l
 -- A new claim joins the row that the request says.
 pub row-joins : (g : ℕ) (ps : List Claim) → Joins g ps (rowFor g ps)
 unfolding rowFor
-row-joins g [] = record { alone = λ e. refl; behind = λ h. absurd (h refl); free = taken-nil g 0; first = λ j a b. absurd (omega arith) }
+row-joins g [] = record { when-empty = λ e. refl; behind = λ h. absurd (h refl); free = taken-nil g 0; first = λ j a b. absurd (omega arith) }
 row-joins g (c ∷ ps) =
     let f = found g c ps in
-    record { alone = λ e. let z : _≡_ {A = ℕ} 0 1 = cc in absurd (omega arith); behind = λ h. f .low; free = f .free; first = f .first }
+    record { when-empty = λ e. let z : _≡_ {A = ℕ} 0 1 = cc in absurd (omega arith); behind = λ h. f .low; free = f .free; first = f .first }
 
 -- It is at most 1 + the contention.
 pub row-bound : (g : ℕ) (ps : List Claim) → rowFor g ps ≤ 1 + contention g ps
@@ -108,7 +108,7 @@ row-bound g (c ∷ ps) = found g c ps .high
 
 -- Of two rows that are as the request says, none is before the other,
 no-earlier : (g : ℕ) (ps : List Claim) (r s : ℕ) → Joins g ps r → Joins g ps s → r < s → ⊥
-no-earlier g ps r s j k l = clash (k .first r (j .behind (λ e. omega (arith, k .alone e))) l) (j .free)
+no-earlier g ps r s j k l = clash (k .first r (j .behind (λ e. omega (arith, k .when-empty e))) l) (j .free)
 
 -- so no other row is.
 pub row-unique : (g : ℕ) (ps : List Claim) (r : ℕ) → Joins g ps r → r ≡ rowFor g ps

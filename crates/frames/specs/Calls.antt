@@ -57,13 +57,13 @@ admit m g =
     }
 
 -- The claims but that of ticket k.
-unfoldable pub without : ℕ → List Claim → List Claim
-without k ps = keep (λ c. not (named k c)) ps
+unfoldable pub lacking : ℕ → List Claim → List Claim
+lacking k ps = keep (λ c. not (named k c)) ps
 
 -- A release takes away a claim that is on. It answers "its ticket, 0 and 0".
 unfoldable pub remove : Model → ℕ → Step
 remove m k =
-    let rest : List Claim = without k (m .pending) in
+    let rest : List Claim = lacking k (m .pending) in
     record {
       model = record { rig = m .rig; issued = m .issued; pending = turned rest };
       answer = record { number = 0; ticket = k; row = 0; contention = 0; grants = turnedOn rest };

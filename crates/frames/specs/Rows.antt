@@ -42,7 +42,7 @@ rowFor g (c ∷ ps) = rowFrom (contention g (c ∷ ps)) g (c ∷ ps) 1
 -- The sentence above, of row r. proofs/Rows: `row-joins`, it holds of `rowFor`; `row-unique`, of no other row; `row-bound`, that row is at
 -- most 1 + the contention.
 pub record Joins (g : ℕ) (ps : List Claim) (r : ℕ) : Type 0 where
-  pub alone : ps ≡ [] → r ≡ 0
+  pub when-empty : ps ≡ [] → r ≡ 0
   pub behind : (ps ≡ [] → ⊥) → 1 ≤ r
   pub free : taken g ps r ≡ false
   pub first : (j : ℕ) → 1 ≤ j → j < r → taken g ps j ≡ true

@@ -42,7 +42,7 @@ use Rattle.rules.proofs.Shares.{first-booked}
 use Rattle.rules.proofs.Booking.{advance-booked, finish-booked, finish-shares, join-booked, leaves-booked, leaves-shares, declare-booked}
 use Rattle.rules.proofs.NoOverrun.{no-overrun-no-later}
 use Rattle.rules.proofs.Lookup.{lookup-absent, none-named, lookup-found, one-named, lookup-waits}
-use Rattle.promises.specs.Ledger.{Turn, turns, tableAfter, accepted, Entry, promised, Ledger, opening, issues, without, stay, sharesBy, graceBy, hold, marked, noted, notedAll, NoOverrun, NoOverruns, ruledBy, remainingOf, rivalsOf, boundOn}
+use Rattle.promises.specs.Ledger.{Turn, turns, tableAfter, accepted, Entry, promised, Ledger, opening, issues, lacking, stay, sharesBy, graceBy, hold, marked, noted, notedAll, NoOverrun, NoOverruns, ruledBy, remainingOf, rivalsOf, boundOn}
 use Rattle.promises.specs.Runs.{tells, Start, newly, Begins, by-new}
 use Rattle.promises.specs.Demand3.{TicketsAscend, Now, NoWaitPast, OfClaim, OfGrants, Next, Demand3}
 use Rattle.promises.specs.WholeCalls.{WholeCalls}
@@ -206,14 +206,14 @@ finish-match P l m r i ma =
     ps = pack (settingOf m) (m .pending)
 
 -- What release, withdraw and clock leave of the ledger.
-pub match-without : (P : Type 0) (k : ℕ) {ps : List Claim} {l : List Entry} → Match (Tracks P) ps l → Match (Tracks P) (keep (λ c. not (named k c)) ps) (without k l)
-match-without P k ma = match-keep (λ c. not (named k c)) (λ e. not (eqb (e .ticket) k)) (λ c e _ r. ap (λ (x : ℕ). not (eqb x k)) (r .ticket)) ma
+pub match-lacking : (P : Type 0) (k : ℕ) {ps : List Claim} {l : List Entry} → Match (Tracks P) ps l → Match (Tracks P) (keep (λ c. not (named k c)) ps) (lacking k l)
+match-lacking P k ma = match-keep (λ c. not (named k c)) (λ e. not (eqb (e .ticket) k)) (λ c e _ r. ap (λ (x : ℕ). not (eqb x k)) (r .ticket)) ma
 
 leaves-match : (P : Type 0) (l : List Entry) (a : Answer) {m : Model} {c : Call} {t k : ℕ} {q : Model} → Leaves m c t k q
     → Match (Tracks P) (advance m t .pending) l → Match (Tracks P) (q .pending) (stay c l ++ issues c a)
 unfolding remove stay issues
-leaves-match P l a (by-release t k) ma = match-none (match-without P k ma)
-leaves-match P l a (by-withdraw t k) ma = match-none (match-without P k ma)
+leaves-match P l a (by-release t k) ma = match-none (match-lacking P k ma)
+leaves-match P l a (by-withdraw t k) ma = match-none (match-lacking P k ma)
 leaves-match P l a (by-clock t) ma = match-none ma
 
 leaves-issued : (a : Answer) {m : Model} {c : Call} {t k : ℕ} {q : Model} → Leaves m c t k q → q .issued ≡ m .issued + length (issues c a)

@@ -23,14 +23,14 @@ use Rattle.rules.proofs.Bools.{clash, by-test}
 use Rattle.rules.proofs.Lists.{map-e, map-i, keep-snoc, keep-all}
 use Rattle.rules.proofs.Granting.{granted-cases, granted-ticket, goes-at, end-granted, granted-go, granted-stay, grant-uses}
 use Rattle.rules.proofs.Calls.{Admissible, advance-packed, finish-invariant, advance-e, clock-accepted, Leaves, by-release, by-withdraw, by-clock, Idle, step-cases}
-use Rattle.promises.specs.Ledger.{Turn, turns, tableAfter, Ledger, Entry, without, noted, notedAll, NoOverrun}
+use Rattle.promises.specs.Ledger.{Turn, turns, tableAfter, Ledger, Entry, lacking, noted, notedAll, NoOverrun}
 use Rattle.promises.specs.Runs.{tells, Start, Begins}
 use Rattle.promises.specs.Plan.{endTold, plannedUse}
 use Rattle.promises.specs.WholeCalls.{ClaimCall}
 use Rattle.promises.specs.LeastStart.{RoomTold, FitsBeside, LeastOf, Least, LeastStart}
 use Rattle.promises.proofs.Matching.{Match, partner, partner-of}
 use Rattle.promises.proofs.WholeCalls.{claim-whole, clocked-is}
-use Rattle.promises.proofs.Demand3.{Tracks, Story, match-without, same-claim, story-after, after-calls}
+use Rattle.promises.proofs.Demand3.{Tracks, Story, match-lacking, same-claim, story-after, after-calls}
 use Rattle.promises.proofs.StartsPacked.{packed-of}
 use Rattle.promises.proofs.Plan.{told-is, waits-at, end-is, use-is, standing-wait}
 
@@ -74,8 +74,8 @@ module _ (Q : Type 0) (l : Ledger) (m : Model) (i : Invariant m) (t : ℕ) (ask 
       let r = map-e (granted (ruled m t) ps) ps di in
       rw (ne-eqb (d .ticket) k (λ e. old (r .0) (r .1) (sym (granted-ticket (ruled m t) ps (r .0)) ∙ sym (ap (λ (x : Claim). x .ticket) (r .2)) ∙ e))))
 
-  matched : Match (Tracks Q) (grant (ruled m t) ps) (without k (l .claims))
-  matched = subst (λ (x : List Claim). Match (Tracks Q) x (without k (l .claims))) others-are (match-without Q k (st .match))
+  matched : Match (Tracks Q) (grant (ruled m t) ps) (lacking k (l .claims))
+  matched = subst (λ (x : List Claim). Match (Tracks Q) x (lacking k (l .claims))) others-are (match-lacking Q k (st .match))
 
   pending : (d : Claim) → d ∈ grant (ruled m t) ps → d ∈ n .pending
   pending d di = subst (λ (x : List Claim). d ∈ x) (sym all-is) (Memᴰ·append-left _ di)
@@ -87,11 +87,11 @@ module _ (Q : Type 0) (l : Ledger) (m : Model) (i : Invariant m) (t : ℕ) (ask 
   Of : Claim → Entry → Type 0
   Of c e = after c ∈ n .pending × Tracks Q (after c) e
 
-  entry-of : (c : Claim) → c ∈ ps → (e : Entry) × e ∈ without k (l .claims) × Of c e
+  entry-of : (c : Claim) → c ∈ ps → (e : Entry) × e ∈ lacking k (l .claims) × Of c e
   unfolding grant Of
   entry-of c ci = let j = map-i (granted (ruled m t) ps) ci in let r = partner-of matched j in (r .0, r .1, (pending (after c) j, r .2))
 
-  claim-of : (e : Entry) → e ∈ without k (l .claims) → (c : Claim) × c ∈ ps × Of c e
+  claim-of : (e : Entry) → e ∈ lacking k (l .claims) → (c : Claim) × c ∈ ps × Of c e
   unfolding grant Of
   claim-of e ei =
       let r = partner matched ei in
@@ -132,16 +132,16 @@ module _ (Q : Type 0) (l : Ledger) (m : Model) (i : Invariant m) (t : ℕ) (ask 
       let same : after c ≡ c = granted-stay (ruled m t) ps c g in
       inr (sym (ap on same) ∙ w .0, omega (arith, ap at same, w .1, z .2, whole .length)))
 
-  use-same : (y : ℕ) → t ≤ y → plannedUse l (tells n) y (without k (l .claims)) ≡ used (ruled m t) y ps
+  use-same : (y : ℕ) → t ≤ y → plannedUse l (tells n) y (lacking k (l .claims)) ≡ used (ruled m t) y ps
   use-same y h =
-      sym (use-is Q l n st y (grant (ruled m t) ps) (without k (l .claims)) pending matched) ∙ ap (λ (v : Setting). used v y (grant (ruled m t) ps)) same-rules
+      sym (use-is Q l n st y (grant (ruled m t) ps) (lacking k (l .claims)) pending matched) ∙ ap (λ (v : Setting). used v y (grant (ruled m t) ps)) same-rules
       ∙ grant-uses (ruled m t) ps y h
 
   pool-same : l .pool ≡ m .pool
   unfolding admit finish join advance
   pool-same = sym (st .pool)
 
-  fits-told : (x : ℕ) → t ≤ x → Fits (ruled m t) ps (whole .new) x → FitsBeside l (tells n) (without k (l .claims)) ask x
+  fits-told : (x : ℕ) → t ≤ x → Fits (ruled m t) ps (whole .new) x → FitsBeside l (tells n) (lacking k (l .claims)) ask x
   fits-told x h f = record {
     room = λ e ei z.
         let c = claim-of e ei in
@@ -149,7 +149,7 @@ module _ (Q : Type 0) (l : Ledger) (m : Model) (i : Invariant m) (t : ℕ) (ask 
     spare = λ z y p q. omega (arith, f .spare (omega (arith, whole .units, z)) y p (omega (arith, whole .length, q)), use-same y (omega (arith, h, p)), whole .units, pool-same);
   }
 
-  fits-of : (x : ℕ) → t ≤ x → FitsBeside l (tells n) (without k (l .claims)) ask x → Fits (ruled m t) ps (whole .new) x
+  fits-of : (x : ℕ) → t ≤ x → FitsBeside l (tells n) (lacking k (l .claims)) ask x → Fits (ruled m t) ps (whole .new) x
   fits-of x h f = record {
     room = λ c ci z.
         let e = entry-of c ci in
@@ -166,7 +166,7 @@ module _ (Q : Type 0) (l : Ledger) (m : Model) (i : Invariant m) (t : ℕ) (ask 
     from-clock = whole .from-clock;
     fits = rw next-ticket (fits-told _ (whole .from-clock) (whole .fits));
     least = λ x h f. whole .least x h (fits-of x h (rw next-ticket at f));
-    others-packed = rw next-ticket (packed-of Q l n st (grant (ruled m t) ps) (without k (l .claims)) matched pending (m .issued) settled);
+    others-packed = rw next-ticket (packed-of Q l n st (grant (ruled m t) ps) (lacking k (l .claims)) matched pending (m .issued) settled);
   }
 
 -- Of a call and its step, where the ledger after it is that of the table after it.

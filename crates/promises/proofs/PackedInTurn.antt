@@ -20,14 +20,14 @@ use Rattle.rules.proofs.Bools.{clash}
 use Rattle.rules.proofs.Lists.{map-i, keep-e}
 use Rattle.rules.proofs.NoOverrun.{no-overrun-still}
 use Rattle.rules.proofs.Calls.{Clocked, Admissible, Leaves, by-release, by-withdraw, by-clock, clock-accepted, step-cases}
-use Rattle.promises.specs.Ledger.{Turn, Entry, Ledger, without, stay, noted, NoOverrun}
+use Rattle.promises.specs.Ledger.{Turn, Entry, Ledger, lacking, stay, noted, NoOverrun}
 use Rattle.promises.specs.Runs.{tells, Start, Begins}
 use Rattle.promises.specs.Plan.{aheadTold}
 use Rattle.promises.specs.WholeCalls.{Stays}
 use Rattle.promises.specs.StartsPacked.{PackedBehind}
 use Rattle.promises.specs.PackedInTurn.{startAfter, InTurn, PackedInTurn}
 use Rattle.promises.proofs.WholeCalls.{claim-whole, leave-whole, first-packing, clock-whole}
-use Rattle.promises.proofs.Demand3.{Story, match-without, no-overrun-of, idle-refused, told, after-calls}
+use Rattle.promises.proofs.Demand3.{Story, match-lacking, no-overrun-of, idle-refused, told, after-calls}
 use Rattle.promises.proofs.Packed.{packed-behind}
 
 module _ (P : Type 0) (l : Ledger) (m : Model) (st : Story P l m) where
@@ -51,14 +51,14 @@ module _ (P : Type 0) (l : Ledger) (m : Model) (st : Story P l m) where
   left ps k = keep (λ c. not (named k c)) ps
 
   packed-again : (t k : ℕ) → Clocked m t → NoOverrunAt t (m .pending) → (Q : Type 0) (l′ : Ledger) → (let n = finish (remove (advance m t) k) (plain k t) .model in
-      Story Q l′ n → (f : Entry) → f ∈ without k (l .claims) → (s : ℕ) → tells m (atTicket (f .ticket)) ≡ Waits s
-      → PackedBehind l′ (tells n) (aheadTold (tells m) s (f .ticket) (without k (l .claims))) f (startAfter t (tells n (atTicket (f .ticket)))))
+      Story Q l′ n → (f : Entry) → f ∈ lacking k (l .claims) → (s : ℕ) → tells m (atTicket (f .ticket)) ≡ Waits s
+      → PackedBehind l′ (tells n) (aheadTold (tells m) s (f .ticket) (lacking k (l .claims))) f (startAfter t (tells n (atTicket (f .ticket)))))
   unfolding finish remove advance
   packed-again t k o h Q l′ st′ =
       let n = finish (remove (advance m t) k) (plain k t) .model in
       let w = leave-whole m (st .inv) t k o in
       let same : advance m t .pending ≡ m .pending = no-overrun-still (m .issued) (settingOf m) (ruled m t) (m .pending) (st .inv) (record { later = o .later; same = refl }) h in
-      packed-behind P Q l l′ m n st st′ (left (m .pending) k) (without k (l .claims)) (match-without P k (st .match)) (λ c i. keep-e (λ c. not (named k c)) (m .pending) i .0) (w .starts)
+      packed-behind P Q l l′ m n st st′ (left (m .pending) k) (lacking k (l .claims)) (match-lacking P k (st .match)) (λ c i. keep-e (λ c. not (named k c)) (m .pending) i .0) (w .starts)
       (subst (λ (ps : List Claim). Packs (ruled m t) (left ps k) (w .starts)) same (w .packs))
       (λ x i.
       let r = keep-e (λ c. not (named k c)) (m .pending) i in

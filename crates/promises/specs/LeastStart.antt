@@ -12,7 +12,7 @@ use Rattle.rules.specs.declared.Request.{Request}
 use Rattle.rules.specs.declared.Standing.the-variants.{Waits}
 use Rattle.rules.specs.Lists.{_∈_}
 use Rattle.rules.specs.Calls.{atTicket, Call, claim, Answer, step}
-use Rattle.promises.specs.Ledger.{Turn, Steps, Entry, without, Ledger, noted}
+use Rattle.promises.specs.Ledger.{Turn, Steps, Entry, lacking, Ledger, noted}
 use Rattle.promises.specs.Runs.{Told, Start, AtAnyCall}
 use Rattle.promises.specs.Plan.{endTold, SpareTold}
 use Rattle.promises.specs.StartsPacked.{Packed}
@@ -29,10 +29,10 @@ pub record FitsBeside (l : Ledger) (told : Told) (es : List Entry) (ask : Reques
 -- The answer to a claim at clock u, beside the others in the ledger l after it.
 pub record LeastOf (l : Ledger) (told : Told) (u : ℕ) (ask : Request) (a : Answer) : Type 0 where
   pub from-clock : u ≤ a .start
-  pub fits : FitsBeside l told (without (a .ticket) (l .claims)) ask (a .start)
-  pub least : (x : ℕ) → u ≤ x → FitsBeside l told (without (a .ticket) (l .claims)) ask x → a .start ≤ x
+  pub fits : FitsBeside l told (lacking (a .ticket) (l .claims)) ask (a .start)
+  pub least : (x : ℕ) → u ≤ x → FitsBeside l told (lacking (a .ticket) (l .claims)) ask x → a .start ≤ x
   -- And those others are packed as if it were not there: it pushes none back.
-  pub others-packed : Packed l told (without (a .ticket) (l .claims))
+  pub others-packed : Packed l told (lacking (a .ticket) (l .claims))
 
 abbrev pub Least : Ledger → Turn → Told → Told → Type 0
 Least l t before after = (u : ℕ) (ask : Request) → t .call ≡ claim u ask → t .answer .number ≡ 0 → LeastOf (noted l t) after u ask (t .answer)

@@ -81,13 +81,13 @@ issues (looks q) a = []
 issues (setsUp p) a = []
 
 -- "until an accepted release or withdrawal takes it away": what an accepted call leaves of the pending claims.
-abbrev pub without : ℕ → List Entry → List Entry
-without k l = keep (λ e. not (hasTicket k e)) l
+abbrev pub lacking : ℕ → List Entry → List Entry
+lacking k l = keep (λ e. not (hasTicket k e)) l
 
 unfoldable pub stay : Call → List Entry → List Entry
 stay (timed t (claims ask)) l = l
-stay (timed t (releases k)) l = without k l
-stay (timed t (withdraws k)) l = without k l
+stay (timed t (releases k)) l = lacking k l
+stay (timed t (withdraws k)) l = lacking k l
 stay (timed t movesClock) l = l
 stay (looks q) l = l
 stay (setsUp p) l = l
@@ -121,11 +121,11 @@ marked t ks e = elim (any (λ k. eqb k (e .ticket)) ks) [ true ↦ hold e t | fa
 abbrev pub noted : Ledger → Turn → Ledger
 noted l t =
     let now = clockOf (t .call) in
-    let shares = cond (eqb (t .answer .number) 0) (sharesBy (t .call) (l .shares)) (l .shares) in
+    let ss = cond (eqb (t .answer .number) 0) (sharesBy (t .call) (l .shares)) (l .shares) in
     let grace = cond (eqb (t .answer .number) 0) (graceBy (t .call) (l .grace)) (l .grace) in
     cond (accepted t)
-    (record { rig = l .rig; clock = now; pool = l .pool; issued = l .issued + length (issues (t .call) (t .answer)); grace = grace; shares = shares; claims = map (marked now (t .answer .grants)) (afterActing t (l .claims)) })
-    (record { rig = l .rig; clock = l .clock; pool = l .pool; issued = l .issued; grace = grace; shares = shares; claims = l .claims })
+    (record { rig = l .rig; clock = now; pool = l .pool; issued = l .issued + length (issues (t .call) (t .answer)); grace = grace; shares = ss; claims = map (marked now (t .answer .grants)) (afterActing t (l .claims)) })
+    (record { rig = l .rig; clock = l .clock; pool = l .pool; issued = l .issued; grace = grace; shares = ss; claims = l .claims })
 
 -- The ledger after these calls.
 unfoldable pub notedAll : Ledger → List Turn → Ledger

@@ -13,15 +13,15 @@ use Rattle.rules.specs.Placing.{clear, fits, place, contention, startBou
 use Rattle.rules.specs.Granting.{takenBefore, trulyFree, goesWithin, goes, granted, grant, grants}
 use Rattle.rules.specs.Tests.{firstOf}
 use Rattle.rules.specs.Calls.{tests, advance, finish, join, remove, admit, act, step, new, standingOf, commonOf, after, answers}
-use Rattle.rules.specs.Scenarios.{scenarios, expected, outcome, draws, graces, drawn, expectedOf, pairs, toldOf, sharings, numberOf}
+use Rattle.rules.specs.Scenarios.{scenarios, expected, outcome, poolScenarios, graceScenarios, outcomeOnPool, expectedOnPool, pairs, toldOf, sharings, numberOf}
 
 pub all-scenarios : map outcome scenarios ≡ map expected scenarios
 unfolding someFrom lowestFrom common shares empty within greatest least sum all any keep heldUntil endOf remaining precedes before covers unitsAt used enough spare heldUnits ready startFor moved ahead startWithin packedStart pack clear fits seek place contention startBound takenBefore trulyFree goesWithin goes granted grant grants shareOf pendingOf unfilled unfilledByOthers firstOf tests advance finish join remove admit act step new standingOf after answers scenarios outcome
 all-scenarios = refl
 
-pub all-draws : map drawn (draws ++ graces) ≡ map expectedOf (draws ++ graces)
-unfolding someFrom lowestFrom common shares empty within greatest least sum all any keep heldUntil endOf remaining precedes before covers unitsAt used enough spare heldUnits freeUnits ready startFor moved ahead startWithin packedStart pack clear fits seek place contention startBound takenBefore trulyFree goesWithin goes granted grant grants shareOf pendingOf unfilled unfilledByOthers firstOf tests advance finish join remove admit act step new standingOf after answers draws graces drawn
-all-draws = refl
+pub all-pool-scenarios : map outcomeOnPool (poolScenarios ++ graceScenarios) ≡ map expectedOnPool (poolScenarios ++ graceScenarios)
+unfolding someFrom lowestFrom common shares empty within greatest least sum all any keep heldUntil endOf remaining precedes before covers unitsAt used enough spare heldUnits freeUnits ready startFor moved ahead startWithin packedStart pack clear fits seek place contention startBound takenBefore trulyFree goesWithin goes granted grant grants shareOf pendingOf unfilled unfilledByOthers firstOf tests advance finish join remove admit act step new standingOf after answers poolScenarios graceScenarios outcomeOnPool
+all-pool-scenarios = refl
 
 pub all-pairs : map toldOf pairs ≡ map (λ p. p .told) pairs
 unfolding someFrom lowestFrom common shares empty within greatest least sum all any keep heldUntil endOf remaining precedes before covers unitsAt used enough spare heldUnits ready startFor moved ahead startWithin packedStart pack clear fits seek place contention startBound takenBefore trulyFree goesWithin goes granted grant grants shareOf pendingOf unfilled unfilledByOthers firstOf tests advance finish join remove admit act step new commonOf after answers pairs toldOf

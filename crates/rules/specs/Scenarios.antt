@@ -106,101 +106,101 @@ abbrev pub expected : Scenario → Outcome
 expected x = record { answers = x .answers; standings = x .standings }
 
 -- Calls on a table of groups F hex and a pool, their answers, and then what lookup tells of tickets 1 to 4 and of the units free.
-pub record Draw : Type 0 where
+pub record PoolScenario : Type 0 where
   pub pool : ℕ
   pub calls : List Call
   pub answers : List Answer
   pub standings : List Standing
   pub free : ℕ
 
-abbrev pub draw : ℕ → List Call → List Answer → List Standing → ℕ → Draw
-draw k c a s f = record { pool = k; calls = c; answers = a; standings = s; free = f }
+abbrev pub onPool : ℕ → List Call → List Answer → List Standing → ℕ → PoolScenario
+onPool k c a s f = record { pool = k; calls = c; answers = a; standings = s; free = f }
 
 -- A claim at a clock, of groups (hex), a length and units.
 abbrev pub drawing : ℕ → ℕ → ℕ → ℕ → Call
 drawing t g n u = timed t (claims (record { groups = g; length = n; units = u; client = 1 }))
 
-unfoldable pub draws : List Draw
-draws =
+unfoldable pub poolScenarios : List PoolScenario
+poolScenarios =
     -- a pool of 2, three claims of one unit and no common group: two on, the third at the first end
-    draw 2 (drawing 0 0x1 10 1 ∷ drawing 0 0x2 7 1 ∷ drawing 0 0x4 5 1 ∷ [])
+    onPool 2 (drawing 0 0x1 10 1 ∷ drawing 0 0x2 7 1 ∷ drawing 0 0x4 5 1 ∷ [])
     (ok 1 0 0 0 (1 ∷ []) ∷ ok 2 0 0 0 (2 ∷ []) ∷ ok 3 7 0 0 [] ∷ [])
     (Holds 10 ∷ Holds 7 ∷ Waits 7 ∷ NotPending ∷ []) 0
     -- a pool of 3: 2 units are planned from 10 on, 1 is held until 10. A claim of 2 for 10 ticks fits the gap before the plan,
-    ∷ draw 3 (drawing 0 0x1 10 1 ∷ drawing 0 0x1 10 2 ∷ drawing 0 0x2 10 2 ∷ [])
+    ∷ onPool 3 (drawing 0 0x1 10 1 ∷ drawing 0 0x1 10 2 ∷ drawing 0 0x2 10 2 ∷ [])
     (ok 1 0 0 0 (1 ∷ []) ∷ ok 2 10 1 19 [] ∷ ok 3 0 0 0 (3 ∷ []) ∷ [])
     (Holds 10 ∷ Waits 10 ∷ Holds 10 ∷ NotPending ∷ []) 0
     -- and one for 11 ticks does not
-    ∷ draw 3 (drawing 0 0x1 10 1 ∷ drawing 0 0x1 10 2 ∷ drawing 0 0x2 11 2 ∷ [])
+    ∷ onPool 3 (drawing 0 0x1 10 1 ∷ drawing 0 0x1 10 2 ∷ drawing 0 0x2 11 2 ∷ [])
     (ok 1 0 0 0 (1 ∷ []) ∷ ok 2 10 1 19 [] ∷ ok 3 20 0 0 [] ∷ [])
     (Holds 10 ∷ Waits 10 ∷ Waits 20 ∷ NotPending ∷ []) 2
     -- an overrun holder keeps its units: ticket 2 waits though its start is the clock, until the release
-    ∷ draw 2 (drawing 0 0x0 10 2 ∷ drawing 0 0x0 10 1 ∷ clock 12 ∷ drawing 12 0x1 5 0 ∷ release 13 1 ∷ [])
+    ∷ onPool 2 (drawing 0 0x0 10 2 ∷ drawing 0 0x0 10 1 ∷ clock 12 ∷ drawing 12 0x1 5 0 ∷ release 13 1 ∷ [])
     (ok 1 0 0 0 (1 ∷ []) ∷ ok 2 10 0 0 [] ∷ ok 0 12 0 0 [] ∷ ok 3 12 0 12 (3 ∷ []) ∷ ok 1 13 0 0 (2 ∷ []) ∷ [])
     (NotPending ∷ Holds 23 ∷ Holds 17 ∷ NotPending ∷ []) 1
     -- two claims at one start, granted by ticket while the units last: ticket 2 has overrun and keeps 2 of 4
-    ∷ draw 4 (drawing 0 0x0 10 2 ∷ drawing 0 0x0 10 2 ∷ drawing 0 0x0 10 2 ∷ drawing 0 0x0 10 2 ∷ release 12 1 ∷ [])
+    ∷ onPool 4 (drawing 0 0x0 10 2 ∷ drawing 0 0x0 10 2 ∷ drawing 0 0x0 10 2 ∷ drawing 0 0x0 10 2 ∷ release 12 1 ∷ [])
     (ok 1 0 0 0 (1 ∷ []) ∷ ok 2 0 0 0 (2 ∷ []) ∷ ok 3 10 0 0 [] ∷ ok 4 10 0 0 [] ∷ ok 1 12 0 0 (3 ∷ []) ∷ [])
     (NotPending ∷ Holds 10 ∷ Holds 22 ∷ Waits 12 ∷ []) 0
     -- while an overrun holder has 2 of 3, ticket 3 asks for 2 and waits, and ticket 4 behind it asks for 1 and goes on
-    ∷ draw 3 (drawing 0 0x0 10 2 ∷ drawing 0 0x1 10 1 ∷ drawing 0 0x0 10 2 ∷ drawing 0 0x1 10 1 ∷ release 12 2 ∷ [])
+    ∷ onPool 3 (drawing 0 0x0 10 2 ∷ drawing 0 0x1 10 1 ∷ drawing 0 0x0 10 2 ∷ drawing 0 0x1 10 1 ∷ release 12 2 ∷ [])
     (ok 1 0 0 0 (1 ∷ []) ∷ ok 2 0 0 0 (2 ∷ []) ∷ ok 3 10 0 0 [] ∷ ok 4 10 1 19 [] ∷ ok 2 12 0 0 (4 ∷ []) ∷ [])
     (Holds 10 ∷ NotPending ∷ Waits 12 ∷ Holds 22 ∷ []) 0
     -- 16 after 2 and before 3; neither group nor unit is 1; a claim of units alone has contention 0 and the clock for its bound
-    ∷ draw 2 (drawing 5 0x10 10 3 ∷ drawing 5 0x1 0 3 ∷ drawing 5 0x1 0 2 ∷ drawing 5 0x0 10 0 ∷ drawing 5 0x0 10 2 ∷ [])
+    ∷ onPool 2 (drawing 5 0x10 10 3 ∷ drawing 5 0x1 0 3 ∷ drawing 5 0x1 0 2 ∷ drawing 5 0x0 10 0 ∷ drawing 5 0x0 10 2 ∷ [])
     (refused 2 ∷ refused 16 ∷ refused 3 ∷ refused 1 ∷ ok 1 5 0 5 (1 ∷ []) ∷ [])
     (Holds 15 ∷ NotPending ∷ NotPending ∷ NotPending ∷ []) 0
     -- "Packing takes waiting claims by start, then ticket": tickets 3 and 4 at one start, and one unit for both
-    ∷ draw 3 (drawing 0 0x4 10 2 ∷ drawing 5 0x0 10 3 ∷ drawing 6 0x2 5 1 ∷ drawing 8 0x0 10 1 ∷ withdraw 8 2 ∷ [])
+    ∷ onPool 3 (drawing 0 0x4 10 2 ∷ drawing 5 0x0 10 3 ∷ drawing 6 0x2 5 1 ∷ drawing 8 0x0 10 1 ∷ withdraw 8 2 ∷ [])
     (ok 1 0 0 0 (1 ∷ []) ∷ ok 2 10 0 5 [] ∷ ok 3 20 0 6 [] ∷ ok 4 20 0 8 [] ∷ ok 2 8 0 0 (3 ∷ []) ∷ [])
     (Holds 10 ∷ NotPending ∷ Holds 13 ∷ Waits 10 ∷ []) 0
     ∷ []
 
 -- The same with a grace.
-unfoldable pub graces : List Draw
-graces =
+unfoldable pub graceScenarios : List PoolScenario
+graceScenarios =
     -- S with a grace of 5: at clock 10, the promised end of ticket 1, there is no grace yet
-    draw 0 (setGrace 5 ∷ S ++ (clock 10 ∷ []))
+    onPool 0 (setGrace 5 ∷ S ++ (clock 10 ∷ []))
     (ok 0 0 0 0 [] ∷ ok 1 0 0 0 (1 ∷ []) ∷ ok 2 10 1 19 [] ∷ ok 3 20 1 20 [] ∷ ok 0 10 0 0 [] ∷ [])
     (Holds 10 ∷ Waits 10 ∷ Waits 20 ∷ NotPending ∷ []) 0
     -- at clock 12 its end is 17; lookup still tells the promised end
-    ∷ draw 0 (setGrace 5 ∷ S ++ (clock 12 ∷ []))
+    ∷ onPool 0 (setGrace 5 ∷ S ++ (clock 12 ∷ []))
     (ok 0 0 0 0 [] ∷ ok 1 0 0 0 (1 ∷ []) ∷ ok 2 10 1 19 [] ∷ ok 3 20 1 20 [] ∷ ok 0 12 0 0 [] ∷ [])
     (Holds 10 ∷ Waits 17 ∷ Waits 27 ∷ NotPending ∷ []) 0
     -- while it overruns its end moves on with the clock,
-    ∷ draw 0 (setGrace 5 ∷ S ++ (clock 12 ∷ clock 14 ∷ []))
+    ∷ onPool 0 (setGrace 5 ∷ S ++ (clock 12 ∷ clock 14 ∷ []))
     (ok 0 0 0 0 [] ∷ ok 1 0 0 0 (1 ∷ []) ∷ ok 2 10 1 19 [] ∷ ok 3 20 1 20 [] ∷ ok 0 12 0 0 [] ∷ ok 0 14 0 0 [] ∷ [])
     (Holds 10 ∷ Waits 19 ∷ Waits 29 ∷ NotPending ∷ []) 0
     -- and its release lets ticket 2 on at once
-    ∷ draw 0 (setGrace 5 ∷ S ++ (clock 12 ∷ release 13 1 ∷ []))
+    ∷ onPool 0 (setGrace 5 ∷ S ++ (clock 12 ∷ release 13 1 ∷ []))
     (ok 0 0 0 0 [] ∷ ok 1 0 0 0 (1 ∷ []) ∷ ok 2 10 1 19 [] ∷ ok 3 20 1 20 [] ∷ ok 0 12 0 0 [] ∷ ok 1 13 0 0 (2 ∷ []) ∷ [])
     (NotPending ∷ Holds 23 ∷ Waits 23 ∷ NotPending ∷ []) 0
     -- a claim is placed behind that end, which counts in its bound
-    ∷ draw 0 (setGrace 5 ∷ S ++ (claim 12 0x8 3 ∷ claim 12 0x1 5 ∷ []))
+    ∷ onPool 0 (setGrace 5 ∷ S ++ (claim 12 0x8 3 ∷ claim 12 0x1 5 ∷ []))
     (ok 0 0 0 0 [] ∷ ok 1 0 0 0 (1 ∷ []) ∷ ok 2 10 1 19 [] ∷ ok 3 20 1 20 [] ∷ ok 4 27 2 31 [] ∷ ok 5 12 0 12 (5 ∷ []) ∷ [])
     (Holds 10 ∷ Waits 17 ∷ Waits 27 ∷ Waits 27 ∷ []) 0
     -- units are planned to be held until then, and are free with the release
-    ∷ draw 2 (setGrace 5 ∷ drawing 0 0x0 10 2 ∷ drawing 0 0x0 10 1 ∷ clock 12 ∷ drawing 12 0x1 5 1 ∷ release 13 1 ∷ [])
+    ∷ onPool 2 (setGrace 5 ∷ drawing 0 0x0 10 2 ∷ drawing 0 0x0 10 1 ∷ clock 12 ∷ drawing 12 0x1 5 1 ∷ release 13 1 ∷ [])
     (ok 0 0 0 0 [] ∷ ok 1 0 0 0 (1 ∷ []) ∷ ok 2 10 0 0 [] ∷ ok 0 12 0 0 [] ∷ ok 3 17 0 12 [] ∷ ok 1 13 0 0 (2 ∷ 3 ∷ []) ∷ [])
     (NotPending ∷ Holds 23 ∷ Holds 18 ∷ NotPending ∷ []) 0
     -- a release packs before it takes away: ticket 3 goes before ticket 2, which the overrun put off
-    ∷ draw 2 (setGrace 5 ∷ drawing 5 0x0 5 1 ∷ drawing 6 0x3 2 2 ∷ drawing 6 0x0 5 1 ∷ release 11 1 ∷ [])
+    ∷ onPool 2 (setGrace 5 ∷ drawing 5 0x0 5 1 ∷ drawing 6 0x3 2 2 ∷ drawing 6 0x0 5 1 ∷ release 11 1 ∷ [])
     (ok 0 0 0 0 [] ∷ ok 1 5 0 5 (1 ∷ []) ∷ ok 2 10 0 6 [] ∷ ok 3 12 0 6 [] ∷ ok 1 11 0 0 (3 ∷ []) ∷ [])
     (NotPending ∷ Waits 16 ∷ Holds 16 ∷ NotPending ∷ []) 1
     -- 21: over 60,000, and after an accepted claim, also where nothing is pending any more; a refused claim is none. The last grace counts
-    ∷ draw 0 (setGrace 60001 ∷ setGrace 60000 ∷ claim 0 0x0 10 ∷ setGrace 5 ∷ claim 0 0x1 10 ∷ setGrace 7 ∷ claim 12 0x1 10 ∷ withdraw 12 2 ∷ release 12 1 ∷ setGrace 0 ∷ [])
+    ∷ onPool 0 (setGrace 60001 ∷ setGrace 60000 ∷ claim 0 0x0 10 ∷ setGrace 5 ∷ claim 0 0x1 10 ∷ setGrace 7 ∷ claim 12 0x1 10 ∷ withdraw 12 2 ∷ release 12 1 ∷ setGrace 0 ∷ [])
     (refused 21 ∷ ok 0 0 0 0 [] ∷ refused 1 ∷ ok 0 0 0 0 [] ∷ ok 1 0 0 0 (1 ∷ []) ∷ refused 21 ∷ ok 2 17 1 26 [] ∷ ok 2 12 0 0 [] ∷ ok 1 12 0 0 [] ∷ refused 21 ∷ [])
     (NotPending ∷ NotPending ∷ NotPending ∷ NotPending ∷ []) 0
     ∷ []
 
 -- What the rules give, and what is expected.
-pub record Drawn : Type 0 where
+pub record PoolOutcome : Type 0 where
   pub answers : List Answer
   pub standings : List Standing
   pub free : ℕ
 
-unfoldable pub drawn : Draw → Drawn
-drawn x =
+unfoldable pub outcomeOnPool : PoolScenario → PoolOutcome
+outcomeOnPool x =
     let m : Model = new 0xF (x .pool) true .model in
     let n : Model = after m (x .calls) in
     record {
@@ -209,8 +209,8 @@ drawn x =
       free = freeOf n;
     }
 
-abbrev pub expectedOf : Draw → Drawn
-expectedOf x = record { answers = x .answers; standings = x .standings; free = x .free }
+abbrev pub expectedOnPool : PoolScenario → PoolOutcome
+expectedOnPool x = record { answers = x .answers; standings = x .standings; free = x .free }
 
 -- Two tickets of the plots, and what lookup tells of the two.
 pub record Pair : Type 0 where
@@ -257,8 +257,8 @@ pub record Sharing : Type 0 where
 abbrev pub sharing : List Call → ℕ → ℕ → Call → ℕ → Sharing
 sharing d i j c n = record { alone = false; declarations = d; ofOne = i; ofTwo = j; call = c; number = n }
 
-abbrev pub alone : List Call → ℕ → ℕ → Call → ℕ → Sharing
-alone d i j c n = record { alone = true; declarations = d; ofOne = i; ofTwo = j; call = c; number = n }
+abbrev pub unshared : List Call → ℕ → ℕ → Call → ℕ → Sharing
+unshared d i j c n = record { alone = true; declarations = d; ofOne = i; ofTwo = j; call = c; number = n }
 
 -- A claim of a client, good in all else; and one for nothing.
 abbrev pub claimBy : ℕ → Call
@@ -306,20 +306,20 @@ sharings =
     ∷ sharing (declare 1 0 64 ∷ []) 1 0 (declare 2 0 0) 13
     ∷ sharing (declare 1 0 64 ∷ []) 1 0 (declare 9 0 0) 13
     -- clocks and lengths at their limits; 4 before 17, before 1 and before 8, 5 before 8, 3 before 6
-    ∷ alone [] 0 0 (claim 1000000000000 0x1 3600000) 0
-    ∷ alone [] 0 0 (claim 0 0x1 3600001) 3
-    ∷ alone (clock 5 ∷ []) 0 0 (claimBy 2) 4
-    ∷ alone (clock 5 ∷ []) 0 0 (darkBy 1) 4
-    ∷ alone (clock 5 ∷ []) 0 0 (release 4 9) 4
-    ∷ alone (clock 5 ∷ []) 0 0 (withdraw 1000000000001 9) 5
-    ∷ alone [] 64 0 (claim 0 0x1 0) 3
+    ∷ unshared [] 0 0 (claim 1000000000000 0x1 3600000) 0
+    ∷ unshared [] 0 0 (claim 0 0x1 3600001) 3
+    ∷ unshared (clock 5 ∷ []) 0 0 (claimBy 2) 4
+    ∷ unshared (clock 5 ∷ []) 0 0 (darkBy 1) 4
+    ∷ unshared (clock 5 ∷ []) 0 0 (release 4 9) 4
+    ∷ unshared (clock 5 ∷ []) 0 0 (withdraw 1000000000001 9) 5
+    ∷ unshared [] 64 0 (claim 0 0x1 0) 3
     -- client 1 alone: 6 as ever, nobody else is known; another may be declared, but no place is left to reserve
-    ∷ alone [] 63 0 (claimBy 1) 0
-    ∷ alone [] 64 0 (claimBy 1) 6
-    ∷ alone [] 0 0 (claimBy 2) 17
-    ∷ alone [] 0 0 (declare 2 0 5) 0
-    ∷ alone [] 0 0 (declare 2 1 5) 19
-    ∷ alone [] 0 0 (declare 1 64 64) 19
+    ∷ unshared [] 63 0 (claimBy 1) 0
+    ∷ unshared [] 64 0 (claimBy 1) 6
+    ∷ unshared [] 0 0 (claimBy 2) 17
+    ∷ unshared [] 0 0 (declare 2 0 5) 0
+    ∷ unshared [] 0 0 (declare 2 1 5) 19
+    ∷ unshared [] 0 0 (declare 1 64 64) 19
     ∷ []
 
 -- A pending claim of a client.
