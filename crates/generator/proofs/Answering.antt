@@ -10,7 +10,7 @@ use borrow.Author.Tests.{le-leb, lt-leb, leb-true}
 use Rattle.numerals.specs.Laid.{laid, Put, spaceNumber}
 use Rattle.numerals.proofs.Laying.{lent-none, lent-known, put-short, laid-first}
 use Rattle.load.specs.declared.Written.the-variants.{Length, Refusal}
-use Rattle.load.proofs.Format.{either, both}
+use Rattle.format.proofs.Format.{either, both}
 use Rattle.load.proofs.Reading.{or-else}
 use Rattle.load.proofs.RoundTrip.{answer-length}
 use Rattle.load.proofs.Writing.{refused, accepted}

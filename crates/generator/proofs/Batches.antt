@@ -5,8 +5,8 @@ use native.Mathlib.Omega.{arith}
 use lib.Dec.{eqb}
 use Rattle.rules.specs.Calls.{Model}
 use Rattle.rules.proofs.Bools.{by-test}
-use Rattle.load.specs.declared.Call.{Call}
-use Rattle.load.specs.Calls.{claim}
+use Rattle.format.specs.declared.Call.{Call}
+use Rattle.format.specs.Calls.{claim}
 use Rattle.generator.specs.declared.Draws.{Draws}
 use Rattle.generator.specs.declared.MaybeTicket.{MaybeTicket}
 use Rattle.generator.specs.declared.MaybeTicket.the-variants.{Ticket, NoTicket}

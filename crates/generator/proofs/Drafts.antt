@@ -9,7 +9,7 @@ use Rattle.numerals.proofs.Going.{Going, going-start, going-step, going-as, goi
 use Rattle.rules.specs.Calls.{Model}
 use Rattle.rules.specs.Tables.{model}
 use Rattle.table.specs.Valid.{Valid}
-use Rattle.load.specs.Calls.{rig}
+use Rattle.format.specs.Calls.{rig}
 use Rattle.load.specs.Bytes.{recordsBytes, loadBytes}
 use Rattle.load.proofs.Bytes.{records-append}
 use Rattle.lcg.specs.Draws.{stateIn}

@@ -15,8 +15,8 @@ use Rattle.table.specs.declared.Outcome.{Outcome}
 use Rattle.table.specs.Valid.{Valid}
 use Rattle.table.specs.Outcomes.{outcome}
 use Rattle.table.proofs.Promised.{outcome-model}
-use Rattle.load.specs.declared.Call.{Call}
-use Rattle.load.specs.Calls.{rig, claim, release}
+use Rattle.format.specs.declared.Call.{Call}
+use Rattle.format.specs.Calls.{rig, claim, release}
 use Rattle.load.specs.Bytes.{recordBytes, recordsBytes, loadBytes}
 use Rattle.load.proofs.Bytes.{records-append}
 use Rattle.listing.specs.Text.{unrigged}

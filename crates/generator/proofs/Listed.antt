@@ -9,8 +9,8 @@ use Rattle.rules.specs.Tests.{Test, firstOf}
 use Rattle.rules.specs.Calls.{Model, Step, Call as TableCall, claim as claimCall, release as releaseCall, asking, tests, step}
 use Rattle.rules.proofs.Bools.{by-test}
 use Rattle.rules.proofs.Calls.{step-number}
-use Rattle.load.specs.declared.Call.{Call}
-use Rattle.load.specs.Calls.{claim, release}
+use Rattle.format.specs.declared.Call.{Call}
+use Rattle.format.specs.Calls.{claim, release}
 use Rattle.listing.specs.Text.{stepOf, ending}
 use Rattle.listing.specs.Replay.{replayFrom}
 use Rattle.generator.proofs.Records.{claim-does, release-does}

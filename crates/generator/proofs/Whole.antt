@@ -16,9 +16,9 @@ use Rattle.rules.specs.Invariants.{Invariant}
 use Rattle.rules.proofs.Lists.{here, keep-e, map-e, least-under}
 use Rattle.rules.proofs.Calls.{step-invariant, new-invariant, new-cases}
 use Rattle.table.proofs.Promised.{by-call, issues-few}
-use Rattle.load.specs.declared.Call.{Call}
-use Rattle.load.specs.Format.{format, known, knownIn}
-use Rattle.load.specs.Calls.{rig, claim, release}
+use Rattle.format.specs.declared.Call.{Call}
+use Rattle.format.specs.Format.{format, known, knownIn}
+use Rattle.format.specs.Calls.{rig, claim, release}
 use Rattle.load.specs.Bytes.{recordBytes, recordsBytes, loadBytes}
 use Rattle.load.specs.Reading.{openNumber, walk}
 use Rattle.load.proofs.Loads.{Loadable}

@@ -7,7 +7,7 @@ use Rattle.rules.specs.Tables.{model}
 use Rattle.table.specs.Valid.{Valid}
 use Rattle.load.specs.declared.Written.{Written}
 use Rattle.load.specs.Answers.{writtenValues}
-use Rattle.load.specs.Calls.{rig}
+use Rattle.format.specs.Calls.{rig}
 use Rattle.load.specs.Bytes.{recordsBytes, loadBytes}
 use Rattle.listing.specs.Text.{unrigged}
 use Rattle.generator.specs.declared.Draft.{Draft}

@@ -6,7 +6,7 @@ use lib.Dec.{eqb}
 use lib.ListN.{length}
 use Rattle.numbers.specs.Numbers.{mostBytes, mostClaims, countNumber}
 use Rattle.rules.specs.Lists.{keep}
-use Rattle.load.specs.declared.Call.{Call}
+use Rattle.format.specs.declared.Call.{Call}
 use Rattle.load.specs.Reading.{walk, loadNumber}
 use Rattle.listing.specs.Replay.{replayOf}
 use Rattle.generator.specs.Workload.{workloadCalls, workloadOf}

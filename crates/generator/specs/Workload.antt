@@ -12,11 +12,11 @@ use Rattle.rules.specs.Lists.{keep, least}
 use Rattle.rules.specs.Claims.{on}
 use Rattle.rules.specs.Calls.{Model}
 use Rattle.lcg.specs.Draws.{stateIn, drawIn}
-use Rattle.load.specs.declared.Call.{Call}
+use Rattle.format.specs.declared.Call.{Call}
 use Rattle.load.specs.declared.Written.{Written}
 use Rattle.load.specs.declared.Written.the-variants.{Length, Refusal}
 use Rattle.load.specs.Answers.{WrittenValues}
-use Rattle.load.specs.Calls.{rig, claim, release}
+use Rattle.format.specs.Calls.{rig, claim, release}
 use Rattle.load.specs.Bytes.{loadBytes}
 use Rattle.load.specs.Reading.{orElse}
 use Rattle.load.specs.Writing.{answered, answeredValues, begun, lent}

@@ -9,12 +9,12 @@ use lib.Dec.{eqb}
 use lib.ListN.{length, drop}
 use borrow.Author.Tests.{eqb-true, ne-eqb, not-true}
 use Rattle.rules.specs.Lists.{_∈_}
-use Rattle.load.specs.declared.Call.{Call}
+use Rattle.format.specs.declared.Call.{Call}
 use Rattle.load.specs.declared.Item.the-variants.{Record}
-use Rattle.load.specs.Format.{format, lengthIn, lengthOf}
+use Rattle.format.specs.Format.{format, hasKind}
 use Rattle.load.specs.Reading.{agree, kindField, editionOf, itemAt, walk}
-use Rattle.load.proofs.Format.{either, allRows, tested}
-use Rattle.load.proofs.Calls.{kind-of-call}
+use Rattle.format.proofs.Format.{either, allRows, kind-tested}
+use Rattle.format.proofs.Calls.{kind-of-call}
 use Rattle.load.proofs.Reading.{stands, misfit-not, record-size, by-item, step-next, step-past, walk-record, walk-end, walk-refused}
 use Rattle.listing.specs.Text.{saysCall}
 use Rattle.listing.specs.RecordKinds.{Says, says-claim, says-release, says-withdrawal, says-clock, says-declaration, says-grace, no-record, rig-first, RecordsSayCalls}
@@ -24,9 +24,9 @@ use Rattle.listing.specs.RecordKinds.{Says, says-claim, says-release, sa
 abbrev listed : ℕ → Bool
 listed k = eqb k 1 || (eqb k 2 || (eqb k 3 || (eqb k 4 || (eqb k 6 || (eqb k 8 || eqb k 5)))))
 
-kind-listed : (e k : ℕ) → 0 < lengthOf e k → listed k ≡ true
-unfolding allRows format lengthOf lengthIn
-kind-listed e k h = ⊎-elim (λ n. let z = ap lengthIn n in absurd (omega arith)) (λ t. t) (tested (λ e k fs. listed k) e k refl)
+kind-listed : (e k : ℕ) → hasKind e k ≡ true → listed k ≡ true
+unfolding allRows format
+kind-listed e k h = kind-tested (λ e k fs. listed k) e k refl h
 
 says : (c : Call) → listed (c .kind) ≡ true → eqb (c .kind) 1 ≡ false → Says c (saysCall c)
 unfolding saysCall

@@ -17,10 +17,10 @@ use Rattle.table.specs.declared.Outcome.{Outcome}
 use Rattle.table.specs.Valid.{Valid}
 use Rattle.table.specs.Outcomes.{outcome, leaving}
 use Rattle.table.proofs.Promised.{Promised, by-call, by-new, outcome-model, outcome-grants, granted-few, new-none}
-use Rattle.load.specs.declared.Call.{Call}
+use Rattle.format.specs.declared.Call.{Call}
 use Rattle.load.specs.declared.Item.the-variants.{Record, End, Refused}
 use Rattle.load.specs.Reading.{itemAt, walk, openNumber}
-use Rattle.load.proofs.Format.{either}
+use Rattle.format.proofs.Format.{either}
 use Rattle.load.proofs.Reading.{walk-record, walk-end, walk-refused, step-refused, step-next}
 use Rattle.listing.specs.Lines.{header, lineOf, onLines, stopLine}
 use Rattle.listing.specs.Text.{saysCall, aloneIn, stepOf, entryOf, ending, stopOr, linesFrom, linesOf, unrigged, listingOf, answerOf}

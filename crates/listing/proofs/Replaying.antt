@@ -12,7 +12,7 @@ use Rattle.table.specs.declared.Outcome.{Outcome}
 use Rattle.table.specs.Valid.{Valid}
 use Rattle.table.specs.Outcomes.{outcome}
 use Rattle.table.proofs.Promised.{outcome-model, valid-whole}
-use Rattle.load.specs.declared.Call.{Call}
+use Rattle.format.specs.declared.Call.{Call}
 use Rattle.load.specs.declared.Item.the-variants.{Record, End, Refused}
 use Rattle.load.specs.Reading.{itemAt, walk, openNumber}
 use Rattle.load.proofs.Reading.{walk-record, walk-end, walk-refused, step-refused}

@@ -11,10 +11,10 @@ use borrow.Author.Tests.{le-leb, ltb-false}
 use lib.ListN.{length, length-append}
 use Rattle.rules.specs.Calls.{Model, Step}
 use Rattle.table.proofs.Promised.{waiting, none-waits, granted-once, issues-few}
-use Rattle.load.specs.declared.Call.{Call}
-use Rattle.load.specs.Format.{known, leastLength}
+use Rattle.format.specs.declared.Call.{Call}
+use Rattle.format.specs.Format.{known, leastLength}
 use Rattle.load.specs.Reading.{editionOf, walk, openNumber}
-use Rattle.load.proofs.Format.{either}
+use Rattle.format.proofs.Format.{either}
 use Rattle.load.proofs.Reading.{walk-few}
 use Rattle.listing.specs.Lines.{lineOf, onLines, stopLine}
 use Rattle.listing.specs.Text.{aloneIn, stepOf, entryOf, ending, stopOr, linesFrom, linesOf, unrigged, listingOf}

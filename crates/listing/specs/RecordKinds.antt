@@ -5,7 +5,7 @@ use mathlib.Core.List.{List, [], _∷_}
 use Prim.Native.Nat.{ℕ}
 use Rattle.rules.specs.Lists.{_∈_}
 use Rattle.rules.specs.Calls.{Call as TableCall, claim, release, withdraw, clock, declare, setGrace}
-use Rattle.load.specs.declared.Call.{Call}
+use Rattle.format.specs.declared.Call.{Call}
 use Rattle.load.specs.Reading.{walk}
 use Rattle.listing.specs.Text.{saysCall}
 

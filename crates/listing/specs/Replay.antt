@@ -5,7 +5,7 @@ use mathlib.Core.List.{List, [], _∷_}
 use Prim.Native.Nat.{ℕ, zero, suc, _+_}
 use Rattle.rules.specs.Calls.{Model}
 use Rattle.rules.specs.Tables.{encode}
-use Rattle.load.specs.declared.Call.{Call}
+use Rattle.format.specs.declared.Call.{Call}
 use Rattle.load.specs.Reading.{Walk, walk, openNumber}
 use Rattle.listing.specs.declared.Replayed.{Replayed}
 use Rattle.listing.specs.Text.{aloneIn, stepOf, ending, unrigged}

@@ -2,7 +2,7 @@
 -- loads and texts. proofs/AllSamples has the theorem that covers the table.
 use mathlib.Core.List.{List, [], _∷_, _++_}
 use Prim.Native.Nat.{ℕ}
-use Rattle.load.specs.Calls.{rig, claim, release, clock, rigWith, claimWith, claimFrom, declaration, grace}
+use Rattle.format.specs.Calls.{rig, claim, release, clock, rigWith, claimWith, claimFrom, declaration, grace}
 use Rattle.load.specs.Bytes.{loadBytes}
 use Rattle.listing.specs.Lines.{header}
 use Rattle.listing.specs.Text.{listingOf}

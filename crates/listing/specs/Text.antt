@@ -7,7 +7,7 @@ use lib.Dec.{ltb, leb, eqb}
 use lib.ListN.{length}
 use Rattle.numbers.specs.Numbers.{darkNumber, editionNumber, overlongNumber, noSpaceNumber}
 use Rattle.rules.specs.Calls.{Model, Step, Call as TableCall, claim, release, withdraw, clock, declare, setGrace, step, blank, new}
-use Rattle.load.specs.declared.Call.{Call}
+use Rattle.format.specs.declared.Call.{Call}
 use Rattle.load.specs.Reading.{Walk, walk, editionOf, openNumber}
 use Rattle.listing.specs.Lines.{header, lineOf, onLines, stopLine}
 

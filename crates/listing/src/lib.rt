@@ -14,7 +14,7 @@ ghost use Rattle.listing.specs.Lines.{lineOf, onLine, onLines, stopLine}
 ghost use Rattle.listing.specs.Replay.{replayIn, replayOf, replayed};
 ghost use Rattle.listing.specs.Room.{roomFor};
 ghost use Rattle.listing.specs.Text.{aloneIn, stepOf, ending, linesOf, unrigged, listingOf, answerOf};
-use load::Call;
+use format::Call;
 use load::Item;
 use rules::Request;
 use rules::Table;
@@ -200,7 +200,7 @@ fn room_for(size: usize) -> usize
     if numbers::MOST_BYTES < size {
         return 71;
     }
-    71 + 129 * (size / load::least_length())
+    71 + 129 * (size / format::least_length())
 }
 
 // Whether the listing goes into so much room. Where the load's length does not tell, it is counted, on a buffer that takes one byte.
@@ -215,7 +215,7 @@ fn goes_into(load: &[u8], room: usize) -> bool
 }
 
 // The listing of a load at the start of a buffer: the count of bytes written, or 15 and the buffer untouched.
-// Cost: one call of the table for each record; two where the buffer has under 71 + 129 * (load.len() / load::least_length()) bytes.
+// Cost: one call of the table for each record; two where the buffer has under 71 + 129 * (load.len() / format::least_length()) bytes.
 #[no_mangle]
 pub extern "C" fn belgwyth_listing(load: &[u8], out: &mut [u8]) -> usize
     ensures answer { λ r. ⌜ r ≡ answerOf (listingOf (now (load .entry))) (now (out .entry)) ⌝ }

@@ -9,14 +9,14 @@ use borrow.Author.Tests.{eqb-true}
 use lib.ListN.{length, take, drop, getD, length-append, length-drop}
 use lib.Seq.{take-at, drop-at, take-add, getD-drop}
 use Rattle.numerals.proofs.BigEndian.{digits-length, numeral-digits, digits-numeral, numeral-below}
-use Rattle.load.specs.declared.Call.{Call}
-use Rattle.load.specs.Format.{fieldWidths, fieldWidth, fieldsOf, widths, total, lengthOf}
-use Rattle.load.specs.Calls.{numbers, valueOf, valuesIn, valuesOf, carries}
+use Rattle.format.specs.declared.Call.{Call}
+use Rattle.format.specs.Format.{fieldWidths, fieldWidth, hasKind, fieldsOf, widths, total, lengthOf}
+use Rattle.format.specs.Calls.{numbers, valueOf, valuesIn, valuesOf, carries, Typed}
 use Rattle.load.specs.Bytes.{big, fieldBytes, fieldValues, recordBytes, recordsBytes, loadBytes}
 use Rattle.load.specs.Reading.{editionOf}
-use Rattle.load.specs.RoundTrip.{Bytes, Typed}
-use Rattle.load.proofs.Format.{either, has, length-total}
-use Rattle.load.proofs.Calls.{carries-none, default-typed}
+use Rattle.load.specs.RoundTrip.{Bytes}
+use Rattle.format.proofs.Format.{either, has, length-total}
+use Rattle.format.proofs.Calls.{carries-none, default-typed}
 
 -- ── fields ──
 -- Each value goes into its width.
@@ -86,7 +86,7 @@ fits-typed e c k h t (suc f) =
     (λ p. rw (carries-none e c f h p) (default-typed (suc f)))
 
 -- ── records ──
-pub record-length : (e : ℕ) (c : Call) → 0 < lengthOf e (c .kind) → length (recordBytes e c) ≡ 2 + lengthOf e (c .kind)
+pub record-length : (e : ℕ) (c : Call) → hasKind e (c .kind) ≡ true → length (recordBytes e c) ≡ 2 + lengthOf e (c .kind)
 unfolding recordBytes
 record-length e c h = let t = length-total e (c .kind) h in simp (length-append, digits-length, field-bytes-length) (omega arith)
 

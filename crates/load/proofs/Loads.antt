@@ -10,21 +10,21 @@ use lib.ListN.{length, take, drop, length-append, length-drop, length-map, take-
 use lib.Seq.{drop-at, take-add, drop-cons, drop-drop}
 use Rattle.numerals.specs.Digits.{digits}
 use Rattle.numerals.proofs.BigEndian.{numeral-digits, digits-numeral}
-use Rattle.load.specs.declared.Call.{Call}
+use Rattle.format.specs.declared.Call.{Call}
 use Rattle.load.specs.declared.Item.the-variants.{Record}
-use Rattle.load.specs.Format.{fieldWidth, fieldsOf, widths, total, lengthOf}
-use Rattle.load.specs.Calls.{valuesOf, carries}
+use Rattle.format.specs.Format.{rigKind, fieldWidth, hasKind, fieldsOf, widths, total, lengthOf}
+use Rattle.format.specs.Calls.{valuesOf, carries, Typed}
 use Rattle.load.specs.Bytes.{big, fieldBytes, fieldValues, recordBytes, recordsBytes, loadBytes}
 use Rattle.load.specs.Reading.{agree, lengthField, kindField, misfit, callIn, readAt, editionOf, itemAt, openNumber, onto, walkIn, walk}
-use Rattle.load.specs.RoundTrip.{Bytes, Typed}
-use Rattle.load.proofs.Format.{length-few, length-total}
-use Rattle.load.proofs.Calls.{kind-of-call, values-of-call, call-of-values, call-carried, carries-length}
+use Rattle.load.specs.RoundTrip.{Bytes}
+use Rattle.format.proofs.Format.{length-bounded, length-total}
+use Rattle.format.proofs.Calls.{kind-of-call, values-of-call, call-of-values, call-carried, carries-kind}
 use Rattle.load.proofs.Bytes.{Fit, bytes-drop, values-of-bytes, bytes-of-values, values-fit, values-length, typed-fits, fits-typed, record-length}
 use Rattle.load.proofs.Reading.{read-record, stands, step-next, step-refused, step-end, step-past, misfit-not, misfit-none, by-item, walk-record, walk-end, open-known}
 
 -- A call that may stand first, or after the first.
 pub record Sound (e : ℕ) (first : Bool) (c : Call) : Type 0 where
-  pub place : agree (eqb (c .kind) 1) first ≡ true
+  pub place : agree (eqb (c .kind) rigKind) first ≡ true
   pub carried : carries e c ≡ true
   pub typed : Typed c
 
@@ -37,9 +37,9 @@ pub data Loadable (e : ℕ) : Bool → List Call → Type 0 where
 record-reads : (e at : ℕ) (c : Call) (rest : List ℕ) → Sound e (eqb at 1) c → readAt e at (recordBytes e c ++ rest) ≡ Record c (at + length (recordBytes e c))
 unfolding recordBytes digits
 record-reads e at c rest v =
-    let h = carries-length e c (v .carried) in
+    let h = carries-kind e c (v .carried) in
     let l = record-length e c h in
-    let n : lengthField (recordBytes e c ++ rest) ≡ lengthOf e (c .kind) = numeral-digits 2 (lengthOf e (c .kind)) (omega (arith, length-few e (c .kind))) in
+    let n : lengthField (recordBytes e c ++ rest) ≡ lengthOf e (c .kind) = numeral-digits 2 (lengthOf e (c .kind)) (omega (arith, length-bounded e (c .kind))) in
     let a = length-append (recordBytes e c) rest in
     let m : misfit e at (lengthField (recordBytes e c ++ rest)) (kindField (recordBytes e c ++ rest)) ≡ false = rw n (misfit-none e at (c .kind) h (v .place)) in
     read-record e at (recordBytes e c ++ rest) (omega arith) m
@@ -50,11 +50,11 @@ abbrev valuesRead : ℕ → List ℕ → List ℕ
 valuesRead e bs = fieldValues (widths e (kindField bs)) (drop 3 bs)
 
 module _ (e at : ℕ) (bs : List ℕ) (s : Bytes bs) (h : 2 + lengthField bs ≤ length bs) (m : misfit e at (lengthField bs) (kindField bs) ≡ false) where
-  parts : (0 < lengthOf e (kindField bs)) × (lengthField bs ≡ suc (total (widths e (kindField bs)))) × (total (widths e (kindField bs)) ≤ length (drop 3 bs))
+  parts : (hasKind e (kindField bs) ≡ true) × (lengthField bs ≡ suc (total (widths e (kindField bs)))) × (total (widths e (kindField bs)) ≤ length (drop 3 bs))
   parts =
       let q = misfit-not e at (lengthField bs) (kindField bs) m in
-      let t = length-total e (kindField bs) (omega (arith, q .0, q .1)) in
-      (omega (arith, q .0, q .1), q .1 ∙ t, omega (arith, q .1, t, length-drop 3 bs))
+      let t = length-total e (kindField bs) (q .0) in
+      (q .0, q .1 ∙ t, omega (arith, q .1, t, length-drop 3 bs))
 
   many : length (valuesRead e bs) ≡ length (fieldsOf e (kindField bs))
   unfolding widths
@@ -85,7 +85,7 @@ module _ (e at : ℕ) (bs : List ℕ) (s : Bytes bs) (h : 2 + lengthField bs ≤
       let g : Fit (widths e (c .kind)) (valuesOf e c) = subst (λ (j : ℕ). Fit (widths e j) (valuesOf e c)) (sym kind-is) (rw values-are f) in
       let h = call-carried e k (valuesRead e bs) many (parts .0) in
       let b : c .kind < 256 = omega (arith, kind-is, s 2) in
-      record { place = ap (λ (j : ℕ). agree (eqb j 1) (eqb at 1)) kind-is ∙ misfit-not e at (lengthField bs) k m .2; carried = h; typed = fits-typed e c b h g }
+      record { place = ap (λ (j : ℕ). agree (eqb j rigKind) (eqb at 1)) kind-is ∙ misfit-not e at (lengthField bs) k m .2; carried = h; typed = fits-typed e c b h g }
 
 -- ── the bytes of calls read as them ──
 walk-good : (e : ℕ) (s : List ℕ) (first : Bool) (cs : List Call) → Loadable e first cs
@@ -95,7 +95,7 @@ walk-good e s first cs Loadable.none at p q h d = walk-end s at (step-past s at 
 walk-good e s first cs (Loadable.one {c = c} {cs = ds} v g) at p q h d =
     let x : itemAt s at ≡ Record c (at + length (recordBytes e c)) = rw (q, d) (record-reads e at c (recordsBytes e ds) (rw p v)) in
     let n = at + length (recordBytes e c) in
-    let l = record-length e c (carries-length e c (v .carried)) in
+    let l = record-length e c (carries-kind e c (v .carried)) in
     let r : drop n s ≡ recordsBytes e ds = sym (drop-drop (length (recordBytes e c)) at s) ∙ ap (drop (length (recordBytes e c))) d
     ∙ drop-at (recordBytes e c) (recordsBytes e ds) (length (recordBytes e c)) refl in
     walk-record s at c n x ∙ ap (onto c) (walk-good e s false ds g n (ne-eqb n 1 (λ z. omega arith)) q (omega arith) r)
@@ -166,4 +166,4 @@ pub alone : (e : ℕ) (first : Bool) (cs : List Call) → Loadable e first cs �
 unfolding loadBytes recordsBytes
 alone e first cs Loadable.none = refl
 alone e first cs (Loadable.one {c = d} {cs = ds} v g) =
-    ne-eqb (length (loadBytes e (d ∷ ds))) 1 (λ z. omega (arith, length-append (recordBytes e d) (recordsBytes e ds), record-length e d (carries-length e d (v .carried))))
+    ne-eqb (length (loadBytes e (d ∷ ds))) 1 (λ z. omega (arith, length-append (recordBytes e d) (recordsBytes e ds), record-length e d (carries-kind e d (v .carried))))

@@ -10,17 +10,17 @@ use lib.Dec.{ltb, eqb}
 use borrow.Author.Tests.{ltb-false, eqb-true, eqb-false, lt-ltb, le-ltb, eq-eqb, ne-eqb, not-true, not-false}
 use lib.ListN.{length, take, drop, getD, length-drop, drop-of-length-le}
 use lib.Seq.{getD-drop, drop-drop, take-all}
-use Rattle.load.specs.declared.Call.{Call}
+use Rattle.format.specs.declared.Call.{Call}
 use Rattle.load.specs.declared.Item.{Item}
 use Rattle.load.specs.declared.Item.the-variants.{Record, End, Refused}
-use Rattle.load.specs.Format.{thePool, theUnits, theClient, format, defaults, default, known, fieldsOf, widths, lengthOf, leastLength}
-use Rattle.load.specs.Calls.{numbers, valueOf, callOf}
+use Rattle.format.specs.Format.{thePool, theUnits, theClient, format, defaults, default, known, hasKind, fieldsOf, widths, lengthOf, leastLength}
+use Rattle.format.specs.Calls.{numbers, valueOf, callOf}
 use Rattle.load.specs.Bytes.{fieldValues, loadBytes}
 use Rattle.load.specs.Answers.{itemValues}
 use Rattle.load.specs.Reading.{inPlace, lengthField, kindField, short, misfit, callIn, readAt, editionOf, itemAt, recordNumber, recordValues, ItemValued, Edition1Bare, OlderClient1}
 use Rattle.load.specs.Reading.{openNumber, Walk, ended, onto, walkIn, walk, orElse, unlessRefused, reading, loadNumber, ReadingTested}
-use Rattle.load.proofs.Format.{neither, passed, either, has, allRows, tested, least-some, length-least}
-use Rattle.load.proofs.Calls.{kind-of-call, lacked}
+use Rattle.format.proofs.Format.{neither, passed, either, has, allRows, tested, length-total, least-some, length-least}
+use Rattle.format.proofs.Calls.{kind-of-call, lacked}
 
 -- ── what stands at a position ──
 pub read-record : (e at : ℕ) (bs : List ℕ) → 2 + lengthField bs ≤ length bs → misfit e at (lengthField bs) (kindField bs) ≡ false
@@ -87,18 +87,21 @@ unfolding itemAt readAt
 step-past s at h = rw (drop-of-length-le s {i = at} h)
 
 -- A record that fits has the length of its kind, and is in its place.
-pub misfit-not : (e at n k : ℕ) → misfit e at n k ≡ false → (0 < n) × (n ≡ lengthOf e k) × (inPlace k at ≡ true)
+pub misfit-not : (e at n k : ℕ) → misfit e at n k ≡ false → (hasKind e k ≡ true) × (n ≡ lengthOf e k) × (inPlace k at ≡ true)
 unfolding misfit
 misfit-not e at n k h =
-    let a = neither (eqb n 0) (not (eqb n (lengthOf e k)) || not (inPlace k at)) h in
+    let a = neither (not (hasKind e k)) (not (eqb n (lengthOf e k)) || not (inPlace k at)) h in
     let b = neither (not (eqb n (lengthOf e k))) (not (inPlace k at)) (a .1) in
-    (omega (arith, eqb-false n 0 (a .0)), eqb-true n (lengthOf e k) (not-false _ (b .0)), not-false _ (b .1))
+    (not-false _ (a .0), eqb-true n (lengthOf e k) (not-false _ (b .0)), not-false _ (b .1))
 
-pub misfit-none : (e at k : ℕ) → 0 < lengthOf e k → inPlace k at ≡ true → misfit e at (lengthOf e k) k ≡ false
+pub misfit-none : (e at k : ℕ) → hasKind e k ≡ true → inPlace k at ≡ true → misfit e at (lengthOf e k) k ≡ false
 unfolding misfit
-misfit-none e at k h q =
-    let z : eqb (lengthOf e k) 0 ≡ false = ne-eqb (lengthOf e k) 0 (λ e. omega arith) in
-    rw (z, eq-eqb (lengthOf e k) (lengthOf e k) refl, q)
+misfit-none e at k h q = rw (h, eq-eqb (lengthOf e k) (lengthOf e k) refl, q)
+
+-- A record of no bytes does not fit.
+pub misfit-empty : (e at n k : ℕ) → n ≡ 0 → misfit e at n k ≡ true
+misfit-empty e at n k z =
+    either (misfit e at n k) (λ m. m) (λ m. let q = misfit-not e at n k m in absurd (omega (arith, q .1, length-total e k (q .0))))
 
 -- A field that no edition before `first` has reads as its default there.
 older-reads : (f first : ℕ) → 0 < f → allRows (λ e k fs. not (ltb e first) || not (has f fs)) format ≡ true
@@ -179,7 +182,7 @@ walk-refused s at n e = rw e
 
 -- A record has the length of its kind; its call tells the kind.
 pub record-size : (s : List ℕ) (at : ℕ) (c : Call) (next : ℕ) → itemAt s at ≡ Record c next
-    → (0 < lengthOf (editionOf s) (c .kind)) × (at + (2 + lengthOf (editionOf s) (c .kind)) ≡ next)
+    → (hasKind (editionOf s) (c .kind) ≡ true) × (at + (2 + lengthOf (editionOf s) (c .kind)) ≡ next)
 record-size s at c next h =
     let e = editionOf s in
     let r = stands s at c next h in
@@ -188,7 +191,7 @@ record-size s at c next h =
     let f = misfit-not e at n k (r .fits) in
     let q : c .kind ≡ k = sym (ap (λ (x : Call). x .kind) (r .call)) ∙ kind-of-call e k _ in
     let l : lengthOf e (c .kind) ≡ n = ap (lengthOf e) q ∙ sym (f .1) in
-    (omega (arith, f .0, l), omega (arith, r .behind, l))
+    (ap (hasKind e) q ∙ f .0, omega (arith, r .behind, l))
 
 walk-in-few : (k : ℕ) (s : List ℕ) (at : ℕ) → leastLength * length (walkIn k s at .calls) ≤ length s - at
 unfolding walkIn

@@ -6,13 +6,14 @@ use mathlib.Core.Path.{_≡_, refl, sym, ap, _∙_}
 use native.Mathlib.Omega.{arith}
 use lib.ListN.{length, take, drop}
 use lib.Seq.{take-at}
-use Rattle.load.specs.declared.Call.{Call}
+use Rattle.format.specs.declared.Call.{Call}
 use Rattle.load.specs.declared.Written.the-variants.{Length}
-use Rattle.load.specs.Format.{known}
+use Rattle.format.specs.Format.{known}
 use Rattle.load.specs.Bytes.{recordsBytes, loadBytes}
 use Rattle.load.specs.Reading.{editionOf, walk, loadNumber}
 use Rattle.load.specs.Writing.{grown, appendNumber, answered, appendAnswer, appendOut}
-use Rattle.load.specs.RoundTrip.{Typed, Appended, WrittenReads, ReadWritten, ReadBounded}
+use Rattle.format.specs.Calls.{Typed}
+use Rattle.load.specs.RoundTrip.{Appended, WrittenReads, ReadWritten, ReadBounded}
 use Rattle.load.proofs.Bytes.{load-append, load-longer, load-edition}
 use Rattle.load.proofs.Reading.{load-parts, load-known, opens}
 use Rattle.load.proofs.Loads.{Sound, Loadable, reads-back, is-read, read-loadable, none?, loadable-more, loadable-at, alone}

@@ -9,15 +9,15 @@ use borrow.Author.Tests.{lt-ltb, le-ltb, ltb-false, not-false}
 use lib.ListN.{length, length-append}
 use Rattle.numerals.specs.Laid.{Put}
 use Rattle.numerals.proofs.Laying.{laid-fits, put-short}
-use Rattle.load.specs.declared.Call.{Call}
+use Rattle.format.specs.declared.Call.{Call}
 use Rattle.load.specs.declared.Written.{Written}
 use Rattle.load.specs.declared.Written.the-variants.{Length, Refusal}
-use Rattle.load.specs.Calls.{carries}
+use Rattle.format.specs.Calls.{carries}
 use Rattle.load.specs.Answers.{writtenValues}
 use Rattle.load.specs.Bytes.{recordBytes}
 use Rattle.load.specs.Reading.{inPlace, editionOf, loadNumber}
 use Rattle.load.specs.Writing.{grown, roomNumber, growNumber, appendNumber, answered, answeredValues, lent, begun}
-use Rattle.load.proofs.Format.{neither, passed}
+use Rattle.format.proofs.Format.{neither, passed}
 use Rattle.load.proofs.Reading.{or-else}
 
 -- ── the tests ──

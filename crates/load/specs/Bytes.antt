@@ -5,9 +5,9 @@ use mathlib.Core.List.{List, [], _∷_, _++_}
 use lib.ListN.{take, drop, getD}
 -- passed on: a number as bytes is part of the format
 unfoldable pub use Rattle.numerals.specs.Digits.{numeral, digits}
-use Rattle.load.specs.declared.Call.{Call}
-use Rattle.load.specs.Format.{widths, lengthOf}
-use Rattle.load.specs.Calls.{valuesOf}
+use Rattle.format.specs.declared.Call.{Call}
+use Rattle.format.specs.Format.{widths, lengthOf}
+use Rattle.format.specs.Calls.{valuesOf}
 
 -- A number v in n bytes, "big-endian".
 abbrev pub big : ℕ → ℕ → List ℕ

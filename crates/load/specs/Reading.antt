@@ -7,11 +7,11 @@ use mathlib.Core.Path.{_≡_}
 use lib.Dec.{ltb, eqb}
 use lib.ListN.{length, take, drop, getD}
 use Rattle.numbers.specs.Numbers.{shortNumber, misfitNumber, overlongNumber, editionNumber, mostBytes}
-use Rattle.load.specs.declared.Call.{Call}
+use Rattle.format.specs.declared.Call.{Call}
 use Rattle.load.specs.declared.Item.{Item}
 use Rattle.load.specs.declared.Item.the-variants.{Record, End, Refused}
-use Rattle.load.specs.Format.{known, widths, lengthOf}
-use Rattle.load.specs.Calls.{callOf}
+use Rattle.format.specs.Format.{rigKind, known, hasKind, widths, lengthOf}
+use Rattle.format.specs.Calls.{callOf}
 use Rattle.load.specs.Answers.{ItemValues, itemValues}
 use Rattle.load.specs.Bytes.{bigValue, fieldValues}
 
@@ -23,7 +23,7 @@ agree false b = not b
 
 -- "The first record is the rig and no other is."
 abbrev pub inPlace : ℕ → ℕ → Bool
-inPlace kind at = agree (eqb kind 1) (eqb at 1)
+inPlace kind at = agree (eqb kind rigKind) (eqb at 1)
 
 -- The length field and the kind byte of a record.
 abbrev pub lengthField : List ℕ → ℕ
@@ -36,9 +36,10 @@ kindField bs = getD bs 2 0
 abbrev pub short : List ℕ → Bool
 short bs = ltb (length bs) (2 + lengthField bs)
 
--- 13: "record length wrong for its kind, a kind its edition lacks, or rig record out of place". A record of no bytes has no kind.
+-- 13: "record length wrong for its kind, a kind its edition lacks, or rig record out of place". (A record of no bytes
+-- has a wrong length, whatever byte comes after it.)
 unfoldable pub misfit : ℕ → ℕ → ℕ → ℕ → Bool
-misfit e at n kind = eqb n 0 || (not (eqb n (lengthOf e kind)) || not (inPlace kind at))
+misfit e at n kind = not (hasKind e kind) || (not (eqb n (lengthOf e kind)) || not (inPlace kind at))
 
 -- The call that bytes say, where they begin with a record.
 abbrev pub callIn : ℕ → List ℕ → Call

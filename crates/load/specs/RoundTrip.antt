@@ -1,15 +1,15 @@
 -- The round trip, claimed over what the calls' contracts cite: `appendAnswer` and `appendOut` of the writer, `walk` and `loadNumber` of the
 -- reader. proofs/RoundTrip has the proof of each claim: written-reads, read-written, read-bounded.
-use Prim.Native.Nat.{ℕ, _^_, _≤_, _<_}
+use Prim.Native.Nat.{ℕ, _≤_, _<_}
 use mathlib.Core.Bool.{true}
 use mathlib.Core.List.{List, [], _∷_, _++_}
 use mathlib.Core.Path.{_≡_}
 use lib.ListN.{length, take, getD}
 use Rattle.numbers.specs.Numbers.{mostBytes}
-use Rattle.load.specs.declared.Call.{Call}
+use Rattle.format.specs.declared.Call.{Call}
 use Rattle.load.specs.declared.Written.the-variants.{Length}
-use Rattle.load.specs.Format.{fieldWidth, known}
-use Rattle.load.specs.Calls.{valueOf}
+use Rattle.format.specs.Format.{known}
+use Rattle.format.specs.Calls.{Typed}
 use Rattle.load.specs.Bytes.{loadBytes}
 use Rattle.load.specs.Reading.{editionOf, walk, loadNumber}
 use Rattle.load.specs.Writing.{appendAnswer, appendOut}
@@ -17,10 +17,6 @@ use Rattle.load.specs.Writing.{appendAnswer, appendOut}
 -- Every element is a byte. The code's `&[u8]` are.
 abbrev pub Bytes : List ℕ → Type 0
 Bytes s = (i : ℕ) → getD s i 0 < 256
-
--- Every value goes into its field's width. The code's types are so wide.
-abbrev pub Typed : Call → Type 0
-Typed c = (f : ℕ) → valueOf f c < 256 ^ fieldWidth f
 
 -- The load that the writer makes of calls, one after the other. "Writing begins from the edition byte alone." Each call is appended to the
 -- load so far and answered with a length n; the load is then the first n bytes of the lent buffer, whatever that held.

@@ -1,8 +1,8 @@
 -- Calls that the writer takes or refuses by the edition and the place. proofs/Samples has the theorem that covers the table.
 use Prim.Native.Nat.{ℕ}
 use mathlib.Core.List.{List, [], _∷_}
-use Rattle.load.specs.declared.Call.{Call}
-use Rattle.load.specs.Calls.{rig, rigWith, claimWith, claimFrom, declaration, grace}
+use Rattle.format.specs.declared.Call.{Call}
+use Rattle.format.specs.Calls.{rig, rigWith, claimWith, claimFrom, declaration, grace}
 use Rattle.load.specs.Bytes.{loadBytes}
 use Rattle.load.specs.Writing.{appendNumber}
 

@@ -6,10 +6,10 @@ use mathlib.Core.List.{List, _++_}
 use lib.Dec.{ltb}
 use lib.ListN.{length, drop}
 use Rattle.numbers.specs.Numbers.{misfitNumber, overlongNumber, noSpaceNumber, mostBytes}
-use Rattle.load.specs.declared.Call.{Call}
+use Rattle.format.specs.declared.Call.{Call}
 use Rattle.load.specs.declared.Written.{Written}
 use Rattle.load.specs.declared.Written.the-variants.{Length, Refusal}
-use Rattle.load.specs.Calls.{carries}
+use Rattle.format.specs.Calls.{carries}
 use Rattle.load.specs.Answers.{WrittenValues}
 use Rattle.load.specs.Bytes.{recordBytes}
 use Rattle.load.specs.Reading.{inPlace, editionOf, loadNumber, orElse, unlessRefused}

@@ -17,7 +17,7 @@ use Rattle.rules.proofs.Calls.{leaves-clock, step-cases, new-cases}
 use Rattle.promises.specs.Ledger.{Turn, turns, tableAfter}
 use Rattle.promises.specs.Runs.{by-new}
 use Rattle.promises.proofs.Promises.{promises}
-use Rattle.load.specs.declared.Call.{Call}
+use Rattle.format.specs.declared.Call.{Call}
 use Rattle.load.specs.Reading.{walk, openNumber}
 use Rattle.listing.specs.Lines.{header, lineOf, onLines}
 use Rattle.listing.specs.Text.{saysCall, aloneIn, stepOf, entryOf, ending, stopOr, linesFrom, linesOf, unrigged, listingOf}

@@ -12,7 +12,7 @@ use Rattle.rules.specs.Lists.{_∈_}
 use Rattle.promises.specs.Ledger.{Turn, turns, tableAfter}
 use Rattle.promises.specs.Runs.{Start, newly}
 use Rattle.promises.specs.Promises.{Promises}
-use Rattle.load.specs.declared.Call.{Call}
+use Rattle.format.specs.declared.Call.{Call}
 use Rattle.load.specs.Reading.{walk}
 use Rattle.listing.specs.Lines.{header, lineOf, onLines}
 use Rattle.listing.specs.Text.{saysCall, aloneIn, stopOr, unrigged, listingOf}

@@ -12,14 +12,14 @@ use lib.Seq.{take-at, append-snoc}
 use Rattle.numbers.specs.Numbers.{noSpaceNumber}
 use Rattle.numerals.specs.Laid.{behind, laid, spaceNumber, lentOut}
 use Rattle.numerals.proofs.Laying.{laid-append, laid-length, laid-none, laid-first, behind-small, lent-all, lent-none, lent-known}
-use Rattle.load.specs.declared.Call.{Call}
+use Rattle.format.specs.declared.Call.{Call}
 use Rattle.load.specs.declared.Written.{Written}
 use Rattle.load.specs.declared.Written.the-variants.{Length, Refusal}
-use Rattle.load.specs.Calls.{carries}
+use Rattle.format.specs.Calls.{carries, Typed}
 use Rattle.load.specs.Bytes.{recordBytes, recordsBytes}
 use Rattle.load.specs.Reading.{inPlace, editionOf, loadNumber, walk, unlessRefused}
 use Rattle.load.specs.Writing.{grown, roomNumber, growNumber, appendNumber, appendAnswer, appendOut}
-use Rattle.load.specs.RoundTrip.{Typed, Appended}
+use Rattle.load.specs.RoundTrip.{Appended}
 use Rattle.load.proofs.Reading.{or-else, open-known}
 use Rattle.load.proofs.Writing.{append-grow}
 use Rattle.load.proofs.RoundTrip.{written-reads, read-bounded}

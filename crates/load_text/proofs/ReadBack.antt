@@ -1,6 +1,5 @@
 -- The line that a call is printed as says that call: its words are the kind's name and the values of its fields, and these read back.
 use Prim.Native.Nat.{ℕ, zero, suc, _+_, _-_, _*_, _/_, _%_, _^_, _≤_, _<_}
-use mathlib.Core.Logic.{⊎-elim}
 use mathlib.Core.Path.{_≡_, refl, sym, ap, _∙_}
 use mathlib.Core.Bool.{Bool, true, false, not, _&&_, _||_, cond, false≢true}
 use mathlib.Core.List.{List, [], _∷_, _++_, map, append-assoc}
@@ -10,13 +9,12 @@ use lib.Dec.{ltb, leb, eqb}
 use lib.ListN.{length, getD, length-append}
 use borrow.Author.Tests.{eqb-true, ltb-true, leb-false, leb-true, lt-ltb, le-ltb, le-leb, lt-leb, not-true}
 use Rattle.numerals.specs.Digits.{digits, widthUpTo, widthOf, decimalOf, column}
-use Rattle.load.specs.declared.Call.{Call}
-use Rattle.load.specs.Format.{theGroups, fieldWidth, format, known, fieldsOf, lengthIn, lengthOf, names, nameOf}
-use Rattle.load.specs.Calls.{valueOf, withValue, bare, filled, callOf, valuesIn, valuesOf, carries}
+use Rattle.format.specs.declared.Call.{Call}
+use Rattle.format.specs.Format.{theGroups, fieldWidth, format, known, fieldsOf, hasKind, names, nameOf}
+use Rattle.format.specs.Calls.{valueOf, withValue, bare, filled, callOf, valuesIn, valuesOf, carries, Typed}
 use Rattle.load.specs.Reading.{editionOf, walk}
-use Rattle.load.specs.RoundTrip.{Typed}
-use Rattle.load.proofs.Format.{both, allRows, tested, known-tested, width-most}
-use Rattle.load.proofs.Calls.{carries-length, call-of-values}
+use Rattle.format.proofs.Format.{both, allRows, kind-tested, known-tested, width-most}
+use Rattle.format.proofs.Calls.{carries-kind, call-of-values}
 use Rattle.load.proofs.Reading.{load-parts, load-known}
 use Rattle.load.proofs.Loads.{Loadable, read-loadable}
 use Rattle.load_text.specs.declared.parse.Head.the-variants.{Edition, Other}
@@ -242,9 +240,9 @@ record Named (e k : ℕ) : Type 0 where
   word : Plain (nameOf e k)
 
 -- A kind that an edition has is named by its name alone, which is a plain word.
-named : (e k : ℕ) → 0 < lengthOf e k → Named e k
-unfolding nameOf kindNamed name-test allRows format lengthOf lengthIn kindOf placeIn names isWord isPlain none
-named e k h = ⊎-elim (λ n. absurd (omega (arith, ap lengthIn n))) go (tested (λ e k fs. ltb 0 k && name-test k) e k refl)
+named : (e k : ℕ) → hasKind e k ≡ true → Named e k
+unfolding nameOf kindNamed name-test allRows format kindOf placeIn names isWord isPlain none
+named e k h = go (kind-tested (λ e k fs. ltb 0 k && name-test k) e k refl h)
   where
     go : (ltb 0 k && name-test k) ≡ true → Named e k
     go p =
@@ -252,12 +250,11 @@ named e k h = ⊎-elim (λ n. absurd (omega (arith, ap lengthIn n))) go (tested 
         let l = both (ltb 0 k) (name-test k) p in
         let t = both (eqb (kindOf n) k) (not (isWord n editionWord) && isPlain n) (l .1) in
         let d = both (not (isWord n editionWord)) (isPlain n) (t .1) in
-        let x = lt-ltb 0 (lengthOf e k) h in
         record {
           some = ltb-true 0 k (l .0);
-          kind = rw (x, eqb-true (kindOf n) k (t .0), x);
-          other = rw x (not-true (isWord n editionWord) (d .0));
-          word = rw x (plain-word n (d .1));
+          kind = rw (h, eqb-true (kindOf n) k (t .0), h);
+          other = rw h (not-true (isWord n editionWord) (d .0));
+          word = rw h (plain-word n (d .1));
         }
 
 -- ── a line ──
@@ -272,7 +269,7 @@ line-of : (e : ℕ) (c : Call) → carries e c ≡ true → Typed c → (rest : 
 unfolding lineOf lineSays callIn headSays headIn valuesOf callOf
 line-of e c h t rest =
     let k = c .kind in
-    let n = named e k (carries-length e c h) in
+    let n = named e k (carries-kind e c h) in
     let fs = fieldsOf e k in
     let ps = fields-plain c t fs in
     let name = nameOf e k in

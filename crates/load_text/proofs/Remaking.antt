@@ -6,8 +6,8 @@ use mathlib.Core.Path.{_≡_, sym, ap, _∙_}
 use native.Mathlib.Omega.{arith}
 use lib.Dec.{eqb}
 use lib.ListN.{length}
-use Rattle.load.specs.declared.Call.{Call}
-use Rattle.load.specs.Format.{known}
+use Rattle.format.specs.declared.Call.{Call}
+use Rattle.format.specs.Format.{known}
 use Rattle.load.specs.Bytes.{recordBytes, recordsBytes, loadBytes}
 use Rattle.load.specs.Reading.{editionOf, walk}
 use Rattle.load.specs.Writing.{growNumber}

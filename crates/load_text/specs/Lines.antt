@@ -7,9 +7,9 @@ use lib.ListN.{length, getD, replicate}
 use Rattle.numbers.specs.Numbers.{editionNumber, misfitNumber, overlongNumber}
 use Rattle.numerals.specs.Digits.{decimalOf, column, pair}
 use Rattle.numerals.specs.Laid.{spaceNumber, lentOut}
-use Rattle.load.specs.declared.Call.{Call}
-use Rattle.load.specs.Format.{theGroups, fieldWidth, fieldsOf, nameOf}
-use Rattle.load.specs.Calls.{valueOf}
+use Rattle.format.specs.declared.Call.{Call}
+use Rattle.format.specs.Format.{theGroups, fieldWidth, fieldsOf, nameOf}
+use Rattle.format.specs.Calls.{valueOf}
 use Rattle.load.specs.Bytes.{recordBytes}
 use Rattle.load.specs.Answers.{WrittenValues}
 use Rattle.load.specs.Reading.{editionOf, Walk, walk, openNumber, unlessRefused}

@@ -5,10 +5,10 @@ use mathlib.Core.Bool.{true, cond}
 use mathlib.Core.List.{List, [], _∷_, _++_, map}
 use mathlib.Core.Path.{_≡_}
 use lib.Dec.{eqb}
-use Rattle.load.specs.declared.Call.{Call}
-use Rattle.load.specs.Calls.{carries}
+use Rattle.format.specs.declared.Call.{Call}
+use Rattle.format.specs.Calls.{carries, Typed}
 use Rattle.load.specs.Reading.{editionOf, walk, loadNumber}
-use Rattle.load.specs.RoundTrip.{Bytes, Typed}
+use Rattle.load.specs.RoundTrip.{Bytes}
 use Rattle.load_text.specs.declared.parse.Parsed.the-variants.{Nothing, Said}
 use Rattle.load_text.specs.Lines.{lineOf, textOf}
 use Rattle.load_text.specs.Making.{whole, heading, saidIn, made}

@@ -2,7 +2,7 @@
 -- the theorem that covers it.
 use mathlib.Core.List.{List, [], _∷_}
 use Prim.Native.Nat.{ℕ}
-use Rattle.load.specs.Calls.{rig, rigWith, claim, claimWith, release}
+use Rattle.format.specs.Calls.{rig, rigWith, claim, claimWith, release}
 use Rattle.load.specs.Bytes.{loadBytes}
 use Rattle.question.specs.Questions.{questionOf}
 use Rattle.question.specs.Answers.{textOf}

@@ -4,10 +4,10 @@ use Prim.Native.Nat.{ℕ, _<_}
 use mathlib.Core.List.{List, [], _∷_, _++_}
 use mathlib.Core.Path.{_≡_}
 use lib.ListN.{length}
-use Rattle.load.specs.declared.Call.{Call}
+use Rattle.format.specs.declared.Call.{Call}
 use Rattle.load.specs.declared.Item.{Item}
 use Rattle.load.specs.declared.Item.the-variants.{Record, End, Refused}
-use Rattle.load.specs.Calls.{rig, claim, release, clock, rigWith, claimWith, claimFrom, declaration, grace}
+use Rattle.format.specs.Calls.{rig, claim, release, clock, rigWith, claimWith, claimFrom, declaration, grace}
 use Rattle.load.specs.Bytes.{recordBytes, loadBytes}
 use Rattle.load.specs.Reading.{Walk, reading}
 use Rattle.reader.specs.Items.{itemOf}
