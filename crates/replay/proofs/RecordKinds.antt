@@ -16,8 +16,8 @@ use Rattle.load.specs.Reading.{agree, kindField, editionOf, itemAt, walk}
 use Rattle.load.proofs.Format.{either, allRows, tested}
 use Rattle.load.proofs.Calls.{kind-of-call}
 use Rattle.load.proofs.Reading.{stands, misfit-not, record-size, by-item, step-next, step-past, walk-record, walk-end, walk-refused}
-use Rattle.listing.specs.Text.{saysCall}
-use Rattle.listing.specs.RecordKinds.{Says, says-claim, says-release, says-withdrawal, says-clock, says-declaration, says-grace, no-record, rig-first, RecordsSayCalls}
+use Rattle.replay.specs.Records.{saysCall}
+use Rattle.replay.specs.RecordKinds.{Says, says-claim, says-release, says-withdrawal, says-clock, says-declaration, says-grace, no-record, rig-first, RecordsSayCalls}
 
 -- ── one record ──
 -- The kinds of the format, in the order in which `saysCall` asks for them.

@@ -7,7 +7,7 @@ use Rattle.rules.specs.Lists.{_∈_}
 use Rattle.rules.specs.Calls.{Call as TableCall, claim, release, withdraw, clock, declare, setGrace}
 use Rattle.load.specs.declared.Call.{Call}
 use Rattle.load.specs.Reading.{walk}
-use Rattle.listing.specs.Text.{saysCall}
+use Rattle.replay.specs.Records.{saysCall}
 
 -- A record says the call of its kind. There is no case for 0, 1 and 7, and none above 8.
 pub data Says (c : Call) : TableCall → Type 0 where
