@@ -16,7 +16,7 @@ use Rattle.rules.specs.Calls.{tests, advance, finish, join, remove, admit, act,
 use Rattle.lcg.specs.Draws.{stateAfter, drawAfter, stateIn}
 use Rattle.format.specs.Format.{defaults, default, format, rowIn, fieldsOf}
 use Rattle.format.specs.Calls.{numbers, made, withValue, bare, filled, callOf}
-use Rattle.listing.specs.Text.{saysCall, stepOf}
+use Rattle.replay.specs.Records.{saysCall, stepOf}
 use Rattle.generator.specs.Workload.{drawsFrom, groupsFor, lowestOn, batchOf, recordsFrom, workloadCalls}
 use Rattle.generator.specs.Samples.{Sample, samples, given}
 

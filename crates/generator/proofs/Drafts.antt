@@ -13,7 +13,7 @@ use Rattle.format.specs.Calls.{rig}
 use Rattle.load.specs.Bytes.{recordsBytes, loadBytes}
 use Rattle.load.proofs.Bytes.{records-append}
 use Rattle.lcg.specs.Draws.{stateIn}
-use Rattle.listing.specs.Text.{unrigged}
+use Rattle.replay.specs.Records.{unrigged}
 use Rattle.generator.specs.declared.Draft.{Draft}
 use Rattle.generator.specs.Workload.{Batch, drawsFrom, batchOf, recordsFrom, allGroups, tableAfter, workloadCalls, workloadOf}
 use Rattle.generator.specs.Drafts.{Ready, Begins, Enters}

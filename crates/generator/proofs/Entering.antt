@@ -19,7 +19,7 @@ use Rattle.format.specs.declared.Call.{Call}
 use Rattle.format.specs.Calls.{rig, claim, release}
 use Rattle.load.specs.Bytes.{recordBytes, recordsBytes, loadBytes}
 use Rattle.load.proofs.Bytes.{records-append}
-use Rattle.listing.specs.Text.{unrigged}
+use Rattle.replay.specs.Records.{unrigged}
 use Rattle.generator.specs.declared.Draft.{Draft}
 use Rattle.generator.specs.declared.Draws.{Draws}
 use Rattle.generator.specs.declared.MaybeTicket.the-variants.{Ticket, NoTicket}

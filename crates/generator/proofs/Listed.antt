@@ -11,8 +11,8 @@ use Rattle.rules.proofs.Bools.{by-test}
 use Rattle.rules.proofs.Calls.{step-number}
 use Rattle.format.specs.declared.Call.{Call}
 use Rattle.format.specs.Calls.{claim, release}
-use Rattle.listing.specs.Text.{stepOf, ending}
-use Rattle.listing.specs.Replay.{replayFrom}
+use Rattle.replay.specs.Records.{stepOf, ending}
+use Rattle.replay.specs.Replay.{replayFrom}
 use Rattle.generator.proofs.Records.{claim-does, release-does}
 
 -- ── numbers ──

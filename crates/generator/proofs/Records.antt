@@ -16,7 +16,7 @@ use Rattle.load.specs.Reading.{agree}
 use Rattle.format.proofs.Calls.{kind-of-call, typed-call, call-carried}
 use Rattle.load.proofs.Bytes.{record-length}
 use Rattle.load.proofs.Loads.{Sound}
-use Rattle.listing.specs.Text.{saysCall, stepOf}
+use Rattle.replay.specs.Records.{saysCall, stepOf}
 use Rattle.generator.specs.Workload.{allGroups}
 
 -- ── by their fields ──

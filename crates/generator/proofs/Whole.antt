@@ -25,8 +25,8 @@ use Rattle.load.proofs.Loads.{Loadable}
 use Rattle.load.proofs.Reading.{load-parts}
 use Rattle.load.proofs.RoundTrip.{Good, good-reads}
 use Rattle.lcg.specs.Draws.{stateIn}
-use Rattle.listing.specs.Text.{stepOf, ending, aloneIn, unrigged}
-use Rattle.listing.specs.Replay.{replayFrom, replayIn, replayOf}
+use Rattle.replay.specs.Records.{stepOf, ending, aloneIn, unrigged}
+use Rattle.replay.specs.Replay.{replayFrom, replayIn, replayOf}
 use Rattle.generator.specs.declared.Draws.{Draws}
 use Rattle.generator.specs.declared.MaybeTicket.{MaybeTicket}
 use Rattle.generator.specs.declared.MaybeTicket.the-variants.{Ticket, NoTicket}

@@ -9,7 +9,7 @@ use Rattle.load.specs.declared.Written.{Written}
 use Rattle.load.specs.Answers.{writtenValues}
 use Rattle.format.specs.Calls.{rig}
 use Rattle.load.specs.Bytes.{recordsBytes, loadBytes}
-use Rattle.listing.specs.Text.{unrigged}
+use Rattle.replay.specs.Records.{unrigged}
 use Rattle.generator.specs.declared.Draft.{Draft}
 use Rattle.generator.specs.Workload.{Batch, tableAfter, allGroups, workloadAnswer, workloadOut, workloadValues}
 

@@ -20,7 +20,7 @@ use Rattle.format.specs.Calls.{rig, claim, release}
 use Rattle.load.specs.Bytes.{loadBytes}
 use Rattle.load.specs.Reading.{orElse}
 use Rattle.load.specs.Writing.{answered, answeredValues, begun, lent}
-use Rattle.listing.specs.Text.{stepOf, unrigged}
+use Rattle.replay.specs.Records.{stepOf, unrigged}
 use Rattle.generator.specs.declared.Draws.{Draws}
 use Rattle.generator.specs.declared.MaybeTicket.{MaybeTicket}
 use Rattle.generator.specs.declared.MaybeTicket.the-variants.{Ticket, NoTicket}
@@ -43,7 +43,7 @@ abbrev pub lengthFor : Draws → ℕ
 lengthFor d = d .length % 1000 + 1
 
 -- ── records ──
--- The table after a record, as the listing of an edition 1 load has it.
+-- The table after a record of an edition 1 load.
 abbrev pub tableAfter : Model → Call → Model
 tableAfter m c = stepOf true m c .model
 

@@ -18,8 +18,10 @@ use Rattle.format.specs.Format.{fieldWidths, fieldWidth, defaults, default, for
 use Rattle.format.specs.Calls.{numbers, made, valueOf, withValue, bare, filled, callOf, valuesOf}
 use Rattle.load.specs.Bytes.{fieldBytes, fieldValues, recordBytes, recordsBytes, loadBytes}
 use Rattle.load.specs.Reading.{misfit, readAt, itemAt, openNumber, walkIn, walk}
-use Rattle.listing.specs.Lines.{lineOf, onLine, onLines, stopLine}
-use Rattle.listing.specs.Text.{saysCall, aloneIn, stepOf, entryOf, ending, linesFrom, linesOf, listingOf}
+use Rattle.replay.specs.Records.{saysCall, aloneIn, stepOf, ending}
+use Rattle.replay.specs.StopLine.{stopLine}
+use Rattle.listing.specs.Lines.{lineOf, onLine, onLines}
+use Rattle.listing.specs.Text.{entryOf, linesFrom, linesOf, listingOf}
 use Rattle.listing.specs.Samples.{samples, given, expected}
 
 pub all-samples : map given samples ≡ map expected samples

@@ -3,7 +3,7 @@
 use mathlib.Core.Path.{_≡_, sym}
 use mathlib.Core.Bool.{Bool, true, cond}
 use mathlib.Core.List.{List, [], _∷_, _++_}
-use Prim.Native.Nat.{ℕ, zero, suc, _+_, _*_, _/_, _^_, _≤_, _<_}
+use Prim.Native.Nat.{ℕ, _+_, _*_, _/_, _^_, _≤_, _<_}
 use native.Mathlib.Omega.{arith}
 use native.Mathlib.Nat.{div-le-self}
 use lib.Dec.{ltb, leb, eqb}
@@ -16,19 +16,15 @@ use Rattle.format.specs.Format.{known, leastLength}
 use Rattle.load.specs.Reading.{editionOf, walk, openNumber}
 use Rattle.format.proofs.Format.{either}
 use Rattle.load.proofs.Reading.{walk-few}
-use Rattle.listing.specs.Lines.{lineOf, onLines, stopLine}
-use Rattle.listing.specs.Text.{aloneIn, stepOf, entryOf, ending, stopOr, linesFrom, linesOf, unrigged, listingOf}
+use Rattle.replay.specs.Records.{aloneIn, stepOf, ending, unrigged}
+use Rattle.replay.proofs.Records.{record-promised}
+use Rattle.replay.proofs.StopLine.{stop-length}
+use Rattle.listing.specs.Lines.{lineOf, onLines}
+use Rattle.listing.specs.Text.{entryOf, linesFrom, linesOf, listingOf}
 use Rattle.listing.specs.Room.{roomFor}
-use Rattle.listing.proofs.RecordLoop.{record-promised}
-use Rattle.numerals.proofs.Laying.{pair-length}
 use Rattle.listing.proofs.Lines.{line-length, ons-length}
 
 -- ── lines ──
-pub stop-length : (n k b : ℕ) (lines : List ℕ) → length lines ≤ b → 47 ≤ b → length (stopOr n k lines) ≤ b
-unfolding stopLine
-stop-length zero k b lines h g = h
-stop-length (suc n) k b lines h g = omega (arith, pair-length (suc n) k 10)
-
 entry-length : (k : ℕ) (s : Step) → length (entryOf k s) ≤ 84 + 45 * length (s .answer .grants)
 unfolding entryOf
 entry-length k s =

@@ -1,4 +1,4 @@
--- The lines of a listing, as bytes: a space is 32. Quotations are from document 01, "What the program prints".
+-- The lines of a listing, as bytes: a space is 32. (The stop line is in `replay`.) Quotations are from document 01, "What the program prints".
 -- "Every line ends in one line feed (byte 10)."
 use mathlib.Core.List.{List, [], _∷_, _++_}
 use Prim.Native.Nat.{ℕ}
@@ -20,7 +20,3 @@ onLine clock ticket = (111 ∷ 110 ∷ 32 ∷ []) ++ pair ticket clock 10
 unfoldable pub onLines : ℕ → List ℕ → List ℕ
 onLines clock [] = []
 onLines clock (k ∷ ks) = onLine clock k ++ onLines clock ks
-
--- "`stop NUMBER RECORD`", at record k.
-unfoldable pub stopLine : ℕ → ℕ → List ℕ
-stopLine number k = (115 ∷ 116 ∷ 111 ∷ 112 ∷ 32 ∷ []) ++ pair number k 10

@@ -19,11 +19,13 @@ use Rattle.promises.specs.Runs.{by-new}
 use Rattle.promises.proofs.Promises.{promises}
 use Rattle.format.specs.declared.Call.{Call}
 use Rattle.load.specs.Reading.{walk, openNumber}
+use Rattle.replay.specs.Records.{saysCall, aloneIn, stepOf, ending, unrigged}
+use Rattle.replay.specs.StopLine.{stopOr}
+use Rattle.replay.specs.Replay.{replayFrom, replayIn, replayOf}
+use Rattle.replay.specs.RecordKinds.{Says, says-claim, says-release, says-withdrawal, says-clock, says-declaration, says-grace, RigThenCalls, no-record, rig-first}
+use Rattle.replay.proofs.RecordKinds.{records-say-calls}
 use Rattle.listing.specs.Lines.{header, lineOf, onLines}
-use Rattle.listing.specs.Text.{saysCall, aloneIn, stepOf, entryOf, ending, stopOr, linesFrom, linesOf, unrigged, listingOf}
-use Rattle.listing.specs.Replay.{replayFrom, replayIn, replayOf}
-use Rattle.listing.specs.RecordKinds.{Says, says-claim, says-release, says-withdrawal, says-clock, says-declaration, says-grace, RigThenCalls, no-record, rig-first}
-use Rattle.listing.proofs.RecordKinds.{records-say-calls}
+use Rattle.listing.specs.Text.{entryOf, linesFrom, linesOf, listingOf}
 use Rattle.load_runs.specs.LoadRuns.{turnLines, turnsLines, Ends, startOf, Ran, NotRun, LoadRuns}
 
 -- ── one record ──

@@ -1,6 +1,6 @@
 -- Every load is a run: the calls that its records say are made one after the other of the table that its rig gave, and its listing prints
--- number, ticket, start and grants of their answers, between the rig's line and a stop line. So all that is promised of every list of calls is promised of every listing, and of the table that a load leaves.
--- proofs/LoadRuns has the theorem.
+-- number, ticket, start and grants of their answers, between the rig's line and a stop line. So all that is promised of every list of calls
+-- is promised of every listing, and of the table that a load leaves. proofs/LoadRuns has the theorem.
 use mathlib.Core.Path.{_≡_}
 use mathlib.Core.Logic.{_⊎_, _≢_}
 use mathlib.Core.List.{List, [], _∷_, _++_, map}
@@ -14,9 +14,11 @@ use Rattle.promises.specs.Runs.{Start, newly}
 use Rattle.promises.specs.Promises.{Promises}
 use Rattle.format.specs.declared.Call.{Call}
 use Rattle.load.specs.Reading.{walk}
+use Rattle.replay.specs.Records.{saysCall, aloneIn, unrigged}
+use Rattle.replay.specs.StopLine.{stopOr}
+use Rattle.replay.specs.Replay.{replayOf}
 use Rattle.listing.specs.Lines.{header, lineOf, onLines}
-use Rattle.listing.specs.Text.{saysCall, aloneIn, stopOr, unrigged, listingOf}
-use Rattle.listing.specs.Replay.{replayOf}
+use Rattle.listing.specs.Text.{listingOf}
 
 -- What is printed of record k, by its call and the answer: "its number from 1, the answer (0 accepted), the ticket concerned, the start .. Each
 -- grant adds `on TICKET CLOCK`".

@@ -18,9 +18,9 @@ use Rattle.format.specs.Format.{fieldWidths, fieldWidth, defaults, default, for
 use Rattle.format.specs.Calls.{numbers, made, valueOf, withValue, bare, filled, callOf, valuesOf}
 use Rattle.load.specs.Bytes.{fieldBytes, fieldValues, recordBytes, recordsBytes, loadBytes}
 use Rattle.load.specs.Reading.{misfit, readAt, itemAt, openNumber, walkIn, walk}
-use Rattle.listing.specs.Lines.{stopLine}
-use Rattle.listing.specs.Text.{saysCall, aloneIn, stepOf, ending}
-use Rattle.listing.specs.Replay.{replayFrom, replayIn, replayOf}
+use Rattle.replay.specs.StopLine.{stopLine}
+use Rattle.replay.specs.Records.{saysCall, aloneIn, stepOf, ending}
+use Rattle.replay.specs.Replay.{replayFrom, replayIn, replayOf}
 use Rattle.load_text.specs.Parsing.{none, parts, wordsIn, digitOf, valueIn, numberIn, isWord}
 use Rattle.question.specs.declared.questions.Question.the-variants.{NoQuestion}
 use Rattle.question.specs.Questions.{numbersIn, questionNamed, questionIn, questionOf}

@@ -15,12 +15,11 @@ use Rattle.rules.specs.declared.Standing.{Standing}
 use Rattle.rules.specs.declared.Standing.the-variants.{NotPending, Waits, Holds}
 use Rattle.rules.specs.Calls.{Model, standingOf, commonOf, freeOf}
 use Rattle.rules.specs.Tables.{model}
-use Rattle.listing.specs.declared.Replayed.{Replayed}
-use Rattle.listing.specs.Lines.{stopLine}
-use Rattle.listing.specs.Text.{stopOr}
-use Rattle.listing.specs.Replay.{replayOf, replayed}
-use Rattle.listing.proofs.Replaying.{replayed-left}
-use Rattle.listing.proofs.Sizes.{stop-length}
+use Rattle.replay.specs.declared.Replayed.{Replayed}
+use Rattle.replay.specs.StopLine.{stopLine, stopOr}
+use Rattle.replay.specs.Replay.{replayOf, replayed}
+use Rattle.replay.proofs.Replaying.{replayed-left}
+use Rattle.replay.proofs.StopLine.{stop-length}
 use Rattle.question.specs.declared.questions.Question.{Question}
 use Rattle.question.specs.declared.questions.Question.the-variants.{Lookup, Free, NoQuestion}
 use Rattle.question.specs.declared.questions.Question.the-variants as question

@@ -15,8 +15,8 @@ use Rattle.rules.specs.declared.Standing.the-variants.{NotPending, Waits, Holds
 use Rattle.rules.specs.declared.Common.{Common}
 use Rattle.rules.specs.declared.Common.the-variants.{Unknown, Shared, Apart}
 use Rattle.rules.specs.Calls.{Model, standingOf, commonOf, freeOf}
-use Rattle.listing.specs.Text.{stopOr}
-use Rattle.listing.specs.Replay.{replayOf}
+use Rattle.replay.specs.StopLine.{stopOr}
+use Rattle.replay.specs.Replay.{replayOf}
 use Rattle.question.specs.declared.questions.Question.{Question}
 use Rattle.question.specs.declared.questions.Question.the-variants.{Lookup, Free, NoQuestion}
 use Rattle.question.specs.declared.questions.Question.the-variants as question
@@ -114,7 +114,7 @@ sentenceOf m NoQuestion = []
 unfoldable pub answerOf : Model → Question → List ℕ
 answerOf m q = sentenceOf m q ++ (10 ∷ [])
 
--- What is printed for a load: the listing's stop line if the load ends early, then the answer for the table that it leaves.
+-- What is printed for a load: its stop line if it ends early, then the answer for the table that it leaves.
 unfoldable pub textOf : List ℕ → Question → List ℕ
 textOf load q = let r = replayOf load in stopOr (r .stop) (r .at) [] ++ answerOf (r .left) q
 

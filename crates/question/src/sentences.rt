@@ -5,10 +5,10 @@ ghost use mathlib.Core.List.{[], _++_};
 ghost use Rattle.numerals.specs.Laid.{Put};
 ghost use Rattle.rules.specs.Tables.{model};
 ghost use Rattle.table.specs.Valid.{Valid};
-ghost use Rattle.listing.specs.Text.{stopOr};
+ghost use Rattle.replay.specs.StopLine.{stopOr};
 ghost use Rattle.question.specs.Answers.{absentOf, answerOf, commonText, freeText, lookupText, sentenceOf, standingText, ticketsText, usageText, worded};
 use crate::questions::Question;
-use listing::Replayed;
+use replay::Replayed;
 use rules::Common;
 use rules::Standing;
 use rules::Table;
@@ -117,14 +117,14 @@ fn put_answer(out: &mut [u8], at: usize, t: Table, q: Question) -> usize
     numerals::put_byte(out, m, 10)
 }
 
-// The listing's stop line, for a number that is not 0.
+// The load's stop line, for a number that is not 0.
 fn put_stop(out: &mut [u8], stop: u8, at: u64) -> usize
     ensures { λ r. ⌜ Put (now (out .entry)) 0 (stopOr stop at []) r (now (out .exit)) ⌝ }
 {
     if stop == 0 {
         return numerals::put_bytes(out, 0, b"");
     }
-    listing::put_stop(out, 0, stop, at)
+    replay::put_stop(out, 0, stop, at)
 }
 
 // What is printed for a load, from what it leaves.

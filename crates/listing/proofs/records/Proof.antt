@@ -11,8 +11,9 @@ use Rattle.rules.specs.Calls.{new}
 use Rattle.table.specs.Valid.{Valid}
 use Rattle.table.specs.Outcomes.{outcome}
 use Rattle.load.proofs.Reading.{step-next}
-use Rattle.listing.specs.Text.{aloneIn, stepOf}
-use Rattle.listing.proofs.RecordLoop.{step-rig, step-claim, step-leave, step-declare, step-grace, step-clock, Turn, turn-start, turn-more, run-end, run-refused, run-stop, few-granted}
+use Rattle.replay.specs.Records.{aloneIn, stepOf}
+use Rattle.replay.proofs.Records.{step-rig, step-claim, step-leave, step-declare, step-grace, step-clock}
+use Rattle.listing.proofs.RecordLoop.{Turn, turn-start, turn-more, run-end, run-refused, run-stop, few-granted}
 use Rattle.listing.proofs.records.Statement.{statement}
 use Rattle.listing.proofs.records.Tie as tie
 

@@ -5,9 +5,9 @@ use mathlib.Core.Bool.{true}
 use Prim.Native.Nat.{ℕ}
 use lib.ListN.{length}
 use borrow.Author.Needs.{needs}
-use Rattle.listing.specs.Text.{aloneIn}
-use Rattle.listing.proofs.alone_in.Statement.{statement}
-use Rattle.listing.proofs.alone_in.Tie as tie
+use Rattle.replay.specs.Records.{aloneIn}
+use Rattle.replay.proofs.alone_in.Statement.{statement}
+use Rattle.replay.proofs.alone_in.Tie as tie
 
 none : (s : List ℕ) → length s ≡ 0 → true ≡ aloneIn s
 unfolding aloneIn

@@ -8,10 +8,10 @@ use lib.ListN.{length}
 use Rattle.rules.specs.Tables.{model}
 use Rattle.table.specs.Outcomes.{outcome}
 use Rattle.load.proofs.Reading.{step-next}
-use Rattle.listing.specs.Text.{aloneIn, stepOf}
-use Rattle.listing.proofs.Replaying.{Replaying, replay-start, replay-more, replayed-end, replayed-refused, replayed-stop}
-use Rattle.listing.proofs.replay_records.Statement.{statement}
-use Rattle.listing.proofs.replay_records.Tie as tie
+use Rattle.replay.specs.Records.{aloneIn, stepOf}
+use Rattle.replay.proofs.Replaying.{Replaying, replay-start, replay-more, replayed-end, replayed-refused, replayed-stop}
+use Rattle.replay.proofs.replay_records.Statement.{statement}
+use Rattle.replay.proofs.replay_records.Tie as tie
 
 abbrev Inv-loop : tie.InvT-loop
 Inv-loop load alone t₀ at₀ nth₀ t at nth = Replaying load (aloneIn load) t at nth

@@ -1,10 +1,10 @@
--- `listing::put_stop` meets its contract: the word and the two numbers, laid one after the other.
+-- `replay::put_stop` meets its contract: the word and the two numbers, laid one after the other.
 use native.Mathlib.Omega.{arith}
 use Rattle.numerals.proofs.Laying.{put, put-then}
-use Rattle.listing.specs.Lines.{stopLine}
+use Rattle.replay.specs.StopLine.{stopLine}
 use borrow.Author.Needs.{needs}
-use Rattle.listing.proofs.put_stop.Statement.{statement}
-use Rattle.listing.proofs.put_stop.Tie as tie
+use Rattle.replay.proofs.put_stop.Statement.{statement}
+use Rattle.replay.proofs.put_stop.Tie as tie
 
 returns : tie.Need-returns
 unfolding stopLine

@@ -1,5 +1,5 @@
--- The table that a load leaves: its records are run as the listing runs them, up to the load's end or to the record that ends the listing.
--- That this is the run of its calls, and the listing's, is said in `load_runs`.
+-- The table that a load leaves: its records are run one after the other, up to the load's end or to the record that ends it early.
+-- That this is the run of its calls, of which the listing prints the answers, is said in `load_runs`.
 use mathlib.Core.Bool.{Bool}
 use mathlib.Core.List.{List, [], _∷_}
 use Prim.Native.Nat.{ℕ, zero, suc, _+_}
@@ -7,10 +7,10 @@ use Rattle.rules.specs.Calls.{Model}
 use Rattle.rules.specs.Tables.{encode}
 use Rattle.format.specs.declared.Call.{Call}
 use Rattle.load.specs.Reading.{Walk, walk, openNumber}
-use Rattle.listing.specs.declared.Replayed.{Replayed}
-use Rattle.listing.specs.Text.{aloneIn, stepOf, ending, unrigged}
+use Rattle.replay.specs.declared.Replayed.{Replayed}
+use Rattle.replay.specs.Records.{aloneIn, stepOf, ending, unrigged}
 
--- The table that is left, and the number and the record of the listing's stop: 0 and 0 for a load that is read to its end.
+-- The table that is left, and the number and the record of the stop: 0 and 0 for a load that is read to its end.
 pub record Replay : Type 0 where
   pub left : Model
   pub stop : ℕ
@@ -25,7 +25,7 @@ stoppedOr zero k m r = r
 stoppedOr (suc n) k m r = stoppedAt (suc n) k m
 
 -- From record k on, in table m: the records cs, then the stop by what follows them (0: the load ends there). The record that ends the
--- listing leaves the table as it was before it.
+-- load early leaves the table as it was before it.
 unfoldable pub replayFrom : Bool → ℕ → Model → List Call → ℕ → Replay
 replayFrom alone k m [] n = stoppedOr n k m (stoppedAt 0 0 m)
 replayFrom alone k m (c ∷ cs) n =

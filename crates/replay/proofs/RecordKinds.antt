@@ -11,33 +11,33 @@ use borrow.Author.Tests.{eqb-true, ne-eqb, not-true}
 use Rattle.rules.specs.Lists.{_∈_}
 use Rattle.format.specs.declared.Call.{Call}
 use Rattle.load.specs.declared.Item.the-variants.{Record}
-use Rattle.format.specs.Format.{format, hasKind}
+use Rattle.format.specs.Format.{rigKind, claimKind, releaseKind, withdrawKind, clockKind, declarationKind, graceKind, format, hasKind}
 use Rattle.load.specs.Reading.{agree, kindField, editionOf, itemAt, walk}
 use Rattle.format.proofs.Format.{either, allRows, kind-tested}
 use Rattle.format.proofs.Calls.{kind-of-call}
 use Rattle.load.proofs.Reading.{stands, misfit-not, record-size, by-item, step-next, step-past, walk-record, walk-end, walk-refused}
-use Rattle.listing.specs.Text.{saysCall}
-use Rattle.listing.specs.RecordKinds.{Says, says-claim, says-release, says-withdrawal, says-clock, says-declaration, says-grace, no-record, rig-first, RecordsSayCalls}
+use Rattle.replay.specs.Records.{saysCall}
+use Rattle.replay.specs.RecordKinds.{Says, says-claim, says-release, says-withdrawal, says-clock, says-declaration, says-grace, no-record, rig-first, RecordsSayCalls}
 
 -- ── one record ──
 -- The kinds of the format, in the order in which `saysCall` asks for them.
 abbrev listed : ℕ → Bool
-listed k = eqb k 1 || (eqb k 2 || (eqb k 3 || (eqb k 4 || (eqb k 6 || (eqb k 8 || eqb k 5)))))
+listed k = eqb k rigKind || (eqb k claimKind || (eqb k releaseKind || (eqb k withdrawKind || (eqb k declarationKind || (eqb k graceKind || eqb k clockKind)))))
 
 kind-listed : (e k : ℕ) → hasKind e k ≡ true → listed k ≡ true
 unfolding allRows format
 kind-listed e k h = kind-tested (λ e k fs. listed k) e k refl h
 
-says : (c : Call) → listed (c .kind) ≡ true → eqb (c .kind) 1 ≡ false → Says c (saysCall c)
+says : (c : Call) → listed (c .kind) ≡ true → eqb (c .kind) rigKind ≡ false → Says c (saysCall c)
 unfolding saysCall
 says c l p1 =
     let k = c .kind in
-    either (eqb k 2) (λ p. rw p (says-claim (eqb-true k 2 p)))
-    (λ p2. either (eqb k 3) (λ p. rw (p2, p) (says-release (eqb-true k 3 p)))
-    (λ p3. either (eqb k 4) (λ p. rw (p2, p3, p) (says-withdrawal (eqb-true k 4 p)))
-    (λ p4. either (eqb k 6) (λ p. rw (p2, p3, p4, p) (says-declaration (eqb-true k 6 p)))
-    (λ p6. either (eqb k 8) (λ p. rw (p2, p3, p4, p6, p) (says-grace (eqb-true k 8 p)))
-    (λ p8. rw (p2, p3, p4, p6, p8) (says-clock (eqb-true k 5 (rw (p1, p2, p3, p4, p6, p8) at l))))))))
+    either (eqb k claimKind) (λ p. rw p (says-claim (eqb-true k claimKind p)))
+    (λ p2. either (eqb k releaseKind) (λ p. rw (p2, p) (says-release (eqb-true k releaseKind p)))
+    (λ p3. either (eqb k withdrawKind) (λ p. rw (p2, p3, p) (says-withdrawal (eqb-true k withdrawKind p)))
+    (λ p4. either (eqb k declarationKind) (λ p. rw (p2, p3, p4, p) (says-declaration (eqb-true k declarationKind p)))
+    (λ p6. either (eqb k graceKind) (λ p. rw (p2, p3, p4, p6, p) (says-grace (eqb-true k graceKind p)))
+    (λ p8. rw (p2, p3, p4, p6, p8) (says-clock (eqb-true k clockKind (rw (p1, p2, p3, p4, p6, p8) at l))))))))
 
 agree-same : (a b : Bool) → agree a b ≡ true → a ≡ b
 agree-same true b h = sym h
@@ -45,12 +45,12 @@ agree-same false b h = sym (not-true b h)
 
 module _ (s : List ℕ) (at : ℕ) (c : Call) (next : ℕ) (h : itemAt s at ≡ Record c next) where
   -- It is a rig where it is the first.
-  rig-at : eqb (c .kind) 1 ≡ eqb at 1
+  rig-at : eqb (c .kind) rigKind ≡ eqb at 1
   rig-at =
       let r = stands s at c next h in
       let k = kindField (drop at s) in
       let q : c .kind ≡ k = sym (ap (λ (x : Call). x .kind) (r .call)) ∙ kind-of-call (editionOf s) k _ in
-      ap (λ (n : ℕ). eqb n 1) q ∙ agree-same (eqb k 1) (eqb at 1) (misfit-not _ _ _ _ (r .fits) .2)
+      ap (λ (n : ℕ). eqb n rigKind) q ∙ agree-same (eqb k rigKind) (eqb at 1) (misfit-not _ _ _ _ (r .fits) .2)
 
   says-behind : 1 < at → Says c (saysCall c)
   says-behind l = says c (kind-listed (editionOf s) (c .kind) (record-size s at c next h .0)) (rig-at ∙ ne-eqb at 1 (λ e. omega arith))
@@ -73,6 +73,6 @@ all-say (suc j) s at l b c m =
 pub records-say-calls : RecordsSayCalls
 records-say-calls s =
     by-item (itemAt s 1)
-    (λ c n e. rw (walk-record s 1 c n e) (rig-first c (walk s n .calls) (eqb-true (c .kind) 1 (rig-at s 1 c n e)) (all-say (length s) s n (omega (arith, step-next s 1 c n e)) (step-next s 1 c n e .0))))
+    (λ c n e. rw (walk-record s 1 c n e) (rig-first c (walk s n .calls) (eqb-true (c .kind) rigKind (rig-at s 1 c n e)) (all-say (length s) s n (omega (arith, step-next s 1 c n e)) (step-next s 1 c n e .0))))
     (λ e. rw (walk-end s 1 e) no-record)
     (λ n e. rw (walk-refused s 1 n e) no-record)

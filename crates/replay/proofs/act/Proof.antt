@@ -1,12 +1,12 @@
--- `listing::act` meets its contract: each kind of record is its call of the table.
+-- `replay::act` meets its contract: each kind of record is its call of the table.
 use borrow.Author.Needs.{needs}
 use mathlib.Core.Logic.{inl, inr, ⊎-elim}
 use mathlib.Core.Path.{ap, _∙_}
 use native.Mathlib.Omega.{arith}
 use Rattle.table.specs.Outcomes.{outcome}
-use Rattle.listing.proofs.RecordLoop.{step-rig, step-claim, step-leave, step-declare, step-grace, step-clock}
-use Rattle.listing.proofs.act.Statement.{statement}
-use Rattle.listing.proofs.act.Tie as tie
+use Rattle.replay.proofs.Records.{step-rig, step-claim, step-leave, step-declare, step-grace, step-clock}
+use Rattle.replay.proofs.act.Statement.{statement}
+use Rattle.replay.proofs.act.Tie as tie
 
 returns : tie.Need-returns
 returns c = (c .new .ensures .0 ∙ ap outcome (step-rig _ _ _ (c .before .match .keys1)), c .new .ensures .1)

@@ -16,10 +16,10 @@ use Rattle.format.specs.declared.Call.{Call}
 use Rattle.load.specs.declared.Item.the-variants.{Record, End, Refused}
 use Rattle.load.specs.Reading.{itemAt, walk, openNumber}
 use Rattle.load.proofs.Reading.{walk-record, walk-end, walk-refused, step-refused}
-use Rattle.listing.specs.declared.Replayed.{Replayed}
-use Rattle.listing.specs.Text.{aloneIn, stepOf, ending, unrigged}
-use Rattle.listing.specs.Replay.{Replay, stoppedAt, stoppedOr, replayFrom, replayIn, replayOf, replayed}
-use Rattle.listing.proofs.RecordLoop.{Reached, reached-start, reached-more, first-table, ends-as}
+use Rattle.replay.specs.declared.Replayed.{Replayed}
+use Rattle.replay.specs.Records.{aloneIn, stepOf, ending, unrigged}
+use Rattle.replay.specs.Replay.{Replay, stoppedAt, stoppedOr, replayFrom, replayIn, replayOf, replayed}
+use Rattle.replay.proofs.Records.{Reached, reached-start, reached-more, first-table, ends-as}
 
 -- ── what is left to run ──
 stopped-some : (n k : ℕ) (m : Model) (r : Replay) → (n ≡ 0 → ⊥) → stoppedOr n k m r ≡ stoppedAt n k m

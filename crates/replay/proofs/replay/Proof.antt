@@ -1,11 +1,11 @@
 -- A load that does not open leaves a table without groups; any other what its records leave.
 use mathlib.Core.Path.{sym, ap, _∙_}
 use Rattle.load.proofs.Reading.{open-known}
-use Rattle.listing.specs.Replay.{replayed}
-use Rattle.listing.proofs.Replaying.{whole-read, whole-stopped}
+use Rattle.replay.specs.Replay.{replayed}
+use Rattle.replay.proofs.Replaying.{whole-read, whole-stopped}
 use borrow.Author.Needs.{needs}
-use Rattle.listing.proofs.replay.Statement.{statement}
-use Rattle.listing.proofs.replay.Tie as tie
+use Rattle.replay.proofs.replay.Statement.{statement}
+use Rattle.replay.proofs.replay.Tie as tie
 
 returns : tie.Need-returns
 returns c =
