@@ -3,6 +3,7 @@
 use mathlib.Core.Bool.{Bool, true, false, cond}
 use mathlib.Core.List.{List, [], _∷_}
 use Prim.Native.Nat.{ℕ}
+use Rattle.numerals.specs.Texts.{bytes}
 use Rattle.load_text.specs.declared.words.Field.{Field}
 use Rattle.load_text.specs.declared.words.Field.the-variants.{Value, Wrong}
 use Rattle.load_text.specs.Parsing.{isWord, numberIn, wordsIn}
@@ -33,9 +34,9 @@ numbersIn p [] = p
 numbersIn p (w ∷ ws) = numbersIn (andNumber p (numberOf w)) ws
 
 -- ── the questions by name ──
--- "lookup" of a ticket
+-- of a ticket
 abbrev pub lookupName : List ℕ
-lookupName = 108 ∷ 111 ∷ 111 ∷ 107 ∷ 117 ∷ 112 ∷ []
+lookupName = bytes "lookup"
 
 abbrev pub lookupOf : Numbers → Question
 lookupOf Empty = NoQuestion
@@ -43,9 +44,9 @@ lookupOf (One k) = Lookup k
 lookupOf (Two j k) = NoQuestion
 lookupOf Bad = NoQuestion
 
--- "common" of two tickets
+-- of two tickets
 abbrev pub commonName : List ℕ
-commonName = 99 ∷ 111 ∷ 109 ∷ 109 ∷ 111 ∷ 110 ∷ []
+commonName = bytes "common"
 
 abbrev pub commonOf : Numbers → Question
 commonOf Empty = NoQuestion
@@ -53,9 +54,9 @@ commonOf (One k) = NoQuestion
 commonOf (Two j k) = Common j k
 commonOf Bad = NoQuestion
 
--- "free", of no ticket
+-- of none
 abbrev pub freeName : List ℕ
-freeName = 102 ∷ 114 ∷ 101 ∷ 101 ∷ []
+freeName = bytes "free"
 
 abbrev pub freeOf : Numbers → Question
 freeOf Empty = Free
