@@ -1,5 +1,5 @@
 -- Which question a line asks: its first word is the question's name, the others are decimal numbers. A question more is a case of `Question`
--- (src/questions.rt), its name and its numbers here, and its text in Answers.
+-- (src/questions.rt), its name here, by how many numbers it has, and its text in Answers.
 use mathlib.Core.Bool.{Bool, true, false, cond}
 use mathlib.Core.List.{List, [], _∷_}
 use Prim.Native.Nat.{ℕ}
@@ -34,42 +34,16 @@ numbersIn p [] = p
 numbersIn p (w ∷ ws) = numbersIn (andNumber p (numberOf w)) ws
 
 -- ── the questions by name ──
--- of a ticket
-abbrev pub lookupName : List ℕ
-lookupName = bytes "lookup"
+-- A question, where a word is its name.
+unfoldable pub ifNamed : List ℕ → List ℕ → Question → Question
+ifNamed w name q = cond (isWord w name) q NoQuestion
 
-abbrev pub lookupOf : Numbers → Question
-lookupOf Empty = NoQuestion
-lookupOf (One k) = Lookup k
-lookupOf (Two j k) = NoQuestion
-lookupOf Bad = NoQuestion
-
--- of two tickets
-abbrev pub commonName : List ℕ
-commonName = bytes "common"
-
-abbrev pub commonOf : Numbers → Question
-commonOf Empty = NoQuestion
-commonOf (One k) = NoQuestion
-commonOf (Two j k) = Common j k
-commonOf Bad = NoQuestion
-
--- of none
-abbrev pub freeName : List ℕ
-freeName = bytes "free"
-
-abbrev pub freeOf : Numbers → Question
-freeOf Empty = Free
-freeOf (One k) = NoQuestion
-freeOf (Two j k) = NoQuestion
-freeOf Bad = NoQuestion
-
-unfoldable pub questionNamed : List ℕ → Numbers → Question
-questionNamed w p =
-    cond (isWord w lookupName) (lookupOf p)
-    (cond (isWord w commonName) (commonOf p)
-    (cond (isWord w freeName) (freeOf p)
-    NoQuestion))
+-- By how many numbers stand behind the name.
+abbrev pub questionNamed : List ℕ → Numbers → Question
+questionNamed w Empty = ifNamed w (bytes "free") Free
+questionNamed w (One k) = ifNamed w (bytes "lookup") (Lookup k)
+questionNamed w (Two j k) = ifNamed w (bytes "common") (Common j k)
+questionNamed w Bad = NoQuestion
 
 -- ── a line ──
 unfoldable pub questionIn : List (List ℕ) → Question
