@@ -21,15 +21,15 @@ use table::Outcome;
 fn put_line(out: &mut [u8], at: usize, k: u64, number: u8, ticket: u16, start: u64) -> usize
     ensures { λ r. ⌜ Put (now (out .entry)) at (lineOf k number ticket start) r (now (out .exit)) ⌝ }
 {
-    let m = numerals::put_pair(out, at, k, number as u64, 32);
-    numerals::put_pair(out, m, ticket as u64, start, 10)
+    let m = numerals::put_pair(out, at, k, number as u64, b' ');
+    numerals::put_pair(out, m, ticket as u64, start, b'\n')
 }
 
 fn put_grant(out: &mut [u8], at: usize, clock: u64, ticket: u16) -> usize
     ensures { λ r. ⌜ Put (now (out .entry)) at (onLine clock ticket) r (now (out .exit)) ⌝ }
 {
     let m = numerals::put_bytes(out, at, b"on ");
-    numerals::put_pair(out, m, ticket as u64, clock, 10)
+    numerals::put_pair(out, m, ticket as u64, clock, b'\n')
 }
 
 fn put_grants(out: &mut [u8], at: usize, clock: u64, grants: [u16; 64], granted: usize) -> usize

@@ -1,9 +1,10 @@
 -- Laws of what is answered: no text is long, the table that a load leaves is the one asked about, and what goes into a buffer.
 use mathlib.Core.Bool.{Bool, true, false, cond}
-use mathlib.Core.List.{List, [], _∷_, _++_}
+use mathlib.Core.List.{List, [], _++_}
 use mathlib.Core.Path.{_≡_, refl, sym, ap, _∙_}
 use Prim.Native.Nat.{ℕ, zero, suc, _+_, _^_, _≤_, _<_}
 use native.Mathlib.Omega.{arith}
+use native.Mathlib.Nat.{le-refl, add-le-add}
 use lib.Dec.{leb, eqb}
 use lib.ListN.{length, length-append}
 use Rattle.numerals.specs.Digits.{decimalOf}
@@ -16,7 +17,7 @@ use Rattle.rules.specs.declared.Standing.the-variants.{NotPending, Waits, Holds
 use Rattle.rules.specs.Calls.{Model, standingOf, commonOf, freeOf}
 use Rattle.rules.specs.Tables.{model}
 use Rattle.replay.specs.declared.Replayed.{Replayed}
-use Rattle.replay.specs.StopLine.{stopLine, stopOr}
+use Rattle.replay.specs.StopLine.{stopOr}
 use Rattle.replay.specs.Replay.{replayOf, replayed}
 use Rattle.replay.proofs.Replaying.{replayed-left}
 use Rattle.replay.proofs.StopLine.{stop-length}
@@ -26,35 +27,37 @@ use Rattle.question.specs.declared.questions.Question.the-variants as qu
 use Rattle.question.specs.declared.Asked.{Asked}
 use Rattle.question.specs.declared.Asked.the-variants.{Written, NoSuch, NoRoom}
 use Rattle.question.specs.Questions.{questionOf, isQuestion}
-use Rattle.question.specs.Answers.{ticketWord, ticketsWord, andWord, waitsWords, onWords, apartWords, shareWords, ofWord, freeWords, worded, standingText, lookupText, ticketsText, absentOf, commonText, freeText, sentenceOf, answerOf, textOf, usageText, askedValues, writtenAs, written, lentValues, askedOf, answerValues, askedOut}
+use Rattle.question.specs.Answers.{worded, standingText, lookupText, ticketsText, absentOf, commonText, freeText, sentenceOf, answerOf, textOf, usageText, askedValues, writtenAs, written, lentValues, askedOf, answerValues, askedOut}
 
 -- ── lengths ──
+decimal-within : (v : ℕ) → length (decimalOf v) ≤ 20
+decimal-within v = omega (arith, decimal-length v, width-small v)
+
 worded-length : (w : List ℕ) (v : ℕ) → length (worded w v) ≤ length w + 20
 unfolding worded
-worded-length w v = omega (arith, length-append w (decimalOf v), decimal-length v, width-small v)
+worded-length w v = simp length-append (add-le-add (omega arith) (decimal-within v))
 
 standing-length : (s : Standing) → length (standingText s) ≤ 41
 standing-length NotPending = omega arith
-standing-length (Waits s) = omega (arith, worded-length waitsWords s)
-standing-length (Holds e) = omega (arith, worded-length onWords e)
+standing-length (Waits s) = let h : length (standingText (Waits s)) ≤ 34 = worded-length _ s in omega (arith, h)
+standing-length (Holds e) = worded-length _ e
 
 lookup-length : (k : ℕ) (s : Standing) → length (lookupText k s) ≤ 68
 unfolding lookupText
-lookup-length k s = omega (arith, length-append (worded ticketWord k) (standingText s), worded-length ticketWord k, standing-length s)
+lookup-length k s = simp length-append (add-le-add (worded-length _ k) (standing-length s))
 
 tickets-length : (j k : ℕ) → length (ticketsText j k) ≤ 53
 unfolding ticketsText
-tickets-length j k = omega (arith, length-append (worded ticketsWord j) (worded andWord k), worded-length ticketsWord j, worded-length andWord k)
+tickets-length j k = simp length-append (add-le-add (worded-length _ j) (worded-length _ k))
 
 common-length : (j k : ℕ) (s : Standing) (c : Common) → length (commonText j k s c) ≤ 86
 common-length j k s Unknown = omega (arith, lookup-length (absentOf j k s) NotPending)
-common-length j k s (Shared g) = omega (arith, length-append (ticketsText j k) (worded shareWords g), tickets-length j k, worded-length shareWords g)
-common-length j k s Apart = omega (arith, length-append (ticketsText j k) apartWords, tickets-length j k)
+common-length j k s (Shared g) = simp length-append (add-le-add (tickets-length j k) (worded-length _ g))
+common-length j k s Apart = simp length-append (omega (arith, tickets-length j k))
 
 free-length : (n k : ℕ) → length (freeText n k) ≤ 55
 unfolding freeText
-free-length n k =
-    omega (arith, length-append (decimalOf n ++ worded ofWord k) freeWords, length-append (decimalOf n) (worded ofWord k), decimal-length n, width-small n, worded-length ofWord k)
+free-length n k = simp length-append (add-le-add (add-le-add (decimal-within n) (worded-length _ k)) (le-refl _))
 
 sentence-length : (m : Model) (q : Question) → length (sentenceOf m q) ≤ 86
 sentence-length m (Lookup k) = omega (arith, lookup-length k (standingOf k (m .pending)))
@@ -67,8 +70,7 @@ pub text-length : (load : List ℕ) (q : Question) → length (textOf load q) �
 unfolding textOf answerOf
 text-length load q =
     let r = replayOf load in
-    let a = sentenceOf (r .left) q in
-    omega (arith, length-append (stopOr (r .stop) (r .at) []) (a ++ (10 ∷ [])), length-append a (10 ∷ []), sentence-length (r .left) q, stop-length (r .stop) (r .at) 47 [] (omega arith) (omega arith))
+    simp length-append (add-le-add (stop-length (r .stop) (r .at) 47 [] (omega arith) (omega arith)) (add-le-add (sentence-length (r .left) q) (le-refl 1)))
 
 pub usage-length : length usageText ≤ 74
 unfolding usageText
@@ -100,14 +102,6 @@ module _ {o : List ℕ} {at r : ℕ} {p : List ℕ} where
 
     pub sentence-none : q ≡ NoQuestion → Put o at [] r p → Put o at (sentenceOf m q) r p
     sentence-none e w = put-as _ _ (ap (sentenceOf m) (sym e)) w
-
-  pub stop-none : (n k : ℕ) → n ≡ 0 → Put o at [] r p → Put o at (stopOr n k []) r p
-  stop-none zero k e w = w
-  stop-none (suc n) k e w = absurd (omega arith)
-
-  pub stop-some : (n k : ℕ) → (n ≡ 0 → ⊥) → Put o at (stopLine n k) r p → Put o at (stopOr n k []) r p
-  stop-some zero k e w = absurd (e refl)
-  stop-some (suc n) k e w = w
 
 -- ── what is printed for a load, from what the code has of it ──
 pub text-is : (load : List ℕ) (q : Question) (r : Replayed) → r ≡ replayed (replayOf load)

@@ -114,7 +114,7 @@ fn put_answer(out: &mut [u8], at: usize, t: Table, q: Question) -> usize
     ensures { λ r. ⌜ Put (now (out .entry)) at (answerOf (model t) q) r (now (out .exit)) ⌝ }
 {
     let m = put_sentence(out, at, t, q);
-    numerals::put_byte(out, m, 10)
+    numerals::put_byte(out, m, b'\n')
 }
 
 // The load's stop line, for a number that is not 0.
@@ -144,5 +144,5 @@ pub(crate) fn put_usage(out: &mut [u8]) -> usize
     let a = numerals::put_bytes(out, 0, b"no such question; ask lookup TICKET");
     let b = numerals::put_bytes(out, a, b", ask common TICKET TICKET");
     let c = numerals::put_bytes(out, b, b" or ask free");
-    numerals::put_byte(out, c, 10)
+    numerals::put_byte(out, c, b'\n')
 }

@@ -86,7 +86,7 @@ pub fn put_stop(out: &mut [u8], at: usize, number: u8, k: u64) -> usize
     ensures { λ r. ⌜ Put (now (out .entry)) at (stopLine number k) r (now (out .exit)) ⌝ }
 {
     let m = numerals::put_bytes(out, at, b"stop ");
-    numerals::put_pair(out, m, number as u64, k, 10)
+    numerals::put_pair(out, m, number as u64, k, b'\n')
 }
 
 // ── the table that a load leaves ──

@@ -1,15 +1,17 @@
 -- `sentences::put_stop` meets its contract: the stop line, or nothing.
-use Rattle.numerals.proofs.Laying.{put}
-use Rattle.question.proofs.Answers.{stop-none, stop-some}
+use mathlib.Core.List.{[]}
+use mathlib.Core.Path.{sym}
+use Rattle.numerals.proofs.Laying.{put, put-as}
+use Rattle.replay.proofs.StopLine.{stop-none, stop-some}
 use borrow.Author.Needs.{needs}
 use Rattle.question.proofs.sentences.put_stop.Statement.{statement}
 use Rattle.question.proofs.sentences.put_stop.Tie as tie
 
 returns : tie.Need-returns
-returns c = stop-none _ _ (c .before .before .before .before .before .if1 .taken) (put (c .before .before .put-bytes .ensures))
+returns c = put-as _ _ (sym (stop-none _ _ [] (c .before .before .before .before .before .if1 .taken))) (put (c .before .before .put-bytes .ensures))
 
 returns-2 : tie.Need-returns-2
-returns-2 c = stop-some _ _ (c .before .before .before .before .if1 .left) (c .before .before .put-stop .ensures)
+returns-2 c = put-as _ _ (sym (stop-some _ _ [] (c .before .before .before .before .if1 .left))) (c .before .before .put-stop .ensures)
 
 pub put-stop-spec : {M : Type 1} → statement M
 put-stop-spec =
