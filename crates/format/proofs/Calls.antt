@@ -11,7 +11,7 @@ use lib.ListN.{length, drop, getD, set, length-set, List·getD-eq-default}
 use lib.Seq.{getD-set-same, getD-set-other, set-out, ext-getD}
 use Rattle.format.specs.declared.Call.{Call}
 use Rattle.format.specs.Format.{fieldWidths, fieldCount, fieldWidth, defaults, default, hasKind, fieldsOf}
-use Rattle.format.specs.Calls.{numbers, made, valueOf, withValue, bare, filled, callOf, valuesIn, valuesOf, sameBelow, same, kept, carries, Typed}
+use Rattle.format.specs.Calls.{numbers, made, valueOf, withValue, bare, filled, callOf, valuesIn, valuesOf, sameBelow, same, kept, keeps, Typed}
 use Rattle.format.proofs.Format.{both, either, neither, has, proper, proper-parts, fields-proper}
 
 -- ── one field ──
@@ -134,18 +134,18 @@ module _ (e k : ℕ) (vs : List ℕ) where
     unfolding kept
     kept-call = ap (λ (j : ℕ). callOf e j (valuesOf e (callOf e k vs))) kind-of-call ∙ ap (callOf e k) values-of-call
 
-    pub call-carried : hasKind e k ≡ true → carries e (callOf e k vs) ≡ true
-    unfolding carries
-    call-carried h =
+    pub call-keeps : hasKind e k ≡ true → keeps e (callOf e k vs) ≡ true
+    unfolding keeps
+    call-keeps h =
         let l : hasKind e (callOf e k vs .kind) ≡ true = ap (hasKind e) kind-of-call ∙ h in
         rw (l, same-self fieldCount (kept e (callOf e k vs)) (callOf e k vs) kept-call)
 
-pub carries-kind : (e : ℕ) (c : Call) → carries e c ≡ true → hasKind e (c .kind) ≡ true
-unfolding carries
-carries-kind e c h = both _ _ h .0
+pub keeps-kind : (e : ℕ) (c : Call) → keeps e c ≡ true → hasKind e (c .kind) ≡ true
+unfolding keeps
+keeps-kind e c h = both _ _ h .0
 
-pub call-of-values : (e : ℕ) (c : Call) → carries e c ≡ true → callOf e (c .kind) (valuesOf e c) ≡ c
-unfolding carries kept
+pub call-of-values : (e : ℕ) (c : Call) → keeps e c ≡ true → callOf e (c .kind) (valuesOf e c) ≡ c
+unfolding keeps kept
 call-of-values e c h = same-call (kept e c) c (both (hasKind e (c .kind)) (same (kept e c) c) h .1)
 
 -- The fields that a kind lacks have their defaults, in a call of its values ..
@@ -154,9 +154,9 @@ unfolding callOf valueOf numbers bare made defaults default
 lacked e k vs zero h n = absurd (omega arith)
 lacked e k vs (suc f) h n = filled-other (fieldsOf e k) vs (bare k) (suc f) n
 
--- .. and in one that an edition carries.
-pub carries-none : (e : ℕ) (c : Call) (f : ℕ) → carries e c ≡ true → has (suc f) (fieldsOf e (c .kind)) ≡ false → valueOf (suc f) c ≡ default (suc f)
-carries-none e c f h n = ap (valueOf (suc f)) (sym (call-of-values e c h)) ∙ lacked e (c .kind) (valuesOf e c) (suc f) (omega arith) n
+-- .. and in one that an edition keeps whole.
+pub keeps-none : (e : ℕ) (c : Call) (f : ℕ) → keeps e c ≡ true → has (suc f) (fieldsOf e (c .kind)) ≡ false → valueOf (suc f) c ≡ default (suc f)
+keeps-none e c f h n = ap (valueOf (suc f)) (sym (call-of-values e c h)) ∙ lacked e (c .kind) (valuesOf e c) (suc f) (omega arith) n
 
 -- ── types ──
 pub typed-with : (f v : ℕ) (c : Call) → f < fieldCount → v < 256 ^ fieldWidth f → Typed c → Typed (withValue f v c)

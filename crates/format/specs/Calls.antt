@@ -75,9 +75,9 @@ same c d = sameBelow fieldCount c d
 unfoldable pub kept : ℕ → Call → Call
 kept e c = callOf e (c .kind) (valuesOf e c)
 
--- The edition can carry the call: it has the kind, and every field that it lacks has its default, so that it keeps the whole call.
-unfoldable pub carries : ℕ → Call → Bool
-carries e c = hasKind e (c .kind) && same (kept e c) c
+-- It keeps the whole call: it has the kind, and every field that it lacks has its default.
+unfoldable pub keeps : ℕ → Call → Bool
+keeps e c = hasKind e (c .kind) && same (kept e c) c
 
 -- ── calls, for examples ──
 -- Those of edition 1; a rig and a claim of a later edition with no pool, no units and client 1 are the same calls.

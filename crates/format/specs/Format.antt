@@ -1,7 +1,7 @@
 -- The load format as one table: document 01, "The load", and editions 2 and 3 of document 02. Reader, writer and round trip are driven by
 -- it. An edition and a kind are rows of `format`; a field is a name and a width here, and a number of a call (specs/Calls). Quotations are
 -- from document 01, of editions 2 and 3 from document 02.
-use Prim.Native.Nat.{ℕ, zero, suc, _+_, min}
+use Prim.Native.Nat.{ℕ, zero, suc, _+_, _*_, min}
 use mathlib.Core.Bool.{Bool, false, _&&_, _||_, cond}
 use mathlib.Core.List.{List, [], _∷_, _++_, map}
 use lib.Dec.{eqb}
@@ -181,6 +181,17 @@ lengthIn fs = total (map fieldWidth (theKind ∷ fs))
 
 unfoldable pub lengthOf : ℕ → ℕ → ℕ
 lengthOf e k = cond (hasKind e k) (lengthIn (fieldsOf e k)) 0
+
+-- The fields of a member, in their order: its groups and its length. They have the widths of a call's.
+abbrev pub memberFields : List ℕ
+memberFields = theGroups ∷ theLength ∷ []
+
+unfoldable pub memberWidths : List ℕ
+memberWidths = map fieldWidth memberFields
+
+-- The length of a record with so many members behind its fields.
+unfoldable pub lengthWith : ℕ → ℕ → ℕ → ℕ
+lengthWith e k count = lengthOf e k + count * total memberWidths
 
 -- The least length of a whole record, its two length bytes included. (Two bytes say 65,535 at most.)
 unfoldable pub leastIn : List Row → ℕ

@@ -3,7 +3,8 @@ ghost use Prim.Native.Nat.{_%_, _^_, _<_};
 ghost use mathlib.Core.Path.{_≡_};
 ghost use lib.ListN.{getD};
 ghost use Rattle.format.specs.Format.{known, hasKind, fieldsOf, rowOf, fieldWidth, lengthOf, leastLength};
-ghost use Rattle.format.specs.Calls.{numbers, valueOf, made, withValue, bare, kept, same, carries, Typed};
+ghost use Rattle.format.specs.Calls.{numbers, valueOf, made, withValue, bare, kept, same, Typed};
+ghost use Rattle.format.specs.Records.{recordOf, carries};
 
 pub mod fields;
 pub mod kinds;
@@ -318,9 +319,9 @@ fn same(a: Call, b: Call) -> bool
     true
 }
 
-// Whether an edition can carry a call: it has the kind, and every field that it lacks is as in `bare`.
+// Whether an edition can carry a call, as a record without members: it has the kind, and every field that it lacks is as in `bare`.
 pub fn carries(edition: u8, call: Call) -> bool
-    ensures { λ r. ⌜ r ≡ carries edition call ⌝ }
+    ensures { λ r. ⌜ r ≡ carries edition (recordOf call) ⌝ }
 {
     if !has_kind(edition, call.kind) {
         return false;

@@ -8,7 +8,7 @@ use Rattle.table.specs.Valid.{Valid}
 use Rattle.load.specs.declared.Written.{Written}
 use Rattle.load.specs.Answers.{writtenValues}
 use Rattle.format.specs.Calls.{rig}
-use Rattle.load.specs.Bytes.{recordsBytes, loadBytes}
+use Rattle.load.specs.Bytes.{callsBytes, loadOf}
 use Rattle.replay.specs.Records.{unrigged}
 use Rattle.generator.specs.declared.Draft.{Draft}
 use Rattle.generator.specs.Workload.{Batch, tableAfter, allGroups, workloadAnswer, workloadOut, workloadValues}
@@ -20,14 +20,14 @@ pub record Ready (w : Draft) : Type 0 where
 
 -- Draft w with buffer o has become r with q: the records of a batch were laid, and the table is the batch's.
 pub record Enters (w : Draft) (x : Batch) (o : List ℕ) (r : Draft) (q : List ℕ) : Type 0 where
-  pub lays : Put o (w .size) (recordsBytes 1 (x .records)) (r .size) q
+  pub lays : Put o (w .size) (callsBytes 1 (x .records)) (r .size) q
   pub clock : r .clock ≡ x .clock
   pub left : model (r .table) ≡ x .left
   pub valid : Valid (r .table)
 
 -- A draft of the rig alone.
 pub record Begins (o : List ℕ) (r : Draft) (q : List ℕ) : Type 0 where
-  pub lays : Put o 0 (loadBytes 1 (rig allGroups ∷ [])) (r .size) q
+  pub lays : Put o 0 (loadOf 1 (rig allGroups ∷ [])) (r .size) q
   pub clock : r .clock ≡ 0
   pub left : model (r .table) ≡ tableAfter unrigged (rig allGroups)
   pub valid : Valid (r .table)

@@ -8,6 +8,7 @@ use Rattle.numbers.specs.Numbers.{mostBytes, mostClaims, countNumber}
 use Rattle.rules.specs.Lists.{keep}
 use Rattle.format.specs.declared.Call.{Call}
 use Rattle.format.specs.Format.{claimKind}
+use Rattle.format.specs.Records.{recordsOf}
 use Rattle.load.specs.Reading.{walk, loadNumber}
 use Rattle.replay.specs.Replay.{replayOf}
 use Rattle.generator.specs.Workload.{workloadCalls, workloadOf}
@@ -20,7 +21,7 @@ claimsIn cs = length (keep (λ (c : Call). eqb (c .kind) claimKind) cs)
 -- and its listing comes to the load's end, without a stop (`replay`, Replay).
 pub record Reads (seed count : ℕ) : Type 0 where
   pub good : loadNumber (workloadOf seed count) ≡ 0
-  pub calls : walk (workloadOf seed count) 1 ≡ record { calls = workloadCalls seed count; stop = 0 }
+  pub calls : walk (workloadOf seed count) 1 ≡ record { records = recordsOf (workloadCalls seed count); stop = 0 }
   pub claims : claimsIn (workloadCalls seed count) ≡ count
   pub fits : length (workloadOf seed count) ≤ mostBytes
   pub listed : replayOf (workloadOf seed count) .stop ≡ 0

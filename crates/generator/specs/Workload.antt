@@ -17,7 +17,8 @@ use Rattle.load.specs.declared.Written.{Written}
 use Rattle.load.specs.declared.Written.the-variants.{Length, Refusal}
 use Rattle.load.specs.Answers.{WrittenValues}
 use Rattle.format.specs.Calls.{rig, claim, release}
-use Rattle.load.specs.Bytes.{loadBytes}
+use Rattle.format.specs.Records.{recordOf}
+use Rattle.load.specs.Bytes.{loadOf}
 use Rattle.load.specs.Reading.{orElse}
 use Rattle.load.specs.Writing.{answered, answeredValues, begun, lent}
 use Rattle.replay.specs.Records.{stepOf, unrigged}
@@ -45,7 +46,7 @@ lengthFor d = d .length % 1000 + 1
 -- ── records ──
 -- The table after a record of an edition 1 load.
 abbrev pub tableAfter : Model → Call → Model
-tableAfter m c = stepOf true m c .model
+tableAfter m c = stepOf true m (recordOf c) .model
 
 -- Records that follow one another; the clock of the last claim among them or before, and the table after them.
 pub record Batch : Type 0 where
@@ -105,7 +106,7 @@ unfoldable pub workloadCalls : ℕ → ℕ → List Call
 workloadCalls seed count = rig allGroups ∷ recordsFrom count seed 0 (tableAfter unrigged (rig allGroups))
 
 unfoldable pub workloadOf : ℕ → ℕ → List ℕ
-workloadOf seed count = loadBytes 1 (workloadCalls seed count)
+workloadOf seed count = loadOf 1 (workloadCalls seed count)
 
 -- ── the call ──
 -- "20 "count", count outside 1 to 1,000, before anything is written"; then 15.

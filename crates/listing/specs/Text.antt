@@ -7,7 +7,7 @@ use lib.Dec.{leb}
 use lib.ListN.{length}
 use Rattle.numbers.specs.Numbers.{noSpaceNumber}
 use Rattle.rules.specs.Calls.{Model, Step}
-use Rattle.format.specs.declared.Call.{Call}
+use Rattle.format.specs.Records.{Record}
 use Rattle.load.specs.Reading.{Walk, walk, openNumber}
 use Rattle.replay.specs.Records.{aloneIn, stepOf, ending, unrigged}
 use Rattle.replay.specs.StopLine.{stopOr}
@@ -19,15 +19,15 @@ entryOf k s =
     let a = s .answer in
     lineOf k (a .number) (a .ticket) (a .start) ++ onLines (s .model .clock) (a .grants)
 
--- The lines from record k on, in table m: of the records cs, then the stop by what follows them (0: the load ends there).
-unfoldable pub linesFrom : Bool → ℕ → Model → List Call → ℕ → List ℕ
+-- The lines from record k on, in table m: of the records rs, then the stop by what follows them (0: the load ends there).
+unfoldable pub linesFrom : Bool → ℕ → Model → List Record → ℕ → List ℕ
 linesFrom alone k m [] n = stopOr n k []
-linesFrom alone k m (c ∷ cs) n =
-    let s = stepOf alone m c in
-    stopOr (ending k (s .answer .number)) k (entryOf k s ++ linesFrom alone (k + 1) (s .model) cs n)
+linesFrom alone k m (r ∷ rs) n =
+    let s = stepOf alone m r in
+    stopOr (ending k (s .answer .number)) k (entryOf k s ++ linesFrom alone (k + 1) (s .model) rs n)
 
 unfoldable pub linesOf : Bool → ℕ → Model → Walk → List ℕ
-linesOf alone k m w = linesFrom alone k m (w .calls) (w .stop)
+linesOf alone k m w = linesFrom alone k m (w .records) (w .stop)
 
 -- "The header, then one line for each record"; "RECORD is 0 for 14, 11 and an empty load", which are told before any record.
 unfoldable pub listingOf : List ℕ → List ℕ

@@ -5,8 +5,9 @@ ghost use lib.ListN.{length};
 ghost use Rattle.numerals.specs.Laid.{behind, laid, Put};
 ghost use Rattle.format.specs.Format.{widths};
 ghost use Rattle.format.specs.Calls.{callOf, valuesOf};
+ghost use Rattle.format.specs.Records.{recordOf};
 ghost use Rattle.load.specs.Answers.{itemValues, writtenValues};
-ghost use Rattle.load.specs.Bytes.{recordBytes, fieldBytes, fieldValues};
+ghost use Rattle.load.specs.Bytes.{callBytes, fieldBytes, fieldValues};
 ghost use Rattle.load.specs.Reading.{inPlace, openNumber, misfit, itemAt, recordValues, loadNumber};
 ghost use Rattle.load.specs.Writing.{growNumber, appendNumber, appendAnswer, appendValues, appendOut};
 use format::Call;
@@ -54,9 +55,9 @@ fn placed(kind: u8, at: usize) -> bool
     at != 1
 }
 
-// A record of n bytes at a position is not as its kind and place ask: 13.
+// A record of n bytes at a position is not as its kind, which has no members, and its place ask: 13.
 fn misfits(edition: u8, at: usize, n: usize, kind: u8) -> bool
-    ensures { λ r. ⌜ r ≡ misfit edition at n kind ⌝ }
+    ensures { λ r. ⌜ r ≡ misfit edition at n kind 0 ⌝ }
 {
     if !format::has_kind(edition, kind) {
         return true;
@@ -144,7 +145,7 @@ pub fn load_number(load: &[u8]) -> u8
 // ---- writing
 // For a load of an edition and a size that reads to its end: 0 for a call that can be appended in so much room; else 13, 14 or 15.
 pub fn grow_number(edition: u8, size: usize, call: Call, room: usize) -> u8
-    ensures { λ r. ⌜ r ≡ growNumber edition size call room ⌝ }
+    ensures { λ r. ⌜ r ≡ growNumber edition size (recordOf call) room ⌝ }
 {
     let kind = call.kind;
     if !placed(kind, size) {
@@ -169,7 +170,7 @@ pub fn grow_number(edition: u8, size: usize, call: Call, room: usize) -> u8
 
 // The same for any load, which is tested whole: its own number comes first.
 fn append_number(load: &[u8], call: Call, room: usize) -> u8
-    ensures { λ r. ⌜ r ≡ appendNumber (now (load .entry)) call room ⌝ }
+    ensures { λ r. ⌜ r ≡ appendNumber (now (load .entry)) (recordOf call) room ⌝ }
 {
     let t = load_number(load);
     if t != 0 {
@@ -199,7 +200,7 @@ fn put_fields(out: &mut [u8], at: usize, edition: u8, call: Call) -> usize
 
 // A record of an edition laid at a place: length, kind, fields. Answers the place after it.
 pub fn put_record(out: &mut [u8], at: usize, edition: u8, call: Call) -> usize
-    ensures { λ r. ⌜ (r ≡ behind at (length (recordBytes edition call))) × (now (out .exit) ≡ laid (now (out .entry)) at (recordBytes edition call)) ⌝ }
+    ensures { λ r. ⌜ (r ≡ behind at (length (callBytes edition call))) × (now (out .exit) ≡ laid (now (out .entry)) at (callBytes edition call)) ⌝ }
 {
     let kind = call.kind;
     let n = format::length_of(edition, kind);
@@ -211,9 +212,9 @@ pub fn put_record(out: &mut [u8], at: usize, edition: u8, call: Call) -> usize
 // Puts the load with one record more at the start of the buffer and answers the new length; the buffer's later bytes stay. Turned down it
 // answers the number, and the whole buffer stays. Reads the load once to test it and once to copy it.
 pub fn append(load: &[u8], call: Call, out: &mut [u8]) -> Written
-    ensures answer { λ r. ⌜ r ≡ appendAnswer (now (load .entry)) call (now (out .entry)) ⌝ }
-    ensures buffer { λ _. ⌜ now (out .exit) ≡ appendOut (now (load .entry)) call (now (out .entry)) ⌝ }
-    ensures values { λ r. ⌜ writtenValues r ≡ appendValues (now (load .entry)) call (now (out .entry)) ⌝ }
+    ensures answer { λ r. ⌜ r ≡ appendAnswer (now (load .entry)) (recordOf call) (now (out .entry)) ⌝ }
+    ensures buffer { λ _. ⌜ now (out .exit) ≡ appendOut (now (load .entry)) (recordOf call) (now (out .entry)) ⌝ }
+    ensures values { λ r. ⌜ writtenValues r ≡ appendValues (now (load .entry)) (recordOf call) (now (out .entry)) ⌝ }
 {
     let room = out.len();
     let t = append_number(load, call, room);

@@ -12,7 +12,7 @@ use Rattle.rules.specs.Lists.{_∈_}
 use Rattle.promises.specs.Ledger.{Turn, turns, tableAfter}
 use Rattle.promises.specs.Runs.{Start, newly}
 use Rattle.promises.specs.Promises.{Promises}
-use Rattle.format.specs.declared.Call.{Call}
+use Rattle.format.specs.Records.{Record}
 use Rattle.load.specs.Reading.{walk}
 use Rattle.replay.specs.Records.{saysCall, aloneIn, unrigged}
 use Rattle.replay.specs.StopLine.{stopOr}
@@ -41,16 +41,16 @@ abbrev pub Ends : ℕ → Type 0
 Ends n = (editionNumber ≤ n) × (n ≤ overlongNumber)
 
 -- What the run of a load begins with: the table that its rig gave.
-abbrev pub startOf : List ℕ → Call → Start
-startOf load rig = newly (rig .groups) (rig .pool) (aloneIn load)
+abbrev pub startOf : List ℕ → Record → Start
+startOf load rig = newly (rig .call .groups) (rig .call .pool) (aloneIn load)
 
 -- A load whose rig is taken: the rig; the records behind it that were run, and those that were not.
 pub record Ran (load : List ℕ) : Type 0 where
-  pub rig : Call
-  pub records : List Call
-  pub rest : List Call
-  pub read : walk load 1 .calls ≡ rig ∷ (records ++ rest)
-  pub taken : new (rig .groups) (rig .pool) (aloneIn load) .answer .number ≡ 0
+  pub rig : Record
+  pub records : List Record
+  pub rest : List Record
+  pub read : walk load 1 .records ≡ rig ∷ (records ++ rest)
+  pub taken : new (rig .call .groups) (rig .call .pool) (aloneIn load) .answer .number ≡ 0
   -- The listing is the header, the rig's line, the lines of the calls with their answers, and the stop line, where there is one.
   pub listing : listingOf load ≡ header ++ (lineOf 1 0 0 0 ++ (turnsLines 2 (turns step (startOf load rig .table) (map saysCall records)) ++ stopText load))
   -- The table that the load leaves, of which questions are asked.
@@ -59,7 +59,7 @@ pub record Ran (load : List ℕ) : Type 0 where
   -- stop, if any, is that of the load's bytes, or the next one is answered such a number, and that is the stop.
   pub none-ends : (t : Turn) → t ∈ turns step (startOf load rig .table) (map saysCall records) → Ends (t .answer .number) → ⊥
   pub all-run : ((rest ≡ []) × (replayOf load .stop ≡ walk load 1 .stop))
-      ⊎ ((c : Call) × (cs : List Call) × (rest ≡ c ∷ cs) × (let n = step (replayOf load .left) (saysCall c) .answer .number in Ends n × (replayOf load .stop ≡ n)))
+      ⊎ ((c : Record) × (cs : List Record) × (rest ≡ c ∷ cs) × (let n = step (replayOf load .left) (saysCall c) .answer .number in Ends n × (replayOf load .stop ≡ n)))
   -- "`stop NUMBER RECORD`, in place of that record's line": the rig is record 1.
   pub stop-at : replayOf load .stop ≢ 0 → replayOf load .at ≡ 2 + length records
   -- All that is promised of a run.

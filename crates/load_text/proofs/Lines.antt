@@ -13,10 +13,11 @@ use Rattle.numerals.specs.Digits.{digits, widthUpTo, widthOf, decimalOf, column
 use Rattle.numerals.specs.Laid.{Put, spaceNumber, lentOut}
 use Rattle.numerals.proofs.Laying.{width-small, decimal-length, pair-length, put-short, lent-all, lent-none, lent-known}
 use Rattle.format.specs.declared.Call.{Call}
+use Rattle.format.specs.Records.{recordOf}
 use Rattle.format.specs.Format.{theGroups, fieldWidths, fieldCount, fieldWidth, format, known, fieldsOf, hasKind, total, lengthIn, names, nameOf}
 use Rattle.format.specs.Calls.{valueOf}
 use Rattle.format.proofs.Format.{both, allBelow, below-passes, allRows, kind-tested, known-tested, no-fields, length-of, no-width}
-use Rattle.load.proofs.Bytes.{record-some, record-length}
+use Rattle.load.proofs.Bytes.{record-some, call-length}
 use Rattle.load.specs.Reading.{unlessRefused}
 use Rattle.load.specs.Writing.{answeredValues}
 use Rattle.load_text.specs.declared.print.Printed.{Printed}
@@ -96,7 +97,7 @@ line-brief e c h = either (hasKind e k) some none
     k = c .kind
 
     none : hasKind e k ≡ false → Brief e c
-    none n = rw (n, no-fields e k n) (omega arith, omega (arith, record-some e c))
+    none n = rw (n, no-fields e k n) (omega arith, omega (arith, record-some e (recordOf c)))
 
     some : hasKind e k ≡ true → Brief e c
     some t =
@@ -104,7 +105,7 @@ line-brief e c h = either (hasKind e k) some none
         let name = getD names k [] in
         let n = length name + fieldsMost fs in
         let b = both (leb n 68) (leb n (3 * (2 + lengthIn fs))) (kind-tested (λ e k fs. line-test k fs) e k refl t) in
-        let r = record-length e c t in
+        let r = call-length e c t in
         let l : length (lineOf e c) ≤ n = rw t (omega (arith, length-append name (fieldsText fs c), h)) in
         (omega (arith, l, leb-true n 68 (b .0)), omega (arith, l, leb-true n (3 * (2 + lengthIn fs)) (b .1), r, length-of e k t))
 

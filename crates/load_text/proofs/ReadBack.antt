@@ -11,12 +11,14 @@ use borrow.Author.Tests.{eqb-true, ltb-true, leb-false, leb-true, lt-ltb, le-ltb
 use Rattle.numerals.specs.Digits.{digits, widthUpTo, widthOf, decimalOf, column}
 use Rattle.format.specs.declared.Call.{Call}
 use Rattle.format.specs.Format.{theGroups, fieldWidth, format, known, fieldsOf, hasKind, names, nameOf}
-use Rattle.format.specs.Calls.{valueOf, withValue, bare, filled, callOf, valuesIn, valuesOf, carries, Typed}
+use Rattle.format.specs.Calls.{valueOf, withValue, bare, filled, callOf, valuesIn, valuesOf, keeps, Typed}
+use Rattle.format.specs.Records.{Record, callsOf}
 use Rattle.load.specs.Reading.{editionOf, walk}
 use Rattle.format.proofs.Format.{both, allRows, kind-tested, known-tested, width-most}
-use Rattle.format.proofs.Calls.{carries-kind, call-of-values}
+use Rattle.format.proofs.Calls.{keeps-kind, call-of-values}
 use Rattle.load.proofs.Reading.{load-parts, load-known}
-use Rattle.load.proofs.Loads.{Loadable, read-loadable}
+use Rattle.format.proofs.Records.{carries-parts, call-carried}
+use Rattle.load.proofs.Loads.{Sound, Loadable, read-loadable}
 use Rattle.load_text.specs.declared.parse.Head.the-variants.{Edition, Other}
 use Rattle.load_text.specs.declared.parse.Parsed.the-variants.{Nothing, Said}
 use Rattle.load_text.specs.declared.words.Field.the-variants.{Value}
@@ -265,11 +267,11 @@ record Line (e : ℕ) (c : Call) (rest : List ℕ) : Type 0 where
   says : lineSays e line ≡ Said c
   head : headSays line ≡ Other
 
-line-of : (e : ℕ) (c : Call) → carries e c ≡ true → Typed c → (rest : List ℕ) → Line e c rest
+line-of : (e : ℕ) (c : Call) → keeps e c ≡ true → Typed c → (rest : List ℕ) → Line e c rest
 unfolding lineOf lineSays callIn headSays headIn valuesOf callOf
 line-of e c h t rest =
     let k = c .kind in
-    let n = named e k (carries-kind e c h) in
+    let n = named e k (keeps-kind e c h) in
     let fs = fieldsOf e k in
     let ps = fields-plain c t fs in
     let name = nameOf e k in
@@ -282,20 +284,24 @@ line-of e c h t rest =
     }
 
 pub line-read-back : LineReadBack
-line-read-back e c h t rest = let l = line-of e c h t rest in ap (map (lineSays e)) (l .front) ∙ ap (λ x. x ∷ map (lineSays e) (linesIn rest)) (l .says)
+line-read-back e c h t rest = let l = line-of e c (sym (call-carried e c) ∙ h) t rest in ap (map (lineSays e)) (l .front) ∙ ap (λ x. x ∷ map (lineSays e) (linesIn rest)) (l .says)
 
 -- ── the text of a load ──
-lines-read-back : (e k : ℕ) (b : Bool) (cs : List Call) → Loadable e b cs → map (lineSays e) (linesIn (linesOf e k cs 0)) ≡ map Said cs
+record-read-back : (e : ℕ) (b : Bool) (r : Record) → Sound e b r → (rest : List ℕ) → Line e (r .call) rest
+record-read-back e b r v rest = line-of e (r .call) (carries-parts e r (v .carried) .0) (v .typed .0) rest
+
+lines-read-back : (e k : ℕ) (b : Bool) (rs : List Record) → Loadable e b rs → map (lineSays e) (linesIn (linesOf e k rs 0)) ≡ map Said (callsOf rs)
 unfolding linesOf linesIn parts
 lines-read-back e k b [] Loadable.none = refl
-lines-read-back e k b (c ∷ cs) (Loadable.one v g) =
-    line-read-back e c (v .carried) (v .typed) (linesOf e (k + 1) cs 0) ∙ ap (λ l. Said c ∷ l) (lines-read-back e (k + 1) false cs g)
+lines-read-back e k b (r ∷ rs) (Loadable.one v g) =
+    let l = record-read-back e b r v (linesOf e (k + 1) rs 0) in
+    rw (l .front, l .says) (ap (λ l. Said (r .call) ∷ l) (lines-read-back e (k + 1) false rs g))
 
 -- Lines of calls have no heading.
-lines-plain : (e k : ℕ) (b : Bool) (cs : List Call) → Loadable e b cs → (i : ℕ) → headingIn i (map headSays (linesIn (linesOf e k cs 0))) ≡ plain
+lines-plain : (e k : ℕ) (b : Bool) (rs : List Record) → Loadable e b rs → (i : ℕ) → headingIn i (map headSays (linesIn (linesOf e k rs 0))) ≡ plain
 unfolding linesOf linesIn parts headingIn
 lines-plain e k b [] Loadable.none i = refl
-lines-plain e k b (c ∷ cs) (Loadable.one v g) i = let l = line-of e c (v .carried) (v .typed) (linesOf e (k + 1) cs 0) in rw (l .front, l .head)
+lines-plain e k b (r ∷ rs) (Loadable.one v g) i = let l = record-read-back e b r v (linesOf e (k + 1) rs 0) in rw (l .front, l .head)
 
 -- The header of another edition than 1 says it.
 edition-says : (e : ℕ) → known e ≡ true → (t : List ℕ)
@@ -310,21 +316,21 @@ edition-says e k t =
       ap headIn (line-words editionWord (decimalOf e ∷ []) p (also d nil)) ∙ ap editionOr (number-said 10 255 editionNumber editionNumber e (decimalOf e) s b),
     )
 
-text-said : (e : ℕ) (cs : List Call) → known e ≡ true → Loadable e true cs → (t : List ℕ) → t ≡ headerOf e ++ linesOf e 1 cs 0
-    → (heading t .number ≡ 0) × (heading t .edition ≡ e) × (saidIn t ≡ cond (eqb e 1) (Nothing ∷ []) [] ++ map Said cs)
+text-said : (e : ℕ) (rs : List Record) → known e ≡ true → Loadable e true rs → (t : List ℕ) → t ≡ headerOf e ++ linesOf e 1 rs 0
+    → (heading t .number ≡ 0) × (heading t .edition ≡ e) × (saidIn t ≡ cond (eqb e 1) (Nothing ∷ []) [] ++ map Said (callsOf rs))
 unfolding heading headingIn saidIn headerOf headSays headIn lineSays callIn linesIn wordsIn said chomped before parts
-text-said e cs k g t q =
-    let rest = linesOf e 1 cs 0 in
+text-said e rs k g t q =
+    let rest = linesOf e 1 rs 0 in
     either (eqb e 1) (λ o.
     let i : e ≡ 1 = eqb-true e 1 o in
     let l : linesIn t ≡ (35 ∷ 32 ∷ 101 ∷ 100 ∷ 105 ∷ 116 ∷ 105 ∷ 111 ∷ 110 ∷ 32 ∷ 49 ∷ []) ∷ linesIn rest = ap linesIn (rw o at q) in
-    rw (o, l, lines-plain e 1 true cs g 1) (refl, sym i, ap (λ x. Nothing ∷ x) (ap (λ (x : ℕ). map (lineSays x) (linesIn rest)) (sym i) ∙ lines-read-back e 1 true cs g)))
-    (λ o. let s = edition-says e k rest in rw (o, ap linesIn (rw o at q) ∙ s .0, s .1) (refl, refl, lines-read-back e 1 true cs g))
+    rw (o, l, lines-plain e 1 true rs g 1) (refl, sym i, ap (λ x. Nothing ∷ x) (ap (λ (x : ℕ). map (lineSays x) (linesIn rest)) (sym i) ∙ lines-read-back e 1 true rs g)))
+    (λ o. let s = edition-says e k rest in rw (o, ap linesIn (rw o at q) ∙ s .0, s .1) (refl, refl, lines-read-back e 1 true rs g))
 
 pub text-read-back : TextReadBack
 unfolding textOf restOf
 text-read-back s b z =
     let h = load-parts s z in
     let e = editionOf s in
-    let cs = walk s 1 .calls in
-    text-said e cs (load-known s z .1) (read-loadable s b) (textOf s) (rw (h .0, h .1))
+    let rs = walk s 1 .records in
+    text-said e rs (load-known s z .1) (read-loadable s b) (textOf s) (rw (h .0, h .1))

@@ -4,7 +4,7 @@ use mathlib.Core.List.{List, [], _∷_}
 use Prim.Native.Nat.{ℕ}
 use Rattle.numerals.specs.Texts.{bytes}
 use Rattle.format.specs.Calls.{rig, rigWith, claim, claimWith, release}
-use Rattle.load.specs.Bytes.{loadBytes}
+use Rattle.load.specs.Bytes.{loadOf}
 use Rattle.question.specs.Questions.{questionOf}
 use Rattle.question.specs.Answers.{textOf}
 
@@ -18,14 +18,14 @@ sample load line text = record { load = load; line = line; text = text }
 
 -- "Plot S": rig F hex; claims of 8, C, 6 hex for 10, 10, 11 at clock 0. And a release of ticket 1 at 4.
 abbrev pub plot : List ℕ
-plot = loadBytes 1 (rig 0xF ∷ claim 0 0x8 10 ∷ claim 0 0xC 10 ∷ claim 0 0x6 11 ∷ [])
+plot = loadOf 1 (rig 0xF ∷ claim 0 0x8 10 ∷ claim 0 0xC 10 ∷ claim 0 0x6 11 ∷ [])
 
 abbrev pub released : List ℕ
-released = loadBytes 1 (rig 0xF ∷ claim 0 0x8 10 ∷ claim 0 0xC 10 ∷ claim 0 0x6 11 ∷ release 4 1 ∷ [])
+released = loadOf 1 (rig 0xF ∷ claim 0 0x8 10 ∷ claim 0 0xC 10 ∷ claim 0 0x6 11 ∷ release 4 1 ∷ [])
 
 -- A pool of 3; claims on groups 0, 1, 2 that draw 2, 2, 0: the first and the third are on.
 abbrev pub pooled : List ℕ
-pooled = loadBytes 2 (rigWith 0xF 3 ∷ claimWith 0 0x1 10 2 ∷ claimWith 0 0x2 10 2 ∷ claimWith 0 0x4 10 0 ∷ [])
+pooled = loadOf 2 (rigWith 0xF 3 ∷ claimWith 0 0x1 10 2 ∷ claimWith 0 0x2 10 2 ∷ claimWith 0 0x4 10 0 ∷ [])
 
 unfoldable pub samples : List Sample
 samples =
@@ -42,7 +42,7 @@ samples =
     -- an empty load
     ∷ sample [] (bytes "lookup 1") (bytes "stop 12 0\nticket 1 is not pending\n")
     -- a dark rig, and nothing after it
-    ∷ sample (loadBytes 1 (rig 0 ∷ claim 0 0x8 10 ∷ [])) (bytes "lookup 1") (bytes "stop 1 1\nticket 1 is not pending\n")
+    ∷ sample (loadOf 1 (rig 0 ∷ claim 0 0x8 10 ∷ [])) (bytes "lookup 1") (bytes "stop 1 1\nticket 1 is not pending\n")
     ∷ []
 
 abbrev pub given : Sample → List ℕ

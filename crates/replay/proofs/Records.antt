@@ -17,7 +17,8 @@ use Rattle.table.specs.Valid.{Valid}
 use Rattle.table.specs.Outcomes.{outcome, leaving}
 use Rattle.table.proofs.Promised.{Promised, by-call, by-new, outcome-model, new-none}
 use Rattle.format.specs.declared.Call.{Call}
-use Rattle.load.specs.declared.Item.the-variants.{Record}
+use Rattle.format.specs.Records.{Record, recordOf}
+use Rattle.load.specs.declared.Item.the-variants as item
 use Rattle.load.specs.Reading.{itemAt}
 use Rattle.format.proofs.Format.{either}
 use Rattle.load.proofs.Reading.{step-next}
@@ -25,39 +26,41 @@ use Rattle.replay.specs.Records.{saysCall, stepOf, ending, unrigged}
 
 -- ── one record ──
 -- What a record does is what a call promises.
-pub record-promised : (alone : Bool) (m : Model) (c : Call) → Promised m (stepOf alone m c)
+pub record-promised : (alone : Bool) (m : Model) (r : Record) → Promised m (stepOf alone m r)
 unfolding stepOf
-record-promised alone m c = either (eqb (c .kind) 1) (λ e. rw e (by-new (c .groups) (c .pool) alone)) (λ e. rw e (by-call (saysCall c)))
+record-promised alone m r =
+    let c = r .call in
+    either (eqb (c .kind) 1) (λ e. rw e (by-new (c .groups) (c .pool) alone)) (λ e. rw e (by-call (saysCall r)))
 
 -- By its kind.
 module _ (alone : Bool) (m : Model) (c : Call) where
-  pub step-rig : c .kind ≡ 1 → new (c .groups) (c .pool) alone ≡ stepOf alone m c
+  pub step-rig : c .kind ≡ 1 → new (c .groups) (c .pool) alone ≡ stepOf alone m (recordOf c)
   unfolding stepOf
   step-rig k = rw (eq-eqb (c .kind) 1 k)
 
-  pub step-claim : c .kind ≡ 2 → step m (claim (c .clock) (record { groups = c .groups; length = c .length; units = c .units; client = c .client })) ≡ stepOf alone m c
+  pub step-claim : c .kind ≡ 2 → step m (claim (c .clock) (record { groups = c .groups; length = c .length; units = c .units; client = c .client })) ≡ stepOf alone m (recordOf c)
   unfolding stepOf saysCall
   step-claim k = rw (ne-eqb (c .kind) 1 (λ z. omega arith), eq-eqb (c .kind) 2 k)
 
   -- A release and a withdrawal are one call of the table.
-  pub step-leave : 3 ≤ c .kind → c .kind ≤ 4 → step m (leaving (eqb (c .kind) 3) (c .clock) (c .ticket)) ≡ stepOf alone m c
+  pub step-leave : 3 ≤ c .kind → c .kind ≤ 4 → step m (leaving (eqb (c .kind) 3) (c .clock) (c .ticket)) ≡ stepOf alone m (recordOf c)
   unfolding stepOf saysCall
   step-leave h l =
       rw (ne-eqb (c .kind) 1 (λ z. omega arith), ne-eqb (c .kind) 2 (λ z. omega arith))
       (either (eqb (c .kind) 3) (λ x. rw x) (λ x. rw (x, eq-eqb (c .kind) 4 (omega (arith, eqb-false (c .kind) 3 x)))))
 
-  pub step-declare : c .kind ≡ 6 → step m (declare (c .client) (c .reserved) (c .limit)) ≡ stepOf alone m c
+  pub step-declare : c .kind ≡ 6 → step m (declare (c .client) (c .reserved) (c .limit)) ≡ stepOf alone m (recordOf c)
   unfolding stepOf saysCall
   step-declare k =
       rw (ne-eqb (c .kind) 1 (λ z. omega arith), ne-eqb (c .kind) 2 (λ z. omega arith), ne-eqb (c .kind) 3 (λ z. omega arith), ne-eqb (c .kind) 4 (λ z. omega arith), eq-eqb (c .kind) 6 k)
 
-  pub step-grace : c .kind ≡ 8 → step m (setGrace (c .grace)) ≡ stepOf alone m c
+  pub step-grace : c .kind ≡ 8 → step m (setGrace (c .grace)) ≡ stepOf alone m (recordOf c)
   unfolding stepOf saysCall
   step-grace k =
       let n : (j : ℕ) → j < 8 → eqb (c .kind) j ≡ false = λ j l. ne-eqb (c .kind) j (λ z. omega arith) in
       rw (n 1 (omega arith), n 2 (omega arith), n 3 (omega arith), n 4 (omega arith), n 6 (omega arith), eq-eqb (c .kind) 8 k)
 
-  pub step-clock : (c .kind < 1) ⊎ (5 ≤ c .kind) → c .kind ≢ 6 → c .kind ≢ 8 → step m (clock (c .clock)) ≡ stepOf alone m c
+  pub step-clock : (c .kind < 1) ⊎ (5 ≤ c .kind) → c .kind ≢ 6 → c .kind ≢ 8 → step m (clock (c .clock)) ≡ stepOf alone m (recordOf c)
   unfolding stepOf saysCall
   step-clock h o o′ =
       let n : (k : ℕ) → 1 ≤ k → k ≤ 4 → eqb (c .kind) k ≡ false = λ k l u. ne-eqb (c .kind) k (λ z. ⊎-elim (λ v. omega arith) (λ v. omega arith) h) in
@@ -86,9 +89,9 @@ module _ (k n : ℕ) where
   within-ends l h = rw (le-leb editionNumber n l, le-leb n overlongNumber h)
 
 -- That of an outcome of the rules is the step's.
-pub ends-as : (alone : Bool) (m : Model) (c : Call) (o : Outcome) → o ≡ outcome (stepOf alone m c) → (k n : ℕ) → n ≡ ending k (o .number)
-    → n ≡ ending k (stepOf alone m c .answer .number)
-ends-as alone m c o p k n q = q ∙ ap (λ (x : Outcome). ending k (x .number)) p
+pub ends-as : (alone : Bool) (m : Model) (r : Record) (o : Outcome) → o ≡ outcome (stepOf alone m r) → (k n : ℕ) → n ≡ ending k (o .number)
+    → n ≡ ending k (stepOf alone m r .answer .number)
+ends-as alone m r o p k n q = q ∙ ap (λ (x : Outcome). ending k (x .number)) p
 
 -- ── a loop over the records ──
 -- It stands before record k, at a position, with a table.
@@ -101,7 +104,7 @@ pub reached-start : (t : Table) → Valid t → Reached t 1 1
 reached-start t v = record { valid = v; inside = omega arith; few = omega arith }
 
 pub reached-more : (s : List ℕ) (t u : Table) (at k : ℕ) → Reached t at k → length s ≤ 65536
-    → (c : Call) (next : ℕ) → itemAt s at ≡ Record c next → Valid u → Reached u next (k + 1)
+    → (c : Call) (next : ℕ) → itemAt s at ≡ item.Record c next → Valid u → Reached u next (k + 1)
 reached-more s t u at k w l c next e v =
     let i = step-next s at c next e in
     record { valid = v; inside = omega (arith, i .1); few = omega (arith, i .0, w .few) }

@@ -5,7 +5,7 @@ use mathlib.Core.List.{List, [], _∷_}
 use Prim.Native.Nat.{ℕ, zero, suc, _+_}
 use Rattle.rules.specs.Calls.{Model}
 use Rattle.rules.specs.Tables.{encode}
-use Rattle.format.specs.declared.Call.{Call}
+use Rattle.format.specs.Records.{Record}
 use Rattle.load.specs.Reading.{Walk, walk, openNumber}
 use Rattle.replay.specs.declared.Replayed.{Replayed}
 use Rattle.replay.specs.Records.{aloneIn, stepOf, ending, unrigged}
@@ -24,16 +24,16 @@ abbrev pub stoppedOr : ℕ → ℕ → Model → Replay → Replay
 stoppedOr zero k m r = r
 stoppedOr (suc n) k m r = stoppedAt (suc n) k m
 
--- From record k on, in table m: the records cs, then the stop by what follows them (0: the load ends there). The record that ends the
+-- From record k on, in table m: the records rs, then the stop by what follows them (0: the load ends there). The record that ends the
 -- load early leaves the table as it was before it.
-unfoldable pub replayFrom : Bool → ℕ → Model → List Call → ℕ → Replay
+unfoldable pub replayFrom : Bool → ℕ → Model → List Record → ℕ → Replay
 replayFrom alone k m [] n = stoppedOr n k m (stoppedAt 0 0 m)
-replayFrom alone k m (c ∷ cs) n =
-    let s = stepOf alone m c in
-    stoppedOr (ending k (s .answer .number)) k m (replayFrom alone (k + 1) (s .model) cs n)
+replayFrom alone k m (r ∷ rs) n =
+    let s = stepOf alone m r in
+    stoppedOr (ending k (s .answer .number)) k m (replayFrom alone (k + 1) (s .model) rs n)
 
 unfoldable pub replayIn : Bool → ℕ → Model → Walk → Replay
-replayIn alone k m w = replayFrom alone k m (w .calls) (w .stop)
+replayIn alone k m w = replayFrom alone k m (w .records) (w .stop)
 
 -- A load that does not open leaves a table without groups.
 unfoldable pub replayOf : List ℕ → Replay

@@ -5,6 +5,7 @@ ghost use lib.ListN.{length};
 ghost use Rattle.numbers.specs.Numbers.{mostBytes};
 ghost use Rattle.rules.specs.Tables.{model};
 ghost use Rattle.numerals.specs.Laid.{Put};
+ghost use Rattle.format.specs.Records.{recordOf};
 ghost use Rattle.load.specs.Reading.{walk};
 ghost use Rattle.table.specs.Valid.{Valid};
 ghost use Rattle.table.specs.Outcomes.{outcome};
@@ -24,7 +25,7 @@ use table::Outcome;
 // and withdrawal are one call site: the compiler then makes no copy of the table for either.
 pub fn act(t: Table, alone: bool, call: Call) -> Outcome
     requires { ⌜ Valid t ⌝ }
-    ensures { λ r. ⌜ (r ≡ outcome (stepOf alone (model t) call)) × Valid (r .table) ⌝ }
+    ensures { λ r. ⌜ (r ≡ outcome (stepOf alone (model t) (recordOf call))) × Valid (r .table) ⌝ }
 {
     let kind = call.kind;
     match kind {

@@ -2,23 +2,24 @@
 use borrow.Author.Needs.{needs}
 use borrow.Author.Tests.{not-true, not-false}
 use mathlib.Core.Path.{sym, _∙_}
-use Rattle.format.specs.Calls.{carries}
+use Rattle.format.specs.Calls.{keeps}
+use Rattle.format.proofs.Records.{call-carried}
 use Rattle.format.proofs.carries.Statement.{statement}
 use Rattle.format.proofs.carries.Tie as tie
 
 returns-2 : tie.Need-returns-2
-unfolding carries
+unfolding keeps
 returns-2 c =
     let z = c .before .before in
-    rw (sym (z .before .has-kind .ensures) ∙ not-false _ (z .if1 .left), ← (c .before .kept .ensures)) (c .same .ensures)
+    rw (call-carried, sym (z .before .has-kind .ensures) ∙ not-false _ (z .if1 .left), ← (c .before .kept .ensures)) (c .same .ensures)
 
 pub carries-spec : {M : Type 1} → statement M
-unfolding carries
+unfolding keeps
 carries-spec =
     tie.close
     (tie.spec
     (λ c κs. search needs)
-    (λ c. rw (sym (c .before .has-kind .ensures) ∙ not-true _ (c .if1 .taken)))
+    (λ c. rw (call-carried, sym (c .before .has-kind .ensures) ∙ not-true _ (c .if1 .taken)))
     (λ c κs. search needs)
     (λ c κs. search needs)
     returns-2)

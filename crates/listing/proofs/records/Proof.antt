@@ -10,6 +10,7 @@ use Rattle.rules.specs.Tables.{model}
 use Rattle.rules.specs.Calls.{new}
 use Rattle.table.specs.Valid.{Valid}
 use Rattle.table.specs.Outcomes.{outcome}
+use Rattle.format.specs.Records.{recordOf}
 use Rattle.load.proofs.Reading.{step-next}
 use Rattle.replay.specs.Records.{aloneIn, stepOf}
 use Rattle.replay.proofs.Records.{step-rig, step-claim, step-leave, step-declare, step-grace, step-clock}
@@ -28,7 +29,7 @@ called : (c : tie.At-match2-came Inv-loop μ-loop) →
     let k = c .before .before in
     let l = k .before .before .before in
     let a = l .before .before in
-    (c .match2 .o ≡ outcome (stepOf (aloneIn (a .before .before .before .args .load .now)) (model (l .loop .o .table)) (k .call .given .0 .0))) × Valid (c .match2 .o .table)
+    (c .match2 .o ≡ outcome (stepOf (aloneIn (a .before .before .before .args .load .now)) (model (l .loop .o .table)) (recordOf (k .call .given .0 .0)))) × Valid (c .match2 .o .table)
 called c =
     let k = c .before .before in
     let call = k .call .given .0 .0 in

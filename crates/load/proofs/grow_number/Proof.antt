@@ -6,8 +6,10 @@ use borrow.Author.Needs.{needs}
 use borrow.Author.Tests.{not-true, not-false}
 use Rattle.load.specs.Writing.{roomNumber, growNumber}
 use Rattle.format.proofs.Format.{length-bounded}
-use Rattle.format.proofs.Calls.{carries-kind}
-use Rattle.load.proofs.Bytes.{record-length}
+use Rattle.format.proofs.Calls.{keeps-kind}
+use Rattle.format.proofs.Records.{carries-parts}
+use Rattle.format.specs.Records.{recordOf}
+use Rattle.load.proofs.Bytes.{call-length}
 use Rattle.load.proofs.Writing.{room-long, room-short, room-good}
 use Rattle.load.proofs.grow_number.Statement.{statement}
 use Rattle.load.proofs.grow_number.Tie as tie
@@ -16,14 +18,14 @@ use Rattle.load.proofs.grow_number.Tie as tie
 sizes : (c : tie.After-length-of)
     → let a = c .before .before .before .before .before .args in
     let n = c .length-of .result in
-    (roomNumber (a .size + (2 + n)) (a .room) ≡ growNumber (a .edition) (a .size) (a .call) (a .room)) × (n ≤ 65535)
+    (roomNumber (a .size + (2 + n)) (a .room) ≡ growNumber (a .edition) (a .size) (recordOf (a .call)) (a .room)) × (n ≤ 65535)
 unfolding growNumber
 sizes c =
     let k = c .before .before in
     let p = k .before .before in
     let a = p .before .args in
     let q = sym (k .carries .ensures) ∙ not-false _ (c .before .if2 .left) in
-    let r = record-length (a .edition) (a .call) (carries-kind _ _ q) in
+    let r = call-length (a .edition) (a .call) (keeps-kind _ _ (carries-parts (a .edition) (recordOf (a .call)) q .0)) in
     (rw (sym (p .placed .ensures) ∙ not-false _ (k .before .if1 .left), q, r, ← (c .length-of .ensures)), omega (arith, c .length-of .ensures, length-bounded (a .edition) (a .call .kind)))
 
 pub grow-number-spec : {M : Type 1} → statement M

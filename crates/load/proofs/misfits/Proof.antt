@@ -4,6 +4,7 @@ use mathlib.Core.Path.{_≡_, sym, ap, _∙_}
 use mathlib.Core.Bool.{true, not}
 use Rattle.format.specs.Format.{hasKind}
 use Rattle.load.specs.Reading.{misfit}
+use Rattle.format.proofs.Records.{with-none}
 use borrow.Author.Needs.{needs}
 use Rattle.load.proofs.misfits.Statement.{statement}
 use Rattle.load.proofs.misfits.Tie as tie
@@ -19,6 +20,6 @@ misfits-spec =
     (λ c κs. search needs)
     (λ c. rw (sym (c .before .has-kind .ensures) ∙ not-true _ (c .if1 .taken)))
     (λ c κs. search needs)
-    (λ c. rw (has-it (c .before .before), ne-eqb _ _ (λ z. c .if2 .taken (z ∙ sym (c .before .length-of .ensures)))))
+    (λ c. rw (has-it (c .before .before), with-none, ne-eqb _ _ (λ z. c .if2 .taken (z ∙ sym (c .before .length-of .ensures)))))
     (λ c κs. search needs)
-    (λ c. let n = c .before .before in rw (has-it (n .before), eq-eqb _ _ (c .before .if2 .left ∙ n .length-of .ensures)) (ap not (c .placed .ensures))))
+    (λ c. let n = c .before .before in rw (has-it (n .before), with-none, eq-eqb _ _ (c .before .if2 .left ∙ n .length-of .ensures)) (ap not (c .placed .ensures))))

@@ -9,7 +9,7 @@ use Rattle.load.proofs.record_at.Tie as tie
 returns-4 : tie.Need-returns-4
 returns-4 c =
     let b = c .before .before in
-    with-values _ _ _ (step-misfit _ _ _ (b .be16 .ensures) (omega (arith, c .before .if3 .left, b .before .if2 .left)) (misfit-empty _ _ _ _ (c .if4 .taken)))
+    with-values _ _ _ (step-misfit _ _ _ (b .be16 .ensures) (omega (arith, c .before .if3 .left, b .before .if2 .left)) (misfit-empty _ _ _ _ _ (c .if4 .taken)))
 
 returns-5 : tie.Need-returns-5
 returns-5 c =
