@@ -15,8 +15,8 @@ use Rattle.load.proofs.Bytes.{calls-append}
 use Rattle.lcg.specs.Draws.{stateIn}
 use Rattle.replay.specs.Records.{unrigged}
 use Rattle.generator.specs.declared.Draft.{Draft}
-use Rattle.generator.specs.Workload.{Batch, drawsFrom, batchOf, recordsFrom, allGroups, tableAfter, workloadCalls, workloadOf}
-use Rattle.generator.specs.Drafts.{Ready, Begins, Enters}
+use Rattle.generator.specs.Workload.{Batch, drawsFrom, batchOf, recordsFrom, allGroups, afterRecord, workloadCalls, workloadOf}
+use Rattle.generator.specs.Drafts.{Ready, RigLaid, Enters}
 use Rattle.generator.proofs.Batches.{batch-clock}
 
 -- What n claims lay from a state on, after a claim at clock t and in table m.
@@ -31,16 +31,16 @@ more : (n s t : ℕ) (m : Model) → left (suc n) s t m ≡ callsBytes 1 (batchO
 unfolding recordsFrom
 more n s t m = calls-append 1 (batchOf t m (drawsFrom s) .records) _
 
-whole : (seed count : ℕ) → workloadOf seed count ≡ loadOf 1 (rig allGroups ∷ []) ++ left count seed 0 (tableAfter unrigged (rig allGroups))
+whole : (seed count : ℕ) → workloadOf seed count ≡ loadOf 1 (rig allGroups ∷ []) ++ left count seed 0 (afterRecord unrigged (rig allGroups))
 unfolding workloadOf workloadCalls loadBytes
-whole seed count = ap (λ (r : List ℕ). 1 ∷ r) (calls-append 1 (rig allGroups ∷ []) (recordsFrom count seed 0 (tableAfter unrigged (rig allGroups))))
+whole seed count = ap (λ (r : List ℕ). 1 ∷ r) (calls-append 1 (rig allGroups ∷ []) (recordsFrom count seed 0 (afterRecord unrigged (rig allGroups))))
 
 pub record Drafting (seed count : ℕ) (o₀ : List ℕ) (n s : ℕ) (w : Draft) (o : List ℕ) : Type 0 where
   pub valid : Valid (w .table)
   pub early : w .clock + 7 * n < 2 ^ 63
   pub going : Going o₀ 0 (workloadOf seed count) o (w .size) (left n s (w .clock) (model (w .table)))
 
-pub drafting-start : (seed count : ℕ) (o : List ℕ) (r : Draft) (q : List ℕ) → length o < 2 ^ 64 → count < 2 ^ 32 → Begins o r q → Drafting seed count o count seed r q
+pub drafting-start : (seed count : ℕ) (o : List ℕ) (r : Draft) (q : List ℕ) → length o < 2 ^ 64 → count < 2 ^ 32 → RigLaid o r q → Drafting seed count o count seed r q
 drafting-start seed count o r q h c b =
     let g = going-start o 0 (workloadOf seed count) h (omega arith) in
     let e = b .clock in
@@ -48,7 +48,7 @@ drafting-start seed count o r q h c b =
       valid = b .valid;
       early = rw e (omega arith);
       going =
-          going-as o 0 (workloadOf seed count) q (r .size) _ _ (ap (λ (t : ℕ). left count seed t (tableAfter unrigged (rig allGroups))) (sym (b .clock)) ∙ ap (left count seed (r .clock)) (sym (b .left)))
+          going-as o 0 (workloadOf seed count) q (r .size) _ _ (ap (λ (t : ℕ). left count seed t (afterRecord unrigged (rig allGroups))) (sym (b .clock)) ∙ ap (left count seed (r .clock)) (sym (b .left)))
           (going-step o 0 (workloadOf seed count) o 0 (loadOf 1 (rig allGroups ∷ [])) _ q (r .size) (going-as o 0 _ o 0 _ _ (whole seed count) g) (b .lays));
     }
 

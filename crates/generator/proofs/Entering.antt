@@ -23,8 +23,8 @@ use Rattle.replay.specs.Records.{unrigged}
 use Rattle.generator.specs.declared.Draft.{Draft}
 use Rattle.generator.specs.declared.Draws.{Draws}
 use Rattle.generator.specs.declared.MaybeTicket.the-variants.{Ticket, NoTicket}
-use Rattle.generator.specs.Workload.{Batch, clockFor, groupsFor, lengthFor, claimBatch, lowestOn, releaseBatch, andThen, batchOf, allGroups}
-use Rattle.generator.specs.Drafts.{Enters, Begins}
+use Rattle.generator.specs.Workload.{Batch, clockFor, groupsFor, lengthFor, claimBatch, lowestOn, releaseBatch, followedBy, batchOf, allGroups}
+use Rattle.generator.specs.Drafts.{Enters, RigLaid}
 use Rattle.generator.proofs.Records.{claim-does, release-does, rig-does}
 
 -- One record.
@@ -76,7 +76,7 @@ module _ (w : Draft) (d : Draws) (o : List ℕ) (c : Draft) (p : List ℕ) (e : 
       let x : Batch = claimBatch (w .clock) (model (w .table)) d in
       let y : Batch = releaseBatch (c .clock) (model (c .table)) in
       let odd : d .last % 2 ≡ 1 = omega arith in
-      let both : Enters w (andThen x y) o r q = record {
+      let both : Enters w (followedBy x y) o r q = record {
         lays = rw (calls-append 1 (x .records) (y .records)) (put-then o (w .size) (callsBytes 1 (x .records)) (callsBytes 1 (y .records)) (c .size) (r .size) p q h (e .lays) (f .lays));
         clock = f .clock;
         left = f .left;
@@ -91,7 +91,7 @@ all-groups = refl
 
 pub rig-begins : (o p q : List ℕ) (a r g : ℕ) (b : Call) (u : Outcome) → g ≡ 18446744073709551615 → length o < 2 ^ 64 → (a ≡ behind 0 1) × (p ≡ laid o 0 (1 ∷ []))
     → (r ≡ behind a (length (callBytes 1 b))) × (q ≡ laid p a (callBytes 1 b)) → b ≡ rig g
-    → (u ≡ outcome (new g 0 true)) × Valid (u .table) → Begins o (record { table = u .table; clock = 0; size = r }) q
+    → (u ≡ outcome (new g 0 true)) × Valid (u .table) → RigLaid o (record { table = u .table; clock = 0; size = r }) q
 unfolding loadBytes
 rig-begins o p q a r g b u k h f z e v =
     let n : g ≡ allGroups = k ∙ sym all-groups in

@@ -31,7 +31,7 @@ use Rattle.replay.specs.Replay.{replayFrom, replayIn, replayOf}
 use Rattle.generator.specs.declared.Draws.{Draws}
 use Rattle.generator.specs.declared.MaybeTicket.{MaybeTicket}
 use Rattle.generator.specs.declared.MaybeTicket.the-variants.{Ticket, NoTicket}
-use Rattle.generator.specs.Workload.{Batch, drawsFrom, clockFor, groupsFor, lengthFor, tableAfter, ticketsOn, lowestOf, lowestOn, batchOf, recordsFrom, allGroups, workloadCalls, workloadOf}
+use Rattle.generator.specs.Workload.{Batch, drawsFrom, clockFor, groupsFor, lengthFor, afterRecord, ticketsOn, lowestOf, lowestOn, batchOf, recordsFrom, allGroups, workloadCalls, workloadOf}
 use Rattle.generator.specs.Whole.{claimsIn, WorkloadReads, LongerThanNumbers}
 use Rattle.generator.proofs.Records.{by-fields, claim-does, release-does, rig-does, rig-length, claim-length, release-length, rig-sound, claim-sound, release-sound}
 use Rattle.generator.proofs.Listed.{Runs, none-runs, claim-runs, release-runs}
@@ -68,13 +68,13 @@ record Stands (m : Model) (n : ℕ) : Type 0 where
   pub invariant : Invariant m
   pub issued : m .issued ≤ n
 
-step-stands : (m : Model) (c : Call) (s : Step) (n : ℕ) → stepOf true m (recordOf c) ≡ s → Invariant (s .model) → s .model .issued - m .issued ≤ 1 → Stands m n → Stands (tableAfter m c) (suc n)
+step-stands : (m : Model) (c : Call) (s : Step) (n : ℕ) → stepOf true m (recordOf c) ≡ s → Invariant (s .model) → s .model .issued - m .issued ≤ 1 → Stands m n → Stands (afterRecord m c) (suc n)
 step-stands m c s n e i f w = subst (λ (x : Step). Stands (x .model) (suc n)) (sym e) (let g = w .issued in record { invariant = i; issued = omega arith })
 
-claim-stands : (m : Model) (t g l n : ℕ) → Stands m n → Stands (tableAfter m (claim t g l)) (suc n)
+claim-stands : (m : Model) (t g l n : ℕ) → Stands m n → Stands (afterRecord m (claim t g l)) (suc n)
 claim-stands m t g l n w = step-stands m (claim t g l) _ n (claim-does m t g l) (step-invariant m _ (w .invariant)) (issues-few (by-call (claimCall t (asking g l)))) w
 
-release-stands : (m : Model) (t k n : ℕ) → Stands m n → Stands (tableAfter m (release t k)) (suc n)
+release-stands : (m : Model) (t k n : ℕ) → Stands m n → Stands (afterRecord m (release t k)) (suc n)
 release-stands m t k n w = step-stands m (release t k) _ n (release-does m t k) (step-invariant m _ (w .invariant)) (issues-few (by-call (releaseCall t k))) w
 
 -- ── records ──
@@ -151,21 +151,21 @@ records-fine (suc n) s t m k w few early =
     a .fine n (recordsFrom n (stateIn 5 s) (x .clock) (x .left)) (records-fine n (stateIn 5 s) (x .clock) (x .left) (suc (suc k)) (a .stands) (omega arith) (omega arith))
 
 -- ── the load ──
-rigged : Stands (tableAfter unrigged (rig allGroups)) 0
+rigged : Stands (afterRecord unrigged (rig allGroups)) 0
 rigged =
     subst (λ (x : Step). Stands (x .model) 0) (sym (rig-does unrigged allGroups))
     (record { invariant = new-invariant allGroups 0 true; issued = new-cases (λ (x : Step). x .model .issued ≤ 0) allGroups 0 true (λ e. omega arith) (λ e. omega arith) })
 
-all-fine : (seed count : ℕ) → 2 * count < 2 ^ 16 → Fine count (recordsFrom count seed 0 (tableAfter unrigged (rig allGroups)))
-all-fine seed count h = records-fine count seed 0 (tableAfter unrigged (rig allGroups)) 0 rigged (omega arith) (omega arith)
+all-fine : (seed count : ℕ) → 2 * count < 2 ^ 16 → Fine count (recordsFrom count seed 0 (afterRecord unrigged (rig allGroups)))
+all-fine seed count h = records-fine count seed 0 (afterRecord unrigged (rig allGroups)) 0 rigged (omega arith) (omega arith)
 
 no-claim-rig : (cs : List Call) → claimsIn (rig allGroups ∷ cs) ≡ claimsIn cs
 unfolding claimsIn keep
 no-claim-rig cs = rw (by-fields .rig allGroups) refl
 
-workload-length : (seed count : ℕ) → length (workloadOf seed count) ≡ 12 + length (callsBytes 1 (recordsFrom count seed 0 (tableAfter unrigged (rig allGroups))))
+workload-length : (seed count : ℕ) → length (workloadOf seed count) ≡ 12 + length (callsBytes 1 (recordsFrom count seed 0 (afterRecord unrigged (rig allGroups))))
 unfolding workloadOf workloadCalls loadBytes
-workload-length seed count = omega (arith, records-length (rig allGroups) (recordsFrom count seed 0 (tableAfter unrigged (rig allGroups))), rig-length allGroups)
+workload-length seed count = omega (arith, records-length (rig allGroups) (recordsFrom count seed 0 (afterRecord unrigged (rig allGroups))), rig-length allGroups)
 
 -- Room that every workload of a count goes into.
 pub workload-most : (seed count : ℕ) → count ≤ 1000 → length (workloadOf seed count) ≤ 12 + 36 * count
@@ -181,7 +181,7 @@ rig-number = ap (λ (x : Step). x .answer .number) (rig-does unrigged allGroups)
 
 listed : (seed count : ℕ) → 2 * count < 2 ^ 16 → openNumber (workloadOf seed count) ≡ 0 → walk (workloadOf seed count) 1 ≡ record { records = recordsOf (workloadCalls seed count); stop = 0 } → replayOf (workloadOf seed count) .stop ≡ 0
 unfolding replayOf replayIn replayFrom ending aloneIn workloadOf workloadCalls loadBytes
-listed seed count h o w = rw (o, w, rig-number) (all-fine seed count h .runs 2 (tableAfter unrigged (rig allGroups)) (omega arith))
+listed seed count h o w = rw (o, w, rig-number) (all-fine seed count h .runs 2 (afterRecord unrigged (rig allGroups)) (omega arith))
 
 pub workload-reads : WorkloadReads
 unfolding workloadOf workloadCalls known knownIn format

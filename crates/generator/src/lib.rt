@@ -9,8 +9,8 @@ ghost use Rattle.format.specs.Calls.{claim, release};
 ghost use Rattle.lcg.specs.Draws.{stateIn};
 ghost use Rattle.table.specs.Valid.{Valid};
 ghost use Rattle.rules.specs.Tables.{model};
-ghost use Rattle.generator.specs.Workload.{drawsFrom, groupsFor, claimBatch, releaseBatch, batchOf, lowestOn, workloadOf, numberOf, workloadAnswer, workloadOut, workloadValues, returned};
-ghost use Rattle.generator.specs.Drafts.{Ready, Begins, Enters, Answers};
+ghost use Rattle.generator.specs.Workload.{drawsFrom, groupsFor, claimBatch, releaseBatch, batchOf, lowestOn, workloadOf, claimsNumber, workloadAnswer, workloadOut, workloadValues, returned};
+ghost use Rattle.generator.specs.Drafts.{Ready, RigLaid, Enters, Answers};
 use format::Call;
 use format::kinds;
 use lcg::Generator;
@@ -153,7 +153,7 @@ fn entered(out: &mut [u8], w: Draft, d: Draws) -> Draft
 
 // The edition byte and the rig.
 fn begun(out: &mut [u8]) -> Draft
-    ensures { λ r. ⌜ Begins (now (out .entry)) r (now (out .exit)) ⌝ }
+    ensures { λ r. ⌜ RigLaid (now (out .entry)) r (now (out .exit)) ⌝ }
 {
     let mut c = format::bare(kinds::RIG);
     c.groups = u64::MAX;
@@ -192,7 +192,7 @@ fn room() -> [u8; 36012]
 
 // A workload for a buffer that may be too short: laid in a buffer of its own, and copied where it goes in.
 fn copied(seed: u32, count: u32, out: &mut [u8]) -> Written
-    requires { ⌜ numberOf count ≡ 0 ⌝ }
+    requires { ⌜ claimsNumber count ≡ 0 ⌝ }
     ensures { λ r. ⌜ Answers seed count (now (out .entry)) r (now (out .exit)) ⌝ }
 {
     let mut own = room();

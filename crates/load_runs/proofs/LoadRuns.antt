@@ -26,7 +26,7 @@ use Rattle.replay.specs.RecordKinds.{Says, says-claim, says-release, says-withd
 use Rattle.replay.proofs.RecordKinds.{records-say-calls}
 use Rattle.listing.specs.Lines.{header, lineOf, onLines}
 use Rattle.listing.specs.Text.{entryOf, linesFrom, linesOf, listingOf}
-use Rattle.load_runs.specs.LoadRuns.{turnLines, turnsLines, Ends, startOf, Ran, NotRun, LoadRuns}
+use Rattle.load_runs.specs.LoadRuns.{turnLines, turnsLines, Ends, rigStart, Ran, NotRun, LoadRuns}
 
 -- ── one record ──
 -- What grants go by is the call's clock: where there are any it is the table's.
@@ -159,7 +159,7 @@ module _ (load : List ℕ) (opens : openNumber load ≡ 0) where
             none-ends = r .none-ends;
             all-run = rw replay-is (r .all-run);
             stop-at = rw replay-is (r .stop-at);
-            promised = promises (startOf load rig) (by-new (rig .call .groups) (rig .call .pool) (aloneIn load)) (map saysCall (r .records));
+            promised = promises (rigStart load rig) (by-new (rig .call .groups) (rig .call .pool) (aloneIn load)) (map saysCall (r .records));
           }
 
     rigged : Ran load ⊎ NotRun load

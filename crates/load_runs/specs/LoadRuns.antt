@@ -41,8 +41,8 @@ abbrev pub Ends : ℕ → Type 0
 Ends n = (editionNumber ≤ n) × (n ≤ overlongNumber)
 
 -- What the run of a load begins with: the table that its rig gave.
-abbrev pub startOf : List ℕ → Record → Start
-startOf load rig = newly (rig .call .groups) (rig .call .pool) (aloneIn load)
+abbrev pub rigStart : List ℕ → Record → Start
+rigStart load rig = newly (rig .call .groups) (rig .call .pool) (aloneIn load)
 
 -- A load whose rig is taken: the rig; the records behind it that were run, and those that were not.
 pub record Ran (load : List ℕ) : Type 0 where
@@ -52,18 +52,18 @@ pub record Ran (load : List ℕ) : Type 0 where
   pub read : walk load 1 .records ≡ rig ∷ (records ++ rest)
   pub taken : new (rig .call .groups) (rig .call .pool) (aloneIn load) .answer .number ≡ 0
   -- The listing is the header, the rig's line, the lines of the calls with their answers, and the stop line, where there is one.
-  pub listing : listingOf load ≡ header ++ (lineOf 1 0 0 0 ++ (turnsLines 2 (turns step (startOf load rig .table) (map saysCall records)) ++ stopText load))
+  pub listing : listingOf load ≡ header ++ (lineOf 1 0 0 0 ++ (turnsLines 2 (turns step (rigStart load rig .table) (map saysCall records)) ++ stopText load))
   -- The table that the load leaves, of which questions are asked.
-  pub left : replayOf load .left ≡ tableAfter step (startOf load rig .table) (map saysCall records)
+  pub left : replayOf load .left ≡ tableAfter step (rigStart load rig .table) (map saysCall records)
   -- "Only 11 to 14 and a dark rig end the listing early": no call that was run is answered such a number; and all records were run, so that the
   -- stop, if any, is that of the load's bytes, or the next one is answered such a number, and that is the stop.
-  pub none-ends : (t : Turn) → t ∈ turns step (startOf load rig .table) (map saysCall records) → Ends (t .answer .number) → ⊥
+  pub none-ends : (t : Turn) → t ∈ turns step (rigStart load rig .table) (map saysCall records) → Ends (t .answer .number) → ⊥
   pub all-run : ((rest ≡ []) × (replayOf load .stop ≡ walk load 1 .stop))
       ⊎ ((c : Record) × (cs : List Record) × (rest ≡ c ∷ cs) × (let n = step (replayOf load .left) (saysCall c) .answer .number in Ends n × (replayOf load .stop ≡ n)))
   -- "`stop NUMBER RECORD`, in place of that record's line": the rig is record 1.
   pub stop-at : replayOf load .stop ≢ 0 → replayOf load .at ≡ 2 + length records
   -- All that is promised of a run.
-  pub promised : Promises (startOf load rig) (map saysCall records)
+  pub promised : Promises (rigStart load rig) (map saysCall records)
 
 -- A load of which nothing was run: it does not open, its first record does not read, or its rig is dark.
 pub record NotRun (load : List ℕ) : Type 0 where

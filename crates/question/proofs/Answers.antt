@@ -27,7 +27,7 @@ use Rattle.question.specs.declared.questions.Question.the-variants as qu
 use Rattle.question.specs.declared.Asked.{Asked}
 use Rattle.question.specs.declared.Asked.the-variants.{Written, NoSuch, NoRoom}
 use Rattle.question.specs.Questions.{questionOf, isQuestion}
-use Rattle.question.specs.Answers.{worded, standingText, lookupText, ticketsText, absentOf, commonText, freeText, sentenceOf, answerOf, textOf, usageText, askedValues, writtenAs, written, lentValues, askedOf, answerValues, askedOut}
+use Rattle.question.specs.Answers.{worded, standingText, lookupText, ticketsText, absentOf, commonText, freeText, sentenceOf, answerText, textOf, usageText, askedValues, writtenAs, written, lentValues, askedOf, answerValues, askedOut}
 
 -- ── lengths ──
 decimal-within : (v : ℕ) → length (decimalOf v) ≤ 20
@@ -67,7 +67,7 @@ sentence-length m NoQuestion = omega arith
 
 -- What is printed goes into 134 bytes.
 pub text-length : (load : List ℕ) (q : Question) → length (textOf load q) ≤ 134
-unfolding textOf answerOf
+unfolding textOf answerText
 text-length load q =
     let r = replayOf load in
     simp length-append (add-le-add (stop-length (r .stop) (r .at) 47 [] (omega arith) (omega arith)) (add-le-add (sentence-length (r .left) q) (le-refl 1)))
@@ -105,11 +105,11 @@ module _ {o : List ℕ} {at r : ℕ} {p : List ℕ} where
 
 -- ── what is printed for a load, from what the code has of it ──
 pub text-is : (load : List ℕ) (q : Question) (r : Replayed) → r ≡ replayed (replayOf load)
-    → stopOr (r .stop) (r .at) [] ++ answerOf (model (r .table)) q ≡ textOf load q
+    → stopOr (r .stop) (r .at) [] ++ answerText (model (r .table)) q ≡ textOf load q
 unfolding textOf
 text-is load q r e =
-    ap (λ (x : Replayed). stopOr (x .stop) (x .at) [] ++ answerOf (model (r .table)) q) e
-    ∙ ap (λ (m : Model). stopOr (replayOf load .stop) (replayOf load .at) [] ++ answerOf m q) (replayed-left r (replayOf load) e)
+    ap (λ (x : Replayed). stopOr (x .stop) (x .at) [] ++ answerText (model (r .table)) q) e
+    ∙ ap (λ (m : Model). stopOr (replayOf load .stop) (replayOf load .at) [] ++ answerText m q) (replayed-left r (replayOf load) e)
 
 -- ── a lent buffer ──
 module _ (text out : List ℕ) where
@@ -166,14 +166,14 @@ module _ (load line out : List ℕ) (q : Question) (i : q ≡ questionOf line) w
   asked-some e a p w = rw (sym i, e) w
 
   module _ (e : isQuestion q ≡ true) (l : Replayed) (j : l ≡ replayed (replayOf load)) (scrap used : List ℕ) (n : ℕ)
-      (c : Put scrap 0 (stopOr (l .stop) (l .at) [] ++ answerOf (model (l .table)) q) n used) where
+      (c : Put scrap 0 (stopOr (l .stop) (l .at) [] ++ answerText (model (l .table)) q) n used) where
     counted : n ≡ length (textOf load q)
     counted = put-short (omega (arith, text-length load q)) (put-as _ _ (text-is load q l j) c) .0
 
     pub asked-short : length out < n → Answers NoRoom out
     asked-short h = asked-some e _ _ (written-none (textOf load q) out (omega (arith, counted)))
 
-    pub asked-all : n ≤ length out → (r : ℕ) (p : List ℕ) → Put out 0 (stopOr (l .stop) (l .at) [] ++ answerOf (model (l .table)) q) r p
+    pub asked-all : n ≤ length out → (r : ℕ) (p : List ℕ) → Put out 0 (stopOr (l .stop) (l .at) [] ++ answerText (model (l .table)) q) r p
         → Answers (Written r) p
     asked-all h r p w =
         asked-some e _ _ (written-all (textOf load q) out p r (omega (arith, text-length load q)) (omega (arith, counted)) (put-as _ _ (text-is load q l j) w))

@@ -9,7 +9,7 @@ use Rattle.load_text.specs.Parsing.{FirstWord, wordAt, wordsIn}
 use Rattle.question.specs.declared.questions.Numbers.{Numbers}
 use Rattle.question.specs.declared.questions.Numbers.the-variants.{Empty}
 use Rattle.question.specs.declared.questions.Question.the-variants.{NoQuestion}
-use Rattle.question.specs.Questions.{andNumber, numberOf, numbersIn, questionNamed, questionIn, questionOf}
+use Rattle.question.specs.Questions.{andNumber, ticketIn, numbersIn, questionNamed, questionIn, questionOf}
 
 -- ── numbers ──
 module _ {l : List ℕ} {at f t : ℕ} (a : FirstWord l at f t) where
@@ -27,7 +27,7 @@ module _ {l : List ℕ} {at f t : ℕ} (a : FirstWord l at f t) (p : Numbers) wh
   unfolding numbersIn
   numbers-end e = rw (word-none a e)
 
-  pub numbers-on : f < t → (q : Numbers) → q ≡ andNumber p (numberOf (wordAt l f t)) → numbersIn q (wordsIn (drop t l)) ≡ numbersIn p (wordsIn (drop at l))
+  pub numbers-on : f < t → (q : Numbers) → q ≡ andNumber p (ticketIn (wordAt l f t)) → numbersIn q (wordsIn (drop t l)) ≡ numbersIn p (wordsIn (drop at l))
   unfolding numbersIn
   numbers-on e q i = rw (word-some a e, i)
 

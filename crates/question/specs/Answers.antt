@@ -70,12 +70,12 @@ sentenceOf m (question.Common j k) = commonText j k (standingOf j (m .pending)) 
 sentenceOf m Free = freeText (freeOf m) (m .pool)
 sentenceOf m NoQuestion = []
 
-unfoldable pub answerOf : Model → Question → List ℕ
-answerOf m q = sentenceOf m q ++ (lineFeed ∷ [])
+unfoldable pub answerText : Model → Question → List ℕ
+answerText m q = sentenceOf m q ++ (lineFeed ∷ [])
 
 -- What is printed for a load: its stop line if it ends early, then the answer for the table that it leaves.
 unfoldable pub textOf : List ℕ → Question → List ℕ
-textOf load q = let r = replayOf load in stopOr (r .stop) (r .at) [] ++ answerOf (r .left) q
+textOf load q = let r = replayOf load in stopOr (r .stop) (r .at) [] ++ answerText (r .left) q
 
 -- The questions there are, for who asks another: a line here for each.
 unfoldable pub usageText : List ℕ

@@ -14,8 +14,8 @@ use Rattle.question.specs.declared.questions.Question.the-variants.{Look
 
 -- ── the numbers of a question ──
 -- What a word says as a number up to 65,535. (Why it says none is not told.)
-abbrev pub numberOf : List ℕ → Field
-numberOf w = numberIn 10 65535 0 0 w
+abbrev pub ticketIn : List ℕ → Field
+ticketIn w = numberIn 10 65535 0 0 w
 
 -- Numbers, and one more after them: at most two.
 abbrev pub andValue : Numbers → ℕ → Numbers
@@ -31,7 +31,7 @@ andNumber p (Wrong n) = Bad
 
 unfoldable pub numbersIn : Numbers → List (List ℕ) → Numbers
 numbersIn p [] = p
-numbersIn p (w ∷ ws) = numbersIn (andNumber p (numberOf w)) ws
+numbersIn p (w ∷ ws) = numbersIn (andNumber p (ticketIn w)) ws
 
 -- ── the questions by name ──
 -- A question, where a word is its name.

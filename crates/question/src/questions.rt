@@ -3,7 +3,7 @@ ghost use mathlib.Core.Path.{_≡_};
 ghost use lib.ListN.{drop};
 ghost use Rattle.load_text.specs.Parsing.{wordsIn};
 ghost use Rattle.question.specs.declared.questions.Numbers.the-variants.{Empty};
-ghost use Rattle.question.specs.Questions.{andNumber, andValue, ifNamed, isQuestion, numberOf, numbersIn, questionNamed, questionOf};
+ghost use Rattle.question.specs.Questions.{andNumber, andValue, ifNamed, isQuestion, ticketIn, numbersIn, questionNamed, questionOf};
 use load_text::words;
 use load_text::words::Field;
 
@@ -37,7 +37,7 @@ fn and_value(p: Numbers, k: u16) -> Numbers
 
 // Numbers, and that of a word more.
 fn and_number(p: Numbers, word: &[u8]) -> Numbers
-    ensures { λ r. ⌜ r ≡ andNumber p (numberOf (now (word .entry))) ⌝ }
+    ensures { λ r. ⌜ r ≡ andNumber p (ticketIn (now (word .entry))) ⌝ }
 {
     match words::number(word, 10, 65535, 0, 0) {
         Field::Value(v) => and_value(p, v as u16),
