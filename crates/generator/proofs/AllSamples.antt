@@ -14,9 +14,9 @@ use Rattle.rules.specs.Granting.{takenBefore, trulyFree, goesWithin, goes, gran
 use Rattle.rules.specs.Tests.{firstOf}
 use Rattle.rules.specs.Calls.{tests, advance, finish, join, remove, admit, act, step, new}
 use Rattle.lcg.specs.Draws.{stateAfter, drawAfter, stateIn}
-use Rattle.load.specs.Format.{defaults, default, format, rowIn, fieldsOf}
-use Rattle.load.specs.Calls.{numbers, made, withValue, bare, filled, callOf}
-use Rattle.listing.specs.Text.{saysCall, stepOf}
+use Rattle.format.specs.Format.{defaults, default, format, rowIn, fieldsOf}
+use Rattle.format.specs.Calls.{numbers, made, withValue, bare, filled, callOf}
+use Rattle.replay.specs.Records.{saysCall, stepOf}
 use Rattle.generator.specs.Workload.{drawsFrom, groupsFor, lowestOn, batchOf, recordsFrom, workloadCalls}
 use Rattle.generator.specs.Samples.{Sample, samples, given}
 

@@ -10,29 +10,29 @@ use borrow.Author.Tests.{le-leb, lt-leb, leb-true}
 use Rattle.numerals.specs.Laid.{laid, Put, spaceNumber}
 use Rattle.numerals.proofs.Laying.{lent-none, lent-known, put-short, laid-first}
 use Rattle.load.specs.declared.Written.the-variants.{Length, Refusal}
-use Rattle.load.proofs.Format.{either, both}
+use Rattle.format.proofs.Format.{either, both}
 use Rattle.load.proofs.Reading.{or-else}
 use Rattle.load.proofs.RoundTrip.{answer-length}
 use Rattle.load.proofs.Writing.{refused, accepted}
-use Rattle.generator.specs.Workload.{numberOf, workloadOf, workloadNumber, workloadAnswer, workloadOut, workloadValues}
+use Rattle.generator.specs.Workload.{claimsNumber, workloadOf, workloadNumber, workloadAnswer, workloadOut, workloadValues}
 use Rattle.generator.specs.Drafts.{Answers}
 use Rattle.generator.proofs.Whole.{workload-most}
 
 -- ── the count ──
-pub count-none : (n : ℕ) → n ≡ 0 → numberOf n ≡ 20
-unfolding numberOf
+pub count-none : (n : ℕ) → n ≡ 0 → claimsNumber n ≡ 20
+unfolding claimsNumber
 count-none n e = rw e refl
 
-pub count-many : (n : ℕ) → 1000 < n → numberOf n ≡ 20
-unfolding numberOf
+pub count-many : (n : ℕ) → 1000 < n → claimsNumber n ≡ 20
+unfolding claimsNumber
 count-many n h = rw (le-leb 1 n (omega arith), lt-leb n 1000 h) refl
 
-pub count-right : (n : ℕ) → (n ≡ 0 → ⊥) → n ≤ 1000 → numberOf n ≡ 0
-unfolding numberOf
+pub count-right : (n : ℕ) → (n ≡ 0 → ⊥) → n ≤ 1000 → claimsNumber n ≡ 0
+unfolding claimsNumber
 count-right n z h = let k : 1 ≤ n = omega arith in rw (le-leb 1 n k, le-leb n 1000 h) refl
 
-pub right-count : (n : ℕ) → numberOf n ≡ 0 → n ≤ 1000
-unfolding numberOf
+pub right-count : (n : ℕ) → claimsNumber n ≡ 0 → n ≤ 1000
+unfolding claimsNumber
 right-count n e = either (leb 1 n && leb n 1000) (λ b. leb-true n 1000 (both (leb 1 n) (leb n 1000) b .1)) (λ b. let z = rw b at e in absurd (omega arith))
 
 -- ── the answer and the buffer ──
@@ -40,11 +40,11 @@ module _ (seed count : ℕ) (out : List ℕ) where
   abbrev load : List ℕ
   load = workloadOf seed count
 
-  pub answers-count : numberOf count ≡ 20 → Answers seed count out (Refusal 20) out
+  pub answers-count : claimsNumber count ≡ 20 → Answers seed count out (Refusal 20) out
   unfolding workloadAnswer workloadOut workloadValues workloadNumber
   answers-count e = let a = refused load out (workloadNumber seed count out) 20 (rw e refl) (λ z. omega arith) in record { answer = a .0; buffer = a .1 .0; values = a .1 .1 }
 
-  module _ (right : numberOf count ≡ 0) where
+  module _ (right : claimsNumber count ≡ 0) where
     pub answers-short : (n : ℕ) → n ≡ length load → length out < n → Answers seed count out (Refusal 15) out
     unfolding workloadAnswer workloadOut workloadValues workloadNumber
     answers-short n e h =
@@ -64,7 +64,7 @@ module _ (seed count : ℕ) (out : List ℕ) where
     answers-roomy r p h w = let l = workload-most seed count (right-count count right) in answers-all r p (omega arith) w
 
 -- Laid in a buffer of 36,012 bytes.
-module _ (seed count : ℕ) (right : numberOf count ≡ 0) (own q : List ℕ) (n : ℕ) (size : 36012 ≡ length own) (w : Put own 0 (workloadOf seed count) n q) where
+module _ (seed count : ℕ) (right : claimsNumber count ≡ 0) (own q : List ℕ) (n : ℕ) (size : 36012 ≡ length own) (w : Put own 0 (workloadOf seed count) n q) where
   pub own-length : (n ≡ length (workloadOf seed count)) × (length (workloadOf seed count) ≤ 36012)
   own-length =
       let c = right-count count right in
@@ -88,7 +88,7 @@ pub length-within : (seed count : ℕ) (out : List ℕ) (n : ℕ) → workloadAn
 unfolding workloadAnswer workloadNumber
 length-within seed count out n e =
     let a = answer-length (workloadNumber seed count out) (length (workloadOf seed count)) n e in
-    let s = or-else (numberOf count) (spaceNumber (workloadOf seed count) out) (a .0) .1 in
+    let s = or-else (claimsNumber count) (spaceNumber (workloadOf seed count) out) (a .0) .1 in
     let l = lent-known (workloadOf seed count) out s .0 in
     let b = a .1 in
     omega arith

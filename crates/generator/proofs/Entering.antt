@@ -15,28 +15,28 @@ use Rattle.table.specs.declared.Outcome.{Outcome}
 use Rattle.table.specs.Valid.{Valid}
 use Rattle.table.specs.Outcomes.{outcome}
 use Rattle.table.proofs.Promised.{outcome-model}
-use Rattle.load.specs.declared.Call.{Call}
-use Rattle.load.specs.Calls.{rig, claim, release}
-use Rattle.load.specs.Bytes.{recordBytes, recordsBytes, loadBytes}
-use Rattle.load.proofs.Bytes.{records-append}
-use Rattle.listing.specs.Text.{unrigged}
+use Rattle.format.specs.declared.Call.{Call}
+use Rattle.format.specs.Calls.{rig, claim, release}
+use Rattle.load.specs.Bytes.{recordsBytes, loadBytes, callBytes, callsBytes}
+use Rattle.load.proofs.Bytes.{calls-append}
+use Rattle.replay.specs.Records.{unrigged}
 use Rattle.generator.specs.declared.Draft.{Draft}
 use Rattle.generator.specs.declared.Draws.{Draws}
 use Rattle.generator.specs.declared.MaybeTicket.the-variants.{Ticket, NoTicket}
-use Rattle.generator.specs.Workload.{Batch, clockFor, groupsFor, lengthFor, claimBatch, lowestOn, releaseBatch, andThen, batchOf, allGroups}
-use Rattle.generator.specs.Drafts.{Enters, Begins}
+use Rattle.generator.specs.Workload.{Batch, clockFor, groupsFor, lengthFor, claimBatch, lowestOn, releaseBatch, followedBy, batchOf, allGroups}
+use Rattle.generator.specs.Drafts.{Enters, RigLaid}
 use Rattle.generator.proofs.Records.{claim-does, release-does, rig-does}
 
 -- One record.
-one-bytes : (c : Call) → recordsBytes 1 (c ∷ []) ≡ recordBytes 1 c
+one-bytes : (c : Call) → callsBytes 1 (c ∷ []) ≡ callBytes 1 c
 unfolding recordsBytes
-one-bytes c = append-nil (recordBytes 1 c)
+one-bytes c = append-nil (callBytes 1 c)
 
 -- Laid where a record is put.
-puts-one : (o : List ℕ) (at : ℕ) (b c : Call) (r : ℕ) (q : List ℕ) → b ≡ c → (r ≡ behind at (length (recordBytes 1 b))) × (q ≡ laid o at (recordBytes 1 b)) → Put o at (recordsBytes 1 (c ∷ [])) r q
+puts-one : (o : List ℕ) (at : ℕ) (b c : Call) (r : ℕ) (q : List ℕ) → b ≡ c → (r ≡ behind at (length (callBytes 1 b))) × (q ≡ laid o at (callBytes 1 b)) → Put o at (callsBytes 1 (c ∷ [])) r q
 puts-one o at b c r q e p = rw (one-bytes c, sym e) (record { next = p .0; is = p .1 })
 
-module _ (w : Draft) (o q : List ℕ) (r : ℕ) (b : Call) (p : (r ≡ behind (w .size) (length (recordBytes 1 b))) × (q ≡ laid o (w .size) (recordBytes 1 b))) (u : Outcome) where
+module _ (w : Draft) (o q : List ℕ) (r : ℕ) (b : Call) (p : (r ≡ behind (w .size) (length (callBytes 1 b))) × (q ≡ laid o (w .size) (callBytes 1 b))) (u : Outcome) where
   -- A claim.
   pub claim-enters : (d : Draws) (t g n : ℕ) → t ≡ clockFor (w .clock) d → g ≡ groupsFor d → n ≡ lengthFor d → b ≡ claim t g n
       → (u ≡ outcome (step (model (w .table)) (claimCall t (asking g n)))) × Valid (u .table)
@@ -76,8 +76,8 @@ module _ (w : Draft) (d : Draws) (o : List ℕ) (c : Draft) (p : List ℕ) (e : 
       let x : Batch = claimBatch (w .clock) (model (w .table)) d in
       let y : Batch = releaseBatch (c .clock) (model (c .table)) in
       let odd : d .last % 2 ≡ 1 = omega arith in
-      let both : Enters w (andThen x y) o r q = record {
-        lays = rw (records-append 1 (x .records) (y .records)) (put-then o (w .size) (recordsBytes 1 (x .records)) (recordsBytes 1 (y .records)) (c .size) (r .size) p q h (e .lays) (f .lays));
+      let both : Enters w (followedBy x y) o r q = record {
+        lays = rw (calls-append 1 (x .records) (y .records)) (put-then o (w .size) (callsBytes 1 (x .records)) (callsBytes 1 (y .records)) (c .size) (r .size) p q h (e .lays) (f .lays));
         clock = f .clock;
         left = f .left;
         valid = f .valid;
@@ -90,14 +90,14 @@ unfolding setFrom
 all-groups = refl
 
 pub rig-begins : (o p q : List ℕ) (a r g : ℕ) (b : Call) (u : Outcome) → g ≡ 18446744073709551615 → length o < 2 ^ 64 → (a ≡ behind 0 1) × (p ≡ laid o 0 (1 ∷ []))
-    → (r ≡ behind a (length (recordBytes 1 b))) × (q ≡ laid p a (recordBytes 1 b)) → b ≡ rig g
-    → (u ≡ outcome (new g 0 true)) × Valid (u .table) → Begins o (record { table = u .table; clock = 0; size = r }) q
+    → (r ≡ behind a (length (callBytes 1 b))) × (q ≡ laid p a (callBytes 1 b)) → b ≡ rig g
+    → (u ≡ outcome (new g 0 true)) × Valid (u .table) → RigLaid o (record { table = u .table; clock = 0; size = r }) q
 unfolding loadBytes
 rig-begins o p q a r g b u k h f z e v =
     let n : g ≡ allGroups = k ∙ sym all-groups in
     let w = rw n at (v .0) in
     record {
-      lays = put-then o 0 (1 ∷ []) (recordsBytes 1 (rig allGroups ∷ [])) a r p q h (record { next = f .0; is = f .1 }) (puts-one p a b (rig allGroups) r q (e ∙ ap rig n) z);
+      lays = put-then o 0 (1 ∷ []) (callsBytes 1 (rig allGroups ∷ [])) a r p q h (record { next = f .0; is = f .1 }) (puts-one p a b (rig allGroups) r q (e ∙ ap rig n) z);
       clock = refl;
       left = outcome-model u _ w ∙ ap (λ (s : Step). s .model) (sym (rig-does unrigged allGroups));
       valid = v .1;

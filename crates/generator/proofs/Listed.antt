@@ -9,10 +9,11 @@ use Rattle.rules.specs.Tests.{Test, firstOf}
 use Rattle.rules.specs.Calls.{Model, Step, Call as TableCall, claim as claimCall, release as releaseCall, asking, tests, step}
 use Rattle.rules.proofs.Bools.{by-test}
 use Rattle.rules.proofs.Calls.{step-number}
-use Rattle.load.specs.declared.Call.{Call}
-use Rattle.load.specs.Calls.{claim, release}
-use Rattle.listing.specs.Text.{stepOf, ending}
-use Rattle.listing.specs.Replay.{replayFrom}
+use Rattle.format.specs.declared.Call.{Call}
+use Rattle.format.specs.Calls.{claim, release}
+use Rattle.format.specs.Records.{recordOf, recordsOf}
+use Rattle.replay.specs.Records.{stepOf, ending}
+use Rattle.replay.specs.Replay.{replayFrom}
 use Rattle.generator.proofs.Records.{claim-does, release-does}
 
 -- ── numbers ──
@@ -42,28 +43,28 @@ unfolding tests ending
 release-silents m t j = (λ k h. refl, (λ k h. refl, (λ k h. refl, (λ k h. refl, tt))))
 
 -- What a record does is a call of the table whose tests are all silent.
-does-silent : (m : Model) (r : Call) (c : TableCall) → stepOf true m r ≡ step m c → Silents (tests m c) → Silent (stepOf true m r .answer .number)
+does-silent : (m : Model) (r : Call) (c : TableCall) → stepOf true m (recordOf r) ≡ step m c → Silents (tests m c) → Silent (stepOf true m (recordOf r) .answer .number)
 does-silent m r c e s = subst Silent (sym (ap (λ (x : Step). x .answer .number) e ∙ step-number m c)) (first-silent (tests m c) s)
 
 module _ (m : Model) where
-  claim-silent : (t g n : ℕ) → Silent (stepOf true m (claim t g n) .answer .number)
+  claim-silent : (t g n : ℕ) → Silent (stepOf true m (recordOf (claim t g n)) .answer .number)
   claim-silent t g n = does-silent m (claim t g n) (claimCall t (asking g n)) (claim-does m t g n) (claim-silents m t g n)
 
-  release-silent : (t j : ℕ) → Silent (stepOf true m (release t j) .answer .number)
+  release-silent : (t j : ℕ) → Silent (stepOf true m (recordOf (release t j)) .answer .number)
   release-silent t j = does-silent m (release t j) (releaseCall t j) (release-does m t j) (release-silents m t j)
 
 -- ── records ──
 -- Records behind a rig that are all run.
 abbrev pub Runs : List Call → Type 0
-Runs cs = (k : ℕ) (m : Model) → 1 < k → replayFrom true k m cs 0 .stop ≡ 0
+Runs cs = (k : ℕ) (m : Model) → 1 < k → replayFrom true k m (recordsOf cs) 0 .stop ≡ 0
 
 pub none-runs : Runs []
 unfolding replayFrom
 none-runs k m h = refl
 
-one-runs : (c : Call) (cs : List Call) → ((m : Model) → Silent (stepOf true m c .answer .number)) → Runs cs → Runs (c ∷ cs)
+one-runs : (c : Call) (cs : List Call) → ((m : Model) → Silent (stepOf true m (recordOf c) .answer .number)) → Runs cs → Runs (c ∷ cs)
 unfolding replayFrom
-one-runs c cs s r k m h = rw (s m k h) (r (k + 1) (stepOf true m c .model) (omega arith))
+one-runs c cs s r k m h = rw (s m k h) (r (k + 1) (stepOf true m (recordOf c) .model) (omega arith))
 
 pub claim-runs : (t g n : ℕ) (cs : List Call) → Runs cs → Runs (claim t g n ∷ cs)
 claim-runs t g n cs r = one-runs (claim t g n) cs (λ m. claim-silent m t g n) r

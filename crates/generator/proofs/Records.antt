@@ -8,16 +8,17 @@ use lib.Dec.{eqb}
 use lib.ListN.{length}
 use Rattle.groups.proofs.Groups.{set-under}
 use Rattle.rules.specs.Calls.{Model, Step, step, asking, new, claim as claimCall, release as releaseCall}
-use Rattle.load.specs.declared.Call.{Call}
-use Rattle.load.specs.Format.{format, rowIn, fieldsOf, defaults, default, fieldWidths, fieldWidth, lengthIn, lengthOf, total}
-use Rattle.load.specs.Calls.{numbers, made, withValue, bare, filled, callOf, rig, claim, release}
-use Rattle.load.specs.Bytes.{recordBytes}
+use Rattle.format.specs.declared.Call.{Call}
+use Rattle.format.specs.Format.{format, hasIn, hasKind, rowIn, fieldsOf, defaults, default, fieldWidths, fieldWidth, lengthIn, lengthOf, total}
+use Rattle.format.specs.Calls.{numbers, made, withValue, bare, filled, callOf, rig, claim, release, Typed}
+use Rattle.format.specs.Records.{recordOf}
+use Rattle.load.specs.Bytes.{callBytes}
 use Rattle.load.specs.Reading.{agree}
-use Rattle.load.specs.RoundTrip.{Typed}
-use Rattle.load.proofs.Calls.{kind-of-call, typed-call, call-carried}
-use Rattle.load.proofs.Bytes.{record-length}
+use Rattle.format.proofs.Calls.{kind-of-call, typed-call, call-keeps}
+use Rattle.format.proofs.Records.{call-carried}
+use Rattle.load.proofs.Bytes.{call-length}
 use Rattle.load.proofs.Loads.{Sound}
-use Rattle.listing.specs.Text.{saysCall, stepOf}
+use Rattle.replay.specs.Records.{saysCall, stepOf}
 use Rattle.generator.specs.Workload.{allGroups}
 
 -- ── by their fields ──
@@ -50,18 +51,18 @@ module _ (b : Call) where
 
 -- ── what they do ──
 module _ (m : Model) where
-  does : (c d : Call) (s : Step) → c ≡ d → stepOf true m d ≡ s → stepOf true m c ≡ s
-  does c d s e f = ap (stepOf true m) e ∙ f
+  does : (c d : Call) (s : Step) → c ≡ d → stepOf true m (recordOf d) ≡ s → stepOf true m (recordOf c) ≡ s
+  does c d s e f = ap (λ (x : Call). stepOf true m (recordOf x)) e ∙ f
 
-  pub rig-does : (g : ℕ) → stepOf true m (rig g) ≡ new g 0 true
+  pub rig-does : (g : ℕ) → stepOf true m (recordOf (rig g)) ≡ new g 0 true
   unfolding stepOf
   rig-does g = does (rig g) (callWith 1 0 g 0 0) _ (by-fields .rig g) refl
 
-  pub claim-does : (t g n : ℕ) → stepOf true m (claim t g n) ≡ step m (claimCall t (asking g n))
+  pub claim-does : (t g n : ℕ) → stepOf true m (recordOf (claim t g n)) ≡ step m (claimCall t (asking g n))
   unfolding stepOf saysCall
   claim-does t g n = does (claim t g n) (callWith 2 t g n 0) _ (by-fields .claim t g n) refl
 
-  pub release-does : (t j : ℕ) → stepOf true m (release t j) ≡ step m (releaseCall t j)
+  pub release-does : (t j : ℕ) → stepOf true m (recordOf (release t j)) ≡ step m (releaseCall t j)
   unfolding stepOf saysCall
   release-does t j = does (release t j) (callWith 3 t 0 0 j) _ (by-fields .release t j) refl
 
@@ -69,43 +70,41 @@ module _ (m : Model) where
 -- A kind of edition 1 with so many fields, and its records of so many bytes behind their length.
 record Shape (k count long : ℕ) : Type 0 where
   pub fields : length (fieldsOf 1 k) ≡ count
+  pub kind : hasKind 1 k ≡ true
   pub size : lengthOf 1 k ≡ long
 
 shapes : Shape 1 1 9 × Shape 2 3 21 × Shape 3 2 11
-unfolding format rowIn fieldsOf fieldWidths fieldWidth lengthIn lengthOf total
-shapes = (record { fields = refl; size = refl }, record { fields = refl; size = refl }, record { fields = refl; size = refl })
+unfolding format hasIn hasKind rowIn fieldsOf fieldWidths fieldWidth lengthIn lengthOf total
+shapes = (record { fields = refl; kind = refl; size = refl }, record { fields = refl; kind = refl; size = refl }, record { fields = refl; kind = refl; size = refl })
 
-module _ (k : ℕ) (vs : List ℕ) (n : ℕ) (s : Shape k (length vs) n) (some : 0 < n) where
-  some-size : 0 < lengthOf 1 k
-  some-size = let e = s .size in omega arith
-
-  long : length (recordBytes 1 (callOf 1 k vs)) ≡ 2 + n
+module _ (k : ℕ) (vs : List ℕ) (n : ℕ) (s : Shape k (length vs) n) where
+  long : length (callBytes 1 (callOf 1 k vs)) ≡ 2 + n
   long =
       let e : lengthOf 1 (callOf 1 k vs .kind) ≡ n = ap (lengthOf 1) (kind-of-call 1 k vs) ∙ s .size in
-      record-length 1 (callOf 1 k vs) (omega arith) ∙ ap (λ (x : ℕ). 2 + x) e
+      call-length 1 (callOf 1 k vs) (ap (hasKind 1) (kind-of-call 1 k vs) ∙ s .kind) ∙ ap (λ (x : ℕ). 2 + x) e
 
-  sound : (first : Bool) → agree (eqb k 1) first ≡ true → (t g l j : ℕ) → callOf 1 k vs ≡ callWith k t g l j → k < 2 ^ 8 → t < 2 ^ 64 → g < 2 ^ 64 → l < 2 ^ 32 → j < 2 ^ 16 → Sound 1 first (callOf 1 k vs)
+  sound : (first : Bool) → agree (eqb k 1) first ≡ true → (t g l j : ℕ) → callOf 1 k vs ≡ callWith k t g l j → k < 2 ^ 8 → t < 2 ^ 64 → g < 2 ^ 64 → l < 2 ^ 32 → j < 2 ^ 16 → Sound 1 first (recordOf (callOf 1 k vs))
   sound first p t g l j e hk ht hg hl hj = record {
     place = ap (λ (x : ℕ). agree (eqb x 1) first) (kind-of-call 1 k vs) ∙ p;
-    carried = call-carried 1 k vs (sym (s .fields)) some-size;
-    typed = subst Typed (sym e) (typed-call (callWith k t g l j) hk ht hg hl hj (omega arith) (omega arith) (omega arith) (omega arith) (omega arith) (omega arith));
+    carried = call-carried 1 (callOf 1 k vs) ∙ call-keeps 1 k vs (sym (s .fields)) (s .kind);
+    typed = (subst Typed (sym e) (typed-call (callWith k t g l j) hk ht hg hl hj (omega arith) (omega arith) (omega arith) (omega arith) (omega arith) (omega arith)), tt);
   }
 
-pub rig-length : (g : ℕ) → length (recordBytes 1 (rig g)) ≡ 11
-rig-length g = long 1 (g ∷ []) 9 (shapes .0) (omega arith)
+pub rig-length : (g : ℕ) → length (callBytes 1 (rig g)) ≡ 11
+rig-length g = long 1 (g ∷ []) 9 (shapes .0)
 
-pub claim-length : (t g n : ℕ) → length (recordBytes 1 (claim t g n)) ≡ 23
-claim-length t g n = long 2 (t ∷ g ∷ n ∷ []) 21 (shapes .1) (omega arith)
+pub claim-length : (t g n : ℕ) → length (callBytes 1 (claim t g n)) ≡ 23
+claim-length t g n = long 2 (t ∷ g ∷ n ∷ []) 21 (shapes .1)
 
-pub release-length : (t j : ℕ) → length (recordBytes 1 (release t j)) ≡ 13
-release-length t j = long 3 (t ∷ j ∷ []) 11 (shapes .2) (omega arith)
+pub release-length : (t j : ℕ) → length (callBytes 1 (release t j)) ≡ 13
+release-length t j = long 3 (t ∷ j ∷ []) 11 (shapes .2)
 
-pub rig-sound : Sound 1 true (rig allGroups)
+pub rig-sound : Sound 1 true (recordOf (rig allGroups))
 rig-sound =
-    sound 1 (allGroups ∷ []) 9 (shapes .0) (omega arith) true refl 0 allGroups 0 0 (by-fields .rig allGroups) (omega arith) (omega arith) (set-under 64 0 (λ g. true)) (omega arith) (omega arith)
+    sound 1 (allGroups ∷ []) 9 (shapes .0) true refl 0 allGroups 0 0 (by-fields .rig allGroups) (omega arith) (omega arith) (set-under 64 0 (λ g. true)) (omega arith) (omega arith)
 
-pub claim-sound : (t g n : ℕ) → t < 2 ^ 64 → g < 2 ^ 64 → n < 2 ^ 32 → Sound 1 false (claim t g n)
-claim-sound t g n a b c = sound 2 (t ∷ g ∷ n ∷ []) 21 (shapes .1) (omega arith) false refl t g n 0 (by-fields .claim t g n) (omega arith) a b c (omega arith)
+pub claim-sound : (t g n : ℕ) → t < 2 ^ 64 → g < 2 ^ 64 → n < 2 ^ 32 → Sound 1 false (recordOf (claim t g n))
+claim-sound t g n a b c = sound 2 (t ∷ g ∷ n ∷ []) 21 (shapes .1) false refl t g n 0 (by-fields .claim t g n) (omega arith) a b c (omega arith)
 
-pub release-sound : (t j : ℕ) → t < 2 ^ 64 → j < 2 ^ 16 → Sound 1 false (release t j)
-release-sound t j a b = sound 3 (t ∷ j ∷ []) 11 (shapes .2) (omega arith) false refl t 0 0 j (by-fields .release t j) (omega arith) a (omega arith) (omega arith) b
+pub release-sound : (t j : ℕ) → t < 2 ^ 64 → j < 2 ^ 16 → Sound 1 false (recordOf (release t j))
+release-sound t j a b = sound 3 (t ∷ j ∷ []) 11 (shapes .2) false refl t 0 0 j (by-fields .release t j) (omega arith) a (omega arith) (omega arith) b

@@ -16,21 +16,22 @@ use Rattle.rules.specs.Invariants.{Invariant}
 use Rattle.rules.proofs.Lists.{here, keep-e, map-e, least-under}
 use Rattle.rules.proofs.Calls.{step-invariant, new-invariant, new-cases}
 use Rattle.table.proofs.Promised.{by-call, issues-few}
-use Rattle.load.specs.declared.Call.{Call}
-use Rattle.load.specs.Format.{format, known, knownIn}
-use Rattle.load.specs.Calls.{rig, claim, release}
-use Rattle.load.specs.Bytes.{recordBytes, recordsBytes, loadBytes}
+use Rattle.format.specs.declared.Call.{Call}
+use Rattle.format.specs.Format.{format, known, knownIn}
+use Rattle.format.specs.Calls.{rig, claim, release}
+use Rattle.format.specs.Records.{recordOf, recordsOf}
+use Rattle.load.specs.Bytes.{recordsBytes, loadBytes, callBytes, callsBytes}
 use Rattle.load.specs.Reading.{openNumber, walk}
 use Rattle.load.proofs.Loads.{Loadable}
 use Rattle.load.proofs.Reading.{load-parts}
 use Rattle.load.proofs.RoundTrip.{Good, good-reads}
 use Rattle.lcg.specs.Draws.{stateIn}
-use Rattle.listing.specs.Text.{stepOf, ending, aloneIn, unrigged}
-use Rattle.listing.specs.Replay.{replayFrom, replayIn, replayOf}
+use Rattle.replay.specs.Records.{stepOf, ending, aloneIn, unrigged}
+use Rattle.replay.specs.Replay.{replayFrom, replayIn, replayOf}
 use Rattle.generator.specs.declared.Draws.{Draws}
 use Rattle.generator.specs.declared.MaybeTicket.{MaybeTicket}
 use Rattle.generator.specs.declared.MaybeTicket.the-variants.{Ticket, NoTicket}
-use Rattle.generator.specs.Workload.{Batch, drawsFrom, clockFor, groupsFor, lengthFor, tableAfter, ticketsOn, lowestOf, lowestOn, batchOf, recordsFrom, allGroups, workloadCalls, workloadOf}
+use Rattle.generator.specs.Workload.{Batch, drawsFrom, clockFor, groupsFor, lengthFor, afterRecord, ticketsOn, lowestOf, lowestOn, batchOf, recordsFrom, allGroups, workloadCalls, workloadOf}
 use Rattle.generator.specs.Whole.{claimsIn, WorkloadReads, LongerThanNumbers}
 use Rattle.generator.proofs.Records.{by-fields, claim-does, release-does, rig-does, rig-length, claim-length, release-length, rig-sound, claim-sound, release-sound}
 use Rattle.generator.proofs.Listed.{Runs, none-runs, claim-runs, release-runs}
@@ -67,27 +68,27 @@ record Stands (m : Model) (n : ℕ) : Type 0 where
   pub invariant : Invariant m
   pub issued : m .issued ≤ n
 
-step-stands : (m : Model) (c : Call) (s : Step) (n : ℕ) → stepOf true m c ≡ s → Invariant (s .model) → s .model .issued - m .issued ≤ 1 → Stands m n → Stands (tableAfter m c) (suc n)
+step-stands : (m : Model) (c : Call) (s : Step) (n : ℕ) → stepOf true m (recordOf c) ≡ s → Invariant (s .model) → s .model .issued - m .issued ≤ 1 → Stands m n → Stands (afterRecord m c) (suc n)
 step-stands m c s n e i f w = subst (λ (x : Step). Stands (x .model) (suc n)) (sym e) (let g = w .issued in record { invariant = i; issued = omega arith })
 
-claim-stands : (m : Model) (t g l n : ℕ) → Stands m n → Stands (tableAfter m (claim t g l)) (suc n)
+claim-stands : (m : Model) (t g l n : ℕ) → Stands m n → Stands (afterRecord m (claim t g l)) (suc n)
 claim-stands m t g l n w = step-stands m (claim t g l) _ n (claim-does m t g l) (step-invariant m _ (w .invariant)) (issues-few (by-call (claimCall t (asking g l)))) w
 
-release-stands : (m : Model) (t k n : ℕ) → Stands m n → Stands (tableAfter m (release t k)) (suc n)
+release-stands : (m : Model) (t k n : ℕ) → Stands m n → Stands (afterRecord m (release t k)) (suc n)
 release-stands m t k n w = step-stands m (release t k) _ n (release-does m t k) (step-invariant m _ (w .invariant)) (issues-few (by-call (releaseCall t k))) w
 
 -- ── records ──
 -- Records of n claims that may follow a rig.
 record Fine (n : ℕ) (cs : List Call) : Type 0 where
-  pub loadable : Loadable 1 false cs
+  pub loadable : Loadable 1 false (recordsOf cs)
   pub claims : claimsIn cs ≡ n
-  pub most : length (recordsBytes 1 cs) ≤ 36 * n
-  pub least : 23 * n ≤ length (recordsBytes 1 cs)
+  pub most : length (callsBytes 1 cs) ≤ 36 * n
+  pub least : 23 * n ≤ length (callsBytes 1 cs)
   pub runs : Runs cs
 
-records-length : (c : Call) (cs : List Call) → length (recordsBytes 1 (c ∷ cs)) ≡ length (recordBytes 1 c) + length (recordsBytes 1 cs)
+records-length : (c : Call) (cs : List Call) → length (callsBytes 1 (c ∷ cs)) ≡ length (callBytes 1 c) + length (callsBytes 1 cs)
 unfolding recordsBytes
-records-length c cs = length-append (recordBytes 1 c) (recordsBytes 1 cs)
+records-length c cs = length-append (callBytes 1 c) (callsBytes 1 cs)
 
 one-claim : (t g l : ℕ) (cs : List Call) → claimsIn (claim t g l ∷ cs) ≡ suc (claimsIn cs)
 unfolding claimsIn keep
@@ -150,21 +151,21 @@ records-fine (suc n) s t m k w few early =
     a .fine n (recordsFrom n (stateIn 5 s) (x .clock) (x .left)) (records-fine n (stateIn 5 s) (x .clock) (x .left) (suc (suc k)) (a .stands) (omega arith) (omega arith))
 
 -- ── the load ──
-rigged : Stands (tableAfter unrigged (rig allGroups)) 0
+rigged : Stands (afterRecord unrigged (rig allGroups)) 0
 rigged =
     subst (λ (x : Step). Stands (x .model) 0) (sym (rig-does unrigged allGroups))
     (record { invariant = new-invariant allGroups 0 true; issued = new-cases (λ (x : Step). x .model .issued ≤ 0) allGroups 0 true (λ e. omega arith) (λ e. omega arith) })
 
-all-fine : (seed count : ℕ) → 2 * count < 2 ^ 16 → Fine count (recordsFrom count seed 0 (tableAfter unrigged (rig allGroups)))
-all-fine seed count h = records-fine count seed 0 (tableAfter unrigged (rig allGroups)) 0 rigged (omega arith) (omega arith)
+all-fine : (seed count : ℕ) → 2 * count < 2 ^ 16 → Fine count (recordsFrom count seed 0 (afterRecord unrigged (rig allGroups)))
+all-fine seed count h = records-fine count seed 0 (afterRecord unrigged (rig allGroups)) 0 rigged (omega arith) (omega arith)
 
 no-claim-rig : (cs : List Call) → claimsIn (rig allGroups ∷ cs) ≡ claimsIn cs
 unfolding claimsIn keep
 no-claim-rig cs = rw (by-fields .rig allGroups) refl
 
-workload-length : (seed count : ℕ) → length (workloadOf seed count) ≡ 12 + length (recordsBytes 1 (recordsFrom count seed 0 (tableAfter unrigged (rig allGroups))))
+workload-length : (seed count : ℕ) → length (workloadOf seed count) ≡ 12 + length (callsBytes 1 (recordsFrom count seed 0 (afterRecord unrigged (rig allGroups))))
 unfolding workloadOf workloadCalls loadBytes
-workload-length seed count = omega (arith, records-length (rig allGroups) (recordsFrom count seed 0 (tableAfter unrigged (rig allGroups))), rig-length allGroups)
+workload-length seed count = omega (arith, records-length (rig allGroups) (recordsFrom count seed 0 (afterRecord unrigged (rig allGroups))), rig-length allGroups)
 
 -- Room that every workload of a count goes into.
 pub workload-most : (seed count : ℕ) → count ≤ 1000 → length (workloadOf seed count) ≤ 12 + 36 * count
@@ -174,19 +175,19 @@ pub longer-than-numbers : LongerThanNumbers
 longer-than-numbers seed count h l = let f = all-fine seed count (omega arith) .least in omega (arith, workload-length seed count)
 
 -- The rig is run, and what follows it.
-rig-number : stepOf true unrigged (rig allGroups) .answer .number ≡ 0
+rig-number : stepOf true unrigged (recordOf (rig allGroups)) .answer .number ≡ 0
 unfolding new empty someFrom setFrom
 rig-number = ap (λ (x : Step). x .answer .number) (rig-does unrigged allGroups)
 
-listed : (seed count : ℕ) → 2 * count < 2 ^ 16 → openNumber (workloadOf seed count) ≡ 0 → walk (workloadOf seed count) 1 ≡ record { calls = workloadCalls seed count; stop = 0 } → replayOf (workloadOf seed count) .stop ≡ 0
+listed : (seed count : ℕ) → 2 * count < 2 ^ 16 → openNumber (workloadOf seed count) ≡ 0 → walk (workloadOf seed count) 1 ≡ record { records = recordsOf (workloadCalls seed count); stop = 0 } → replayOf (workloadOf seed count) .stop ≡ 0
 unfolding replayOf replayIn replayFrom ending aloneIn workloadOf workloadCalls loadBytes
-listed seed count h o w = rw (o, w, rig-number) (all-fine seed count h .runs 2 (tableAfter unrigged (rig allGroups)) (omega arith))
+listed seed count h o w = rw (o, w, rig-number) (all-fine seed count h .runs 2 (afterRecord unrigged (rig allGroups)) (omega arith))
 
 pub workload-reads : WorkloadReads
 unfolding workloadOf workloadCalls known knownIn format
 workload-reads seed count h =
     let f = all-fine seed count (omega arith) in
     let l = workload-most seed count h in
-    let g : Good 1 (workloadCalls seed count) = record { edition = refl; calls = Loadable.one rig-sound (f .loadable); bound = omega arith } in
-    let r = good-reads 1 (workloadCalls seed count) g in
+    let g : Good 1 (recordsOf (workloadCalls seed count)) = record { edition = refl; records = Loadable.one rig-sound (f .loadable); bound = omega arith } in
+    let r = good-reads 1 (recordsOf (workloadCalls seed count)) g in
     record { good = r .0; calls = r .1; claims = no-claim-rig _ ∙ f .claims; fits = omega arith; listed = listed seed count (omega arith) (load-parts (workloadOf seed count) (r .0) .0) (r .1) }

@@ -7,11 +7,11 @@ use Rattle.rules.specs.Tables.{model}
 use Rattle.table.specs.Valid.{Valid}
 use Rattle.load.specs.declared.Written.{Written}
 use Rattle.load.specs.Answers.{writtenValues}
-use Rattle.load.specs.Calls.{rig}
-use Rattle.load.specs.Bytes.{recordsBytes, loadBytes}
-use Rattle.listing.specs.Text.{unrigged}
+use Rattle.format.specs.Calls.{rig}
+use Rattle.load.specs.Bytes.{callsBytes, loadOf}
+use Rattle.replay.specs.Records.{unrigged}
 use Rattle.generator.specs.declared.Draft.{Draft}
-use Rattle.generator.specs.Workload.{Batch, tableAfter, allGroups, workloadAnswer, workloadOut, workloadValues}
+use Rattle.generator.specs.Workload.{Batch, afterRecord, allGroups, workloadAnswer, workloadOut, workloadValues}
 
 -- A draft that a claim can follow: its clock is far from the greatest u64.
 pub record Ready (w : Draft) : Type 0 where
@@ -20,16 +20,16 @@ pub record Ready (w : Draft) : Type 0 where
 
 -- Draft w with buffer o has become r with q: the records of a batch were laid, and the table is the batch's.
 pub record Enters (w : Draft) (x : Batch) (o : List ℕ) (r : Draft) (q : List ℕ) : Type 0 where
-  pub lays : Put o (w .size) (recordsBytes 1 (x .records)) (r .size) q
+  pub lays : Put o (w .size) (callsBytes 1 (x .records)) (r .size) q
   pub clock : r .clock ≡ x .clock
   pub left : model (r .table) ≡ x .left
   pub valid : Valid (r .table)
 
 -- A draft of the rig alone.
-pub record Begins (o : List ℕ) (r : Draft) (q : List ℕ) : Type 0 where
-  pub lays : Put o 0 (loadBytes 1 (rig allGroups ∷ [])) (r .size) q
+pub record RigLaid (o : List ℕ) (r : Draft) (q : List ℕ) : Type 0 where
+  pub lays : Put o 0 (loadOf 1 (rig allGroups ∷ [])) (r .size) q
   pub clock : r .clock ≡ 0
-  pub left : model (r .table) ≡ tableAfter unrigged (rig allGroups)
+  pub left : model (r .table) ≡ afterRecord unrigged (rig allGroups)
   pub valid : Valid (r .table)
 
 -- The whole is answered, and stands in the lent buffer, as the public call promises.

@@ -1,8 +1,8 @@
 -- Workloads with their records, worked out apart from the definitions. proofs/AllSamples has the theorem that covers the table.
 use mathlib.Core.List.{List, [], _∷_}
 use Prim.Native.Nat.{ℕ}
-use Rattle.load.specs.declared.Call.{Call}
-use Rattle.load.specs.Calls.{rig, claim, release}
+use Rattle.format.specs.declared.Call.{Call}
+use Rattle.format.specs.Calls.{rig, claim, release}
 use Rattle.generator.specs.Workload.{workloadCalls}
 
 pub record Sample : Type 0 where

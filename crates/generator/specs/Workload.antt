@@ -12,15 +12,16 @@ use Rattle.rules.specs.Lists.{keep, least}
 use Rattle.rules.specs.Claims.{on}
 use Rattle.rules.specs.Calls.{Model}
 use Rattle.lcg.specs.Draws.{stateIn, drawIn}
-use Rattle.load.specs.declared.Call.{Call}
+use Rattle.format.specs.declared.Call.{Call}
 use Rattle.load.specs.declared.Written.{Written}
 use Rattle.load.specs.declared.Written.the-variants.{Length, Refusal}
 use Rattle.load.specs.Answers.{WrittenValues}
-use Rattle.load.specs.Calls.{rig, claim, release}
-use Rattle.load.specs.Bytes.{loadBytes}
+use Rattle.format.specs.Calls.{rig, claim, release}
+use Rattle.format.specs.Records.{recordOf}
+use Rattle.load.specs.Bytes.{loadOf}
 use Rattle.load.specs.Reading.{orElse}
 use Rattle.load.specs.Writing.{answered, answeredValues, begun, lent}
-use Rattle.listing.specs.Text.{stepOf, unrigged}
+use Rattle.replay.specs.Records.{stepOf, unrigged}
 use Rattle.generator.specs.declared.Draws.{Draws}
 use Rattle.generator.specs.declared.MaybeTicket.{MaybeTicket}
 use Rattle.generator.specs.declared.MaybeTicket.the-variants.{Ticket, NoTicket}
@@ -43,9 +44,9 @@ abbrev pub lengthFor : Draws → ℕ
 lengthFor d = d .length % 1000 + 1
 
 -- ── records ──
--- The table after a record, as the listing of an edition 1 load has it.
-abbrev pub tableAfter : Model → Call → Model
-tableAfter m c = stepOf true m c .model
+-- The table after a record of an edition 1 load.
+abbrev pub afterRecord : Model → Call → Model
+afterRecord m c = stepOf true m (recordOf c) .model
 
 -- Records that follow one another; the clock of the last claim among them or before, and the table after them.
 pub record Batch : Type 0 where
@@ -58,7 +59,7 @@ abbrev pub claimBatch : ℕ → Model → Draws → Batch
 claimBatch before m d =
     let t = clockFor before d in
     let c = claim t (groupsFor d) (lengthFor d) in
-    record { records = c ∷ []; clock = t; left = tableAfter m c }
+    record { records = c ∷ []; clock = t; left = afterRecord m c }
 
 -- "the lowest on ticket", if "a claim is on"
 abbrev pub ticketsOn : List Claim → List ℕ
@@ -74,19 +75,19 @@ lowestOn m = lowestOf (ticketsOn (m .pending))
 -- "if .. a claim is on, a release of the lowest on ticket follows at the same clock"
 abbrev pub releaseOf : ℕ → Model → MaybeTicket → Batch
 releaseOf t m NoTicket = record { records = []; clock = t; left = m }
-releaseOf t m (Ticket k) = record { records = release t k ∷ []; clock = t; left = tableAfter m (release t k) }
+releaseOf t m (Ticket k) = record { records = release t k ∷ []; clock = t; left = afterRecord m (release t k) }
 
 abbrev pub releaseBatch : ℕ → Model → Batch
 releaseBatch t m = releaseOf t m (lowestOn m)
 
-abbrev pub andThen : Batch → Batch → Batch
-andThen x y = record { records = x .records ++ y .records; clock = y .clock; left = y .left }
+abbrev pub followedBy : Batch → Batch → Batch
+followedBy x y = record { records = x .records ++ y .records; clock = y .clock; left = y .left }
 
 -- "If that last draw is odd": whether a claim is on is judged in the table after the claim, accepted or not.
 unfoldable pub batchOf : ℕ → Model → Draws → Batch
 batchOf before m d =
     let x = claimBatch before m d in
-    cond (eqb (d .last % 2) 1) (andThen x (releaseBatch (x .clock) (x .left))) x
+    cond (eqb (d .last % 2) 1) (followedBy x (releaseBatch (x .clock) (x .left))) x
 
 -- The records of n claims, from state s on, after a claim at clock t and in table m.
 unfoldable pub recordsFrom : ℕ → ℕ → ℕ → Model → List Call
@@ -102,18 +103,18 @@ allGroups = setWhere (λ g. true)
 
 -- "From a 32-bit seed and a count .., write an edition 1 load on all 64 groups." The state starts as the seed.
 unfoldable pub workloadCalls : ℕ → ℕ → List Call
-workloadCalls seed count = rig allGroups ∷ recordsFrom count seed 0 (tableAfter unrigged (rig allGroups))
+workloadCalls seed count = rig allGroups ∷ recordsFrom count seed 0 (afterRecord unrigged (rig allGroups))
 
 unfoldable pub workloadOf : ℕ → ℕ → List ℕ
-workloadOf seed count = loadBytes 1 (workloadCalls seed count)
+workloadOf seed count = loadOf 1 (workloadCalls seed count)
 
 -- ── the call ──
 -- "20 "count", count outside 1 to 1,000, before anything is written"; then 15.
-unfoldable pub numberOf : ℕ → ℕ
-numberOf count = cond (leb 1 count && leb count mostClaims) 0 countNumber
+unfoldable pub claimsNumber : ℕ → ℕ
+claimsNumber count = cond (leb 1 count && leb count mostClaims) 0 countNumber
 
 unfoldable pub workloadNumber : ℕ → ℕ → List ℕ → ℕ
-workloadNumber seed count out = orElse (numberOf count) (spaceNumber (workloadOf seed count) out)
+workloadNumber seed count out = orElse (claimsNumber count) (spaceNumber (workloadOf seed count) out)
 
 -- The load's length, or the number.
 unfoldable pub workloadAnswer : ℕ → ℕ → List ℕ → Written

@@ -5,14 +5,15 @@ ghost use mathlib.Core.Path.{_≡_};
 ghost use lib.ListN.{length};
 ghost use Rattle.numerals.specs.Laid.{Put};
 ghost use Rattle.load.specs.Answers.{writtenValues};
-ghost use Rattle.load.specs.Calls.{claim, release};
+ghost use Rattle.format.specs.Calls.{claim, release};
 ghost use Rattle.lcg.specs.Draws.{stateIn};
 ghost use Rattle.table.specs.Valid.{Valid};
 ghost use Rattle.rules.specs.Tables.{model};
-ghost use Rattle.generator.specs.Workload.{drawsFrom, groupsFor, claimBatch, releaseBatch, batchOf, lowestOn, workloadOf, numberOf, workloadAnswer, workloadOut, workloadValues, returned};
-ghost use Rattle.generator.specs.Drafts.{Ready, Begins, Enters, Answers};
+ghost use Rattle.generator.specs.Workload.{drawsFrom, groupsFor, claimBatch, releaseBatch, batchOf, lowestOn, workloadOf, claimsNumber, workloadAnswer, workloadOut, workloadValues, returned};
+ghost use Rattle.generator.specs.Drafts.{Ready, RigLaid, Enters, Answers};
+use format::Call;
+use format::kinds;
 use lcg::Generator;
-use load::Call;
 use load::Written;
 use rules::Phase;
 use rules::Table;
@@ -68,7 +69,7 @@ fn groups_for(d: Draws) -> u64
 fn claim_record(clock: u64, groups: u64, length: u32) -> Call
     ensures { λ r. ⌜ r ≡ claim clock groups length ⌝ }
 {
-    let mut c = load::bare(2);
+    let mut c = format::bare(kinds::CLAIM);
     c.clock = clock;
     c.groups = groups;
     c.length = length;
@@ -78,7 +79,7 @@ fn claim_record(clock: u64, groups: u64, length: u32) -> Call
 fn release_record(clock: u64, ticket: u16) -> Call
     ensures { λ r. ⌜ r ≡ release clock ticket ⌝ }
 {
-    let mut c = load::bare(3);
+    let mut c = format::bare(kinds::RELEASE);
     c.clock = clock;
     c.ticket = ticket;
     c
@@ -152,9 +153,9 @@ fn entered(out: &mut [u8], w: Draft, d: Draws) -> Draft
 
 // The edition byte and the rig.
 fn begun(out: &mut [u8]) -> Draft
-    ensures { λ r. ⌜ Begins (now (out .entry)) r (now (out .exit)) ⌝ }
+    ensures { λ r. ⌜ RigLaid (now (out .entry)) r (now (out .exit)) ⌝ }
 {
-    let mut c = load::bare(1);
+    let mut c = format::bare(kinds::RIG);
     c.groups = u64::MAX;
     let at = numerals::put_byte(out, 0, 1);
     let size = load::put_record(out, at, 1, c);
@@ -191,7 +192,7 @@ fn room() -> [u8; 36012]
 
 // A workload for a buffer that may be too short: laid in a buffer of its own, and copied where it goes in.
 fn copied(seed: u32, count: u32, out: &mut [u8]) -> Written
-    requires { ⌜ numberOf count ≡ 0 ⌝ }
+    requires { ⌜ claimsNumber count ≡ 0 ⌝ }
     ensures { λ r. ⌜ Answers seed count (now (out .entry)) r (now (out .exit)) ⌝ }
 {
     let mut own = room();

@@ -1,6 +1,5 @@
 pub mod AllSamples
 pub mod Lines
-pub mod RecordKinds
+pub mod PlayersCall
 pub mod RecordLoop
-pub mod Replaying
 pub mod Sizes

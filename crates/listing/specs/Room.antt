@@ -4,7 +4,7 @@ use mathlib.Core.Bool.{cond}
 use Prim.Native.Nat.{ℕ, _+_, _*_, _/_}
 use lib.Dec.{ltb}
 use Rattle.numbers.specs.Numbers.{mostBytes}
-use Rattle.load.specs.Format.{leastLength}
+use Rattle.format.specs.Format.{leastLength}
 
 unfoldable pub roomFor : ℕ → ℕ
 roomFor n = cond (ltb mostBytes n) 71 (71 + 129 * (n / leastLength))

@@ -1,9 +1,7 @@
-pub mod Format
-pub mod Calls
 pub mod Bytes
+pub mod Fields
 pub mod Reading
 pub mod Loads
 pub mod RoundTrip
 pub mod Writing
-pub mod Rows
 pub mod Samples

@@ -9,15 +9,14 @@ use borrow.Author.Tests.{lt-ltb, le-ltb, ltb-false, not-false}
 use lib.ListN.{length, length-append}
 use Rattle.numerals.specs.Laid.{Put}
 use Rattle.numerals.proofs.Laying.{laid-fits, put-short}
-use Rattle.load.specs.declared.Call.{Call}
 use Rattle.load.specs.declared.Written.{Written}
 use Rattle.load.specs.declared.Written.the-variants.{Length, Refusal}
-use Rattle.load.specs.Calls.{carries}
+use Rattle.format.specs.Records.{Record, carries}
 use Rattle.load.specs.Answers.{writtenValues}
 use Rattle.load.specs.Bytes.{recordBytes}
 use Rattle.load.specs.Reading.{inPlace, editionOf, loadNumber}
 use Rattle.load.specs.Writing.{grown, roomNumber, growNumber, appendNumber, answered, answeredValues, lent, begun}
-use Rattle.load.proofs.Format.{neither, passed}
+use Rattle.format.proofs.Format.{neither, passed}
 use Rattle.load.proofs.Reading.{or-else}
 
 -- ── the tests ──
@@ -36,46 +35,46 @@ module _ (whole room g : ℕ) (s : roomNumber whole room ≡ g) where
   room-good l r = rw (le-ltb 65536 whole l, le-ltb room whole r) at s
 
 -- Of a load: t is its own number.
-pub append-grow : (s : List ℕ) (c : Call) (room t : ℕ) → t ≡ loadNumber s → t ≡ 0 → growNumber (editionOf s) (length s) c room ≡ appendNumber s c room
+pub append-grow : (s : List ℕ) (r : Record) (room t : ℕ) → t ≡ loadNumber s → t ≡ 0 → growNumber (editionOf s) (length s) r room ≡ appendNumber s r room
 unfolding appendNumber
-append-grow s c room t z o = rw (sym z ∙ o)
+append-grow s r room t z o = rw (sym z ∙ o)
 
--- A call that grows a load: what number 0 says, and what gives it.
-pub record Grows (s : List ℕ) (c : Call) (room : ℕ) : Type 0 where
-  pub place : inPlace (c .kind) (length s) ≡ true
-  pub carried : carries (editionOf s) c ≡ true
-  pub bounded : length (grown s c) ≤ 65536
-  pub goes-in : length (grown s c) ≤ room
+-- A record that grows a load: what number 0 says, and what gives it.
+pub record Grows (s : List ℕ) (r : Record) (room : ℕ) : Type 0 where
+  pub place : inPlace (r .call .kind) (length s) ≡ true
+  pub carried : carries (editionOf s) r ≡ true
+  pub bounded : length (grown s r) ≤ 65536
+  pub goes-in : length (grown s r) ≤ room
 
-grown-length : (s : List ℕ) (c : Call) → length s + length (recordBytes (editionOf s) c) ≡ length (grown s c)
+grown-length : (s : List ℕ) (r : Record) → length s + length (recordBytes (editionOf s) r) ≡ length (grown s r)
 unfolding grown
-grown-length s c = sym (length-append s (recordBytes (editionOf s) c))
+grown-length s r = sym (length-append s (recordBytes (editionOf s) r))
 
-pub grow-known : (s : List ℕ) (c : Call) (room : ℕ) → growNumber (editionOf s) (length s) c room ≡ 0 → Grows s c room
+pub grow-known : (s : List ℕ) (r : Record) (room : ℕ) → growNumber (editionOf s) (length s) r room ≡ 0 → Grows s r room
 unfolding growNumber roomNumber
-grow-known s c room h =
-    let a = passed (not (inPlace (c .kind) (length s)) || not (carries (editionOf s) c)) _ _ (rw (grown-length s c) at h) in
-    let n = neither (not (inPlace (c .kind) (length s))) (not (carries (editionOf s) c)) (a .0) in
-    let b = passed (ltb 65536 (length (grown s c))) _ _ (a .1) in
-    let d = passed (ltb room (length (grown s c))) _ _ (b .1) in
+grow-known s r room h =
+    let a = passed (not (inPlace (r .call .kind) (length s)) || not (carries (editionOf s) r)) _ _ (rw (grown-length s r) at h) in
+    let n = neither (not (inPlace (r .call .kind) (length s))) (not (carries (editionOf s) r)) (a .0) in
+    let b = passed (ltb 65536 (length (grown s r))) _ _ (a .1) in
+    let d = passed (ltb room (length (grown s r))) _ _ (b .1) in
     record {
       place = not-false _ (n .0);
       carried = not-false _ (n .1);
-      bounded = ltb-false 65536 (length (grown s c)) (b .0);
-      goes-in = ltb-false room (length (grown s c)) (d .0);
+      bounded = ltb-false 65536 (length (grown s r)) (b .0);
+      goes-in = ltb-false room (length (grown s r)) (d .0);
     }
 
-pub grows : (s : List ℕ) (c : Call) (room : ℕ) → Grows s c room → growNumber (editionOf s) (length s) c room ≡ 0
+pub grows : (s : List ℕ) (r : Record) (room : ℕ) → Grows s r room → growNumber (editionOf s) (length s) r room ≡ 0
 unfolding growNumber roomNumber
-grows s c room g = rw (g .place, g .carried, grown-length s c, le-ltb 65536 (length (grown s c)) (g .bounded), le-ltb room (length (grown s c)) (g .goes-in))
+grows s r room g = rw (g .place, g .carried, grown-length s r, le-ltb 65536 (length (grown s r)) (g .bounded), le-ltb room (length (grown s r)) (g .goes-in))
 
--- What an accepted call knows.
-pub append-parts : (s : List ℕ) (c : Call) (room : ℕ) → appendNumber s c room ≡ 0 → (loadNumber s ≡ 0) × (growNumber (editionOf s) (length s) c room ≡ 0)
+-- What an accepted record knows.
+pub append-parts : (s : List ℕ) (r : Record) (room : ℕ) → appendNumber s r room ≡ 0 → (loadNumber s ≡ 0) × (growNumber (editionOf s) (length s) r room ≡ 0)
 unfolding appendNumber
-append-parts s c room h = or-else (loadNumber s) (growNumber (editionOf s) (length s) c room) h
+append-parts s r room h = or-else (loadNumber s) (growNumber (editionOf s) (length s) r room) h
 
-pub append-grows : (s : List ℕ) (c : Call) (room : ℕ) → appendNumber s c room ≡ 0 → Grows s c room
-append-grows s c room h = grow-known s c room (append-parts s c room h .1)
+pub append-grows : (s : List ℕ) (r : Record) (room : ℕ) → appendNumber s r room ≡ 0 → Grows s r room
+append-grows s r room h = grow-known s r room (append-parts s r room h .1)
 
 -- ── the answer and the buffer ──
 -- k is the number, and g the load to be written.
@@ -92,5 +91,5 @@ accepted g out k p r h b l w =
     let e = put-short (omega arith) w in
     rw h (ap Length (e .0), (e .1 ∙ laid-fits out g l, ap (λ (m : ℕ). writtenValues (Length m)) (e .0)))
 
-pub written : (s : List ℕ) (c : Call) (out : List ℕ) (k : ℕ) (p : List ℕ) (r : ℕ) → k ≡ 0 → Grows s c (length out) → Put out 0 (grown s c) r p → Answers (grown s c) out k (Length r) p
-written s c out k p r h g w = accepted (grown s c) out k p r h (g .bounded) (g .goes-in) w
+pub written : (s : List ℕ) (r : Record) (out : List ℕ) (k : ℕ) (p : List ℕ) (n : ℕ) → k ≡ 0 → Grows s r (length out) → Put out 0 (grown s r) n p → Answers (grown s r) out k (Length n) p
+written s r out k p n h g w = accepted (grown s r) out k p n h (g .bounded) (g .goes-in) w

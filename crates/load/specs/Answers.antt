@@ -2,7 +2,7 @@
 -- and values for each of its cases." A value that a case does not have is 0, or none.
 use Prim.Native.Nat.{ℕ}
 use mathlib.Core.List.{List, [], _∷_}
-use Rattle.load.specs.declared.Call.{Call}
+use Rattle.format.specs.declared.Call.{Call}
 use Rattle.load.specs.declared.Item.{Item}
 use Rattle.load.specs.declared.Item.the-variants.{Record, End, Refused}
 use Rattle.load.specs.declared.Written.{Written}

@@ -1,5 +1,3 @@
-pub mod Format
-pub mod Calls
 pub mod Answers
 pub mod Bytes
 pub mod Reading

@@ -1,9 +1,10 @@
 -- Calls that the writer takes or refuses by the edition and the place. proofs/Samples has the theorem that covers the table.
 use Prim.Native.Nat.{ℕ}
 use mathlib.Core.List.{List, [], _∷_}
-use Rattle.load.specs.declared.Call.{Call}
-use Rattle.load.specs.Calls.{rig, rigWith, claimWith, claimFrom, declaration, grace}
-use Rattle.load.specs.Bytes.{loadBytes}
+use Rattle.format.specs.declared.Call.{Call}
+use Rattle.format.specs.Calls.{rig, rigWith, claimWith, claimFrom, declaration, grace}
+use Rattle.format.specs.Records.{recordOf}
+use Rattle.load.specs.Bytes.{loadOf}
 use Rattle.load.specs.Writing.{appendNumber}
 
 -- A call that the writer is given for a load of an edition and the calls before, in room enough, and the number of its refusal, 0 for none.
@@ -48,4 +49,4 @@ attempts =
 
 -- What the writer answers.
 abbrev pub attempted : Attempt → ℕ
-attempted x = appendNumber (loadBytes (x .edition) (x .before)) (x .call) 65536
+attempted x = appendNumber (loadOf (x .edition) (x .before)) (recordOf (x .call)) 65536

@@ -6,29 +6,28 @@ use mathlib.Core.List.{List, _++_}
 use lib.Dec.{ltb}
 use lib.ListN.{length, drop}
 use Rattle.numbers.specs.Numbers.{misfitNumber, overlongNumber, noSpaceNumber, mostBytes}
-use Rattle.load.specs.declared.Call.{Call}
 use Rattle.load.specs.declared.Written.{Written}
 use Rattle.load.specs.declared.Written.the-variants.{Length, Refusal}
-use Rattle.load.specs.Calls.{carries}
+use Rattle.format.specs.Records.{Record, carries}
 use Rattle.load.specs.Answers.{WrittenValues}
 use Rattle.load.specs.Bytes.{recordBytes}
 use Rattle.load.specs.Reading.{inPlace, editionOf, loadNumber, orElse, unlessRefused}
 
 -- "that load with one record more behind it".
-unfoldable pub grown : List ℕ → Call → List ℕ
-grown s c = s ++ recordBytes (editionOf s) c
+unfoldable pub grown : List ℕ → Record → List ℕ
+grown s r = s ++ recordBytes (editionOf s) r
 
 -- "then come 13 (a rig that isn't first, another record that is, or a call with a value that the load's edition can't carry), 14 (the grown
 -- load would pass 65,536 bytes) and 15". The load has edition e and n bytes; room is the length of the lent buffer.
 unfoldable pub roomNumber : ℕ → ℕ → ℕ
 roomNumber whole room = cond (ltb mostBytes whole) overlongNumber (cond (ltb room whole) noSpaceNumber 0)
 
-unfoldable pub growNumber : ℕ → ℕ → Call → ℕ → ℕ
-growNumber e n c room = cond (not (inPlace (c .kind) n) || not (carries e c)) misfitNumber (roomNumber (n + length (recordBytes e c)) room)
+unfoldable pub growNumber : ℕ → ℕ → Record → ℕ → ℕ
+growNumber e n r room = cond (not (inPlace (r .call .kind) n) || not (carries e r)) misfitNumber (roomNumber (n + length (recordBytes e r)) room)
 
 -- "The load it is given is tested as by the reader, then come .."
-unfoldable pub appendNumber : List ℕ → Call → ℕ → ℕ
-appendNumber s c room = orElse (loadNumber s) (growNumber (editionOf s) (length s) c room)
+unfoldable pub appendNumber : List ℕ → Record → ℕ → ℕ
+appendNumber s r room = orElse (loadNumber s) (growNumber (editionOf s) (length s) r room)
 
 -- The answer: a length where the number is 0, else the number.
 abbrev pub answered : ℕ → ℕ → Written
@@ -45,15 +44,15 @@ abbrev pub answeredValues : ℕ → ℕ → WrittenValues
 answeredValues k n = record { number = k; length = unlessRefused k (λ m. 0) n }
 
 -- What the writer answers: "the new length", or the refusal.
-unfoldable pub appendAnswer : List ℕ → Call → List ℕ → Written
-appendAnswer s c out = answered (appendNumber s c (length out)) (length (grown s c))
+unfoldable pub appendAnswer : List ℕ → Record → List ℕ → Written
+appendAnswer s r out = answered (appendNumber s r (length out)) (length (grown s r))
 
-unfoldable pub appendValues : List ℕ → Call → List ℕ → WrittenValues
-appendValues s c out = answeredValues (appendNumber s c (length out)) (length (grown s c))
+unfoldable pub appendValues : List ℕ → Record → List ℕ → WrittenValues
+appendValues s r out = answeredValues (appendNumber s r (length out)) (length (grown s r))
 
 -- What the lent buffer holds afterwards: the grown load at its start, and "later bytes of the buffer keep their contents".
 abbrev pub begun : List ℕ → List ℕ → List ℕ
 begun s out = s ++ drop (length s) out
 
-unfoldable pub appendOut : List ℕ → Call → List ℕ → List ℕ
-appendOut s c out = lent (appendNumber s c (length out)) (begun (grown s c) out) out
+unfoldable pub appendOut : List ℕ → Record → List ℕ → List ℕ
+appendOut s r out = lent (appendNumber s r (length out)) (begun (grown s r) out) out

@@ -17,14 +17,16 @@ use Rattle.rules.proofs.Calls.{leaves-clock, step-cases, new-cases}
 use Rattle.promises.specs.Ledger.{Turn, turns, tableAfter}
 use Rattle.promises.specs.Runs.{by-new}
 use Rattle.promises.proofs.Promises.{promises}
-use Rattle.load.specs.declared.Call.{Call}
+use Rattle.format.specs.Records.{Record}
 use Rattle.load.specs.Reading.{walk, openNumber}
+use Rattle.replay.specs.Records.{saysCall, aloneIn, stepOf, ending, unrigged}
+use Rattle.replay.specs.StopLine.{stopOr}
+use Rattle.replay.specs.Replay.{replayFrom, replayIn, replayOf}
+use Rattle.replay.specs.RecordKinds.{Says, says-claim, says-release, says-withdrawal, says-clock, says-declaration, says-grace, RigThenCalls, no-record, rig-first}
+use Rattle.replay.proofs.RecordKinds.{records-say-calls}
 use Rattle.listing.specs.Lines.{header, lineOf, onLines}
-use Rattle.listing.specs.Text.{saysCall, aloneIn, stepOf, entryOf, ending, stopOr, linesFrom, linesOf, unrigged, listingOf}
-use Rattle.listing.specs.Replay.{replayFrom, replayIn, replayOf}
-use Rattle.listing.specs.RecordKinds.{Says, says-claim, says-release, says-withdrawal, says-clock, says-declaration, says-grace, RigThenCalls, no-record, rig-first}
-use Rattle.listing.proofs.RecordKinds.{records-say-calls}
-use Rattle.load_runs.specs.LoadRuns.{turnLines, turnsLines, Ends, startOf, Ran, NotRun, LoadRuns}
+use Rattle.listing.specs.Text.{entryOf, linesFrom, linesOf, listingOf}
+use Rattle.load_runs.specs.LoadRuns.{turnLines, turnsLines, Ends, rigStart, Ran, NotRun, LoadRuns}
 
 -- ── one record ──
 -- What grants go by is the call's clock: where there are any it is the table's.
@@ -50,26 +52,26 @@ goes-on k n e h =
     omega (arith, h .0)
 
 -- ── the records behind the rig ──
-record RanFrom (alone : Bool) (k : ℕ) (m : Model) (cs : List Call) (n : ℕ) : Type 0 where
-  records : List Call
-  rest : List Call
+record RanFrom (alone : Bool) (k : ℕ) (m : Model) (cs : List Record) (n : ℕ) : Type 0 where
+  records : List Record
+  rest : List Record
   read : cs ≡ records ++ rest
   lines : linesFrom alone k m cs n ≡ turnsLines k (turns step m (map saysCall records)) ++ stopOr (replayFrom alone k m cs n .stop) (replayFrom alone k m cs n .at) []
   left : replayFrom alone k m cs n .left ≡ tableAfter step m (map saysCall records)
   none-ends : (t : Turn) → t ∈ turns step m (map saysCall records) → Ends (t .answer .number) → ⊥
   all-run : ((rest ≡ []) × (replayFrom alone k m cs n .stop ≡ n))
-      ⊎ ((c : Call) × (ds : List Call) × (rest ≡ c ∷ ds) × (let j = step (replayFrom alone k m cs n .left) (saysCall c) .answer .number in Ends j × (replayFrom alone k m cs n .stop ≡ j)))
+      ⊎ ((c : Record) × (ds : List Record) × (rest ≡ c ∷ ds) × (let j = step (replayFrom alone k m cs n .left) (saysCall c) .answer .number in Ends j × (replayFrom alone k m cs n .stop ≡ j)))
   stop-at : replayFrom alone k m cs n .stop ≢ 0 → replayFrom alone k m cs n .at ≡ k + length records
 
-says-no-rig : {c : Call} {t : TableCall} → Says c t → eqb (c .kind) 1 ≡ false
-says-no-rig {c} (says-claim e) = ne-eqb (c .kind) 1 (λ q. omega arith)
-says-no-rig {c} (says-release e) = ne-eqb (c .kind) 1 (λ q. omega arith)
-says-no-rig {c} (says-withdrawal e) = ne-eqb (c .kind) 1 (λ q. omega arith)
-says-no-rig {c} (says-clock e) = ne-eqb (c .kind) 1 (λ q. omega arith)
-says-no-rig {c} (says-declaration e) = ne-eqb (c .kind) 1 (λ q. omega arith)
-says-no-rig {c} (says-grace e) = ne-eqb (c .kind) 1 (λ q. omega arith)
+says-no-rig : {c : Record} {t : TableCall} → Says c t → eqb (c .call .kind) 1 ≡ false
+says-no-rig {c} (says-claim e) = ne-eqb (c .call .kind) 1 (λ q. omega arith)
+says-no-rig {c} (says-release e) = ne-eqb (c .call .kind) 1 (λ q. omega arith)
+says-no-rig {c} (says-withdrawal e) = ne-eqb (c .call .kind) 1 (λ q. omega arith)
+says-no-rig {c} (says-clock e) = ne-eqb (c .call .kind) 1 (λ q. omega arith)
+says-no-rig {c} (says-declaration e) = ne-eqb (c .call .kind) 1 (λ q. omega arith)
+says-no-rig {c} (says-grace e) = ne-eqb (c .call .kind) 1 (λ q. omega arith)
 
-ran-from : (alone : Bool) (k : ℕ) (m : Model) (cs : List Call) (n : ℕ) → 1 < k → ((c : Call) → c ∈ cs → Says c (saysCall c)) → RanFrom alone k m cs n
+ran-from : (alone : Bool) (k : ℕ) (m : Model) (cs : List Record) (n : ℕ) → 1 < k → ((c : Record) → c ∈ cs → Says c (saysCall c)) → RanFrom alone k m cs n
 unfolding linesFrom replayFrom turnsLines turns tableAfter stepOf
 ran-from alone k m [] zero l h =
     record { records = []; rest = []; read = refl; lines = refl; left = refl; none-ends = λ t i. none i; all-run = inl (refl, refl); stop-at = λ z. absurd (z refl) }
@@ -83,7 +85,7 @@ ran-from alone k m (c ∷ cs) n l h =
     go zero q e r = record {
       records = c ∷ r .records;
       rest = r .rest;
-      read = ap (λ (x : List Call). c ∷ x) (r .read);
+      read = ap (λ (x : List Record). c ∷ x) (r .read);
       lines = rw (e, sym q)
           (let f = replayFrom alone (k + 1) (step m (saysCall c) .model) cs n in
           let first : List ℕ = entryOf k (step m (saysCall c)) in
@@ -111,7 +113,7 @@ module _ (load : List ℕ) (opens : openNumber load ≡ 0) where
   abbrev alone : Bool
   alone = aloneIn load
 
-  unread : walk load 1 .calls ≡ [] → NotRun load
+  unread : walk load 1 .records ≡ [] → NotRun load
   unfolding listingOf linesOf linesFrom replayOf replayIn replayFrom
   unread e = go (walk load 1 .stop) refl
     where
@@ -119,13 +121,13 @@ module _ (load : List ℕ) (opens : openNumber load ≡ 0) where
       go zero q = record { listing = rw (opens, e, sym q); left = rw (opens, e, sym q) }
       go (suc n) q = record { listing = rw (opens, e, sym q); left = rw (opens, e, sym q) }
 
-  module _ (rig : Call) (cs : List Call) (e : walk load 1 .calls ≡ rig ∷ cs) (k : rig .kind ≡ 1) (h : (c : Call) → c ∈ cs → Says c (saysCall c)) where
+  module _ (rig : Record) (cs : List Record) (e : walk load 1 .records ≡ rig ∷ cs) (k : rig .call .kind ≡ 1) (h : (c : Record) → c ∈ cs → Says c (saysCall c)) where
     abbrev made : Step
-    made = new (rig .groups) (rig .pool) (aloneIn load)
+    made = new (rig .call .groups) (rig .call .pool) (aloneIn load)
 
     made-is : stepOf (aloneIn load) unrigged rig ≡ made
     unfolding stepOf
-    made-is = rw (eq-eqb (rig .kind) 1 k)
+    made-is = rw (eq-eqb (rig .call .kind) 1 k)
 
     dark-rig : made ≡ unchanged (blank 0 0 (aloneIn load)) 1 → NotRun load
     unfolding listingOf linesOf linesFrom replayOf replayIn replayFrom ending
@@ -150,26 +152,26 @@ module _ (load : List ℕ) (opens : openNumber load ≡ 0) where
             rig = rig;
             records = r .records;
             rest = r .rest;
-            read = e ∙ ap (λ (x : List Call). rig ∷ x) (r .read);
+            read = e ∙ ap (λ (x : List Record). rig ∷ x) (r .read);
             taken = ap (λ (x : Answer). x .number) a;
             listing = lines-are ∙ ap (λ (x : List ℕ). header ++ (lineOf 1 0 0 0 ++ x)) (rw replay-is (r .lines));
             left = rw replay-is (r .left);
             none-ends = r .none-ends;
             all-run = rw replay-is (r .all-run);
             stop-at = rw replay-is (r .stop-at);
-            promised = promises (startOf load rig) (by-new (rig .groups) (rig .pool) (aloneIn load)) (map saysCall (r .records));
+            promised = promises (rigStart load rig) (by-new (rig .call .groups) (rig .call .pool) (aloneIn load)) (map saysCall (r .records));
           }
 
     rigged : Ran load ⊎ NotRun load
     rigged =
-        new-cases (λ (s : Step). made ≡ s → Ran load ⊎ NotRun load) (rig .groups) (rig .pool) (aloneIn load)
+        new-cases (λ (s : Step). made ≡ s → Ran load ⊎ NotRun load) (rig .call .groups) (rig .call .pool) (aloneIn load)
         (λ d q. inr (dark-rig q)) (λ d q. inl (good-rig (ap (λ (s : Step). s .answer) q))) refl
 
-run-of : (load : List ℕ) → (n : ℕ) → n ≡ openNumber load → (cs : List Call) → walk load 1 .calls ≡ cs → RigThenCalls cs → Ran load ⊎ NotRun load
+run-of : (load : List ℕ) → (n : ℕ) → n ≡ openNumber load → (cs : List Record) → walk load 1 .records ≡ cs → RigThenCalls cs → Ran load ⊎ NotRun load
 unfolding listingOf replayOf
 run-of load (suc n) o cs e r = inr (record { listing = rw (sym o); left = rw (sym o) })
 run-of load zero o cs e no-record = inr (unread load (sym o) e)
 run-of load zero o cs e (rig-first rig ds k h) = rigged load (sym o) rig ds e k h
 
 pub load-runs : LoadRuns
-load-runs load = run-of load (openNumber load) refl (walk load 1 .calls) refl (records-say-calls load)
+load-runs load = run-of load (openNumber load) refl (walk load 1 .records) refl (records-say-calls load)

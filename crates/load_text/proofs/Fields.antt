@@ -7,10 +7,10 @@ use native.Mathlib.Omega.{arith}
 use lib.Dec.{eqb}
 use lib.ListN.{getD, List·getD-eq-default, List·getD-map}
 use borrow.Author.Tests.{eqb-true, ne-eqb}
-use Rattle.load.specs.declared.Call.{Call}
-use Rattle.load.specs.Format.{theGroups, fieldWidths, fieldWidth, fieldsOf}
-use Rattle.load.specs.Calls.{withValue, bare}
-use Rattle.load.proofs.Format.{allBelow, below-passes, no-width}
+use Rattle.format.specs.declared.Call.{Call}
+use Rattle.format.specs.Format.{theGroups, fieldWidths, fieldWidth, fieldsOf}
+use Rattle.format.specs.Calls.{withValue, bare}
+use Rattle.format.proofs.Format.{allBelow, below-passes, no-width}
 use Rattle.load_text.specs.declared.parse.Parsed.{Parsed}
 use Rattle.load_text.specs.declared.parse.Parsed.the-variants.{Said}
 use Rattle.load_text.specs.declared.words.Field.the-variants.{Value}

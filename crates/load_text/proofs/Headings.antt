@@ -5,7 +5,7 @@ use mathlib.Core.Path.{_≡_, refl, sym, ap, _∙_}
 use native.Mathlib.Omega.{arith}
 use lib.ListN.{length, take, drop, drop-of-length-le}
 use lib.Seq.{drop-drop}
-use Rattle.load.specs.Format.{format, knownIn, known}
+use Rattle.format.specs.Format.{format, knownIn, known}
 use Rattle.load.specs.Reading.{openNumber, orElse}
 use Rattle.load_text.specs.declared.Start.{Start}
 use Rattle.load_text.specs.declared.parse.Head.{Head}

@@ -2,22 +2,22 @@
 use Prim.Native.Nat.{ℕ, zero, suc, _+_, _-_, _*_, _/_, _^_, _≤_, _<_, min, max}
 use mathlib.Core.Bool.{Bool, true, false, _&&_, _||_, false≢true}
 use mathlib.Core.List.{List, [], _∷_, _++_, map}
-use mathlib.Core.Logic.{⊎-elim}
 use mathlib.Core.Path.{_≡_, refl, sym, ap, _∙_}
 use native.Mathlib.Nat.{pow-suc}
 use native.Mathlib.Omega.{arith}
 use lib.Dec.{ltb, leb, eqb}
 use lib.ListN.{length, getD, replicate, length-append, length-replicate}
-use borrow.Author.Tests.{ne-eqb, ltb-true, lt-ltb, leb-true}
+use borrow.Author.Tests.{ne-eqb, lt-ltb, leb-true}
 use Rattle.numbers.specs.Numbers.{noSpaceNumber}
 use Rattle.numerals.specs.Digits.{digits, widthUpTo, widthOf, decimalOf, column}
 use Rattle.numerals.specs.Laid.{Put, spaceNumber, lentOut}
 use Rattle.numerals.proofs.Laying.{width-small, decimal-length, pair-length, put-short, lent-all, lent-none, lent-known}
-use Rattle.load.specs.declared.Call.{Call}
-use Rattle.load.specs.Format.{theGroups, fieldWidths, fieldCount, fieldWidth, format, known, fieldsOf, total, lengthIn, lengthOf, names, nameOf}
-use Rattle.load.specs.Calls.{valueOf}
-use Rattle.load.proofs.Format.{both, allBelow, below-passes, allRows, tested, known-tested, no-width}
-use Rattle.load.proofs.Bytes.{record-some, record-length}
+use Rattle.format.specs.declared.Call.{Call}
+use Rattle.format.specs.Records.{recordOf}
+use Rattle.format.specs.Format.{theGroups, fieldWidths, fieldCount, fieldWidth, format, known, fieldsOf, hasKind, total, lengthIn, names, nameOf}
+use Rattle.format.specs.Calls.{valueOf}
+use Rattle.format.proofs.Format.{both, allBelow, below-passes, allRows, kind-tested, known-tested, no-fields, length-of, no-width}
+use Rattle.load.proofs.Bytes.{record-some, call-length}
 use Rattle.load.specs.Reading.{unlessRefused}
 use Rattle.load.specs.Writing.{answeredValues}
 use Rattle.load_text.specs.declared.print.Printed.{Printed}
@@ -87,28 +87,27 @@ fields-turn a b f fs c h l = omega (arith, length-append (wordOf f (valueOf f c)
 line-test : ℕ → List ℕ → Bool
 line-test k fs =
     let n = length (getD names k []) + fieldsMost fs in
-    ltb 0 (lengthIn fs) && (leb n 68 && leb n (3 * (2 + lengthIn fs)))
+    leb n 68 && leb n (3 * (2 + lengthIn fs))
 
 pub line-brief : (e : ℕ) (c : Call) → length (fieldsText (fieldsOf e (c .kind)) c) ≤ fieldsMost (fieldsOf e (c .kind)) → Brief e c
-unfolding lineOf nameOf lengthOf fieldsText line-test fieldsMost wordMost allRows format lengthIn total fieldWidth fieldWidths names
-line-brief e c h = ⊎-elim none some (tested (λ e k fs. line-test k fs) e k refl)
+unfolding lineOf nameOf fieldsText line-test fieldsMost wordMost allRows format lengthIn total fieldWidth fieldWidths names
+line-brief e c h = either (hasKind e k) some none
   where
     k : ℕ
     k = c .kind
 
-    none : fieldsOf e k ≡ [] → Brief e c
-    none n = rw n (omega arith, omega (arith, record-some e c))
+    none : hasKind e k ≡ false → Brief e c
+    none n = rw (n, no-fields e k n) (omega arith, omega (arith, record-some e (recordOf c)))
 
-    some : line-test k (fieldsOf e k) ≡ true → Brief e c
+    some : hasKind e k ≡ true → Brief e c
     some t =
         let fs = fieldsOf e k in
         let name = getD names k [] in
-        let a = both (ltb 0 (lengthIn fs)) _ t in
         let n = length name + fieldsMost fs in
-        let b = both (leb n 68) (leb n (3 * (2 + lengthIn fs))) (a .1) in
-        let r = record-length e c (ltb-true 0 (lengthIn fs) (a .0)) in
-        let l : length (lineOf e c) ≤ n = rw (a .0) (omega (arith, length-append name (fieldsText fs c), h)) in
-        (omega (arith, l, leb-true n 68 (b .0)), omega (arith, l, leb-true n (3 * (2 + lengthIn fs)) (b .1), r))
+        let b = both (leb n 68) (leb n (3 * (2 + lengthIn fs))) (kind-tested (λ e k fs. line-test k fs) e k refl t) in
+        let r = call-length e c t in
+        let l : length (lineOf e c) ≤ n = rw t (omega (arith, length-append name (fieldsText fs c), h)) in
+        (omega (arith, l, leb-true n 68 (b .0)), omega (arith, l, leb-true n (3 * (2 + lengthIn fs)) (b .1), r, length-of e k t))
 
 -- The header of an edition that there is has at most 12.
 pub header-length : (e : ℕ) → known e ≡ true → length (headerOf e) ≤ 12

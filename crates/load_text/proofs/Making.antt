@@ -12,14 +12,15 @@ use lib.Seq.{take-at, append-snoc}
 use Rattle.numbers.specs.Numbers.{noSpaceNumber}
 use Rattle.numerals.specs.Laid.{behind, laid, spaceNumber, lentOut}
 use Rattle.numerals.proofs.Laying.{laid-append, laid-length, laid-none, laid-first, behind-small, lent-all, lent-none, lent-known}
-use Rattle.load.specs.declared.Call.{Call}
+use Rattle.format.specs.declared.Call.{Call}
 use Rattle.load.specs.declared.Written.{Written}
 use Rattle.load.specs.declared.Written.the-variants.{Length, Refusal}
-use Rattle.load.specs.Calls.{carries}
-use Rattle.load.specs.Bytes.{recordBytes, recordsBytes}
+use Rattle.format.specs.Calls.{Typed}
+use Rattle.format.specs.Records.{Record, recordOf, recordsOf, carries}
+use Rattle.load.specs.Bytes.{recordsBytes, callBytes}
 use Rattle.load.specs.Reading.{inPlace, editionOf, loadNumber, walk, unlessRefused}
 use Rattle.load.specs.Writing.{grown, roomNumber, growNumber, appendNumber, appendAnswer, appendOut}
-use Rattle.load.specs.RoundTrip.{Typed, Appended}
+use Rattle.load.specs.RoundTrip.{Appended}
 use Rattle.load.proofs.Reading.{or-else, open-known}
 use Rattle.load.proofs.Writing.{append-grow}
 use Rattle.load.proofs.RoundTrip.{written-reads, read-bounded}
@@ -38,16 +39,16 @@ use Rattle.load_text.proofs.Within.{says-typed, reasons-apart}
 
 -- ── what a line adds ──
 -- A call that is taken leaves the load within its bound.
-grow-small : (e n : ℕ) (c : Call) (room : ℕ) → growNumber e n c room ≡ 0 → n + length (recordBytes e c) ≤ 65536
+grow-small : (e n : ℕ) (c : Call) (room : ℕ) → growNumber e n (recordOf c) room ≡ 0 → n + length (callBytes e c) ≤ 65536
 unfolding growNumber roomNumber
 grow-small e n c room h =
-    let w = n + length (recordBytes e c) in
-    either (not (inPlace (c .kind) n) || not (carries e c)) (λ a. absurd (omega (arith, rw a at h)))
+    let w = n + length (callBytes e c) in
+    either (not (inPlace (c .kind) n) || not (carries e (recordOf c))) (λ a. absurd (omega (arith, rw a at h)))
     (λ a. below 65536 w (λ x. absurd (omega (arith, rw (a, lt-ltb 65536 w x) at h))) (λ x. x))
 
-pub said-bytes : (e : ℕ) (c : Call) → lineBytes e (Said c) ≡ recordBytes e c
+pub said-bytes : (e : ℕ) (c : Call) → lineBytes e (Said c) ≡ callBytes e c
 unfolding lineBytes recordsBytes
-said-bytes e c = append-nil (recordBytes e c)
+said-bytes e c = append-nil (callBytes e c)
 
 length-not : (k n : ℕ) → Refusal k ≡ Length n → ⊥
 length-not k n e = let z : _≡_ {A = ℕ} 0 1 = cc in omega arith
@@ -62,16 +63,16 @@ module _ (e n : ℕ) (o : List ℕ) where
   add-bad zero h = absurd (omega arith)
   add-bad (suc k) h = (refl, refl)
 
-  module _ (c : Call) (k : ℕ) (g : k ≡ growNumber e n c 65536) where
+  module _ (c : Call) (k : ℕ) (g : k ≡ growNumber e n (recordOf c) 65536) where
     pub add-refused : (k ≡ 0 → ⊥) → Adds e n o (Said c) (Refusal k) o
     unfolding lineNumber
     add-refused h = rw (← g) (sym (refused Refusal _ k h), sym (refused (λ i. o) _ k h))
 
-    pub add-taken : k ≡ 0 → (r : ℕ) (u : List ℕ) → r ≡ behind n (length (recordBytes e c)) → u ≡ laid o n (recordBytes e c) → Adds e n o (Said c) (Length r) u
+    pub add-taken : k ≡ 0 → (r : ℕ) (u : List ℕ) → r ≡ behind n (length (callBytes e c)) → u ≡ laid o n (callBytes e c) → Adds e n o (Said c) (Length r) u
     unfolding lineNumber
     add-taken z r u x y =
         let l = grow-small e n c 65536 (sym g ∙ z) in
-        rw (sym g ∙ z, said-bytes e c) (ap Length (x ∙ behind-small n (length (recordBytes e c)) (omega arith)), y)
+        rw (sym g ∙ z, said-bytes e c) (ap Length (x ∙ behind-small n (length (callBytes e c)) (omega arith)), y)
 
 -- ── the loop ──
 -- A heading that is wrong.
@@ -143,23 +144,24 @@ whole-not : (k n : ℕ) (s : List ℕ) → wrong k n ≡ whole s → ⊥
 whole-not k n s e = let z : _≡_ {A = ℕ} 0 1 = cc in omega arith
 
 -- A call that the writer takes where there is room, taken.
-append-more : (e : ℕ) (cs : List Call) (t : List ℕ) (c : Call) (room : ℕ) → Appended e cs (e ∷ t) → Typed c → growNumber e (length (e ∷ t)) c room ≡ 0
-    → Appended e (cs ++ (c ∷ [])) (e ∷ (t ++ recordBytes e c))
+append-more : (e : ℕ) (rs : List Record) (t : List ℕ) (c : Call) (room : ℕ) → Appended e rs (e ∷ t) → Typed c → growNumber e (length (e ∷ t)) (recordOf c) room ≡ 0
+    → Appended e (rs ++ (recordOf c ∷ [])) (e ∷ (t ++ callBytes e c))
 unfolding appendAnswer appendOut grown
-append-more e cs t c room a h z =
+append-more e rs t c room a h z =
     let s : List ℕ = e ∷ t in
-    let w = written-reads e cs s a .0 in
+    let r = recordOf c in
+    let w = written-reads e rs s a .0 in
     let out : List ℕ = replicate room 0 in
-    let g : appendNumber s c (length out) ≡ 0 = sym (append-grow s c (length out) 0 (sym w) refl) ∙ rw length-replicate z in
-    let l : appendAnswer s c out ≡ Length (length (grown s c)) = rw g in
-    let f : take (length (grown s c)) (appendOut s c out) ≡ s ++ recordBytes e c = rw g (take-at (grown s c) (drop (length (grown s c)) out) (length (grown s c)) refl) in
-    rw f at (Appended.one c out (length (grown s c)) a h l)
+    let g : appendNumber s r (length out) ≡ 0 = sym (append-grow s r (length out) 0 (sym w) refl) ∙ rw length-replicate z in
+    let l : appendAnswer s r out ≡ Length (length (grown s r)) = rw g in
+    let f : take (length (grown s r)) (appendOut s r out) ≡ s ++ callBytes e c = rw g (take-at (grown s r) (drop (length (grown s r)) out) (length (grown s r)) refl) in
+    rw f at (Appended.one r out (length (grown s r)) a (h, tt) l)
 
-gathered-reads : (e k : ℕ) (ls : List (List ℕ)) (cs : List Call) (t u : List ℕ) → Appended e cs (e ∷ t) → gathered e k (e ∷ t) (map (lineSays e) ls) ≡ whole u
-    → Appended e (cs ++ callsIn (map (lineSays e) ls)) u × (editionOf u ≡ e)
+gathered-reads : (e k : ℕ) (ls : List (List ℕ)) (rs : List Record) (t u : List ℕ) → Appended e rs (e ∷ t) → gathered e k (e ∷ t) (map (lineSays e) ls) ≡ whole u
+    → Appended e (rs ++ recordsOf (callsIn (map (lineSays e) ls))) u × (editionOf u ≡ e)
 unfolding gathered callsIn lineNumber lineBytes recordsBytes
-gathered-reads e k [] cs t u a q = let i : e ∷ t ≡ u = cc in (rw (append-nil, ← i) a, ap editionOf (sym i))
-gathered-reads e k (l ∷ ls) cs t u a q =
+gathered-reads e k [] rs t u a q = let i : e ∷ t ≡ u = cc in (rw (append-nil, ← i) a, ap editionOf (sym i))
+gathered-reads e k (l ∷ ls) rs t u a q =
     let b = not-refused (wrong (k + 1)) _ (lineNumber e (length (e ∷ t)) (lineSays e l)) (whole u) (λ n. whole-not (k + 1) n u) q in
     go (lineSays e l) refl (b .0) (b .1) (λ ds r b. gathered-reads e (k + 1) ls ds r u b)
   where
@@ -167,14 +169,14 @@ gathered-reads e k (l ∷ ls) cs t u a q =
     ps = map (lineSays e) ls
 
     go : (p : Parsed) → lineSays e l ≡ p → lineNumber e (length (e ∷ t)) p ≡ 0 → gathered e (k + 1) (e ∷ (t ++ lineBytes e p)) ps ≡ whole u
-        → ((ds : List Call) (r : List ℕ) → Appended e ds (e ∷ r) → gathered e (k + 1) (e ∷ r) ps ≡ whole u → Appended e (ds ++ callsIn ps) u × (editionOf u ≡ e))
-        → Appended e (cs ++ (parsedValues p .calls ++ callsIn ps)) u × (editionOf u ≡ e)
-    go Nothing i z q f = f cs t a (rw append-nil at q)
+        → ((ds : List Record) (r : List ℕ) → Appended e ds (e ∷ r) → gathered e (k + 1) (e ∷ r) ps ≡ whole u → Appended e (ds ++ recordsOf (callsIn ps)) u × (editionOf u ≡ e))
+        → Appended e (rs ++ recordsOf (parsedValues p .calls ++ callsIn ps)) u × (editionOf u ≡ e)
+    go Nothing i z q f = f rs t a (rw append-nil at q)
     go (Bad n) i z q f = absurd (omega (arith, reasons-apart e l n i, or-else n _ z .0))
     go (Said c) i z q f =
-        rw (append-snoc cs c (callsIn ps)) at (f (cs ++ (c ∷ [])) (t ++ recordBytes e c) (append-more e cs t c 65536 a (says-typed e l c i) z) (rw (said-bytes e c) at q))
+        rw (append-snoc rs (recordOf c) (recordsOf (callsIn ps))) at (f (rs ++ (recordOf c ∷ [])) (t ++ callBytes e c) (append-more e rs t c 65536 a (says-typed e l c i) z) (rw (said-bytes e c) at q))
 
-made-ends : (text s : List ℕ) → made text ≡ whole s → Appended (heading text .edition) (callsIn (saidIn text)) s × (editionOf s ≡ heading text .edition)
+made-ends : (text s : List ℕ) → made text ≡ whole s → Appended (heading text .edition) (recordsOf (callsIn (saidIn text))) s × (editionOf s ≡ heading text .edition)
 unfolding made saidIn headingNumber
 made-ends text s q =
     let h = heading text in
@@ -223,7 +225,7 @@ unfolding madeOf madeOut
 made-reads text out n e = go (made text) refl e
   where
     go : (m : Making) → made text ≡ m → answerOn m out ≡ Load n
-        → (n ≤ length out) × (loadNumber (take n (bufferOn m out)) ≡ 0) × (walk (take n (bufferOn m out)) 1 ≡ record { calls = callsIn (saidIn text); stop = 0 })
+        → (n ≤ length out) × (loadNumber (take n (bufferOn m out)) ≡ 0) × (walk (take n (bufferOn m out)) 1 ≡ record { records = recordsOf (callsIn (saidIn text)); stop = 0 })
         × (editionOf (take n (bufferOn m out)) ≡ heading text .edition)
     go (whole s) i e =
         let q = not-refused (Mistake 0) (Load (length s)) (spaceNumber s out) (Load n) (λ k c. let z : _≡_ {A = ℕ} 0 1 = cc in omega arith) e in

@@ -1,6 +1,5 @@
 -- The line that a call is printed as says that call: its words are the kind's name and the values of its fields, and these read back.
 use Prim.Native.Nat.{ℕ, zero, suc, _+_, _-_, _*_, _/_, _%_, _^_, _≤_, _<_}
-use mathlib.Core.Logic.{⊎-elim}
 use mathlib.Core.Path.{_≡_, refl, sym, ap, _∙_}
 use mathlib.Core.Bool.{Bool, true, false, not, _&&_, _||_, cond, false≢true}
 use mathlib.Core.List.{List, [], _∷_, _++_, map, append-assoc}
@@ -10,15 +9,16 @@ use lib.Dec.{ltb, leb, eqb}
 use lib.ListN.{length, getD, length-append}
 use borrow.Author.Tests.{eqb-true, ltb-true, leb-false, leb-true, lt-ltb, le-ltb, le-leb, lt-leb, not-true}
 use Rattle.numerals.specs.Digits.{digits, widthUpTo, widthOf, decimalOf, column}
-use Rattle.load.specs.declared.Call.{Call}
-use Rattle.load.specs.Format.{theGroups, fieldWidth, format, known, fieldsOf, lengthIn, lengthOf, names, nameOf}
-use Rattle.load.specs.Calls.{valueOf, withValue, bare, filled, callOf, valuesIn, valuesOf, carries}
+use Rattle.format.specs.declared.Call.{Call}
+use Rattle.format.specs.Format.{theGroups, fieldWidth, format, known, fieldsOf, hasKind, names, nameOf}
+use Rattle.format.specs.Calls.{valueOf, withValue, bare, filled, callOf, valuesIn, valuesOf, keeps, Typed}
+use Rattle.format.specs.Records.{Record, callsOf}
 use Rattle.load.specs.Reading.{editionOf, walk}
-use Rattle.load.specs.RoundTrip.{Typed}
-use Rattle.load.proofs.Format.{both, allRows, tested, known-tested, width-most}
-use Rattle.load.proofs.Calls.{carries-length, call-of-values}
+use Rattle.format.proofs.Format.{both, allRows, kind-tested, known-tested, width-most}
+use Rattle.format.proofs.Calls.{keeps-kind, call-of-values}
 use Rattle.load.proofs.Reading.{load-parts, load-known}
-use Rattle.load.proofs.Loads.{Loadable, read-loadable}
+use Rattle.format.proofs.Records.{carries-parts, call-carried}
+use Rattle.load.proofs.Loads.{Sound, Loadable, read-loadable}
 use Rattle.load_text.specs.declared.parse.Head.the-variants.{Edition, Other}
 use Rattle.load_text.specs.declared.parse.Parsed.the-variants.{Nothing, Said}
 use Rattle.load_text.specs.declared.words.Field.the-variants.{Value}
@@ -242,9 +242,9 @@ record Named (e k : ℕ) : Type 0 where
   word : Plain (nameOf e k)
 
 -- A kind that an edition has is named by its name alone, which is a plain word.
-named : (e k : ℕ) → 0 < lengthOf e k → Named e k
-unfolding nameOf kindNamed name-test allRows format lengthOf lengthIn kindOf placeIn names isWord isPlain none
-named e k h = ⊎-elim (λ n. absurd (omega (arith, ap lengthIn n))) go (tested (λ e k fs. ltb 0 k && name-test k) e k refl)
+named : (e k : ℕ) → hasKind e k ≡ true → Named e k
+unfolding nameOf kindNamed name-test allRows format kindOf placeIn names isWord isPlain none
+named e k h = go (kind-tested (λ e k fs. ltb 0 k && name-test k) e k refl h)
   where
     go : (ltb 0 k && name-test k) ≡ true → Named e k
     go p =
@@ -252,12 +252,11 @@ named e k h = ⊎-elim (λ n. absurd (omega (arith, ap lengthIn n))) go (tested 
         let l = both (ltb 0 k) (name-test k) p in
         let t = both (eqb (kindOf n) k) (not (isWord n editionWord) && isPlain n) (l .1) in
         let d = both (not (isWord n editionWord)) (isPlain n) (t .1) in
-        let x = lt-ltb 0 (lengthOf e k) h in
         record {
           some = ltb-true 0 k (l .0);
-          kind = rw (x, eqb-true (kindOf n) k (t .0), x);
-          other = rw x (not-true (isWord n editionWord) (d .0));
-          word = rw x (plain-word n (d .1));
+          kind = rw (h, eqb-true (kindOf n) k (t .0), h);
+          other = rw h (not-true (isWord n editionWord) (d .0));
+          word = rw h (plain-word n (d .1));
         }
 
 -- ── a line ──
@@ -268,11 +267,11 @@ record Line (e : ℕ) (c : Call) (rest : List ℕ) : Type 0 where
   says : lineSays e line ≡ Said c
   head : headSays line ≡ Other
 
-line-of : (e : ℕ) (c : Call) → carries e c ≡ true → Typed c → (rest : List ℕ) → Line e c rest
+line-of : (e : ℕ) (c : Call) → keeps e c ≡ true → Typed c → (rest : List ℕ) → Line e c rest
 unfolding lineOf lineSays callIn headSays headIn valuesOf callOf
 line-of e c h t rest =
     let k = c .kind in
-    let n = named e k (carries-length e c h) in
+    let n = named e k (keeps-kind e c h) in
     let fs = fieldsOf e k in
     let ps = fields-plain c t fs in
     let name = nameOf e k in
@@ -285,20 +284,24 @@ line-of e c h t rest =
     }
 
 pub line-read-back : LineReadBack
-line-read-back e c h t rest = let l = line-of e c h t rest in ap (map (lineSays e)) (l .front) ∙ ap (λ x. x ∷ map (lineSays e) (linesIn rest)) (l .says)
+line-read-back e c h t rest = let l = line-of e c (sym (call-carried e c) ∙ h) t rest in ap (map (lineSays e)) (l .front) ∙ ap (λ x. x ∷ map (lineSays e) (linesIn rest)) (l .says)
 
 -- ── the text of a load ──
-lines-read-back : (e k : ℕ) (b : Bool) (cs : List Call) → Loadable e b cs → map (lineSays e) (linesIn (linesOf e k cs 0)) ≡ map Said cs
+record-read-back : (e : ℕ) (b : Bool) (r : Record) → Sound e b r → (rest : List ℕ) → Line e (r .call) rest
+record-read-back e b r v rest = line-of e (r .call) (carries-parts e r (v .carried) .0) (v .typed .0) rest
+
+lines-read-back : (e k : ℕ) (b : Bool) (rs : List Record) → Loadable e b rs → map (lineSays e) (linesIn (linesOf e k rs 0)) ≡ map Said (callsOf rs)
 unfolding linesOf linesIn parts
 lines-read-back e k b [] Loadable.none = refl
-lines-read-back e k b (c ∷ cs) (Loadable.one v g) =
-    line-read-back e c (v .carried) (v .typed) (linesOf e (k + 1) cs 0) ∙ ap (λ l. Said c ∷ l) (lines-read-back e (k + 1) false cs g)
+lines-read-back e k b (r ∷ rs) (Loadable.one v g) =
+    let l = record-read-back e b r v (linesOf e (k + 1) rs 0) in
+    rw (l .front, l .says) (ap (λ l. Said (r .call) ∷ l) (lines-read-back e (k + 1) false rs g))
 
 -- Lines of calls have no heading.
-lines-plain : (e k : ℕ) (b : Bool) (cs : List Call) → Loadable e b cs → (i : ℕ) → headingIn i (map headSays (linesIn (linesOf e k cs 0))) ≡ plain
+lines-plain : (e k : ℕ) (b : Bool) (rs : List Record) → Loadable e b rs → (i : ℕ) → headingIn i (map headSays (linesIn (linesOf e k rs 0))) ≡ plain
 unfolding linesOf linesIn parts headingIn
 lines-plain e k b [] Loadable.none i = refl
-lines-plain e k b (c ∷ cs) (Loadable.one v g) i = let l = line-of e c (v .carried) (v .typed) (linesOf e (k + 1) cs 0) in rw (l .front, l .head)
+lines-plain e k b (r ∷ rs) (Loadable.one v g) i = let l = record-read-back e b r v (linesOf e (k + 1) rs 0) in rw (l .front, l .head)
 
 -- The header of another edition than 1 says it.
 edition-says : (e : ℕ) → known e ≡ true → (t : List ℕ)
@@ -313,21 +316,21 @@ edition-says e k t =
       ap headIn (line-words editionWord (decimalOf e ∷ []) p (also d nil)) ∙ ap editionOr (number-said 10 255 editionNumber editionNumber e (decimalOf e) s b),
     )
 
-text-said : (e : ℕ) (cs : List Call) → known e ≡ true → Loadable e true cs → (t : List ℕ) → t ≡ headerOf e ++ linesOf e 1 cs 0
-    → (heading t .number ≡ 0) × (heading t .edition ≡ e) × (saidIn t ≡ cond (eqb e 1) (Nothing ∷ []) [] ++ map Said cs)
+text-said : (e : ℕ) (rs : List Record) → known e ≡ true → Loadable e true rs → (t : List ℕ) → t ≡ headerOf e ++ linesOf e 1 rs 0
+    → (heading t .number ≡ 0) × (heading t .edition ≡ e) × (saidIn t ≡ cond (eqb e 1) (Nothing ∷ []) [] ++ map Said (callsOf rs))
 unfolding heading headingIn saidIn headerOf headSays headIn lineSays callIn linesIn wordsIn said chomped before parts
-text-said e cs k g t q =
-    let rest = linesOf e 1 cs 0 in
+text-said e rs k g t q =
+    let rest = linesOf e 1 rs 0 in
     either (eqb e 1) (λ o.
     let i : e ≡ 1 = eqb-true e 1 o in
     let l : linesIn t ≡ (35 ∷ 32 ∷ 101 ∷ 100 ∷ 105 ∷ 116 ∷ 105 ∷ 111 ∷ 110 ∷ 32 ∷ 49 ∷ []) ∷ linesIn rest = ap linesIn (rw o at q) in
-    rw (o, l, lines-plain e 1 true cs g 1) (refl, sym i, ap (λ x. Nothing ∷ x) (ap (λ (x : ℕ). map (lineSays x) (linesIn rest)) (sym i) ∙ lines-read-back e 1 true cs g)))
-    (λ o. let s = edition-says e k rest in rw (o, ap linesIn (rw o at q) ∙ s .0, s .1) (refl, refl, lines-read-back e 1 true cs g))
+    rw (o, l, lines-plain e 1 true rs g 1) (refl, sym i, ap (λ x. Nothing ∷ x) (ap (λ (x : ℕ). map (lineSays x) (linesIn rest)) (sym i) ∙ lines-read-back e 1 true rs g)))
+    (λ o. let s = edition-says e k rest in rw (o, ap linesIn (rw o at q) ∙ s .0, s .1) (refl, refl, lines-read-back e 1 true rs g))
 
 pub text-read-back : TextReadBack
 unfolding textOf restOf
 text-read-back s b z =
     let h = load-parts s z in
     let e = editionOf s in
-    let cs = walk s 1 .calls in
-    text-said e cs (load-known s z .1) (read-loadable s b) (textOf s) (rw (h .0, h .1))
+    let rs = walk s 1 .records in
+    text-said e rs (load-known s z .1) (read-loadable s b) (textOf s) (rw (h .0, h .1))

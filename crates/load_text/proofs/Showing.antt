@@ -10,12 +10,13 @@ use lib.ListN.{length, length-append}
 use Rattle.numerals.specs.Laid.{Put}
 use Rattle.numerals.proofs.Laying.{put-as}
 use Rattle.numerals.proofs.Going.{Going, going-start, going-step, going-none, going-last}
-use Rattle.load.specs.declared.Call.{Call}
-use Rattle.load.specs.declared.Item.the-variants.{Record, End, Refused}
+use Rattle.format.specs.declared.Call.{Call}
+use Rattle.load.specs.declared.Item.the-variants as item
+use Rattle.load.specs.declared.Item.the-variants.{End, Refused}
 use Rattle.load.specs.Reading.{editionOf, itemAt, walk, openNumber}
-use Rattle.load.proofs.Reading.{walk-record, walk-end, walk-refused, step-refused, step-next, record-size, open-known}
-use Rattle.load.proofs.Format.{neither}
-use Rattle.load.proofs.Bytes.{record-length}
+use Rattle.load.proofs.Reading.{walk-call, walk-end, walk-refused, step-refused, step-next, call-size, open-known}
+use Rattle.format.proofs.Format.{neither}
+use Rattle.load.proofs.Bytes.{call-length}
 use Rattle.load_text.specs.Lines.{lineOf, Brief, stopLine, linesOf, restOf, headerOf, textOf}
 use Rattle.load_text.proofs.Cases.{either, refused}
 use Rattle.load_text.proofs.Lines.{stop-length, header-length}
@@ -37,19 +38,19 @@ module _ (e : ℕ) (s o₀ : List ℕ) (from : ℕ) (o : List ℕ) (at k n : ℕ
 
   module _ (m : ℕ) (p : List ℕ) where
     -- A line has at most three bytes for each byte of its record.
-    pub turn-more : length s ≤ 65536 → editionOf s ≡ e → (c : Call) (next : ℕ) → itemAt s at ≡ Record c next → Put o n (lineOf e c) m p × Brief e c
+    pub turn-more : length s ≤ 65536 → editionOf s ≡ e → (c : Call) (next : ℕ) → itemAt s at ≡ item.Record c next → Put o n (lineOf e c) m p × Brief e c
         → Turn e s o₀ from p next (k + 1) m
     unfolding restOf linesOf
     turn-more l x c next i z =
         let j = step-next s at c next i in
-        let w = walk-record s at c next i in
-        let q = rw x at (record-size s at c next i) in
+        let w = walk-call s at c next i in
+        let q = rw x at (call-size s at c next i) in
         let a = length-append (lineOf e c) (restOf e (k + 1) (walk s next)) in
         record {
           inside = omega (arith, j .1);
           few = omega (arith, j .0, t .few);
           going = going-step o₀ from _ o n (lineOf e c) _ p m (rw w at (t .going)) (z .0);
-          brief = omega (arith, rw w at (t .brief), a, z .1 .1, record-length e c (q .0), q .1);
+          brief = omega (arith, rw w at (t .brief), a, z .1 .1, call-length e c (q .0), q .1);
         }
 
     pub turn-refused : (x : ℕ) → itemAt s at ≡ Refused x → Put o n (stopLine x k) m p

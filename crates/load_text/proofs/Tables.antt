@@ -1,6 +1,6 @@
 -- The texts of the code's table, and the search for the kind that a word names.
 use Prim.Native.Nat.{ℕ, zero, suc, _+_, _-_, _≤_, _<_}
-use mathlib.Core.Bool.{Bool, true, false, false≢true}
+use mathlib.Core.Bool.{Bool, true, false, _||_, false≢true}
 use mathlib.Core.List.{List, [], _∷_, _++_, map}
 use mathlib.Core.Path.{_≡_, refl, sym, ap, _∙_}
 use native.Mathlib.Numerals.{add-one}
@@ -8,9 +8,9 @@ use native.Mathlib.Omega.{arith}
 use lib.Dec.{ltb, eqb}
 use lib.ListN.{length, take, drop, getD, replicate, length-append, drop-of-length-le, List·getD-eq-default}
 use lib.Seq.{drop-cons, take-at}
-use borrow.Author.Tests.{eqb-true, eqb-false, eq-eqb, lt-ltb}
-use Rattle.load.specs.Format.{lengthOf, names, nameOf}
-use Rattle.load.proofs.Format.{both}
+use borrow.Author.Tests.{eqb-true, eq-eqb, ltb-true, ltb-false}
+use Rattle.format.specs.Format.{hasKind, names, nameOf}
+use Rattle.format.proofs.Format.{both, has, allBelow, below-passes, Unlisted, unlisted}
 use Rattle.load_text.specs.Lines.{reasons, reasonTexts, reasonText}
 use Rattle.load_text.specs.Parsing.{placeOf, is, isWord, placeIn, kindOf, kindNamed, NamedByName}
 use Rattle.load_text.proofs.Cases.{either}
@@ -48,12 +48,16 @@ unfolding reasonText
 reason-is n i e = ap (λ (k : ℕ). getD reasonTexts k []) e
 
 -- A kind that there is not has no name.
-pub no-name : (k : ℕ) → (0 < k → (k ≡ 7 → ⊥) → 8 < k) → getD names k [] ≡ []
-unfolding names
-no-name k h =
-    either (eqb k 0) (λ z. rw (eqb-true k 0 z))
-    (λ z. either (eqb k 7) (λ s. rw (eqb-true k 7 s))
-    (λ s. List·getD-eq-default names [] (h (omega (arith, eqb-false k 0 z)) (eqb-false k 7 s))))
+pub no-name : (js : List ℕ) (k : ℕ) → allBelow (length names) (λ i. has i js || eqb (length (getD names i [])) 0) ≡ true → Unlisted js k → getD names k [] ≡ []
+no-name js k t u =
+    either (ltb k (length names))
+    (λ l. let q = below-passes (length names) (λ i. has i js || eqb (length (getD names i [])) 0) t k (ltb-true k (length names) l) in
+    empty (getD names k []) (eqb-true (length (getD names k [])) 0 (rw (unlisted js k u) at q)))
+    (λ l. List·getD-eq-default names [] (ltb-false k (length names) l))
+  where
+    empty : (w : List ℕ) → length w ≡ 0 → w ≡ []
+    empty [] h = refl
+    empty (b ∷ w) h = absurd (omega arith)
 
 -- So many bytes of what the code has as a name are the name.
 pub name-taken : (k : ℕ) (t : List ℕ) (n : ℕ) → take (length (getD names k [])) t ≡ getD names k [] → n ≡ length (getD names k []) → take n t ≡ getD names k []
@@ -73,23 +77,20 @@ pub kind-none : (w : List ℕ) (k : ℕ) → length names ≤ k → placeIn w k 
 unfolding placeIn
 kind-none w k h = rw (drop-of-length-le names h)
 
-module _ (e k : ℕ) (h : lengthOf e k ≡ 0 → ⊥) where
-  some : ltb 0 (lengthOf e k) ≡ true
-  some = lt-ltb 0 (lengthOf e k) (omega (arith, h))
-
+module _ (e k : ℕ) (h : hasKind e k ≡ true) where
   pub has-name : getD names k [] ≡ nameOf e k
   unfolding nameOf
-  has-name = rw some
+  has-name = rw h
 
   pub is-named : (w : List ℕ) → k ≡ kindOf w → k ≡ kindNamed e w
   unfolding kindNamed
-  is-named w q = rw (← q, some)
+  is-named w q = rw (← q, h)
 
-pub lacks-name : (e k : ℕ) → lengthOf e k ≡ 0 → nameOf e k ≡ []
+pub lacks-name : (e k : ℕ) → hasKind e k ≡ false → nameOf e k ≡ []
 unfolding nameOf
 lacks-name e k h = rw h
 
-pub not-named : (e k : ℕ) (w : List ℕ) → k ≡ kindOf w → lengthOf e k ≡ 0 → 0 ≡ kindNamed e w
+pub not-named : (e k : ℕ) (w : List ℕ) → k ≡ kindOf w → hasKind e k ≡ false → 0 ≡ kindNamed e w
 unfolding kindNamed
 not-named e k w q h = rw (← q, h)
 
@@ -104,7 +105,7 @@ place-said w k (n ∷ ns) h =
 pub named-by-name : NamedByName
 unfolding kindNamed kindOf placeIn names isWord
 named-by-name e w k h =
-    either (ltb 0 (lengthOf e (kindOf w))) (λ q. go w (rw q at h)) (λ q. absurd (omega (arith, rw q at h)))
+    either (hasKind e (kindOf w)) (λ q. go w (rw q at h)) (λ q. absurd (omega (arith, rw q at h)))
   where
     go : (w : List ℕ) → kindOf w ≡ suc k → (w ≡ getD names (suc k) []) × (0 < length w)
     go [] q = absurd (omega (arith, q))
@@ -122,4 +123,4 @@ place-below w k (n ∷ ns) = either (isWord w n) (λ q. rw q (omega arith)) (λ 
 pub kind-below : (e : ℕ) (w : List ℕ) → kindNamed e w < 256
 unfolding kindNamed kindOf names
 kind-below e w =
-    either (ltb 0 (lengthOf e (kindOf w))) (λ q. rw q (omega (arith, place-below w 0 names))) (λ q. rw q (omega arith))
+    either (hasKind e (kindOf w)) (λ q. rw q (omega (arith, place-below w 0 names))) (λ q. rw q (omega arith))

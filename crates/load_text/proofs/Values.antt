@@ -7,9 +7,9 @@ use native.Mathlib.Omega.{arith}
 use lib.Dec.{leb, ltb, eqb}
 use borrow.Author.Tests.{le-ltb}
 use Rattle.groups.specs.Groups.{union}
-use Rattle.load.specs.declared.Call.{Call}
-use Rattle.load.specs.Format.{theGroups, fieldWidth, fieldsOf}
-use Rattle.load.specs.Calls.{withValue, bare, filled, callOf}
+use Rattle.format.specs.declared.Call.{Call}
+use Rattle.format.specs.Format.{theGroups, fieldWidth, fieldsOf}
+use Rattle.format.specs.Calls.{withValue, bare, filled, callOf}
 use Rattle.load.specs.Reading.{orElse, unlessRefused}
 use Rattle.load_text.specs.declared.parse.Parsed.{Parsed}
 use Rattle.load_text.specs.declared.parse.Parsed.the-variants.{Said, Bad}

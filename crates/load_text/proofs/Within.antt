@@ -9,12 +9,11 @@ use lib.ListN.{List·getD-eq-default}
 use native.Mathlib.Nat.{two-pow-succ, one-le-pow}
 use borrow.Author.Tests.{leb-true, eqb-true}
 use Rattle.groups.specs.Groups.{setFrom, union, has}
-use Rattle.load.specs.declared.Call.{Call}
-use Rattle.load.specs.Format.{theGroups, fieldWidths, fieldCount, fieldWidth, fieldsOf}
-use Rattle.load.specs.Calls.{made, withValue, bare}
-use Rattle.load.specs.RoundTrip.{Typed}
-use Rattle.load.proofs.Format.{allBelow, below-passes}
-use Rattle.load.proofs.Calls.{with-none, typed-with, typed-bare}
+use Rattle.format.specs.declared.Call.{Call}
+use Rattle.format.specs.Format.{theGroups, fieldWidths, fieldCount, fieldWidth, fieldsOf}
+use Rattle.format.specs.Calls.{made, withValue, bare, Typed}
+use Rattle.format.proofs.Format.{allBelow, below-passes}
+use Rattle.format.proofs.Calls.{with-none, typed-with, typed-bare}
 use Rattle.load_text.specs.declared.parse.Parsed.{Parsed}
 use Rattle.load_text.specs.declared.parse.Parsed.the-variants.{Nothing, Said, Bad}
 use Rattle.load_text.specs.declared.words.Field.{Field}

@@ -5,7 +5,7 @@ use Prim.Native.Nat.{ℕ}
 use mathlib.Core.List.{List, [], _∷_}
 use lib.ListN.{length}
 use Rattle.numerals.specs.Laid.{spaceNumber}
-use Rattle.load.specs.declared.Call.{Call}
+use Rattle.format.specs.declared.Call.{Call}
 use Rattle.load.specs.Answers.{WrittenValues}
 use Rattle.load.specs.Reading.{unlessRefused}
 use Rattle.load_text.specs.declared.Made.{Made}

@@ -7,10 +7,11 @@ use lib.ListN.{length, getD, replicate}
 use Rattle.numbers.specs.Numbers.{editionNumber, misfitNumber, overlongNumber}
 use Rattle.numerals.specs.Digits.{decimalOf, column, pair}
 use Rattle.numerals.specs.Laid.{spaceNumber, lentOut}
-use Rattle.load.specs.declared.Call.{Call}
-use Rattle.load.specs.Format.{theGroups, fieldWidth, fieldsOf, nameOf}
-use Rattle.load.specs.Calls.{valueOf}
-use Rattle.load.specs.Bytes.{recordBytes}
+use Rattle.format.specs.declared.Call.{Call}
+use Rattle.format.specs.Records.{Record}
+use Rattle.format.specs.Format.{theGroups, fieldWidth, fieldsOf, nameOf}
+use Rattle.format.specs.Calls.{valueOf}
+use Rattle.load.specs.Bytes.{callBytes}
 use Rattle.load.specs.Answers.{WrittenValues}
 use Rattle.load.specs.Reading.{editionOf, Walk, walk, openNumber, unlessRefused}
 use Rattle.load.specs.Writing.{answeredValues}
@@ -52,19 +53,19 @@ fieldsMost (f ∷ fs) = suc (wordMost f) + fieldsMost fs
 
 -- The line has at most 68 bytes, and three for each byte of the call's record. Every call has one, if its values go into their fields' widths.
 abbrev pub Brief : ℕ → Call → Type 0
-Brief e c = (length (lineOf e c) ≤ 68) × (length (lineOf e c) ≤ 3 * length (recordBytes e c))
+Brief e c = (length (lineOf e c) ≤ 68) × (length (lineOf e c) ≤ 3 * length (callBytes e c))
 
 -- "# stop "
 unfoldable pub stopLine : ℕ → ℕ → List ℕ
 stopLine n k = (35 ∷ 32 ∷ 115 ∷ 116 ∷ 111 ∷ 112 ∷ 32 ∷ []) ++ pair n k 10
 
 -- the lines from record k on; none for stop 0, the number of a load that is read to its end
-unfoldable pub linesOf : ℕ → ℕ → List Call → ℕ → List ℕ
+unfoldable pub linesOf : ℕ → ℕ → List Record → ℕ → List ℕ
 linesOf e k [] stop = unlessRefused stop (λ n. stopLine n k) []
-linesOf e k (c ∷ cs) stop = lineOf e c ++ linesOf e (k + 1) cs stop
+linesOf e k (r ∷ rs) stop = lineOf e (r .call) ++ linesOf e (k + 1) rs stop
 
 unfoldable pub restOf : ℕ → ℕ → Walk → List ℕ
-restOf e k w = linesOf e k (w .calls) (w .stop)
+restOf e k w = linesOf e k (w .records) (w .stop)
 
 -- "# edition 1" for edition 1, "edition " and its number for any other
 unfoldable pub headerOf : ℕ → List ℕ

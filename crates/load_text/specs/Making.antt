@@ -4,10 +4,11 @@ use mathlib.Core.List.{List, [], _∷_, _++_, map}
 use mathlib.Core.Path.{_≡_}
 use lib.ListN.{length, take, drop}
 use Rattle.numerals.specs.Laid.{laid, spaceNumber, lentOut}
-use Rattle.load.specs.declared.Call.{Call}
+use Rattle.format.specs.declared.Call.{Call}
+use Rattle.format.specs.Records.{recordOf, recordsOf}
 use Rattle.load.specs.declared.Written.{Written}
 use Rattle.load.specs.declared.Written.the-variants.{Length, Refusal}
-use Rattle.load.specs.Bytes.{recordsBytes}
+use Rattle.load.specs.Bytes.{callsBytes}
 use Rattle.load.specs.Reading.{editionOf, openNumber, loadNumber, walk, orElse, unlessRefused}
 use Rattle.load.specs.Writing.{growNumber}
 use Rattle.load_text.specs.declared.Made.{Made}
@@ -70,14 +71,14 @@ pub data Making : Type 0 where
 -- 13, then 14.
 abbrev pub callsNumber : ℕ → ℕ → List Call → ℕ
 callsNumber e n [] = 0
-callsNumber e n (c ∷ cs) = growNumber e n c 65536
+callsNumber e n (c ∷ cs) = growNumber e n (recordOf c) 65536
 
 -- The number of a line after such a load, 0 for one that is not wrong, and the record that it adds.
 unfoldable pub lineNumber : ℕ → ℕ → Parsed → ℕ
 lineNumber e n p = orElse (parsedValues p .number) (callsNumber e n (parsedValues p .calls))
 
 unfoldable pub lineBytes : ℕ → Parsed → List ℕ
-lineBytes e p = recordsBytes e (parsedValues p .calls)
+lineBytes e p = callsBytes e (parsedValues p .calls)
 
 -- What lines make of a load s of edition e, after k lines: what the later lines make, unless line k + 1 has a number.
 unfoldable pub gathered : ℕ → ℕ → List ℕ → List Parsed → Making
@@ -139,5 +140,5 @@ callsIn (p ∷ ps) = parsedValues p .calls ++ callsIn ps
 abbrev pub MadeReads : Type 0
 MadeReads = (text out : List ℕ) (n : ℕ) → madeOf text out ≡ Load n
     → (n ≤ length out) × (loadNumber (take n (madeOut text out)) ≡ 0)
-    × (walk (take n (madeOut text out)) 1 ≡ record { calls = callsIn (saidIn text); stop = 0 })
+    × (walk (take n (madeOut text out)) 1 ≡ record { records = recordsOf (callsIn (saidIn text)); stop = 0 })
     × (editionOf (take n (madeOut text out)) ≡ heading text .edition)

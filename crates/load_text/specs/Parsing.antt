@@ -7,8 +7,8 @@ use lib.Dec.{eqb, leb, ltb}
 use lib.ListN.{length, take, drop, getD}
 use Rattle.numbers.specs.Numbers.{editionNumber}
 use Rattle.groups.specs.Groups.{setWhere, union}
-use Rattle.load.specs.Format.{theGroups, fieldWidth, fieldsOf, lengthOf, names}
-use Rattle.load.specs.Calls.{withValue, bare, callOf}
+use Rattle.format.specs.Format.{theGroups, fieldWidth, hasKind, fieldsOf, names}
+use Rattle.format.specs.Calls.{withValue, bare, callOf}
 use Rattle.load.specs.Reading.{orElse, unlessRefused}
 use Rattle.load_text.specs.declared.parse.Head.{Head}
 use Rattle.load_text.specs.declared.parse.Head.the-variants.{Silent, Edition, Other, Misread}
@@ -277,7 +277,7 @@ kindOf w = placeIn w 0 names
 
 -- The same in an edition, which may lack it.
 unfoldable pub kindNamed : ℕ → List ℕ → ℕ
-kindNamed e w = cond (ltb 0 (lengthOf e (kindOf w))) (kindOf w) 0
+kindNamed e w = cond (hasKind e (kindOf w)) (kindOf w) 0
 
 -- A word that names a kind is the kind's name, and not empty: none names kind 7, which has no name. proofs/Tables has the proof:
 -- named-by-name.

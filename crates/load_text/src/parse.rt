@@ -2,8 +2,8 @@
 ghost use mathlib.Core.Path.{_≡_};
 ghost use Prim.Native.Nat.{_≤_};
 ghost use lib.ListN.{length, take, drop};
-ghost use Rattle.load.specs.Format.{fieldsOf};
-ghost use Rattle.load.specs.Calls.{bare};
+ghost use Rattle.format.specs.Format.{fieldsOf};
+ghost use Rattle.format.specs.Calls.{bare};
 ghost use Rattle.load_text.specs.declared.parse.Parsed.the-variants.{Said};
 ghost use Rattle.load_text.specs.Answers.{parsedValues};
 ghost use Rattle.load_text.specs.Parsing.{chomped, editionIn, fieldIn, filledIn, headSays, lineSays, parseValues, said, withField, wordsIn};
@@ -14,7 +14,8 @@ use crate::words::Field;
 use crate::words::next_word;
 use crate::words::number;
 use crate::words::place;
-use load::Call;
+use format::Call;
+use format::fields;
 
 // What a line says: nothing, a call, or what is wrong with it.
 pub enum Parsed {
@@ -32,10 +33,8 @@ pub enum Head {
 }
 
 // ---- fields
-// The groups among the fields, and for each field from 0 on the greatest number and the reason of a word that is none.
-pub(crate) const GROUPS: u8 = 2;
-
-const MOST: [u64; 11] = [
+// For each field from 0 on the greatest number, and the reason of a word that is none.
+const MOST: [u64; fields::COUNT] = [
     255,
     u64::MAX,
     u64::MAX,
@@ -49,7 +48,7 @@ const MOST: [u64; 11] = [
     4294967295,
 ];
 
-const NONE: [u8; 11] = [
+const NONE: [u8; fields::COUNT] = [
     reasons::UNKNOWN,
     reasons::NO_CLOCK,
     reasons::NO_GROUPS,
@@ -67,7 +66,7 @@ const NONE: [u8; 11] = [
 fn field_of(field: u8, word: &[u8]) -> Field
     ensures { λ r. ⌜ r ≡ fieldIn field (now (word .entry)) ⌝ }
 {
-    if field == GROUPS {
+    if field == fields::GROUPS {
         return groups_of(word);
     }
     if 10 < field {
@@ -86,7 +85,7 @@ fn with_word(p: Parsed, field: u8, word: &[u8]) -> Parsed
         Parsed::Nothing => Parsed::Nothing,
         Parsed::Said(call) => match field_of(field, word) {
             Field::Value(v) => {
-                let c = load::with_value(call, field, v);
+                let c = format::with_value(call, field, v);
                 Parsed::Said(c)
             }
             Field::Wrong(n) => Parsed::Bad(n),
@@ -99,12 +98,12 @@ fn with_word(p: Parsed, field: u8, word: &[u8]) -> Parsed
 fn fill(edition: u8, kind: u8, said: &[u8], from: usize) -> Parsed
     ensures { λ r. ⌜ r ≡ filledIn (fieldsOf edition kind) (wordsIn (drop from (now (said .entry)))) (Said (bare kind)) ⌝ }
 {
-    let c = load::bare(kind);
+    let c = format::bare(kind);
     let mut p = Parsed::Said(c);
     let mut at = from;
     let mut i: usize = 0;
     loop {
-        let f = load::field_at(edition, kind, i);
+        let f = format::field_at(edition, kind, i);
         let w = next_word(said, at);
         let start = w.from;
         let end = w.to;

@@ -7,14 +7,14 @@ ghost use Prim.Native.Nat.{_≤_};
 ghost use lib.Dec.{leb};
 ghost use lib.ListN.{length};
 ghost use Rattle.numerals.specs.Laid.{lentOut, Put};
-ghost use Rattle.load.specs.Format.{fieldsOf};
+ghost use Rattle.format.specs.Format.{fieldsOf};
 ghost use Rattle.load.specs.Reading.{editionOf, walk, openNumber};
 ghost use Rattle.load_text.specs.Answers.{printedValues};
 ghost use Rattle.load_text.specs.Lines.{glyphOf, hexUpTo, wordOf, fieldsText, fieldsMost, lineOf, Brief, stopLine, restOf, headerOf, textOf, reportOf, reported, printed, printValues};
-use crate::parse;
 use crate::texts::put_name;
 use crate::texts::put_reason;
-use load::Call;
+use format::Call;
+use format::fields;
 use load::Item;
 
 // The length of a text that stands at the start of a lent buffer, or 15 for one that does not go in.
@@ -50,7 +50,7 @@ fn put_word(out: &mut [u8], at: usize, field: u8, value: u64) -> usize
     ensures { λ r. ⌜ Put (now (out .entry)) at ((32 ∷ []) ++ wordOf field value) r (now (out .exit)) ⌝ }
 {
     let m = numerals::put_byte(out, at, b' ');
-    if field == parse::GROUPS {
+    if field == fields::GROUPS {
         return put_digits(out, m, value, 15);
     }
     numerals::put_decimal(out, m, value)
@@ -65,11 +65,11 @@ fn put_fields(out: &mut [u8], at: usize, edition: u8, call: Call) -> usize
     let mut n = at;
     let mut i: usize = 0;
     loop {
-        let f = load::field_at(edition, kind, i);
+        let f = format::field_at(edition, kind, i);
         if f == 0 {
             return numerals::put_byte(out, n, 10);
         }
-        let v = load::value_of(call, f);
+        let v = format::value_of(call, f);
         n = put_word(out, n, f, v);
         i += 1;
     }

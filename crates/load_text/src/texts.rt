@@ -1,15 +1,16 @@
 // The texts that are printed: the names of the kinds, what is wrong with a line by its number, and what is said of any other number.
-// proofs/Tables holds them against load's names and specs/Lines.antt.
+// proofs/Tables holds them against format's names and specs/Lines.antt.
 ghost use mathlib.Core.Path.{_≡_};
 ghost use mathlib.Core.List.{[]};
 ghost use Prim.Native.Nat.{_≤_, _<_};
 ghost use lib.ListN.{length, take, getD};
 ghost use Rattle.numerals.specs.Laid.{Put};
-ghost use Rattle.load.specs.Format.{nameOf, names};
+ghost use Rattle.format.specs.Format.{nameOf, names};
 ghost use Rattle.load_text.specs.Lines.{reasonText, reasonTexts};
 ghost use Rattle.load_text.specs.Parsing.{isWord, kindNamed, kindOf};
 use crate::reasons;
 use crate::words::place;
+use format::kinds;
 
 // ---- names
 // The name of a kind in the first bytes of eight, and its length; none for a kind that there is not.
@@ -17,13 +18,13 @@ fn name(kind: u8) -> [u8; 8]
     ensures { λ r. ⌜ take (length (getD names kind [])) r ≡ getD names kind [] ⌝ }
 {
     match kind {
-        1 => *b"rig     ",
-        2 => *b"claim   ",
-        3 => *b"release ",
-        4 => *b"withdraw",
-        5 => *b"clock   ",
-        6 => *b"desk    ",
-        8 => *b"grace   ",
+        kinds::RIG => *b"rig     ",
+        kinds::CLAIM => *b"claim   ",
+        kinds::RELEASE => *b"release ",
+        kinds::WITHDRAW => *b"withdraw",
+        kinds::CLOCK => *b"clock   ",
+        kinds::DECLARATION => *b"desk    ",
+        kinds::GRACE => *b"grace   ",
         _ => *b"        ",
     }
 }
@@ -32,13 +33,13 @@ fn name_length(kind: u8) -> usize
     ensures { λ r. ⌜ (r ≡ length (getD names kind [])) × (r ≤ 8) ⌝ }
 {
     match kind {
-        1 => 3,
-        2 => 5,
-        3 => 7,
-        4 => 8,
-        5 => 5,
-        6 => 4,
-        8 => 5,
+        kinds::RIG => 3,
+        kinds::CLAIM => 5,
+        kinds::RELEASE => 7,
+        kinds::WITHDRAW => 8,
+        kinds::CLOCK => 5,
+        kinds::DECLARATION => 4,
+        kinds::GRACE => 5,
         _ => 0,
     }
 }
@@ -56,7 +57,7 @@ fn kind_of(word: &[u8]) -> u8
     ensures { λ r. ⌜ r ≡ kindOf (now (word .entry)) ⌝ }
 {
     let mut kind: u8 = 0;
-    while kind < 9 {
+    while kind < kinds::BOUND {
         if is_name(kind, word) {
             return kind;
         }
@@ -70,7 +71,7 @@ pub(crate) fn kind_named(edition: u8, word: &[u8]) -> u8
     ensures { λ r. ⌜ r ≡ kindNamed edition (now (word .entry)) ⌝ }
 {
     let kind = kind_of(word);
-    if load::length_of(edition, kind) == 0 {
+    if !format::has_kind(edition, kind) {
         return 0;
     }
     kind
@@ -80,7 +81,7 @@ pub(crate) fn kind_named(edition: u8, word: &[u8]) -> u8
 pub(crate) fn put_name(out: &mut [u8], at: usize, edition: u8, kind: u8) -> usize
     ensures { λ r. ⌜ Put (now (out .entry)) at (nameOf edition kind) r (now (out .exit)) ⌝ }
 {
-    if load::length_of(edition, kind) == 0 {
+    if !format::has_kind(edition, kind) {
         return at;
     }
     let text = name(kind);

@@ -4,6 +4,7 @@ use mathlib.Core.Bool.{cond}
 use mathlib.Core.List.{List, [], _∷_, _++_}
 use lib.Dec.{ltb}
 use lib.ListN.{take, drop}
+use Rattle.numerals.specs.Texts.{space}
 
 -- The number that bytes say, the highest first, after those that say v.
 unfoldable pub numeral : ℕ → List ℕ → ℕ
@@ -36,6 +37,6 @@ decimalOf v = digits 10 48 (widthOf v) v
 unfoldable pub column : ℕ → ℕ → List ℕ
 column v b = decimalOf v ++ (b ∷ [])
 
--- Two numbers, a space (byte 32) between them, and the byte after them.
+-- Two numbers, a space between them, and the byte after them.
 unfoldable pub pair : ℕ → ℕ → ℕ → List ℕ
-pair v w b = column v 32 ++ column w b
+pair v w b = column v space ++ column w b

@@ -14,23 +14,24 @@ use Rattle.rules.specs.Granting.{takenBefore, trulyFree, goesWithin, goes, gran
 use Rattle.rules.specs.Tests.{firstOf}
 use Rattle.rules.specs.Calls.{tests, advance, finish, join, remove, admit, act, step, new, standingOf, commonOf}
 use Rattle.numerals.specs.Digits.{numeral, digits, widthUpTo, widthOf, decimalOf, column, pair}
-use Rattle.load.specs.Format.{fieldWidths, fieldWidth, defaults, default, format, knownIn, known, rowIn, fieldsOf, widths, total, lengthIn, lengthOf}
-use Rattle.load.specs.Calls.{numbers, made, valueOf, withValue, bare, filled, callOf, valuesOf}
-use Rattle.load.specs.Bytes.{fieldBytes, fieldValues, recordBytes, recordsBytes, loadBytes}
+use Rattle.format.specs.Format.{fieldWidths, fieldWidth, defaults, default, format, knownIn, known, hasIn, hasKind, rowIn, fieldsOf, widths, total, lengthIn, lengthOf, memberWidths, lengthWith}
+use Rattle.format.specs.Calls.{numbers, made, valueOf, withValue, bare, filled, callOf, valuesOf}
+use Rattle.format.specs.Records.{memberCount}
+use Rattle.load.specs.Bytes.{fieldBytes, fieldValues, membersBytes, membersRead, recordBytes, recordsBytes, loadBytes}
 use Rattle.load.specs.Reading.{misfit, readAt, itemAt, openNumber, walkIn, walk}
-use Rattle.listing.specs.Lines.{stopLine}
-use Rattle.listing.specs.Text.{saysCall, aloneIn, stepOf, ending}
-use Rattle.listing.specs.Replay.{replayFrom, replayIn, replayOf}
+use Rattle.replay.specs.StopLine.{stopLine}
+use Rattle.replay.specs.Records.{saysCall, aloneIn, stepOf, ending}
+use Rattle.replay.specs.Replay.{replayFrom, replayIn, replayOf}
 use Rattle.load_text.specs.Parsing.{none, parts, wordsIn, digitOf, valueIn, numberIn, isWord}
 use Rattle.question.specs.declared.questions.Question.the-variants.{NoQuestion}
-use Rattle.question.specs.Questions.{numbersIn, questionNamed, questionIn, questionOf}
-use Rattle.question.specs.Answers.{worded, lookupText, ticketsText, freeText, answerOf, textOf}
+use Rattle.question.specs.Questions.{numbersIn, ifNamed, questionIn, questionOf}
+use Rattle.question.specs.Answers.{worded, lookupText, ticketsText, freeText, answerText, textOf}
 use Rattle.question.specs.Samples.{samples, given, expected, wrongLines}
 
 pub all-samples : map given samples ≡ map expected samples
-unfolding someFrom lowestFrom common shares empty within greatest least sum all any keep heldUntil endOf remaining precedes before covers unitsAt used enough spare heldUnits freeUnits ready startFor moved ahead startWithin packedStart pack clear fits seek place contention startBound takenBefore trulyFree goesWithin goes granted grant grants shareOf pendingOf unfilled unfilledByOthers firstOf tests advance finish join remove admit act step new standingOf commonOf numeral digits widthUpTo widthOf decimalOf fieldWidths fieldWidth defaults default format knownIn known rowIn fieldsOf widths total lengthIn lengthOf numbers made valueOf withValue bare filled callOf valuesOf fieldBytes fieldValues recordBytes recordsBytes loadBytes misfit readAt itemAt openNumber walkIn walk column pair stopLine saysCall aloneIn stepOf ending replayFrom replayIn replayOf none parts wordsIn digitOf valueIn numberIn isWord numbersIn questionNamed questionIn questionOf worded lookupText ticketsText freeText answerOf textOf samples
+unfolding someFrom lowestFrom common shares empty within greatest least sum all any keep heldUntil endOf remaining precedes before covers unitsAt used enough spare heldUnits freeUnits ready startFor moved ahead startWithin packedStart pack clear fits seek place contention startBound takenBefore trulyFree goesWithin goes granted grant grants shareOf pendingOf unfilled unfilledByOthers firstOf tests advance finish join remove admit act step new standingOf commonOf numeral digits widthUpTo widthOf decimalOf fieldWidths fieldWidth defaults default format knownIn known hasIn hasKind rowIn fieldsOf widths total lengthIn lengthOf memberWidths lengthWith numbers made valueOf withValue bare filled callOf valuesOf fieldBytes fieldValues membersBytes membersRead memberCount recordBytes recordsBytes loadBytes misfit readAt itemAt openNumber walkIn walk column pair stopLine saysCall aloneIn stepOf ending replayFrom replayIn replayOf none parts wordsIn digitOf valueIn numberIn isWord numbersIn ifNamed questionIn questionOf worded lookupText ticketsText freeText answerText textOf samples
 all-samples = refl
 
 pub all-wrong : map questionOf wrongLines ≡ map (λ l. NoQuestion) wrongLines
-unfolding none parts wordsIn digitOf valueIn numberIn isWord numbersIn questionNamed questionIn questionOf wrongLines
+unfolding none parts wordsIn digitOf valueIn numberIn isWord numbersIn ifNamed questionIn questionOf wrongLines
 all-wrong = refl

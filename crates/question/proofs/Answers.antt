@@ -1,9 +1,10 @@
 -- Laws of what is answered: no text is long, the table that a load leaves is the one asked about, and what goes into a buffer.
 use mathlib.Core.Bool.{Bool, true, false, cond}
-use mathlib.Core.List.{List, [], _∷_, _++_}
+use mathlib.Core.List.{List, [], _++_}
 use mathlib.Core.Path.{_≡_, refl, sym, ap, _∙_}
 use Prim.Native.Nat.{ℕ, zero, suc, _+_, _^_, _≤_, _<_}
 use native.Mathlib.Omega.{arith}
+use native.Mathlib.Nat.{le-refl, add-le-add}
 use lib.Dec.{leb, eqb}
 use lib.ListN.{length, length-append}
 use Rattle.numerals.specs.Digits.{decimalOf}
@@ -15,47 +16,48 @@ use Rattle.rules.specs.declared.Standing.{Standing}
 use Rattle.rules.specs.declared.Standing.the-variants.{NotPending, Waits, Holds}
 use Rattle.rules.specs.Calls.{Model, standingOf, commonOf, freeOf}
 use Rattle.rules.specs.Tables.{model}
-use Rattle.listing.specs.declared.Replayed.{Replayed}
-use Rattle.listing.specs.Lines.{stopLine}
-use Rattle.listing.specs.Text.{stopOr}
-use Rattle.listing.specs.Replay.{replayOf, replayed}
-use Rattle.listing.proofs.Replaying.{replayed-left}
-use Rattle.listing.proofs.Sizes.{stop-length}
+use Rattle.replay.specs.declared.Replayed.{Replayed}
+use Rattle.replay.specs.StopLine.{stopOr}
+use Rattle.replay.specs.Replay.{replayOf, replayed}
+use Rattle.replay.proofs.Replaying.{replayed-left}
+use Rattle.replay.proofs.StopLine.{stop-length}
 use Rattle.question.specs.declared.questions.Question.{Question}
 use Rattle.question.specs.declared.questions.Question.the-variants.{Lookup, Free, NoQuestion}
 use Rattle.question.specs.declared.questions.Question.the-variants as question
 use Rattle.question.specs.declared.Asked.{Asked}
 use Rattle.question.specs.declared.Asked.the-variants.{Written, NoSuch, NoRoom}
 use Rattle.question.specs.Questions.{questionOf, isQuestion}
-use Rattle.question.specs.Answers.{ticketWord, ticketsWord, andWord, waitsWords, onWords, apartWords, shareWords, ofWord, freeWords, worded, standingText, lookupText, ticketsText, absentOf, commonText, freeText, sentenceOf, answerOf, textOf, usageText, askedValues, writtenAs, written, lentValues, askedOf, answerValues, askedOut}
+use Rattle.question.specs.Answers.{worded, standingText, lookupText, ticketsText, absentOf, commonText, freeText, sentenceOf, answerText, textOf, usageText, askedValues, writtenAs, written, lentValues, askedOf, answerValues, askedOut}
 
 -- ── lengths ──
+decimal-within : (v : ℕ) → length (decimalOf v) ≤ 20
+decimal-within v = omega (arith, decimal-length v, width-small v)
+
 worded-length : (w : List ℕ) (v : ℕ) → length (worded w v) ≤ length w + 20
 unfolding worded
-worded-length w v = omega (arith, length-append w (decimalOf v), decimal-length v, width-small v)
+worded-length w v = simp length-append (add-le-add (omega arith) (decimal-within v))
 
 standing-length : (s : Standing) → length (standingText s) ≤ 41
 standing-length NotPending = omega arith
-standing-length (Waits s) = omega (arith, worded-length waitsWords s)
-standing-length (Holds e) = omega (arith, worded-length onWords e)
+standing-length (Waits s) = let h : length (standingText (Waits s)) ≤ 34 = worded-length _ s in omega (arith, h)
+standing-length (Holds e) = worded-length _ e
 
 lookup-length : (k : ℕ) (s : Standing) → length (lookupText k s) ≤ 68
 unfolding lookupText
-lookup-length k s = omega (arith, length-append (worded ticketWord k) (standingText s), worded-length ticketWord k, standing-length s)
+lookup-length k s = simp length-append (add-le-add (worded-length _ k) (standing-length s))
 
 tickets-length : (j k : ℕ) → length (ticketsText j k) ≤ 53
 unfolding ticketsText
-tickets-length j k = omega (arith, length-append (worded ticketsWord j) (worded andWord k), worded-length ticketsWord j, worded-length andWord k)
+tickets-length j k = simp length-append (add-le-add (worded-length _ j) (worded-length _ k))
 
 common-length : (j k : ℕ) (s : Standing) (c : Common) → length (commonText j k s c) ≤ 86
 common-length j k s Unknown = omega (arith, lookup-length (absentOf j k s) NotPending)
-common-length j k s (Shared g) = omega (arith, length-append (ticketsText j k) (worded shareWords g), tickets-length j k, worded-length shareWords g)
-common-length j k s Apart = omega (arith, length-append (ticketsText j k) apartWords, tickets-length j k)
+common-length j k s (Shared g) = simp length-append (add-le-add (tickets-length j k) (worded-length _ g))
+common-length j k s Apart = simp length-append (omega (arith, tickets-length j k))
 
 free-length : (n k : ℕ) → length (freeText n k) ≤ 55
 unfolding freeText
-free-length n k =
-    omega (arith, length-append (decimalOf n ++ worded ofWord k) freeWords, length-append (decimalOf n) (worded ofWord k), decimal-length n, width-small n, worded-length ofWord k)
+free-length n k = simp length-append (add-le-add (add-le-add (decimal-within n) (worded-length _ k)) (le-refl _))
 
 sentence-length : (m : Model) (q : Question) → length (sentenceOf m q) ≤ 86
 sentence-length m (Lookup k) = omega (arith, lookup-length k (standingOf k (m .pending)))
@@ -65,11 +67,10 @@ sentence-length m NoQuestion = omega arith
 
 -- What is printed goes into 134 bytes.
 pub text-length : (load : List ℕ) (q : Question) → length (textOf load q) ≤ 134
-unfolding textOf answerOf
+unfolding textOf answerText
 text-length load q =
     let r = replayOf load in
-    let a = sentenceOf (r .left) q in
-    omega (arith, length-append (stopOr (r .stop) (r .at) []) (a ++ (10 ∷ [])), length-append a (10 ∷ []), sentence-length (r .left) q, stop-length (r .stop) (r .at) 47 [] (omega arith) (omega arith))
+    simp length-append (add-le-add (stop-length (r .stop) (r .at) 47 [] (omega arith) (omega arith)) (add-le-add (sentence-length (r .left) q) (le-refl 1)))
 
 pub usage-length : length usageText ≤ 74
 unfolding usageText
@@ -102,21 +103,13 @@ module _ {o : List ℕ} {at r : ℕ} {p : List ℕ} where
     pub sentence-none : q ≡ NoQuestion → Put o at [] r p → Put o at (sentenceOf m q) r p
     sentence-none e w = put-as _ _ (ap (sentenceOf m) (sym e)) w
 
-  pub stop-none : (n k : ℕ) → n ≡ 0 → Put o at [] r p → Put o at (stopOr n k []) r p
-  stop-none zero k e w = w
-  stop-none (suc n) k e w = absurd (omega arith)
-
-  pub stop-some : (n k : ℕ) → (n ≡ 0 → ⊥) → Put o at (stopLine n k) r p → Put o at (stopOr n k []) r p
-  stop-some zero k e w = absurd (e refl)
-  stop-some (suc n) k e w = w
-
 -- ── what is printed for a load, from what the code has of it ──
 pub text-is : (load : List ℕ) (q : Question) (r : Replayed) → r ≡ replayed (replayOf load)
-    → stopOr (r .stop) (r .at) [] ++ answerOf (model (r .table)) q ≡ textOf load q
+    → stopOr (r .stop) (r .at) [] ++ answerText (model (r .table)) q ≡ textOf load q
 unfolding textOf
 text-is load q r e =
-    ap (λ (x : Replayed). stopOr (x .stop) (x .at) [] ++ answerOf (model (r .table)) q) e
-    ∙ ap (λ (m : Model). stopOr (replayOf load .stop) (replayOf load .at) [] ++ answerOf m q) (replayed-left r (replayOf load) e)
+    ap (λ (x : Replayed). stopOr (x .stop) (x .at) [] ++ answerText (model (r .table)) q) e
+    ∙ ap (λ (m : Model). stopOr (replayOf load .stop) (replayOf load .at) [] ++ answerText m q) (replayed-left r (replayOf load) e)
 
 -- ── a lent buffer ──
 module _ (text out : List ℕ) where
@@ -173,14 +166,14 @@ module _ (load line out : List ℕ) (q : Question) (i : q ≡ questionOf line) w
   asked-some e a p w = rw (sym i, e) w
 
   module _ (e : isQuestion q ≡ true) (l : Replayed) (j : l ≡ replayed (replayOf load)) (scrap used : List ℕ) (n : ℕ)
-      (c : Put scrap 0 (stopOr (l .stop) (l .at) [] ++ answerOf (model (l .table)) q) n used) where
+      (c : Put scrap 0 (stopOr (l .stop) (l .at) [] ++ answerText (model (l .table)) q) n used) where
     counted : n ≡ length (textOf load q)
     counted = put-short (omega (arith, text-length load q)) (put-as _ _ (text-is load q l j) c) .0
 
     pub asked-short : length out < n → Answers NoRoom out
     asked-short h = asked-some e _ _ (written-none (textOf load q) out (omega (arith, counted)))
 
-    pub asked-all : n ≤ length out → (r : ℕ) (p : List ℕ) → Put out 0 (stopOr (l .stop) (l .at) [] ++ answerOf (model (l .table)) q) r p
+    pub asked-all : n ≤ length out → (r : ℕ) (p : List ℕ) → Put out 0 (stopOr (l .stop) (l .at) [] ++ answerText (model (l .table)) q) r p
         → Answers (Written r) p
     asked-all h r p w =
         asked-some e _ _ (written-all (textOf load q) out p r (omega (arith, text-length load q)) (omega (arith, counted)) (put-as _ _ (text-is load q l j) w))

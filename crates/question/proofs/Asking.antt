@@ -1,16 +1,15 @@
 -- Laws of a line that asks, as the code reads it: word by word.
-use mathlib.Core.Bool.{true, false}
 use mathlib.Core.List.{List, [], _∷_}
 use mathlib.Core.Path.{_≡_, _∙_}
 use Prim.Native.Nat.{ℕ, _≤_, _<_}
 use native.Mathlib.Omega.{arith}
 use lib.ListN.{length, drop}
 use borrow.Author.Tests.{le-leb, lt-leb}
-use Rattle.load_text.specs.Parsing.{FirstWord, wordAt, wordsIn, isWord}
+use Rattle.load_text.specs.Parsing.{FirstWord, wordAt, wordsIn}
 use Rattle.question.specs.declared.questions.Numbers.{Numbers}
 use Rattle.question.specs.declared.questions.Numbers.the-variants.{Empty}
 use Rattle.question.specs.declared.questions.Question.the-variants.{NoQuestion}
-use Rattle.question.specs.Questions.{andNumber, numberOf, numbersIn, lookupName, lookupOf, commonName, commonOf, freeName, freeOf, questionNamed, questionIn, questionOf}
+use Rattle.question.specs.Questions.{andNumber, ticketIn, numbersIn, questionNamed, questionIn, questionOf}
 
 -- ── numbers ──
 module _ {l : List ℕ} {at f t : ℕ} (a : FirstWord l at f t) where
@@ -28,29 +27,9 @@ module _ {l : List ℕ} {at f t : ℕ} (a : FirstWord l at f t) (p : Numbers) wh
   unfolding numbersIn
   numbers-end e = rw (word-none a e)
 
-  pub numbers-on : f < t → (q : Numbers) → q ≡ andNumber p (numberOf (wordAt l f t)) → numbersIn q (wordsIn (drop t l)) ≡ numbersIn p (wordsIn (drop at l))
+  pub numbers-on : f < t → (q : Numbers) → q ≡ andNumber p (ticketIn (wordAt l f t)) → numbersIn q (wordsIn (drop t l)) ≡ numbersIn p (wordsIn (drop at l))
   unfolding numbersIn
   numbers-on e q i = rw (word-some a e, i)
-
--- ── names ──
-module _ (w : List ℕ) (p : Numbers) where
-  pub named-lookup : isWord w lookupName ≡ true → lookupOf p ≡ questionNamed w p
-  unfolding questionNamed
-  named-lookup e = rw e
-
-  module _ (n : isWord w lookupName ≡ false) where
-    pub named-common : isWord w commonName ≡ true → commonOf p ≡ questionNamed w p
-    unfolding questionNamed
-    named-common e = rw (n, e)
-
-    module _ (m : isWord w commonName ≡ false) where
-      pub named-free : isWord w freeName ≡ true → freeOf p ≡ questionNamed w p
-      unfolding questionNamed
-      named-free e = rw (n, m, e)
-
-      pub named-none : isWord w freeName ≡ false → NoQuestion ≡ questionNamed w p
-      unfolding questionNamed
-      named-none e = rw (n, m, e)
 
 -- ── lines ──
 module _ {l : List ℕ} {f t : ℕ} (a : FirstWord l 0 f t) where

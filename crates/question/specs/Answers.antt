@@ -1,5 +1,4 @@
 -- What is answered: the text for a table and a question, the whole text for a load, and the answer and the lent buffer of a call.
--- Bytes are ASCII: 10 is a line feed, 32 a space.
 use mathlib.Core.Bool.{cond}
 use mathlib.Core.List.{List, [], _∷_, _++_}
 use mathlib.Core.Path.{_≡_}
@@ -9,61 +8,21 @@ use lib.ListN.{length}
 use Rattle.numbers.specs.Numbers.{noSpaceNumber}
 use Rattle.numerals.specs.Digits.{decimalOf}
 use Rattle.numerals.specs.Laid.{spaceNumber, lentOut}
+use Rattle.numerals.specs.Texts.{bytes, lineFeed}
 use Rattle.rules.specs.declared.Claim.{Claim}
 use Rattle.rules.specs.declared.Standing.{Standing}
 use Rattle.rules.specs.declared.Standing.the-variants.{NotPending, Waits, Holds}
 use Rattle.rules.specs.declared.Common.{Common}
 use Rattle.rules.specs.declared.Common.the-variants.{Unknown, Shared, Apart}
 use Rattle.rules.specs.Calls.{Model, standingOf, commonOf, freeOf}
-use Rattle.listing.specs.Text.{stopOr}
-use Rattle.listing.specs.Replay.{replayOf}
+use Rattle.replay.specs.StopLine.{stopOr}
+use Rattle.replay.specs.Replay.{replayOf}
 use Rattle.question.specs.declared.questions.Question.{Question}
 use Rattle.question.specs.declared.questions.Question.the-variants.{Lookup, Free, NoQuestion}
 use Rattle.question.specs.declared.questions.Question.the-variants as question
 use Rattle.question.specs.declared.Asked.{Asked}
 use Rattle.question.specs.declared.Asked.the-variants.{Written, NoSuch, NoRoom}
 use Rattle.question.specs.Questions.{questionOf, isQuestion}
-
--- ── words ──
--- "ticket "
-abbrev pub ticketWord : List ℕ
-ticketWord = 116 ∷ 105 ∷ 99 ∷ 107 ∷ 101 ∷ 116 ∷ 32 ∷ []
-
--- "tickets "
-abbrev pub ticketsWord : List ℕ
-ticketsWord = 116 ∷ 105 ∷ 99 ∷ 107 ∷ 101 ∷ 116 ∷ 115 ∷ 32 ∷ []
-
--- " and "
-abbrev pub andWord : List ℕ
-andWord = 32 ∷ 97 ∷ 110 ∷ 100 ∷ 32 ∷ []
-
--- " waits, start "
-abbrev pub waitsWords : List ℕ
-waitsWords = 32 ∷ 119 ∷ 97 ∷ 105 ∷ 116 ∷ 115 ∷ 44 ∷ 32 ∷ 115 ∷ 116 ∷ 97 ∷ 114 ∷ 116 ∷ 32 ∷ []
-
--- " is on, promised end "
-abbrev pub onWords : List ℕ
-onWords = 32 ∷ 105 ∷ 115 ∷ 32 ∷ 111 ∷ 110 ∷ 44 ∷ 32 ∷ 112 ∷ 114 ∷ 111 ∷ 109 ∷ 105 ∷ 115 ∷ 101 ∷ 100 ∷ 32 ∷ 101 ∷ 110 ∷ 100 ∷ 32 ∷ []
-
--- " is not pending"
-abbrev pub notPendingWords : List ℕ
-notPendingWords = 32 ∷ 105 ∷ 115 ∷ 32 ∷ 110 ∷ 111 ∷ 116 ∷ 32 ∷ 112 ∷ 101 ∷ 110 ∷ 100 ∷ 105 ∷ 110 ∷ 103 ∷ []
-
--- " share group "
-abbrev pub shareWords : List ℕ
-shareWords = 32 ∷ 115 ∷ 104 ∷ 97 ∷ 114 ∷ 101 ∷ 32 ∷ 103 ∷ 114 ∷ 111 ∷ 117 ∷ 112 ∷ 32 ∷ []
-
--- " share no group"
-abbrev pub apartWords : List ℕ
-apartWords = 32 ∷ 115 ∷ 104 ∷ 97 ∷ 114 ∷ 101 ∷ 32 ∷ 110 ∷ 111 ∷ 32 ∷ 103 ∷ 114 ∷ 111 ∷ 117 ∷ 112 ∷ []
-
--- " of "
-abbrev pub ofWord : List ℕ
-ofWord = 32 ∷ 111 ∷ 102 ∷ 32 ∷ []
-
--- " units free"
-abbrev pub freeWords : List ℕ
-freeWords = 32 ∷ 117 ∷ 110 ∷ 105 ∷ 116 ∷ 115 ∷ 32 ∷ 102 ∷ 114 ∷ 101 ∷ 101 ∷ []
 
 -- Words, and a number after them.
 unfoldable pub worded : List ℕ → ℕ → List ℕ
@@ -72,12 +31,12 @@ worded words v = words ++ decimalOf v
 -- ── lookup ──
 -- "ticket K waits, start S", "ticket K is on, promised end E", "ticket K is not pending"
 abbrev pub standingText : Standing → List ℕ
-standingText NotPending = notPendingWords
-standingText (Waits s) = worded waitsWords s
-standingText (Holds e) = worded onWords e
+standingText NotPending = bytes " is not pending"
+standingText (Waits s) = worded (bytes " waits, start ") s
+standingText (Holds e) = worded (bytes " is on, promised end ") e
 
 unfoldable pub lookupText : ℕ → Standing → List ℕ
-lookupText k s = worded ticketWord k ++ standingText s
+lookupText k s = worded (bytes "ticket ") k ++ standingText s
 
 -- ── common ──
 -- The first of two tickets that is not pending, by how the first stands, where one of them is not.
@@ -92,17 +51,17 @@ NamedAbsent = (j k : ℕ) (ps : List Claim) → commonOf j k ps ≡ Unknown → 
 
 -- "tickets J and K share group G", "tickets J and K share no group", or "ticket K is not pending" of the first that is not
 unfoldable pub ticketsText : ℕ → ℕ → List ℕ
-ticketsText j k = worded ticketsWord j ++ worded andWord k
+ticketsText j k = worded (bytes "tickets ") j ++ worded (bytes " and ") k
 
 abbrev pub commonText : ℕ → ℕ → Standing → Common → List ℕ
 commonText j k s Unknown = lookupText (absentOf j k s) NotPending
-commonText j k s (Shared g) = ticketsText j k ++ worded shareWords g
-commonText j k s Apart = ticketsText j k ++ apartWords
+commonText j k s (Shared g) = ticketsText j k ++ worded (bytes " share group ") g
+commonText j k s Apart = ticketsText j k ++ bytes " share no group"
 
 -- ── free ──
 -- "N of K units free"
 unfoldable pub freeText : ℕ → ℕ → List ℕ
-freeText n k = (decimalOf n ++ worded ofWord k) ++ freeWords
+freeText n k = (decimalOf n ++ worded (bytes " of ") k) ++ bytes " units free"
 
 -- ── the answers ──
 abbrev pub sentenceOf : Model → Question → List ℕ
@@ -111,23 +70,20 @@ sentenceOf m (question.Common j k) = commonText j k (standingOf j (m .pending)) 
 sentenceOf m Free = freeText (freeOf m) (m .pool)
 sentenceOf m NoQuestion = []
 
-unfoldable pub answerOf : Model → Question → List ℕ
-answerOf m q = sentenceOf m q ++ (10 ∷ [])
+unfoldable pub answerText : Model → Question → List ℕ
+answerText m q = sentenceOf m q ++ (lineFeed ∷ [])
 
--- What is printed for a load: the listing's stop line if the load ends early, then the answer for the table that it leaves.
+-- What is printed for a load: its stop line if it ends early, then the answer for the table that it leaves.
 unfoldable pub textOf : List ℕ → Question → List ℕ
-textOf load q = let r = replayOf load in stopOr (r .stop) (r .at) [] ++ answerOf (r .left) q
+textOf load q = let r = replayOf load in stopOr (r .stop) (r .at) [] ++ answerText (r .left) q
 
 -- The questions there are, for who asks another: a line here for each.
 unfoldable pub usageText : List ℕ
 usageText =
-    -- "no such question; ask lookup TICKET"
-    ((110 ∷ 111 ∷ 32 ∷ 115 ∷ 117 ∷ 99 ∷ 104 ∷ 32 ∷ 113 ∷ 117 ∷ 101 ∷ 115 ∷ 116 ∷ 105 ∷ 111 ∷ 110 ∷ 59 ∷ 32 ∷ 97 ∷ 115 ∷ 107 ∷ 32 ∷ 108 ∷ 111 ∷ 111 ∷ 107 ∷ 117 ∷ 112 ∷ 32 ∷ 84 ∷ 73 ∷ 67 ∷ 75 ∷ 69 ∷ 84 ∷ [])
-    -- ", ask common TICKET TICKET"
-    ++ (44 ∷ 32 ∷ 97 ∷ 115 ∷ 107 ∷ 32 ∷ 99 ∷ 111 ∷ 109 ∷ 109 ∷ 111 ∷ 110 ∷ 32 ∷ 84 ∷ 73 ∷ 67 ∷ 75 ∷ 69 ∷ 84 ∷ 32 ∷ 84 ∷ 73 ∷ 67 ∷ 75 ∷ 69 ∷ 84 ∷ [])
-    -- " or ask free"
-    ++ (32 ∷ 111 ∷ 114 ∷ 32 ∷ 97 ∷ 115 ∷ 107 ∷ 32 ∷ 102 ∷ 114 ∷ 101 ∷ 101 ∷ []))
-    ++ (10 ∷ [])
+    (bytes "no such question; ask lookup TICKET"
+    ++ bytes ", ask common TICKET TICKET"
+    ++ bytes " or ask free")
+    ++ (lineFeed ∷ [])
 
 -- ── a call ──
 -- The cases of `Asked` by their number and the count of bytes: 201 is a line that asks no question, no number of document 01 and no reason

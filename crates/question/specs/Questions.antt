@@ -1,8 +1,9 @@
 -- Which question a line asks: its first word is the question's name, the others are decimal numbers. A question more is a case of `Question`
--- (src/questions.rt), its name and its numbers here, and its text in Answers.
+-- (src/questions.rt), its name here, by how many numbers it has, and its text in Answers.
 use mathlib.Core.Bool.{Bool, true, false, cond}
 use mathlib.Core.List.{List, [], _∷_}
 use Prim.Native.Nat.{ℕ}
+use Rattle.numerals.specs.Texts.{bytes}
 use Rattle.load_text.specs.declared.words.Field.{Field}
 use Rattle.load_text.specs.declared.words.Field.the-variants.{Value, Wrong}
 use Rattle.load_text.specs.Parsing.{isWord, numberIn, wordsIn}
@@ -13,8 +14,8 @@ use Rattle.question.specs.declared.questions.Question.the-variants.{Look
 
 -- ── the numbers of a question ──
 -- What a word says as a number up to 65,535. (Why it says none is not told.)
-abbrev pub numberOf : List ℕ → Field
-numberOf w = numberIn 10 65535 0 0 w
+abbrev pub ticketIn : List ℕ → Field
+ticketIn w = numberIn 10 65535 0 0 w
 
 -- Numbers, and one more after them: at most two.
 abbrev pub andValue : Numbers → ℕ → Numbers
@@ -30,45 +31,19 @@ andNumber p (Wrong n) = Bad
 
 unfoldable pub numbersIn : Numbers → List (List ℕ) → Numbers
 numbersIn p [] = p
-numbersIn p (w ∷ ws) = numbersIn (andNumber p (numberOf w)) ws
+numbersIn p (w ∷ ws) = numbersIn (andNumber p (ticketIn w)) ws
 
 -- ── the questions by name ──
--- "lookup" of a ticket
-abbrev pub lookupName : List ℕ
-lookupName = 108 ∷ 111 ∷ 111 ∷ 107 ∷ 117 ∷ 112 ∷ []
+-- A question, where a word is its name.
+unfoldable pub ifNamed : List ℕ → List ℕ → Question → Question
+ifNamed w name q = cond (isWord w name) q NoQuestion
 
-abbrev pub lookupOf : Numbers → Question
-lookupOf Empty = NoQuestion
-lookupOf (One k) = Lookup k
-lookupOf (Two j k) = NoQuestion
-lookupOf Bad = NoQuestion
-
--- "common" of two tickets
-abbrev pub commonName : List ℕ
-commonName = 99 ∷ 111 ∷ 109 ∷ 109 ∷ 111 ∷ 110 ∷ []
-
-abbrev pub commonOf : Numbers → Question
-commonOf Empty = NoQuestion
-commonOf (One k) = NoQuestion
-commonOf (Two j k) = Common j k
-commonOf Bad = NoQuestion
-
--- "free", of no ticket
-abbrev pub freeName : List ℕ
-freeName = 102 ∷ 114 ∷ 101 ∷ 101 ∷ []
-
-abbrev pub freeOf : Numbers → Question
-freeOf Empty = Free
-freeOf (One k) = NoQuestion
-freeOf (Two j k) = NoQuestion
-freeOf Bad = NoQuestion
-
-unfoldable pub questionNamed : List ℕ → Numbers → Question
-questionNamed w p =
-    cond (isWord w lookupName) (lookupOf p)
-    (cond (isWord w commonName) (commonOf p)
-    (cond (isWord w freeName) (freeOf p)
-    NoQuestion))
+-- By how many numbers stand behind the name.
+abbrev pub questionNamed : List ℕ → Numbers → Question
+questionNamed w Empty = ifNamed w (bytes "free") Free
+questionNamed w (One k) = ifNamed w (bytes "lookup") (Lookup k)
+questionNamed w (Two j k) = ifNamed w (bytes "common") (Common j k)
+questionNamed w Bad = NoQuestion
 
 -- ── a line ──
 unfoldable pub questionIn : List (List ℕ) → Question

@@ -29,7 +29,7 @@ pub fn answer(load: &[u8], line: &[u8], out: &mut [u8]) -> Asked
     if !is_question(q) {
         return Asked::NoSuch;
     }
-    let left = listing::replay(load);
+    let left = replay::replay(load);
     let mut scrap = [0u8; 1];
     if out.len() < sentences::put_text(&mut scrap, left, q) {
         return Asked::NoRoom;

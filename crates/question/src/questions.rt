@@ -3,7 +3,7 @@ ghost use mathlib.Core.Path.{_≡_};
 ghost use lib.ListN.{drop};
 ghost use Rattle.load_text.specs.Parsing.{wordsIn};
 ghost use Rattle.question.specs.declared.questions.Numbers.the-variants.{Empty};
-ghost use Rattle.question.specs.Questions.{andNumber, andValue, commonOf, freeOf, isQuestion, lookupOf, numberOf, numbersIn, questionNamed, questionOf};
+ghost use Rattle.question.specs.Questions.{andNumber, andValue, ifNamed, isQuestion, ticketIn, numbersIn, questionNamed, questionOf};
 use load_text::words;
 use load_text::words::Field;
 
@@ -37,7 +37,7 @@ fn and_value(p: Numbers, k: u16) -> Numbers
 
 // Numbers, and that of a word more.
 fn and_number(p: Numbers, word: &[u8]) -> Numbers
-    ensures { λ r. ⌜ r ≡ andNumber p (numberOf (now (word .entry))) ⌝ }
+    ensures { λ r. ⌜ r ≡ andNumber p (ticketIn (now (word .entry))) ⌝ }
 {
     match words::number(word, 10, 65535, 0, 0) {
         Field::Value(v) => and_value(p, v as u16),
@@ -64,52 +64,26 @@ fn numbers_at(line: &[u8], from: usize) -> Numbers
 }
 
 // ---- the questions by name
-fn lookup_of(p: Numbers) -> Question
-    ensures { λ r. ⌜ r ≡ lookupOf p ⌝ }
+// A question, where a word is its name.
+fn if_named(word: &[u8], name: &[u8], q: Question) -> Question
+    ensures { λ r. ⌜ r ≡ ifNamed (now (word .entry)) (now (name .entry)) q ⌝ }
 {
-    match p {
-        Numbers::Empty => Question::NoQuestion,
-        Numbers::One(k) => Question::Lookup(k),
-        Numbers::Two(_j, _k) => Question::NoQuestion,
-        Numbers::Bad => Question::NoQuestion,
-    }
-}
-
-fn common_of(p: Numbers) -> Question
-    ensures { λ r. ⌜ r ≡ commonOf p ⌝ }
-{
-    match p {
-        Numbers::Empty => Question::NoQuestion,
-        Numbers::One(_k) => Question::NoQuestion,
-        Numbers::Two(j, k) => Question::Common(j, k),
-        Numbers::Bad => Question::NoQuestion,
-    }
-}
-
-fn free_of(p: Numbers) -> Question
-    ensures { λ r. ⌜ r ≡ freeOf p ⌝ }
-{
-    match p {
-        Numbers::Empty => Question::Free,
-        Numbers::One(_k) => Question::NoQuestion,
-        Numbers::Two(_j, _k) => Question::NoQuestion,
-        Numbers::Bad => Question::NoQuestion,
-    }
-}
-
-fn named(name: &[u8], p: Numbers) -> Question
-    ensures { λ r. ⌜ r ≡ questionNamed (now (name .entry)) p ⌝ }
-{
-    if check::same(name, b"lookup") {
-        return lookup_of(p);
-    }
-    if check::same(name, b"common") {
-        return common_of(p);
-    }
-    if check::same(name, b"free") {
-        return free_of(p);
+    if check::same(word, name) {
+        return q;
     }
     Question::NoQuestion
+}
+
+// By how many numbers stand behind the name.
+fn named(word: &[u8], p: Numbers) -> Question
+    ensures { λ r. ⌜ r ≡ questionNamed (now (word .entry)) p ⌝ }
+{
+    match p {
+        Numbers::Empty => if_named(word, b"free", Question::Free),
+        Numbers::One(k) => if_named(word, b"lookup", Question::Lookup(k)),
+        Numbers::Two(j, k) => if_named(word, b"common", Question::Common(j, k)),
+        Numbers::Bad => Question::NoQuestion,
+    }
 }
 
 // ---- a line

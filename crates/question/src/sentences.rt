@@ -5,10 +5,10 @@ ghost use mathlib.Core.List.{[], _++_};
 ghost use Rattle.numerals.specs.Laid.{Put};
 ghost use Rattle.rules.specs.Tables.{model};
 ghost use Rattle.table.specs.Valid.{Valid};
-ghost use Rattle.listing.specs.Text.{stopOr};
-ghost use Rattle.question.specs.Answers.{absentOf, answerOf, commonText, freeText, lookupText, sentenceOf, standingText, ticketsText, usageText, worded};
+ghost use Rattle.replay.specs.StopLine.{stopOr};
+ghost use Rattle.question.specs.Answers.{absentOf, answerText, commonText, freeText, lookupText, sentenceOf, standingText, ticketsText, usageText, worded};
 use crate::questions::Question;
-use listing::Replayed;
+use replay::Replayed;
 use rules::Common;
 use rules::Standing;
 use rules::Table;
@@ -111,28 +111,28 @@ fn put_sentence(out: &mut [u8], at: usize, t: Table, q: Question) -> usize
 // The sentence and a line feed.
 fn put_answer(out: &mut [u8], at: usize, t: Table, q: Question) -> usize
     requires { ⌜ Valid t ⌝ }
-    ensures { λ r. ⌜ Put (now (out .entry)) at (answerOf (model t) q) r (now (out .exit)) ⌝ }
+    ensures { λ r. ⌜ Put (now (out .entry)) at (answerText (model t) q) r (now (out .exit)) ⌝ }
 {
     let m = put_sentence(out, at, t, q);
-    numerals::put_byte(out, m, 10)
+    numerals::put_byte(out, m, b'\n')
 }
 
-// The listing's stop line, for a number that is not 0.
-fn put_stop(out: &mut [u8], stop: u8, at: u64) -> usize
+// The load's stop line, if any: for a number that is not 0.
+fn put_any_stop(out: &mut [u8], stop: u8, at: u64) -> usize
     ensures { λ r. ⌜ Put (now (out .entry)) 0 (stopOr stop at []) r (now (out .exit)) ⌝ }
 {
     if stop == 0 {
         return numerals::put_bytes(out, 0, b"");
     }
-    listing::put_stop(out, 0, stop, at)
+    replay::put_stop(out, 0, stop, at)
 }
 
 // What is printed for a load, from what it leaves.
 pub(crate) fn put_text(out: &mut [u8], left: Replayed, q: Question) -> usize
     requires { ⌜ Valid (left .table) ⌝ }
-    ensures { λ r. ⌜ Put (now (out .entry)) 0 (stopOr (left .stop) (left .at) [] ++ answerOf (model (left .table)) q) r (now (out .exit)) ⌝ }
+    ensures { λ r. ⌜ Put (now (out .entry)) 0 (stopOr (left .stop) (left .at) [] ++ answerText (model (left .table)) q) r (now (out .exit)) ⌝ }
 {
-    let m = put_stop(out, left.stop, left.at);
+    let m = put_any_stop(out, left.stop, left.at);
     let t = left.table;
     put_answer(out, m, t, q)
 }
@@ -144,5 +144,5 @@ pub(crate) fn put_usage(out: &mut [u8]) -> usize
     let a = numerals::put_bytes(out, 0, b"no such question; ask lookup TICKET");
     let b = numerals::put_bytes(out, a, b", ask common TICKET TICKET");
     let c = numerals::put_bytes(out, b, b" or ask free");
-    numerals::put_byte(out, c, 10)
+    numerals::put_byte(out, c, b'\n')
 }

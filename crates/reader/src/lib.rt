@@ -88,7 +88,7 @@ pub struct Scanned {
 
 // A reader is opened on the load, asked, and moved on until it stops.
 pub fn scan(load: &[u8]) -> Scanned
-    ensures { λ r. ⌜ (r .records ≡ length (reading (now (load .entry)) .calls)) × (r .stop ≡ reading (now (load .entry)) .stop) ⌝ }
+    ensures { λ r. ⌜ (r .records ≡ length (reading (now (load .entry)) .records)) × (r .stop ≡ reading (now (load .entry)) .stop) ⌝ }
 {
     let mut r = opened(load);
     let mut records: usize = 0;

@@ -155,7 +155,7 @@ fn print(k: u64, o: Outcome, mut room: [u8; 4096])
 // The records to the load's end or the first refusal of the reader; a rig without groups and a declaration that comes late end them too. A
 // load has fewer records than bytes.
 fn records(load: &[u8]) {
-    let alone = listing::alone_in(load);
+    let alone = replay::alone_in(load);
     let none = table::new(0, 0, true);
     let mut t = none.table;
     let mut at: usize = 1;
@@ -164,7 +164,7 @@ fn records(load: &[u8]) {
         k += 1;
         match load::record_at(load, at) {
             Item::Record(call, next) => {
-                let o = listing::act(t, alone, call);
+                let o = replay::act(t, alone, call);
                 print(k, o, [0; 4096]);
                 print_pairs(o.table, [0; 8192]);
                 if k == 1 && o.number != 0 {

@@ -5,7 +5,7 @@
 // one byte, with whether the lent buffer kept its bytes.
 ghost use mathlib.Core.Path.{_≡_};
 ghost use lib.ListN.{length};
-use load::Call;
+use format::Call;
 use load::Item;
 use load::Written;
 

@@ -2,7 +2,7 @@ use Prim.Native.Nat.{ℕ}
 use mathlib.Core.Path.{sym}
 use native.Mathlib.Omega.{arith}
 use lib.ListN.{length-replicate}
-use Rattle.load.specs.Format.{leastLength, leastIn, format, lengthIn, total, fieldWidth, fieldWidths}
+use Rattle.format.specs.Format.{leastLength, leastIn, format, lengthIn, total, fieldWidth, fieldWidths}
 use Rattle.listing.specs.Room.{roomFor}
 use Rattle.cue.proofs.listing_buffer.Statement.{statement}
 use Rattle.cue.proofs.listing_buffer.Tie as tie

@@ -1,7 +1,7 @@
 use mathlib.Core.Path.{sym}
 use native.Mathlib.Omega.{arith}
 use lib.Seq.{length-take-le}
-use Rattle.listing.proofs.RecordLoop.{answer-within}
+use Rattle.listing.proofs.PlayersCall.{answer-within}
 use borrow.Author.Needs.{needs}
 use Rattle.cue.proofs.print.Statement.{statement}
 use Rattle.cue.proofs.print.Tie as tie

@@ -59,7 +59,7 @@ use Rattle.lcg.specs.declared.Generator.{Generator}
 use Rattle.lcg.proofs.Generator as G
 use Rattle.lcg.proofs.Generator.Laws as G′
 use Rattle.generator.specs.Workload.{drawsFrom, batchOf, workloadOf}
-use Rattle.generator.specs.Drafts.{Ready, Begins, Enters}
+use Rattle.generator.specs.Drafts.{Ready, RigLaid, Enters}
 use Rattle.generator.specs.declared.Draft.{Draft}
 use Rattle.generator.specs.declared.Draws.{Draws}
 use Rattle.generator.proofs.Again.{LentAgain, lends-again, comes-back}
@@ -134,7 +134,7 @@ module _ (seed count : ℕ) (o₀ : List ℕ) where
   one-less k h = omega arith
 
   -- before the first turn, and after one
-  abbrev start : length o₀ < 2 ^ 64 → count < 2 ^ 32 → (r : Draft) (q : List ℕ) → Begins o₀ r q → length q ≡ length o₀ → Is D.the-row r (D′.lowered r ∷ []) → Now seed count o₀
+  abbrev start : length o₀ < 2 ^ 64 → count < 2 ^ 32 → (r : Draft) (q : List ℕ) → RigLaid o₀ r q → length q ≡ length o₀ → Is D.the-row r (D′.lowered r ∷ []) → Now seed count o₀
   start room fits r q e l is = record {
     k = 0;
     g = record { state = seed };
@@ -390,7 +390,7 @@ module _ {M : Type 1} (𝓤 : URA M) (H : Heap 𝓤) (A : Atoms 𝓤) (W : Given
         -- [the buffer; the token; _3; room for _8; for _9; for _5; for _4; for _6; _2; room for _10; for _11; for _7; for _0; _1; room for _12; for _13; and that each local dies]
         assigns ! (agg ! (and-then ! (load ! (from ! (stop !)) (look ! 13 refl)) (no-more !))) (from ! (stop !)) (init ! 6 refl (tt, (record { fits = seed-fits }, tt))) $
         calls-out 𝓣 l₀ l₁ l₂ l₃ l₄ l₅ l₆ l₇ l₈ l₉ l₁₀ l₁₁ l₁₂ l₁₃ 8 9 refl refl (id⊢ 𝓤 _) o₀ refl (Begun 𝓤 H A at-mem run) known-begun to-begun (λ α δ. asked 𝓤 H A W α (own-out (α ∷ []) δ o₀)) (λ α δ. and-then ! (load ! (from ! (stop !)) (look ! 4 refl)) (no-more !))
-        (List ℕ × Unit {0}) (λ zs. zs .0) (λ zs. ftrue) (Begins o₀) (λ α δ u. id⊢ 𝓤 _) (λ r zs e l is.
+        (List ℕ × Unit {0}) (λ zs. zs .0) (λ zs. ftrue) (RigLaid o₀) (λ α δ u. id⊢ 𝓤 _) (λ r zs e l is.
         assigns ! (of-opd ! (lit ! tt)) (from ! (stop !)) (init ! 7 refl (tt, record { fits = lit< tt })) $
         -- [the buffer; the token; _3; _8; _9; _5; _4; _6; _2; room for _10; for _11; for _7; for _0; _1; room for _12; for _13; and that each local dies]
         forget ! 3 refl $ forget ! 4 refl $ forget ! 13 refl $ move ! (6 ∷ []) $ use1 W (‵ (partAt G.the-row fullShare (record { state = seed }) l₄ 0)) (lies 𝓤 H A W (record { state = seed }) l₄ seed-fits) $

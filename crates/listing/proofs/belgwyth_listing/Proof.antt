@@ -1,6 +1,6 @@
 -- `listing::belgwyth_listing` meets its contract: the listing where it goes in, else 15.
 use mathlib.Core.Path.{sym, _∙_}
-use Rattle.listing.proofs.RecordLoop.{listing-none, listing-all}
+use Rattle.listing.proofs.PlayersCall.{listing-none, listing-all}
 use borrow.Author.Needs.{needs}
 use Rattle.listing.proofs.belgwyth_listing.Statement.{statement}
 use Rattle.listing.proofs.belgwyth_listing.Tie as tie

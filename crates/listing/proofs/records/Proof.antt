@@ -10,9 +10,11 @@ use Rattle.rules.specs.Tables.{model}
 use Rattle.rules.specs.Calls.{new}
 use Rattle.table.specs.Valid.{Valid}
 use Rattle.table.specs.Outcomes.{outcome}
+use Rattle.format.specs.Records.{recordOf}
 use Rattle.load.proofs.Reading.{step-next}
-use Rattle.listing.specs.Text.{aloneIn, stepOf}
-use Rattle.listing.proofs.RecordLoop.{step-rig, step-claim, step-leave, step-declare, step-grace, step-clock, Turn, turn-start, turn-more, run-end, run-refused, run-stop, few-granted}
+use Rattle.replay.specs.Records.{aloneIn, stepOf}
+use Rattle.replay.proofs.Records.{step-rig, step-claim, step-leave, step-declare, step-grace, step-clock}
+use Rattle.listing.proofs.RecordLoop.{Turn, turn-start, turn-more, run-end, run-refused, run-stop, few-granted}
 use Rattle.listing.proofs.records.Statement.{statement}
 use Rattle.listing.proofs.records.Tie as tie
 
@@ -27,7 +29,7 @@ called : (c : tie.At-match2-came Inv-loop μ-loop) →
     let k = c .before .before in
     let l = k .before .before .before in
     let a = l .before .before in
-    (c .match2 .o ≡ outcome (stepOf (aloneIn (a .before .before .before .args .load .now)) (model (l .loop .o .table)) (k .call .given .0 .0))) × Valid (c .match2 .o .table)
+    (c .match2 .o ≡ outcome (stepOf (aloneIn (a .before .before .before .args .load .now)) (model (l .loop .o .table)) (recordOf (k .call .given .0 .0)))) × Valid (c .match2 .o .table)
 called c =
     let k = c .before .before in
     let call = k .call .given .0 .0 in

@@ -3,6 +3,7 @@ use native.Mathlib.Omega.{arith}
 use mathlib.Core.Path.{sym, _∙_}
 use borrow.Author.Needs.{needs}
 use Rattle.numerals.proofs.Laying.{put, put-then}
+use Rattle.format.specs.Records.{recordOf}
 use Rattle.load.specs.Writing.{grown, appendAnswer, appendValues, appendOut}
 use Rattle.load.proofs.Reading.{load-known}
 use Rattle.load.proofs.Writing.{append-parts, append-grows, refused, written}
@@ -29,7 +30,7 @@ append-spec =
     tie.close
     (tie.spec
     (λ c κs. search needs)
-    (λ c. let a = c .before .before .before .before .args in refused (grown (a .load .now) (a .call)) _ _ _ (c .before .append-number .ensures) (c .if1 .taken))
+    (λ c. let a = c .before .before .before .before .args in refused (grown (a .load .now) (recordOf (a .call))) _ _ _ (c .before .append-number .ensures) (c .if1 .taken))
     (λ c κs. search needs)
     shared-slice-read-put-record
     (λ c κs. search needs)

@@ -4,10 +4,11 @@ use native.Mathlib.Omega.{arith}
 use mathlib.Core.Path.{_≡_, refl, _∙_}
 use Prim.Native.Nat.{ℕ, _-_, _≤_, _<_}
 use lib.ListN.{length, getD}
-use Rattle.load.specs.Format.{fieldWidths, fieldCount, fieldWidth, defaults, fieldsOf}
-use Rattle.load.specs.Calls.{filled}
-use Rattle.load.proofs.Format.{row-field, row-under, width-most}
-use Rattle.load.proofs.Rows.{Reading, reading-start, reading-early, reading-next, row-end, row-more}
+use Rattle.format.specs.Format.{fieldWidths, fieldCount, fieldWidth, fieldsOf}
+use Rattle.format.specs.Calls.{filled}
+use Rattle.format.proofs.Format.{row-field, row-under, width-most}
+use Rattle.format.proofs.Rows.{row-end, row-more}
+use Rattle.load.proofs.Fields.{Reading, reading-start, reading-early, reading-next}
 use Rattle.load.proofs.call_of.Statement.{statement}
 use Rattle.load.proofs.call_of.Tie as tie
 
@@ -19,20 +20,20 @@ abbrev μ-loop : tie.MeasureT-loop
 
 -- What the row has at the loop's place, and its width.
 abbrev at-place : tie.At-loop Inv-loop μ-loop → ℕ
-at-place l = getD (l .before .row-of .result) (l .loop .i) 0
+at-place l = getD (l .before .before .row-of .result) (l .loop .i) 0
 
 field : (l : tie.At-loop Inv-loop μ-loop)
-    → let a = l .before .before .before .args in
+    → let a = l .before .before .before .before .args in
     let f = at-place l in
-    (f ≡ getD (fieldsOf (a .edition) (a .kind)) (l .loop .i) 0) × (f < fieldCount) × (l .loop .i < 7) × (fieldWidth f ≤ 8)
+    (f ≡ getD (fieldsOf (a .edition) (a .kind)) (l .loop .i) 0) × (f < fieldCount) × (l .loop .i < 8) × (fieldWidth f ≤ 8)
 field l =
-    let r = l .before .row-of .ensures in
+    let r = l .before .before .row-of .ensures in
     let i = reading-early (l .loop .inv) in
     (row-field _ _ _ r (l .loop .i) i, row-under _ _ _ r (l .loop .i) i, i, width-most (at-place l))
 
 returns : tie.Need-returns Inv-loop μ-loop
 unfolding filled
-returns c = let l = c .before .before in c .made .ensures ∙ rw (row-end _ _ _ _ (field l .0) (c .before .if1 .taken)) at (l .loop .inv .call)
+returns c = let l = c .before .before in c .made .ensures (l .loop .inv .typed) ∙ rw (row-end _ _ _ _ (field l .0) (c .before .if1 .taken)) at (l .loop .inv .call)
 
 loop-again : tie.Need-loop-again Inv-loop μ-loop
 unfolding fieldWidth fieldWidths
@@ -42,16 +43,17 @@ loop-again c =
     reading-next _ _ _ _ (f .0) (z .if1 .left) _ _ _ _ _ (refl, f .3) (c .number .ensures) (z .before .loop .inv)
 
 pub call-of-spec : {M : Type 1} → statement M
-unfolding fieldWidth fieldWidths defaults
+unfolding fieldWidth fieldWidths
 call-of-spec =
     tie.close
     (tie.spec
     Inv-loop
     μ-loop
     (λ c κs. search needs)
-    (λ c. reading-start _ _ _ (search needs))
+    (λ c κs. search needs)
+    (λ c. let b = c .bare-numbers .ensures in reading-start _ _ _ _ (b .0) (b .1))
     (λ c. omega (arith, field c .2))
-    (λ c κs. c .before .loop .inv .typed)
+    (λ c κs. search needs)
     returns
     (λ c. omega (arith, field (c .before) .1))
     (λ c. field (c .before) .1)

@@ -7,13 +7,14 @@ use Prim.Native.Nat.{ℕ, _+_, _-_, _≤_, _<_}
 use lib.ListN.{getD}
 use Rattle.numerals.proofs.Laying.{put-digits}
 use Rattle.numerals.proofs.Going.{Going, going-start, going-step, going-none}
-use Rattle.load.specs.declared.Call.{Call}
-use Rattle.load.specs.Format.{fieldWidths, fieldCount, fieldWidth, fieldsOf, widths}
-use Rattle.load.specs.Calls.{made, valuesOf}
+use Rattle.format.specs.declared.Call.{Call}
+use Rattle.format.specs.Format.{fieldWidths, fieldCount, fieldWidth, fieldsOf, widths}
+use Rattle.format.specs.Calls.{made, valuesOf}
 use Rattle.load.specs.Bytes.{fieldBytes}
-use Rattle.load.proofs.Calls.{made-again, value-at}
-use Rattle.load.proofs.Format.{row-field, row-under, width-most}
-use Rattle.load.proofs.Rows.{bytesLeft, row-end, row-within, row-next}
+use Rattle.format.proofs.Calls.{made-again, value-at}
+use Rattle.format.proofs.Format.{row-field, row-under, width-most}
+use Rattle.format.proofs.Rows.{row-end, row-within, row-next}
+use Rattle.load.proofs.Fields.{bytesLeft}
 use Rattle.load.proofs.put_fields.Statement.{statement}
 use Rattle.load.proofs.put_fields.Tie as tie
 
@@ -22,10 +23,10 @@ abbrev Laying : List ℕ → ℕ → ℕ → Call → List ℕ → ℕ → ℕ �
 Laying out₀ at e c out n i = Going out₀ at (fieldBytes (widths e (c .kind)) (valuesOf e c)) out n (bytesLeft e (c .kind) i c)
 
 abbrev Inv-loop : tie.InvT-loop
-Inv-loop out₀ at edition row given n₀ i₀ out n i = (i < 7) × Laying out₀ at edition (made given) out n i
+Inv-loop out₀ at edition row given n₀ i₀ out n i = (i < 8) × Laying out₀ at edition (made given) out n i
 
 abbrev μ-loop : tie.MeasureT-loop
-μ-loop out₀ at edition row given n₀ i₀ out n i = 7 - i
+μ-loop out₀ at edition row given n₀ i₀ out n i = 8 - i
 
 -- What the row has at the loop's place, and its width.
 abbrev at-place : tie.At-loop Inv-loop μ-loop → ℕ
@@ -48,7 +49,7 @@ returns c =
     going-none _ _ _ _ _ (rw (row-end _ _ _ _ (field l .0) (c .if1 .taken)) at g)
 
 -- The next place is one of the row still.
-next : (z : tie.Else1 Inv-loop μ-loop) → (z .before .loop .i) + 1 < 7
+next : (z : tie.Else1 Inv-loop μ-loop) → (z .before .loop .i) + 1 < 8
 next z = row-within _ _ _ _ (field (z .before) .0) (z .if1 .left)
 
 loop-again : tie.Need-loop-again Inv-loop μ-loop

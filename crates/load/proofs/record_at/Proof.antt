@@ -1,17 +1,15 @@
 -- `load::record_at` meets its contract: each test of `itemAt` in its order, then the record.
 use native.Mathlib.Omega.{arith}
 use mathlib.Core.Path.{sym, _∙_}
-use Rattle.load.specs.Reading.{misfit}
-use Rattle.load.proofs.Reading.{step-past, with-values, step-short, step-misfit, step-record}
+use Rattle.load.proofs.Reading.{step-past, with-values, step-short, step-misfit, step-record, misfit-empty}
 use borrow.Author.Needs.{needs}
 use Rattle.load.proofs.record_at.Statement.{statement}
 use Rattle.load.proofs.record_at.Tie as tie
 
 returns-4 : tie.Need-returns-4
-unfolding misfit
 returns-4 c =
     let b = c .before .before in
-    with-values _ _ _ (step-misfit _ _ _ (b .be16 .ensures) (omega (arith, c .before .if3 .left, b .before .if2 .left)) (rw (c .if4 .taken)))
+    with-values _ _ _ (step-misfit _ _ _ (b .be16 .ensures) (omega (arith, c .before .if3 .left, b .before .if2 .left)) (misfit-empty _ _ _ _ _ (c .if4 .taken)))
 
 returns-5 : tie.Need-returns-5
 returns-5 c =

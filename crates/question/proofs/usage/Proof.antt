@@ -1,7 +1,6 @@
 -- `usage` meets its contract: counted on one byte, the text goes in or not.
 use native.Mathlib.Omega.{arith}
 use Rattle.numerals.proofs.Laying.{put-short}
-use Rattle.question.specs.Answers.{usageText}
 use Rattle.question.proofs.Answers.{usage-length, written-none, written-all}
 use borrow.Author.Needs.{needs}
 use Rattle.question.proofs.usage.Statement.{statement}

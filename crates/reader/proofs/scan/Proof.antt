@@ -144,7 +144,7 @@ module _ {M : Type 1} (𝓤 : URA M) (H : Heap 𝓤) (A : Atoms 𝓤) (W : Given
   result k n = record { records = k; stop = n }
 
   abbrev Right : ℕ → ℕ → Type 0
-  Right k n = (k ≡ length (reading (now s) .calls)) × (n ≡ reading (now s) .stop)
+  Right k n = (k ≡ length (reading (now s) .records)) × (n ≡ reading (now s) .stop)
 
   exits : (k n : ℕ) → k < 2 ^ 64 → n < 2 ^ 8 → Right k n → ent 𝓤 (⋆ 𝓤 H A (Token ∷ ‵ OwnS ∷ [])) (Post (R′.lowered (result k n)))
   exits k n fits small e =
@@ -345,7 +345,7 @@ module _ {M : Type 1} (𝓤 : URA M) (H : Heap 𝓤) (A : Atoms 𝓤) (W : Given
         rewrite ! 0 (λ (w : Val). ‵ (B (κ, tt) .own d (w ∷ []))) (spelled d u is) refl $ rewrite ! 13 (λ (w : Val). ‵ (fat fullShare held l₂ 0 w)) (spelled d u is) refl $
         assigns ! (of-opd ! (lit ! tt)) (from ! (stop !)) (init ! 11 refl (tt, record { fits = lit< tt })) $
         keep ! (0 ∷ 1 ∷ 2 ∷ 13 ∷ 11 ∷ 17 ∷ 15 ∷ 7 ∷ 9 ∷ 5 ∷ 3 ∷ 18 ∷ 16 ∷ 14 ∷ 12 ∷ 10 ∷ 8 ∷ 6 ∷ 4 ∷ []) $
-        by ! (loops 𝓣 known-next known-advanced (p .0 .1 .0) l₀ l₁ l₂ l₃ l₄ l₅ l₆ l₇ (length (reading (now s) .calls)) d
+        by ! (loops 𝓣 known-next known-advanced (p .0 .1 .0) l₀ l₁ l₂ l₃ l₄ l₅ l₆ l₇ (length (reading (now s) .records)) d
         (at-start s d e, (subst (λ (w : Val). Is (B (κ, tt)) d (w ∷ [])) (spelled d u is) is, lit< tt)))))))))))))))
 
 module _ {M : Type 1} (𝓤 : URA M) (H : Heap 𝓤) (A : Atoms 𝓤) (W : Given 𝓤 H A) (mem : Memory → SProp 𝓤) (run : Routine → Fun 𝓤) (𝓣 : Tables 𝓤 H)

@@ -2,7 +2,7 @@
 use mathlib.Core.Path.{_∙_}
 use borrow.Author.Needs.{needs}
 use borrow.Author.Tests.{eq-eqb}
-use Rattle.load.specs.Format.{fieldWidths}
+use Rattle.format.specs.Format.{fieldWidths}
 use Rattle.load_text.specs.Parsing.{noNumbers, fieldIn}
 use Rattle.load_text.proofs.Fields.{field-number, field-none}
 use Rattle.load_text.proofs.parse.field_of.Statement.{statement}

@@ -5,10 +5,10 @@ use native.Mathlib.Omega.{arith}
 use lib.ListN.{length, drop}
 use borrow.Author.Needs.{needs}
 use borrow.Author.Tests.{le-leb, lt-leb}
-use Rattle.load.specs.Format.{fieldsOf}
-use Rattle.load.specs.Calls.{bare}
-use Rattle.load.proofs.Format.{fields-few, rest-some}
-use Rattle.load.proofs.Rows.{row-end, row-more}
+use Rattle.format.specs.Format.{fieldsOf}
+use Rattle.format.specs.Calls.{bare}
+use Rattle.format.proofs.Format.{fields-few, rest-some}
+use Rattle.format.proofs.Rows.{row-end, row-more}
 use Rattle.load_text.specs.declared.parse.Parsed.the-variants.{Said}
 use Rattle.load_text.specs.Parsing.{wordsIn, filledIn}
 use Rattle.load_text.proofs.parse.fill.Statement.{statement}

@@ -6,9 +6,9 @@ use lib.ListN.{length, drop}
 use borrow.Author.Needs.{needs}
 use Rattle.numerals.proofs.Laying.{put}
 use Rattle.numerals.proofs.Going.{Going, going-start, going-step, going-last}
-use Rattle.load.specs.Format.{fieldsOf}
-use Rattle.load.proofs.Format.{fields-few, rest-some}
-use Rattle.load.proofs.Rows.{row-end, row-more}
+use Rattle.format.specs.Format.{fieldsOf}
+use Rattle.format.proofs.Format.{fields-few, rest-some}
+use Rattle.format.proofs.Rows.{row-end, row-more}
 use Rattle.load_text.specs.Lines.{fieldsText, fieldsMost}
 use Rattle.load_text.proofs.Lines.{fields-turn}
 use Rattle.load_text.proofs.print.put_fields.Statement.{statement}

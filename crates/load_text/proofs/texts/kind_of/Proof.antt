@@ -4,7 +4,7 @@ use mathlib.Core.Path.{_≡_, refl, sym, _∙_}
 use native.Mathlib.Omega.{arith}
 use lib.ListN.{drop}
 use borrow.Author.Needs.{needs}
-use Rattle.load.specs.Format.{names}
+use Rattle.format.specs.Format.{names}
 use Rattle.load_text.specs.Parsing.{placeIn, kindOf}
 use Rattle.load_text.proofs.Tables.{kind-here, kind-on, kind-none}
 use Rattle.load_text.proofs.texts.kind_of.Statement.{statement}

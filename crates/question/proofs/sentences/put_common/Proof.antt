@@ -1,8 +1,6 @@
 -- `sentences::put_common` meets its contract: each case by the definition.
-use mathlib.Core.Path.{sym, ap, _∙_}
 use native.Mathlib.Omega.{arith}
-use Rattle.numerals.proofs.Laying.{put, put-then, put-as}
-use Rattle.question.specs.Answers.{lookupText}
+use Rattle.numerals.proofs.Laying.{put, put-then}
 use Rattle.question.proofs.Answers.{common-is, common-unknown}
 use borrow.Author.Needs.{needs}
 use Rattle.question.proofs.sentences.put_common.Statement.{statement}

@@ -6,7 +6,7 @@ use Rattle.question.proofs.sentences.put_text.Statement.{statement}
 use Rattle.question.proofs.sentences.put_text.Tie as tie
 
 returns : tie.Need-returns
-returns c = put-then _ _ _ _ _ _ _ _ (omega arith) (c .before .before .before .before .before .before .before .put-stop .ensures) (c .before .before .put-answer .ensures)
+returns c = put-then _ _ _ _ _ _ _ _ (omega arith) (c .before .before .before .before .before .before .before .put-any-stop .ensures) (c .before .before .put-answer .ensures)
 
 pub put-text-spec : {M : Type 1} → statement M
 put-text-spec =

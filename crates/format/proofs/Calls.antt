@@ -1,0 +1,190 @@
+-- Calls and their values, there and back: by one induction over the fields of a row, given that they differ (`proper`).
+use Prim.Native.Nat.{ℕ, zero, suc, _^_, _≤_, _<_}
+use mathlib.Core.Bool.{true, false, _&&_}
+use mathlib.Core.List.{List, [], _∷_}
+use mathlib.Core.Path.{_≡_, refl, sym, ap, subst, _∙_}
+use native.Mathlib.Omega.{arith}
+use native.Mathlib.Nat.{one-le-pow}
+use lib.Dec.{eqb}
+use borrow.Author.Tests.{eqb-true, eqb-false, eq-eqb, ne-eqb}
+use lib.ListN.{length, drop, getD, set, length-set, List·getD-eq-default}
+use lib.Seq.{getD-set-same, getD-set-other, set-out, ext-getD}
+use Rattle.format.specs.declared.Call.{Call}
+use Rattle.format.specs.Format.{fieldWidths, fieldCount, fieldWidth, defaults, default, hasKind, fieldsOf}
+use Rattle.format.specs.Calls.{numbers, made, valueOf, withValue, bare, filled, callOf, valuesIn, valuesOf, sameBelow, same, kept, keeps, Typed}
+use Rattle.format.proofs.Format.{both, either, neither, has, proper, proper-parts, fields-proper}
+
+-- ── one field ──
+-- A list is made of what stands at its places.
+listed : (ℕ → ℕ) → ℕ → List ℕ
+listed f zero = []
+listed f (suc n) = f 0 ∷ listed (λ i. f (suc i)) n
+
+listed-is : (d : ℕ → ℕ) (xs : List ℕ) → listed (λ i. getD xs i (d i)) (length xs) ≡ xs
+unfolding listed
+listed-is d [] = refl
+listed-is d (x ∷ xs) = ap (λ r. x ∷ r) (listed-is (λ i. d (suc i)) xs)
+
+-- What stands at a place of a list does not depend on what stands for nothing.
+pub given-is : (ns : List ℕ) (f d : ℕ) → f < length ns → getD ns f 0 ≡ getD ns f d
+given-is [] f d h = absurd (omega arith)
+given-is (n ∷ ns) zero d h = refl
+given-is (n ∷ ns) (suc f) d h = given-is ns f d (omega arith)
+
+-- A call made of as many numbers as there are fields has them at their places.
+numbers-made : (ns : List ℕ) → length ns ≡ fieldCount → numbers (made ns) ≡ ns
+unfolding numbers made listed fieldWidths
+numbers-made ns h = subst (λ (n : ℕ). listed (λ i. getD ns i (default i)) n ≡ ns) h (listed-is default ns)
+
+-- The numbers of a call make it, and have its values at their places.
+module _ (ns : List ℕ) (c : Call) (e : ns ≡ numbers c) where
+  pub made-again : made ns ≡ c
+  unfolding made numbers
+  made-again = ap made e
+
+  pub value-at : (f : ℕ) → getD ns f 0 ≡ valueOf f c
+  unfolding valueOf
+  value-at f = ap (λ (xs : List ℕ). getD xs f 0) e
+
+with-numbers : (f v : ℕ) (c : Call) → numbers (withValue f v c) ≡ set (numbers c) f v
+unfolding withValue numbers fieldWidths
+with-numbers f v c = numbers-made (set (numbers c) f v) (length-set (numbers c) f v)
+
+pub value-same : (f v : ℕ) (c : Call) → f < fieldCount → valueOf f (withValue f v c) ≡ v
+unfolding valueOf numbers fieldWidths
+value-same f v c h = ap (λ (xs : List ℕ). getD xs f 0) (with-numbers f v c) ∙ getD-set-same (numbers c) f v 0 h
+
+pub value-other : (f g v : ℕ) (c : Call) → eqb f g ≡ false → valueOf f (withValue g v c) ≡ valueOf f c
+unfolding valueOf
+value-other f g v c h = ap (λ (xs : List ℕ). getD xs f 0) (with-numbers g v c) ∙ getD-set-other (numbers c) g f v 0 (eqb-false f g h)
+
+pub no-value : (f : ℕ) (c : Call) → fieldCount ≤ f → (0 ≡ valueOf f c) × (0 < 256 ^ fieldWidth f)
+unfolding valueOf numbers fieldWidths
+no-value f c h = (sym (List·getD-eq-default (numbers c) 0 h), one-le-pow (fieldWidth f) 256 (omega arith))
+
+-- A value put into no field.
+pub with-none : (f w : ℕ) (c : Call) → fieldCount ≤ f → c ≡ withValue f w c
+unfolding withValue made numbers fieldWidths
+with-none f w c h = ap made (sym (set-out (numbers c) f w h))
+
+-- Or among the numbers that a call is made of.
+pub with-made : (f v : ℕ) (ns : List ℕ) → length ns ≡ fieldCount → made (set ns f v) ≡ withValue f v (made ns)
+unfolding withValue
+with-made f v ns h = ap (λ (xs : List ℕ). made (set xs f v)) (sym (numbers-made ns h))
+
+same-below : (n : ℕ) (c d : Call) → sameBelow n c d ≡ true → (f : ℕ) → f < n → valueOf f c ≡ valueOf f d
+unfolding sameBelow
+same-below zero c d h f l = absurd (omega arith)
+same-below (suc n) c d h f l =
+    let q = both (eqb (valueOf n c) (valueOf n d)) (sameBelow n c d) h in
+    either (eqb f n) (λ p. rw (eqb-true f n p) (eqb-true (valueOf n c) (valueOf n d) (q .0))) (λ p. same-below n c d (q .1) f (omega (arith, eqb-false f n p)))
+
+-- One number after the other, the last first.
+pub same-next : (n m : ℕ) (c d : Call) → n ≡ suc m → (x y : ℕ) → x ≡ valueOf m c → y ≡ valueOf m d → (eqb x y && sameBelow m c d) ≡ sameBelow n c d
+unfolding sameBelow
+same-next n m c d e x y p q = rw (e, p, q)
+
+-- Two calls with the same values are one.
+pub same-call : (c d : Call) → same c d ≡ true → c ≡ d
+unfolding valueOf made numbers fieldWidths
+same-call c d h = ap made (ext-getD 0 (numbers c) (numbers d) refl (same-below fieldCount c d h))
+
+same-self : (n : ℕ) (c d : Call) → c ≡ d → sameBelow n c d ≡ true
+unfolding sameBelow
+same-self zero c d e = refl
+same-self (suc n) c d e = rw (eq-eqb (valueOf n c) (valueOf n d) (ap (valueOf n) e), same-self n c d e)
+
+-- ── the fields of a row ──
+no-kind-byte : (fs : List ℕ) → proper fs ≡ true → has 0 fs ≡ false
+unfolding has
+no-kind-byte [] p = refl
+no-kind-byte (f ∷ fs) p = let q = proper-parts f fs p in rw (ne-eqb 0 f (λ z. omega (arith, q .0)), no-kind-byte fs (q .3))
+
+-- A field that is not among them keeps its value.
+pub filled-other : (fs vs : List ℕ) (c : Call) (f : ℕ) → has f fs ≡ false → valueOf f (filled fs vs c) ≡ valueOf f c
+unfolding filled has
+filled-other [] vs c f h = refl
+filled-other (g ∷ fs) vs c f h =
+    let q = neither (eqb f g) (has f fs) h in
+    filled-other fs (drop 1 vs) (withValue g (getD vs 0 0) c) f (q .1) ∙ value-other f g (getD vs 0 0) c (q .0)
+
+-- Those among them have the values that were put in.
+filled-values : (fs vs : List ℕ) (c : Call) → proper fs ≡ true → length vs ≡ length fs → valuesIn fs (filled fs vs c) ≡ vs
+unfolding filled
+filled-values [] [] c p l = refl
+filled-values [] (v ∷ vs) c p l = absurd (omega arith)
+filled-values (f ∷ fs) [] c p l = absurd (omega arith)
+filled-values (f ∷ fs) (v ∷ vs) c p l =
+    let d = withValue f v c in
+    let q = proper-parts f fs p in
+    rw (filled-other fs vs d f (q .2), value-same f v c (q .1), filled-values fs vs d (q .3) (omega arith))
+
+-- ── a call from its kind and values ──
+module _ (e k : ℕ) (vs : List ℕ) where
+  pub kind-of-call : callOf e k vs .kind ≡ k
+  unfolding callOf valueOf numbers bare made
+  kind-of-call = filled-other (fieldsOf e k) vs (bare k) 0 (no-kind-byte (fieldsOf e k) (fields-proper e k))
+
+  module _ (l : length vs ≡ length (fieldsOf e k)) where
+    pub values-of-call : valuesOf e (callOf e k vs) ≡ vs
+    unfolding valuesOf callOf
+    values-of-call = ap (λ (j : ℕ). valuesIn (fieldsOf e j) (callOf e k vs)) kind-of-call ∙ filled-values (fieldsOf e k) vs (bare k) (fields-proper e k) l
+
+    kept-call : kept e (callOf e k vs) ≡ callOf e k vs
+    unfolding kept
+    kept-call = ap (λ (j : ℕ). callOf e j (valuesOf e (callOf e k vs))) kind-of-call ∙ ap (callOf e k) values-of-call
+
+    pub call-keeps : hasKind e k ≡ true → keeps e (callOf e k vs) ≡ true
+    unfolding keeps
+    call-keeps h =
+        let l : hasKind e (callOf e k vs .kind) ≡ true = ap (hasKind e) kind-of-call ∙ h in
+        rw (l, same-self fieldCount (kept e (callOf e k vs)) (callOf e k vs) kept-call)
+
+pub keeps-kind : (e : ℕ) (c : Call) → keeps e c ≡ true → hasKind e (c .kind) ≡ true
+unfolding keeps
+keeps-kind e c h = both _ _ h .0
+
+pub call-of-values : (e : ℕ) (c : Call) → keeps e c ≡ true → callOf e (c .kind) (valuesOf e c) ≡ c
+unfolding keeps kept
+call-of-values e c h = same-call (kept e c) c (both (hasKind e (c .kind)) (same (kept e c) c) h .1)
+
+-- The fields that a kind lacks have their defaults, in a call of its values ..
+pub lacked : (e k : ℕ) (vs : List ℕ) (f : ℕ) → 0 < f → has f (fieldsOf e k) ≡ false → valueOf f (callOf e k vs) ≡ default f
+unfolding callOf valueOf numbers bare made defaults default
+lacked e k vs zero h n = absurd (omega arith)
+lacked e k vs (suc f) h n = filled-other (fieldsOf e k) vs (bare k) (suc f) n
+
+-- .. and in one that an edition keeps whole.
+pub keeps-none : (e : ℕ) (c : Call) (f : ℕ) → keeps e c ≡ true → has (suc f) (fieldsOf e (c .kind)) ≡ false → valueOf (suc f) c ≡ default (suc f)
+keeps-none e c f h n = ap (valueOf (suc f)) (sym (call-of-values e c h)) ∙ lacked e (c .kind) (valuesOf e c) (suc f) (omega arith) n
+
+-- ── types ──
+pub typed-with : (f v : ℕ) (c : Call) → f < fieldCount → v < 256 ^ fieldWidth f → Typed c → Typed (withValue f v c)
+typed-with f v c l h t g =
+    either (eqb g f) (λ p. rw (eqb-true g f p, value-same f v c l) h) (λ p. rw (value-other g f v c p) (t g))
+
+-- The numbers of a call in the code go into their widths.
+pub typed-call : (c : Call) → c .kind < 2 ^ 8 → c .clock < 2 ^ 64 → c .groups < 2 ^ 64 → c .length < 2 ^ 32 → c .ticket < 2 ^ 16
+    → c .pool < 2 ^ 16 → c .units < 2 ^ 16 → c .client < 2 ^ 8 → c .reserved < 2 ^ 8 → c .limit < 2 ^ 8 → c .grace < 2 ^ 32 → Typed c
+unfolding valueOf numbers fieldWidth fieldWidths
+typed-call c k t g l n p u d r m w zero = k
+typed-call c k t g l n p u d r m w (suc zero) = t
+typed-call c k t g l n p u d r m w (suc (suc zero)) = g
+typed-call c k t g l n p u d r m w (suc (suc (suc zero))) = l
+typed-call c k t g l n p u d r m w (suc (suc (suc (suc zero)))) = n
+typed-call c k t g l n p u d r m w (suc (suc (suc (suc (suc zero))))) = p
+typed-call c k t g l n p u d r m w (suc (suc (suc (suc (suc (suc zero)))))) = u
+typed-call c k t g l n p u d r m w (suc (suc (suc (suc (suc (suc (suc zero))))))) = d
+typed-call c k t g l n p u d r m w (suc (suc (suc (suc (suc (suc (suc (suc zero)))))))) = r
+typed-call c k t g l n p u d r m w (suc (suc (suc (suc (suc (suc (suc (suc (suc zero))))))))) = m
+typed-call c k t g l n p u d r m w (suc (suc (suc (suc (suc (suc (suc (suc (suc (suc zero)))))))))) = w
+typed-call c k t g l n p u d r m w (suc (suc (suc (suc (suc (suc (suc (suc (suc (suc (suc f))))))))))) = omega arith
+
+pub typed-bare : (k : ℕ) → k < 2 ^ 8 → Typed (bare k)
+unfolding bare made defaults default
+typed-bare k h = typed-call (bare k) h (omega arith) (omega arith) (omega arith) (omega arith) (omega arith) (omega arith) (omega arith) (omega arith) (omega arith) (omega arith)
+
+-- So do the defaults.
+pub default-typed : (f : ℕ) → default f < 256 ^ fieldWidth f
+unfolding valueOf numbers bare made defaults default
+default-typed f = typed-bare 0 (omega arith) f

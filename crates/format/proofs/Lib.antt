@@ -1,0 +1,4 @@
+pub mod Format
+pub mod Calls
+pub mod Rows
+pub mod Records

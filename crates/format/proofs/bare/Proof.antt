@@ -1,0 +1,16 @@
+-- `format::bare` meets its contract: its numbers make it.
+use mathlib.Core.Path.{_∙_}
+use borrow.Author.Needs.{needs}
+use Rattle.format.proofs.Calls.{made-again}
+use Rattle.format.proofs.bare.Statement.{statement}
+use Rattle.format.proofs.bare.Tie as tie
+
+pub bare-spec : {M : Type 1} → statement M
+bare-spec =
+    tie.close
+    (tie.spec
+    (λ c κs. search needs)
+    (λ c κs. search needs)
+    (λ c. let b = c .before .bare-numbers .ensures in
+    let m = made-again _ _ (b .0) in
+    c .made .ensures (rw m (b .1)) ∙ m))

@@ -1,0 +1,4 @@
+pub mod RecordKinds
+pub mod Records
+pub mod Replaying
+pub mod StopLine

@@ -1,0 +1,4 @@
+pub mod Records
+pub mod RecordKinds
+pub mod StopLine
+pub mod Replay
