@@ -6,16 +6,18 @@ use mathlib.Core.Path.{_≡_, refl, ap, _∙_}
 use native.Mathlib.Omega.{arith}
 use lib.Dec.{eqb}
 use borrow.Author.Tests.{ne-eqb}
-use Rattle.load_text.specs.declared.words.Field.{Field}
-use Rattle.load_text.specs.declared.words.Field.the-variants.{Value}
-use Rattle.load_text.specs.declared.words.Field.the-variants as field
-use Rattle.load_text.specs.Answers.{WordValues, wordValues}
-use Rattle.load_text.specs.Parsing.{wordsIn, said, groupsIn, numberIn}
-use Rattle.load_text.specs.Reasons.{noTicket, tooLarge}
-use Rattle.load_text.proofs.Cases.{either}
-use Rattle.load_text.proofs.Numbers.{Under, number-under}
-use Rattle.load_text.proofs.Within.{groups-in}
-use Rattle.load_text.proofs.Values.{number-values, groups-values}
+use Rattle.words.specs.declared.Field.{Field}
+use Rattle.words.specs.declared.Field.the-variants.{Value}
+use Rattle.words.specs.declared.Field.the-variants as field
+use Rattle.words.specs.Answers.{WordValues, wordValues}
+use Rattle.words.specs.Parts.{wordsIn, said}
+use Rattle.words.specs.Sets.{groupsIn}
+use Rattle.words.specs.Words.{numberIn}
+use Rattle.words.specs.Reasons.{noTicket, tooLarge}
+use Rattle.words.proofs.Cases.{either}
+use Rattle.words.proofs.Numbers.{Under, number-under}
+use Rattle.words.proofs.Within.{groups-in}
+use Rattle.words.proofs.Values.{number-values, groups-values}
 use Rattle.dance_text.specs.declared.Call.{Call}
 use Rattle.dance_text.specs.declared.Call.the-variants.{Rig, Claim, Release}
 use Rattle.dance_text.specs.declared.Line.{Line}

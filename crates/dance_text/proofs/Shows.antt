@@ -8,9 +8,8 @@ use native.Mathlib.Nat.{add-zero, zero-add}
 use native.Mathlib.Omega.{arith}
 use lib.Dec.{ltb}
 use lib.ListN.{length, take, drop, length-append}
-use Rattle.load_text.specs.Parsing.{isFeed, placeOf, linesIn}
-use Rattle.load_text.proofs.Headings.{lines-cut, lines-end}
-use Rattle.load_text.proofs.Parts.{place-low}
+use Rattle.words.specs.Parts.{isFeed, placeOf, linesIn}
+use Rattle.words.proofs.Parts.{lines-cut, lines-end, place-low}
 use Rattle.dance_text.specs.declared.Line.{Line}
 use Rattle.dance_text.specs.declared.Line.the-variants.{Silent, Said, Wrong}
 use Rattle.dance_text.specs.declared.Surveyed.{Surveyed}

@@ -1,15 +1,17 @@
 -- What a line of a dance show says: `rig GROUPS`, `claim GROUPS` or `release TICKET`. Lines, words, sets of groups and reasons are those of
--- the planner's text (load_text, specs/Parsing). Bytes are ASCII.
+-- the planner's text (crate words). Bytes are ASCII.
 use Prim.Native.Nat.{ℕ}
 use mathlib.Core.Bool.{Bool, true, false, cond}
 use mathlib.Core.List.{List, [], _∷_}
 use lib.Dec.{eqb}
-use Rattle.load_text.specs.declared.words.Field.{Field}
-use Rattle.load_text.specs.declared.words.Field.the-variants.{Value}
-use Rattle.load_text.specs.declared.words.Field.the-variants as field
-use Rattle.load_text.specs.Answers.{WordValues}
-use Rattle.load_text.specs.Parsing.{wordsIn, said, isWord, groupsIn, numberIn, groupsValues, numberValues}
-use Rattle.load_text.specs.Reasons.{unknown, missing, tooMany, noTicket, tooLarge}
+use Rattle.words.specs.declared.Field.{Field}
+use Rattle.words.specs.declared.Field.the-variants.{Value}
+use Rattle.words.specs.declared.Field.the-variants as field
+use Rattle.words.specs.Answers.{WordValues}
+use Rattle.words.specs.Parts.{wordsIn, said}
+use Rattle.words.specs.Sets.{groupsIn, groupsValues}
+use Rattle.words.specs.Words.{isWord, numberIn, numberValues}
+use Rattle.words.specs.Reasons.{unknown, missing, tooMany, noTicket, tooLarge}
 use Rattle.dance_text.specs.declared.Call.{Call}
 use Rattle.dance_text.specs.declared.Call.the-variants.{Rig, Claim, Release}
 use Rattle.dance_text.specs.declared.Line.{Line}

@@ -3,15 +3,15 @@
 // says is defined in specs/Lines.antt, what is wrong with a text in specs/Shows.antt.
 ghost use mathlib.Core.Path.{_≡_};
 ghost use lib.ListN.{drop};
-ghost use Rattle.load_text.specs.Parsing.{numberIn, wordsIn};
-ghost use Rattle.load_text.specs.Reasons.{noTicket, tooLarge};
+ghost use Rattle.words.specs.Parts.{wordsIn};
+ghost use Rattle.words.specs.Words.{numberIn};
+ghost use Rattle.words.specs.Reasons.{noTicket, tooLarge};
 ghost use Rattle.dance_text.specs.declared.Call.the-variants.{Rig, Claim, Release};
 ghost use Rattle.dance_text.specs.Lines.{callOr, isCall, lineSays, lineValues, named, parseValues, wordSays, wordsSay};
 ghost use Rattle.dance_text.specs.Shows.{lineNumber, saysCall, surveyOf};
-use load_text::reasons;
-use load_text::sets;
-use load_text::words;
-use load_text::words::Field;
+use words::Field;
+use words::reasons;
+use words::sets;
 
 // A call of a dance show: a new rig, a claim of groups, a release of a ticket.
 pub enum Call {
@@ -132,7 +132,7 @@ fn is_call(name: Name) -> bool
 pub fn parse_line(line: &[u8]) -> Line
     ensures { λ r. ⌜ (r ≡ lineSays (now (line .entry))) × (lineValues r ≡ parseValues (now (line .entry))) ⌝ }
 {
-    let end = load_text::said_end(line);
+    let end = words::said_end(line);
     let said = &line[..end];
     let w = words::next_word(said, 0);
     let from = w.from;

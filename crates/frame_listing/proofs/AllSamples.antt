@@ -8,7 +8,9 @@ use Rattle.rules.specs.Tests.{firstOf}
 use Rattle.frames.specs.Rows.{contention, taken, rowFrom, rowFor, turned, headTickets, turnedOn}
 use Rattle.frames.specs.Calls.{tests, admit, without, remove, act, step, new}
 use Rattle.numerals.specs.Digits.{digits, widthUpTo, widthOf, decimalOf, column, pair}
-use Rattle.load_text.specs.Parsing.{before, none, parts, linesIn, wordsIn, chomped, said, digitOf, valueIn, numberIn, isList, groupsIn, isWord}
+use Rattle.words.specs.Parts.{before, none, parts, linesIn, wordsIn, chomped, said}
+use Rattle.words.specs.Sets.{isList, groupsIn}
+use Rattle.words.specs.Words.{digitOf, valueIn, numberIn, isWord}
 use Rattle.dance_text.specs.Lines.{named, wordsSay, callIn, lineSays}
 use Rattle.dance_text.specs.Shows.{saidIn, callsIn}
 use Rattle.frame_listing.specs.Lines.{header, lineOf, onLine, onLines}

@@ -7,15 +7,16 @@ use native.Mathlib.Omega.{arith}
 use lib.Dec.{eqb}
 use lib.ListN.{getD, List·getD-eq-default, List·getD-map}
 use borrow.Author.Tests.{eqb-true, ne-eqb}
+use Rattle.words.specs.declared.Field.the-variants.{Value}
+use Rattle.words.specs.Words.{numberIn}
+use Rattle.words.specs.Reasons.{unknown, tooLarge}
 use Rattle.load.specs.declared.Call.{Call}
 use Rattle.load.specs.Format.{theGroups, fieldWidths, fieldWidth, fieldsOf}
 use Rattle.load.specs.Calls.{withValue, bare}
 use Rattle.load.proofs.Format.{allBelow, below-passes, no-width}
 use Rattle.load_text.specs.declared.parse.Parsed.{Parsed}
 use Rattle.load_text.specs.declared.parse.Parsed.the-variants.{Said}
-use Rattle.load_text.specs.declared.words.Field.the-variants.{Value}
-use Rattle.load_text.specs.Parsing.{numberIn, noNumbers, noNumber, fieldIn, withField, filledIn, kindSays}
-use Rattle.load_text.specs.Reasons.{unknown, tooLarge}
+use Rattle.load_text.specs.Parsing.{noNumbers, noNumber, fieldIn, withField, filledIn, kindSays}
 use Rattle.load_text.proofs.Within.{field-fits}
 
 -- ── a field: MOST and NONE ──

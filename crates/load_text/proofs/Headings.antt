@@ -3,26 +3,18 @@ use Prim.Native.Nat.{ℕ, zero, suc, _+_, _-_, _≤_, _<_}
 use mathlib.Core.List.{List, [], _∷_, map}
 use mathlib.Core.Path.{_≡_, refl, sym, ap, _∙_}
 use native.Mathlib.Omega.{arith}
-use lib.ListN.{length, take, drop, drop-of-length-le}
+use lib.ListN.{length, take, drop}
 use lib.Seq.{drop-drop}
+use Rattle.words.specs.Answers.{orElse}
+use Rattle.words.specs.Parts.{isFeed, placeOf, linesIn}
+use Rattle.words.proofs.Parts.{place-low, lines-cut, lines-end}
 use Rattle.load.specs.Format.{format, knownIn, known}
-use Rattle.load.specs.Reading.{openNumber, orElse}
+use Rattle.load.specs.Reading.{openNumber}
 use Rattle.load_text.specs.declared.Start.{Start}
 use Rattle.load_text.specs.declared.parse.Head.{Head}
 use Rattle.load_text.specs.declared.parse.Head.the-variants.{Silent, Edition, Other, Misread}
-use Rattle.load_text.specs.Parsing.{isFeed, placeOf, parts, linesIn, headSays}
+use Rattle.load_text.specs.Parsing.{headSays}
 use Rattle.load_text.specs.Making.{Heading, plain, headed, headingIn, heading, headingNumber, Starts}
-use Rattle.load_text.proofs.Parts.{place-low, parts-cut}
-
--- ── lines from a place on ──
-pub lines-cut : (text : List ℕ) (at e : ℕ) → at < length text → e ≡ placeOf isFeed text at
-    → linesIn (drop at text) ≡ take (e - at) (drop at text) ∷ linesIn (drop (e + 1) text)
-unfolding linesIn
-lines-cut text at e h i = rw i (parts-cut isFeed text at h)
-
-pub lines-end : (text : List ℕ) (at : ℕ) → length text ≤ at → linesIn (drop at text) ≡ []
-unfolding linesIn parts
-lines-end text at h = rw (drop-of-length-le text h)
 
 -- ── the loop ──
 -- Behind `line` lines that say nothing, at a place.

@@ -12,6 +12,10 @@ use lib.Seq.{take-at, append-snoc}
 use Rattle.numbers.specs.Numbers.{noSpaceNumber}
 use Rattle.numerals.specs.Laid.{behind, laid, spaceNumber, lentOut}
 use Rattle.numerals.proofs.Laying.{laid-append, laid-length, laid-none, laid-first, behind-small, lent-all, lent-none, lent-known}
+use Rattle.words.specs.Answers.{valueUnless}
+use Rattle.words.specs.Parts.{isFeed, placeOf, linesIn}
+use Rattle.words.proofs.Cases.{either, below}
+use Rattle.words.proofs.Parts.{lines-cut, lines-end, place-low}
 use Rattle.load.specs.declared.Call.{Call}
 use Rattle.load.specs.declared.Written.{Written}
 use Rattle.load.specs.declared.Written.the-variants.{Length, Refusal}
@@ -28,12 +32,10 @@ use Rattle.load_text.specs.declared.Made.the-variants.{Load, Mistake}
 use Rattle.load_text.specs.declared.Start.{Start}
 use Rattle.load_text.specs.declared.parse.Parsed.{Parsed}
 use Rattle.load_text.specs.declared.parse.Parsed.the-variants.{Nothing, Said, Bad}
-use Rattle.load_text.specs.Answers.{madeValues, parsedValues, lengthUnless}
-use Rattle.load_text.specs.Parsing.{isFeed, placeOf, linesIn, lineSays}
+use Rattle.load_text.specs.Answers.{madeValues, parsedValues}
+use Rattle.load_text.specs.Parsing.{lineSays}
 use Rattle.load_text.specs.Making.{Making, whole, wrong, heading, headingNumber, saidIn, Starts, lineNumber, lineBytes, gathered, made, answerOn, bufferOn, valuesOn, madeOf, madeOut, makeValues, Adds, Gathers, callsIn, MadeReads}
-use Rattle.load_text.proofs.Cases.{either, below, refused, not-refused, was-refused}
-use Rattle.load_text.proofs.Headings.{lines-cut, lines-end}
-use Rattle.load_text.proofs.Parts.{place-low}
+use Rattle.load_text.proofs.Cases.{refused, not-refused, was-refused}
 use Rattle.load_text.proofs.Within.{says-typed, reasons-apart}
 
 -- ── what a line adds ──
@@ -190,7 +192,7 @@ pub makes : (text out : List ℕ) (r : Made) (q : List ℕ) → (r ≡ madeOf te
 unfolding madeOf makeValues
 makes text out r q e = (e .0, (e .1, ap madeValues (e .0) ∙ on (made text)))
   where
-    in-buffer : (k n : ℕ) → madeValues (unlessRefused k (Mistake 0) (Load n)) ≡ record { number = k; line = 0; length = lengthUnless k n }
+    in-buffer : (k n : ℕ) → madeValues (unlessRefused k (Mistake 0) (Load n)) ≡ record { number = k; line = 0; length = valueUnless k n }
     in-buffer zero n = refl
     in-buffer (suc k) n = refl
 

@@ -9,7 +9,16 @@ use native.Mathlib.Omega.{arith}
 use lib.Dec.{ltb, leb, eqb}
 use lib.ListN.{length, getD, length-append}
 use borrow.Author.Tests.{eqb-true, ltb-true, leb-false, leb-true, lt-ltb, le-ltb, le-leb, lt-leb, not-true}
+use Rattle.numbers.specs.Numbers.{editionNumber}
 use Rattle.numerals.specs.Digits.{digits, widthUpTo, widthOf, decimalOf, column}
+use Rattle.words.specs.declared.Field.the-variants.{Value}
+use Rattle.words.specs.Parts.{none, before, parts, inFront, full, is, isFeed, isBlank, isJoint, linesIn, wordsIn, chomped, said}
+use Rattle.words.specs.Sets.{isList, groupsIn}
+use Rattle.words.specs.Words.{digitOf, noDigit, digitsIn, valueIn, numberIn, isWord, placeIn}
+use Rattle.words.proofs.Cases.{either, below}
+use Rattle.words.proofs.Parts.{none-cons, none-less, none-at, until-none}
+use Rattle.words.proofs.Numbers.{digit-ten, digit-upper}
+use Rattle.words.proofs.Reading.{full-cons}
 use Rattle.load.specs.declared.Call.{Call}
 use Rattle.load.specs.Format.{theGroups, fieldWidth, format, known, fieldsOf, lengthIn, lengthOf, names, nameOf}
 use Rattle.load.specs.Calls.{valueOf, withValue, bare, filled, callOf, valuesIn, valuesOf, carries}
@@ -21,17 +30,11 @@ use Rattle.load.proofs.Reading.{load-parts, load-known}
 use Rattle.load.proofs.Loads.{Loadable, read-loadable}
 use Rattle.load_text.specs.declared.parse.Head.the-variants.{Edition, Other}
 use Rattle.load_text.specs.declared.parse.Parsed.the-variants.{Nothing, Said}
-use Rattle.load_text.specs.declared.words.Field.the-variants.{Value}
 use Rattle.load_text.specs.Lines.{glyphOf, hexUpTo, wordOf, fieldsText, lineOf, linesOf, restOf, headerOf, textOf}
 use Rattle.load_text.specs.Making.{plain, headingIn, heading, saidIn}
-use Rattle.load_text.specs.Parsing.{none, before, parts, inFront, full, is, isFeed, isBlank, isJoint, isList, linesIn, wordsIn, chomped, said, digitOf, noDigit, digitsIn, valueIn, numberIn, groupsIn, fieldIn, filledIn, isWord, placeIn, kindOf, kindNamed, kindSays, callIn, lineSays, editionWord, editionOr, editionIn, headIn, headSays}
+use Rattle.load_text.specs.Parsing.{fieldIn, filledIn, kindOf, kindNamed, kindSays, callIn, lineSays, editionWord, editionOr, editionIn, headIn, headSays}
 use Rattle.load_text.specs.ReadBack.{LineReadBack, TextReadBack}
-use Rattle.numbers.specs.Numbers.{editionNumber}
-use Rattle.load_text.proofs.Cases.{either, below}
 use Rattle.load_text.proofs.Fields.{kind-some}
-use Rattle.load_text.proofs.Parts.{none-cons, none-less, none-at, until-none}
-use Rattle.load_text.proofs.Numbers.{digit-ten, digit-upper}
-use Rattle.load_text.proofs.Reading.{full-cons}
 
 -- ── parts of a text in front of a byte that ends one ──
 module _ (p : ℕ → Bool) where

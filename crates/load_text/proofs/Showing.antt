@@ -10,6 +10,7 @@ use lib.ListN.{length, length-append}
 use Rattle.numerals.specs.Laid.{Put}
 use Rattle.numerals.proofs.Laying.{put-as}
 use Rattle.numerals.proofs.Going.{Going, going-start, going-step, going-none, going-last}
+use Rattle.words.proofs.Cases.{either}
 use Rattle.load.specs.declared.Call.{Call}
 use Rattle.load.specs.declared.Item.the-variants.{Record, End, Refused}
 use Rattle.load.specs.Reading.{editionOf, itemAt, walk, openNumber}
@@ -17,7 +18,7 @@ use Rattle.load.proofs.Reading.{walk-record, walk-end, walk-refused, step-refus
 use Rattle.load.proofs.Format.{neither}
 use Rattle.load.proofs.Bytes.{record-length}
 use Rattle.load_text.specs.Lines.{lineOf, Brief, stopLine, linesOf, restOf, headerOf, textOf}
-use Rattle.load_text.proofs.Cases.{either, refused}
+use Rattle.load_text.proofs.Cases.{refused}
 use Rattle.load_text.proofs.Lines.{stop-length, header-length}
 
 -- the loop's invariant

@@ -4,11 +4,13 @@ use mathlib.Core.List.{List, [], _∷_, _++_, map}
 use mathlib.Core.Path.{_≡_}
 use lib.ListN.{length, take, drop}
 use Rattle.numerals.specs.Laid.{laid, spaceNumber, lentOut}
+use Rattle.words.specs.Answers.{TextValues, orElse, wrongAt, lentAs}
+use Rattle.words.specs.Parts.{linesIn}
 use Rattle.load.specs.declared.Call.{Call}
 use Rattle.load.specs.declared.Written.{Written}
 use Rattle.load.specs.declared.Written.the-variants.{Length, Refusal}
 use Rattle.load.specs.Bytes.{recordsBytes}
-use Rattle.load.specs.Reading.{editionOf, openNumber, loadNumber, walk, orElse, unlessRefused}
+use Rattle.load.specs.Reading.{editionOf, openNumber, loadNumber, walk, unlessRefused}
 use Rattle.load.specs.Writing.{growNumber}
 use Rattle.load_text.specs.declared.Made.{Made}
 use Rattle.load_text.specs.declared.Made.the-variants.{Load, Mistake}
@@ -16,8 +18,8 @@ use Rattle.load_text.specs.declared.Start.{Start}
 use Rattle.load_text.specs.declared.parse.Head.{Head}
 use Rattle.load_text.specs.declared.parse.Head.the-variants.{Silent, Edition, Other, Misread}
 use Rattle.load_text.specs.declared.parse.Parsed.{Parsed}
-use Rattle.load_text.specs.Answers.{TextValues, parsedValues, wrongAt, lentAs}
-use Rattle.load_text.specs.Parsing.{linesIn, lineSays, headSays}
+use Rattle.load_text.specs.Answers.{parsedValues}
+use Rattle.load_text.specs.Parsing.{lineSays, headSays}
 
 -- ── the heading ──
 -- A show may begin with its edition, before any call; without it the edition is 1. The heading ends after so many lines, the last of which

@@ -5,6 +5,7 @@ use mathlib.Core.Bool.{true, cond}
 use mathlib.Core.List.{List, [], _∷_, _++_, map}
 use mathlib.Core.Path.{_≡_}
 use lib.Dec.{eqb}
+use Rattle.words.specs.Parts.{linesIn}
 use Rattle.load.specs.declared.Call.{Call}
 use Rattle.load.specs.Calls.{carries}
 use Rattle.load.specs.Reading.{editionOf, walk, loadNumber}
@@ -12,7 +13,7 @@ use Rattle.load.specs.RoundTrip.{Bytes, Typed}
 use Rattle.load_text.specs.declared.parse.Parsed.the-variants.{Nothing, Said}
 use Rattle.load_text.specs.Lines.{lineOf, textOf}
 use Rattle.load_text.specs.Making.{whole, heading, saidIn, made}
-use Rattle.load_text.specs.Parsing.{linesIn, lineSays}
+use Rattle.load_text.specs.Parsing.{lineSays}
 
 -- The line that a call is printed as in an edition that carries it says that call, in front of any other lines.
 abbrev pub LineReadBack : Type 0

@@ -1,4 +1,4 @@
-// Calls, refusals and reports as lines. The private functions lay them over a buffer as far as that goes, and so count them on one byte;
+// Calls and refusals as lines. The private functions lay them over a buffer as far as that goes, and so count them on one byte;
 // those for a lent buffer answer 15 and leave it as it is where the whole does not go in.
 ghost use mathlib.Core.Path.{_≡_};
 ghost use mathlib.Core.Bool.{_||_};
@@ -10,10 +10,9 @@ ghost use Rattle.numerals.specs.Laid.{lentOut, Put};
 ghost use Rattle.load.specs.Format.{fieldsOf};
 ghost use Rattle.load.specs.Reading.{editionOf, walk, openNumber};
 ghost use Rattle.load_text.specs.Answers.{printedValues};
-ghost use Rattle.load_text.specs.Lines.{glyphOf, hexUpTo, wordOf, fieldsText, fieldsMost, lineOf, Brief, stopLine, restOf, headerOf, textOf, reportOf, reported, printed, printValues};
+ghost use Rattle.load_text.specs.Lines.{glyphOf, hexUpTo, wordOf, fieldsText, fieldsMost, lineOf, Brief, stopLine, restOf, headerOf, textOf, printed, printValues};
+use crate::names::put_name;
 use crate::parse;
-use crate::texts::put_name;
-use crate::texts::put_reason;
 use load::Call;
 use load::Item;
 
@@ -178,31 +177,4 @@ pub fn show(load: &[u8], out: &mut [u8]) -> Printed
         return Printed::Length(n);
     }
     Printed::Refusal(numbers::NO_SPACE)
-}
-
-// A line that says what is wrong with a line of text.
-fn put_report(out: &mut [u8], line: u64, reason: u8) -> usize
-    ensures { λ r. ⌜ Put (now (out .entry)) 0 (reportOf line reason) r (now (out .exit)) ⌝ }
-{
-    let a = numerals::put_bytes(out, 0, b"line ");
-    let b = numerals::put_decimal(out, a, line);
-    let c = numerals::put_bytes(out, b, b": ");
-    put_reason(out, c, reason)
-}
-
-// Such a line, in the first bytes of 64. It has at most 56.
-pub struct Reported {
-    pub text: [u8; 64],
-    pub length: usize,
-}
-
-pub fn report(line: u64, reason: u8) -> Reported
-    ensures { λ r. ⌜ (r ≡ reported line reason) × (r .length ≤ length (r .text)) ⌝ }
-{
-    let mut text = [0u8; 64];
-    let n = put_report(&mut text, line, reason);
-    Reported {
-        text: text,
-        length: n,
-    }
 }

@@ -21,7 +21,8 @@ use Rattle.load.specs.Reading.{misfit, readAt, itemAt, openNumber, walkIn, walk
 use Rattle.listing.specs.Lines.{stopLine}
 use Rattle.listing.specs.Text.{saysCall, aloneIn, stepOf, ending}
 use Rattle.listing.specs.Replay.{replayFrom, replayIn, replayOf}
-use Rattle.load_text.specs.Parsing.{none, parts, wordsIn, digitOf, valueIn, numberIn, isWord}
+use Rattle.words.specs.Parts.{none, parts, wordsIn}
+use Rattle.words.specs.Words.{digitOf, valueIn, numberIn, isWord}
 use Rattle.question.specs.declared.questions.Question.the-variants.{NoQuestion}
 use Rattle.question.specs.Questions.{numbersIn, questionNamed, questionIn, questionOf}
 use Rattle.question.specs.Answers.{worded, lookupText, ticketsText, freeText, answerOf, textOf}

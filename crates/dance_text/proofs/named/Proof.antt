@@ -1,7 +1,7 @@
 -- `named` meets its contract: the first of three words that it is (`word-test`).
 use mathlib.Core.Path.{_∙_}
 use borrow.Author.Needs.{needs}
-use Rattle.load_text.proofs.Tables.{word-test}
+use Rattle.words.proofs.Names.{word-test}
 use Rattle.dance_text.specs.Lines.{named}
 use Rattle.dance_text.proofs.named.Statement.{statement}
 use Rattle.dance_text.proofs.named.Tie as tie

@@ -1,6 +1,6 @@
 -- `questions::named` meets its contract: the name is one of the questions, or not.
 use mathlib.Core.Path.{_∙_}
-use Rattle.load_text.proofs.Tables.{word-test}
+use Rattle.words.proofs.Names.{word-test}
 use Rattle.question.proofs.Asking.{named-lookup, named-common, named-free, named-none}
 use borrow.Author.Needs.{needs}
 use Rattle.question.proofs.questions.named.Statement.{statement}
