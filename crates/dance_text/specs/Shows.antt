@@ -24,10 +24,10 @@ unfoldable pub callsIn : List Line → List Call
 callsIn [] = []
 callsIn (l ∷ ls) = callsOf l ++ callsIn ls
 
-abbrev pub saysCall : Line → Bool
-saysCall Silent = false
-saysCall (Said c) = true
-saysCall (Wrong n) = false
+abbrev pub hasCall : Line → Bool
+hasCall Silent = false
+hasCall (Said c) = true
+hasCall (Wrong n) = false
 
 -- "The first record is the rig and no other is": whether a call is out of place, after other calls or as the first.
 abbrev pub misplaced : Bool → Call → ℕ

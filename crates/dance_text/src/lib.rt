@@ -5,10 +5,10 @@ ghost use mathlib.Core.Path.{_≡_};
 ghost use lib.ListN.{drop};
 ghost use Rattle.words.specs.Parts.{wordsIn};
 ghost use Rattle.words.specs.Words.{numberIn};
-ghost use Rattle.words.specs.Reasons.{noTicket, tooLarge};
+ghost use Rattle.words.specs.Reasons.{noTicketReason, tooLargeReason};
 ghost use Rattle.dance_text.specs.declared.Call.the-variants.{Rig, Claim, Release};
-ghost use Rattle.dance_text.specs.Lines.{callOr, isCall, lineSays, lineValues, named, parseValues, wordSays, wordsSay};
-ghost use Rattle.dance_text.specs.Shows.{lineNumber, saysCall, surveyOf};
+ghost use Rattle.dance_text.specs.Lines.{callOr, isCall, lineSays, lineValues, callNamed, parseValues, wordSays, wordsSay};
+ghost use Rattle.dance_text.specs.Shows.{lineNumber, hasCall, surveyOf};
 use words::Field;
 use words::reasons;
 use words::sets;
@@ -36,8 +36,8 @@ pub enum Name {
 }
 
 // ---- a line
-fn named(word: &[u8]) -> Name
-    ensures { λ r. ⌜ r ≡ named (now (word .entry)) ⌝ }
+fn call_named(word: &[u8]) -> Name
+    ensures { λ r. ⌜ r ≡ callNamed (now (word .entry)) ⌝ }
 {
     if check::same(word, b"rig") {
         return Name::NewRig;
@@ -77,7 +77,7 @@ fn claim_of(f: Field) -> Line
 }
 
 fn release_of(word: &[u8]) -> Line
-    ensures { λ r. ⌜ r ≡ callOr Release (numberIn 10 65535 noTicket tooLarge (now (word .entry))) ⌝ }
+    ensures { λ r. ⌜ r ≡ callOr Release (numberIn 10 65535 noTicketReason tooLargeReason (now (word .entry))) ⌝ }
 {
     match words::number(word, 10, 65535, reasons::NO_TICKET, reasons::TOO_LARGE) {
         Field::Value(k) => {
@@ -140,7 +140,7 @@ pub fn parse_line(line: &[u8]) -> Line
     if to <= from {
         return Line::Silent;
     }
-    let name = named(&said[from..to]);
+    let name = call_named(&said[from..to]);
     if is_call(name) {
         return words_say(name, said, to);
     }
@@ -163,8 +163,8 @@ fn line_number(begun: bool, line: Line) -> u8
     }
 }
 
-fn says_call(line: Line) -> bool
-    ensures { λ r. ⌜ r ≡ saysCall line ⌝ }
+fn has_call(line: Line) -> bool
+    ensures { λ r. ⌜ r ≡ hasCall line ⌝ }
 {
     match line {
         Line::Silent => false,
@@ -199,7 +199,7 @@ pub fn survey(text: &[u8]) -> Surveyed
                 calls: 0,
             };
         }
-        if says_call(said) {
+        if has_call(said) {
             calls += 1;
         }
         at = end + 1;

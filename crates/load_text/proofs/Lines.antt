@@ -13,6 +13,7 @@ use Rattle.numbers.specs.Numbers.{noSpaceNumber}
 use Rattle.numerals.specs.Digits.{digits, widthUpTo, widthOf, decimalOf, column}
 use Rattle.numerals.specs.Laid.{Put, spaceNumber, lentOut}
 use Rattle.numerals.proofs.Laying.{decimal-length, pair-length, put-short, lent-all, lent-none, lent-known}
+use Rattle.words.specs.Parts.{lineFeed}
 use Rattle.words.proofs.Cases.{either, below}
 use Rattle.load.specs.declared.Call.{Call}
 use Rattle.load.specs.Format.{theGroups, fieldWidths, fieldCount, fieldWidth, format, known, fieldsOf, total, lengthIn, lengthOf, names, nameOf}
@@ -116,7 +117,7 @@ header-length e k = leb-true (length (headerOf e)) 12 (known-tested (λ i. leb (
 
 pub stop-length : (n k : ℕ) → length (stopLine n k) ≤ 49
 unfolding stopLine
-stop-length n k = omega (arith, pair-length n k 10)
+stop-length n k = omega (arith, pair-length n k lineFeed)
 
 -- ── what is answered ──
 -- The answer on a text for a lent buffer o, which becomes p.

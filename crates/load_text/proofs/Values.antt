@@ -18,12 +18,12 @@ use Rattle.load.specs.Reading.{unlessRefused}
 use Rattle.load_text.specs.declared.parse.Parsed.{Parsed}
 use Rattle.load_text.specs.declared.parse.Parsed.the-variants.{Said, Bad}
 use Rattle.load_text.specs.Answers.{ParsedValues, parsedValues}
-use Rattle.load_text.specs.Parsing.{fieldIn, withField, filledIn, kindNamed, kindSays, callIn, lineSays, countNumber, wordAs, wrongWord, valuesSaid, wordsNumber, kindValues, callValues, parseValues}
+use Rattle.load_text.specs.Parsing.{fieldIn, withField, filledIn, kindNamed, kindSays, callSaid, lineSays, wordCountNumber, wordAs, wrongWord, valuesSaid, wordsNumber, kindValues, callValues, parseValues}
 use Rattle.load_text.proofs.Within.{field-under}
 
 -- What is wrong before the words' values are looked at stays so, and no call is said.
-filled-bad : (n : ℕ) (fs : List ℕ) (ws : List (List ℕ)) → parsedValues (filledIn fs ws (Bad n)) ≡ record { number = orElse (countNumber fs ws) n; calls = [] }
-unfolding filledIn countNumber
+filled-bad : (n : ℕ) (fs : List ℕ) (ws : List (List ℕ)) → parsedValues (filledIn fs ws (Bad n)) ≡ record { number = orElse (wordCountNumber fs ws) n; calls = [] }
+unfolding filledIn wordCountNumber
 filled-bad n [] [] = refl
 filled-bad n [] (w ∷ ws) = refl
 filled-bad n (f ∷ fs) [] = refl
@@ -39,14 +39,14 @@ field-values f w = either (eqb f theGroups) (λ e. rw e (groups-values w)) (λ e
 
 filled-values : (fs : List ℕ) (ws : List (List ℕ)) (c : Call)
     → parsedValues (filledIn fs ws (Said c)) ≡ record { number = wordsNumber fs ws; calls = unlessRefused (wordsNumber fs ws) (λ n. []) (filled fs (valuesSaid fs ws) c ∷ []) }
-unfolding filledIn countNumber wrongWord valuesSaid wordsNumber filled
+unfolding filledIn wordCountNumber wrongWord valuesSaid wordsNumber filled
 filled-values [] [] c = refl
 filled-values [] (w ∷ ws) c = refl
 filled-values (f ∷ fs) [] c = refl
 filled-values (f ∷ fs) (w ∷ ws) c = go (fieldIn f w) (field-under f w) (λ d. filled-values fs ws d) ∙ ap with-word (field-values f w)
   where
     k : ℕ
-    k = countNumber fs ws
+    k = wordCountNumber fs ws
 
     with-word : WordValues → ParsedValues
     with-word v = record {
@@ -61,8 +61,8 @@ filled-values (f ∷ fs) (w ∷ ws) c = go (fieldIn f w) (field-under f w) (λ d
     go (Wrong zero) u h = absurd (omega arith)
     go (Wrong (suc n)) u h = filled-bad (suc n) fs ws ∙ ap (λ (cs : List Call). record { number = orElse k (suc n); calls = cs }) (sym (none-said k n _))
 
-call-values : (e : ℕ) (ws : List (List ℕ)) → parsedValues (callIn e ws) ≡ callValues e ws
-unfolding callIn callValues callOf
+call-values : (e : ℕ) (ws : List (List ℕ)) → parsedValues (callSaid e ws) ≡ callValues e ws
+unfolding callSaid callValues callOf
 call-values e [] = refl
 call-values e (k ∷ ws) = go (kindNamed e k)
   where

@@ -10,7 +10,7 @@ use borrow.Author.Tests.{leb-true, eqb-true}
 use Rattle.words.specs.declared.Field.{Field}
 use Rattle.words.specs.declared.Field.the-variants.{Value, Wrong}
 use Rattle.words.specs.Parts.{wordsIn, said}
-use Rattle.words.specs.Reasons.{unknown}
+use Rattle.words.specs.Reasons.{unknownReason}
 use Rattle.words.proofs.Cases.{either, below}
 use Rattle.words.proofs.Numbers.{Under, number-under}
 use Rattle.words.proofs.Within.{groups-in}
@@ -22,7 +22,7 @@ use Rattle.load.proofs.Format.{allBelow, below-passes}
 use Rattle.load.proofs.Calls.{with-none, typed-with, typed-bare}
 use Rattle.load_text.specs.declared.parse.Parsed.{Parsed}
 use Rattle.load_text.specs.declared.parse.Parsed.the-variants.{Nothing, Said, Bad}
-use Rattle.load_text.specs.Parsing.{noNumbers, noNumber, fieldIn, withField, filledIn, kindNamed, kindSays, callIn, lineSays, ReasonsApart}
+use Rattle.load_text.specs.Parsing.{noNumbers, noNumber, fieldIn, withField, filledIn, kindNamed, kindSays, callSaid, lineSays, ReasonsApart}
 use Rattle.load_text.proofs.Tables.{kind-below}
 
 -- ── fields ──
@@ -31,7 +31,7 @@ no-number-apart : (f : ℕ) → 101 ≤ noNumber f
 unfolding noNumber noNumbers allBelow
 no-number-apart f =
     below f 11 (λ h. leb-true 101 (noNumber f) (below-passes 11 (λ i. leb 101 (noNumber i)) refl f h))
-    (λ h. omega (arith, List·getD-eq-default noNumbers unknown h))
+    (λ h. omega (arith, List·getD-eq-default noNumbers unknownReason h))
 
 pub field-under : (f : ℕ) (w : List ℕ) → Under 101 (256 ^ fieldWidth f - 1) (fieldIn f w)
 unfolding fieldIn fieldWidth fieldWidths
@@ -66,8 +66,8 @@ fill-within [] (w ∷ ws) p h = omega arith
 fill-within (f ∷ fs) [] p h = omega arith
 fill-within (f ∷ fs) (w ∷ ws) p h = fill-within fs ws (withField f (fieldIn f w) p) (with-within f (fieldIn f w) p (field-under f w) h)
 
-call-within : (e : ℕ) (ws : List (List ℕ)) → Within (callIn e ws)
-unfolding callIn bare made
+call-within : (e : ℕ) (ws : List (List ℕ)) → Within (callSaid e ws)
+unfolding callSaid bare made
 call-within e [] = omega arith
 call-within e (k ∷ ws) = go (kindNamed e k) (kind-below e k)
   where

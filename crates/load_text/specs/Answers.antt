@@ -1,6 +1,6 @@
 -- The answers that are enums, each by its number and values: "Where an answer is an enum, a definition gives this paper's number and values
--- for each of its cases." A number is document 01's or a reason (Reasons), 0 where nothing is wrong. A value that a case does not have is 0,
--- or none.
+-- for each of its cases." A number is document 01's or a reason (crate words), 0 where nothing is wrong. A value that a case does not
+-- have is 0, or none.
 use Prim.Native.Nat.{ℕ}
 use mathlib.Core.List.{List, [], _∷_}
 use Rattle.words.specs.Answers.{TextValues}

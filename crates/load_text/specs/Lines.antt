@@ -1,11 +1,14 @@
--- Calls and loads as text. Bytes are ASCII: 10 is a line feed, 32 a space.
-use Prim.Native.Nat.{ℕ, zero, suc, _+_, _*_, _/_, _%_, _≤_, min, max}
+-- Calls and loads as text.
+use Prim.Native.Nat.{ℕ, zero, suc, _+_, _-_, _*_, _/_, _%_, _≤_, min, max}
+use Prim.Native.Char.{code}
 use mathlib.Core.Bool.{cond}
 use mathlib.Core.List.{List, [], _∷_, _++_}
 use lib.Dec.{ltb, eqb}
 use lib.ListN.{length}
 use Rattle.numerals.specs.Digits.{decimalOf, column, pair}
 use Rattle.numerals.specs.Laid.{spaceNumber}
+use Rattle.numerals.specs.Texts.{bytes}
+use Rattle.words.specs.Parts.{lineFeed}
 use Rattle.load.specs.declared.Call.{Call}
 use Rattle.load.specs.Format.{theGroups, fieldWidth, fieldsOf, nameOf}
 use Rattle.load.specs.Calls.{valueOf}
@@ -18,7 +21,7 @@ use Rattle.load_text.specs.declared.print.Printed.the-variants.{Length, 
 
 -- the lowest digit of v in base 16: 0 to 9, A to F
 unfoldable pub glyphOf : ℕ → ℕ
-glyphOf v = cond (ltb (v % 16) 10) (48 + v % 16) (55 + v % 16)
+glyphOf v = cond (ltb (v % 16) 10) (code "0" + v % 16) (code "A" - 10 + v % 16)
 
 -- v in base 16 without zeros in front, at most k + 1 digits
 unfoldable pub hexUpTo : ℕ → ℕ → List ℕ
@@ -31,8 +34,8 @@ wordOf f v = cond (eqb f theGroups) (hexUpTo 15 v) (decimalOf v)
 
 -- fields of a call, each after a space, and a line feed
 unfoldable pub fieldsText : List ℕ → Call → List ℕ
-fieldsText [] c = 10 ∷ []
-fieldsText (f ∷ fs) c = (32 ∷ []) ++ (wordOf f (valueOf f c) ++ fieldsText fs c)
+fieldsText [] c = bytes "\n"
+fieldsText (f ∷ fs) c = bytes " " ++ (wordOf f (valueOf f c) ++ fieldsText fs c)
 
 -- the kind's name and the fields that it has in edition e
 unfoldable pub lineOf : ℕ → Call → List ℕ
@@ -50,9 +53,9 @@ fieldsMost (f ∷ fs) = suc (wordMost f) + fieldsMost fs
 abbrev pub Brief : ℕ → Call → Type 0
 Brief e c = (length (lineOf e c) ≤ 68) × (length (lineOf e c) ≤ 3 * length (recordBytes e c))
 
--- "# stop "
+-- the number of a refusal and its record, as a comment
 unfoldable pub stopLine : ℕ → ℕ → List ℕ
-stopLine n k = (35 ∷ 32 ∷ 115 ∷ 116 ∷ 111 ∷ 112 ∷ 32 ∷ []) ++ pair n k 10
+stopLine n k = bytes "# stop " ++ pair n k lineFeed
 
 -- the lines from record k on; none for stop 0, the number of a load that is read to its end
 unfoldable pub linesOf : ℕ → ℕ → List Call → ℕ → List ℕ
@@ -62,12 +65,9 @@ linesOf e k (c ∷ cs) stop = lineOf e c ++ linesOf e (k + 1) cs stop
 unfoldable pub restOf : ℕ → ℕ → Walk → List ℕ
 restOf e k w = linesOf e k (w .calls) (w .stop)
 
--- "# edition 1" for edition 1, "edition " and its number for any other
+-- the first line of a show, for edition 1 a comment
 unfoldable pub headerOf : ℕ → List ℕ
-headerOf e =
-    cond (eqb e 1)
-    (35 ∷ 32 ∷ 101 ∷ 100 ∷ 105 ∷ 116 ∷ 105 ∷ 111 ∷ 110 ∷ 32 ∷ 49 ∷ 10 ∷ [])
-    ((101 ∷ 100 ∷ 105 ∷ 116 ∷ 105 ∷ 111 ∷ 110 ∷ 32 ∷ []) ++ column e 10)
+headerOf e = cond (eqb e 1) (bytes "# edition 1\n") (bytes "edition " ++ column e lineFeed)
 
 -- the text of a load: a stop line alone where it does not open
 unfoldable pub textOf : List ℕ → List ℕ

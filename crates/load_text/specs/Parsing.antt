@@ -6,11 +6,12 @@ use mathlib.Core.List.{List, [], _∷_}
 use lib.Dec.{eqb, ltb}
 use lib.ListN.{length, getD}
 use Rattle.numbers.specs.Numbers.{editionNumber}
+use Rattle.numerals.specs.Texts.{bytes}
 use Rattle.words.specs.declared.Field.{Field}
 use Rattle.words.specs.declared.Field.the-variants.{Value, Wrong}
 use Rattle.words.specs.Answers.{WordValues, orElse}
 use Rattle.words.specs.Parts.{wordsIn, said}
-use Rattle.words.specs.Reasons.{unknown, missing, tooMany, noClock, noTicket, noLength, noGroups, tooLarge, noPool, noUnits, noClient, noReserved, noLimit, noGrace}
+use Rattle.words.specs.Reasons.{unknownReason, missingReason, tooManyReason, noClockReason, noTicketReason, noLengthReason, noGroupsReason, tooLargeReason, noPoolReason, noUnitsReason, noClientReason, noReservedReason, noLimitReason, noGraceReason}
 use Rattle.words.specs.Sets.{groupsIn, groupsValues}
 use Rattle.words.specs.Words.{numberIn, isWord, placeIn, numberValues}
 use Rattle.load.specs.Format.{theGroups, fieldWidth, fieldsOf, lengthOf, names}
@@ -26,14 +27,14 @@ use Rattle.load_text.specs.Answers.{ParsedValues}
 -- The reasons of words that say nothing as a field, in the order of the fields: the kind has no word, then clock, groups, length, ticket,
 -- pool, units, client, reserved, limit, grace.
 unfoldable pub noNumbers : List ℕ
-noNumbers = unknown ∷ noClock ∷ noGroups ∷ noLength ∷ noTicket ∷ noPool ∷ noUnits ∷ noClient ∷ noReserved ∷ noLimit ∷ noGrace ∷ []
+noNumbers = unknownReason ∷ noClockReason ∷ noGroupsReason ∷ noLengthReason ∷ noTicketReason ∷ noPoolReason ∷ noUnitsReason ∷ noClientReason ∷ noReservedReason ∷ noLimitReason ∷ noGraceReason ∷ []
 
 unfoldable pub noNumber : ℕ → ℕ
-noNumber f = getD noNumbers f unknown
+noNumber f = getD noNumbers f unknownReason
 
 -- What a word says as a field: a set of groups, or a number in decimal that goes into the field's width.
 unfoldable pub fieldIn : ℕ → List ℕ → Field
-fieldIn f w = cond (eqb f theGroups) (groupsIn w) (numberIn 10 (256 ^ fieldWidth f - 1) (noNumber f) tooLarge w)
+fieldIn f w = cond (eqb f theGroups) (groupsIn w) (numberIn 10 (256 ^ fieldWidth f - 1) (noNumber f) tooLargeReason w)
 
 -- A call with that in the field; the first word that is wrong decides.
 abbrev pub withField : ℕ → Field → Parsed → Parsed
@@ -45,8 +46,8 @@ withField f x (Bad n) = Bad n
 -- The words put into the fields, one after the other. How many there are is judged before what they say.
 unfoldable pub filledIn : List ℕ → List (List ℕ) → Parsed → Parsed
 filledIn [] [] p = p
-filledIn [] (w ∷ ws) p = Bad tooMany
-filledIn (f ∷ fs) [] p = Bad missing
+filledIn [] (w ∷ ws) p = Bad tooManyReason
+filledIn (f ∷ fs) [] p = Bad missingReason
 filledIn (f ∷ fs) (w ∷ ws) p = filledIn fs ws (withField f (fieldIn f w) p)
 
 -- The kind that a word names, 0 for none.
@@ -64,30 +65,29 @@ NamedByName = (e : ℕ) (w : List ℕ) (k : ℕ) → kindNamed e w ≡ suc k →
 
 -- The call of a kind that words say.
 abbrev pub kindSays : ℕ → ℕ → List (List ℕ) → Parsed
-kindSays e zero ws = Bad unknown
+kindSays e zero ws = Bad unknownReason
 kindSays e (suc k) ws = filledIn (fieldsOf e (suc k)) ws (Said (bare (suc k)))
 
-unfoldable pub callIn : ℕ → List (List ℕ) → Parsed
-callIn e [] = Nothing
-callIn e (k ∷ ws) = kindSays e (kindNamed e k) ws
+unfoldable pub callSaid : ℕ → List (List ℕ) → Parsed
+callSaid e [] = Nothing
+callSaid e (k ∷ ws) = kindSays e (kindNamed e k) ws
 
 -- What a line of a show of edition e says.
 unfoldable pub lineSays : ℕ → List ℕ → Parsed
-lineSays e l = callIn e (wordsIn (said l))
+lineSays e l = callSaid e (wordsIn (said l))
 
 -- ── the edition ──
--- "edition"
 abbrev pub editionWord : List ℕ
-editionWord = 101 ∷ 100 ∷ 105 ∷ 116 ∷ 105 ∷ 111 ∷ 110 ∷ []
+editionWord = bytes "edition"
 
 abbrev pub editionOr : Field → Head
 editionOr (Value e) = Edition e
 editionOr (Wrong n) = Misread n
 
 unfoldable pub editionIn : List (List ℕ) → Head
-editionIn [] = Misread missing
+editionIn [] = Misread missingReason
 editionIn (w ∷ []) = editionOr (numberIn 10 255 editionNumber editionNumber w)
-editionIn (w ∷ a ∷ ws) = Misread tooMany
+editionIn (w ∷ a ∷ ws) = Misread tooManyReason
 
 unfoldable pub headIn : List (List ℕ) → Head
 headIn [] = Silent
@@ -100,15 +100,15 @@ headSays l = headIn (wordsIn (said l))
 -- ── a line in numbers ──
 -- By its words alone, without the cases of `Parsed`.
 -- How many words there are for the fields of a kind: 0 for as many.
-unfoldable pub countNumber : List ℕ → List (List ℕ) → ℕ
-countNumber [] [] = 0
-countNumber [] (w ∷ ws) = tooMany
-countNumber (f ∷ fs) [] = missing
-countNumber (f ∷ fs) (w ∷ ws) = countNumber fs ws
+unfoldable pub wordCountNumber : List ℕ → List (List ℕ) → ℕ
+wordCountNumber [] [] = 0
+wordCountNumber [] (w ∷ ws) = tooManyReason
+wordCountNumber (f ∷ fs) [] = missingReason
+wordCountNumber (f ∷ fs) (w ∷ ws) = wordCountNumber fs ws
 
 -- What a word says as a field.
 unfoldable pub wordAs : ℕ → List ℕ → WordValues
-wordAs f w = cond (eqb f theGroups) (groupsValues w) (numberValues 10 (256 ^ fieldWidth f - 1) (noNumber f) tooLarge w)
+wordAs f w = cond (eqb f theGroups) (groupsValues w) (numberValues 10 (256 ^ fieldWidth f - 1) (noNumber f) tooLargeReason w)
 
 -- The first word that is wrong as its field: 0 for none.
 unfoldable pub wrongWord : List ℕ → List (List ℕ) → ℕ
@@ -124,11 +124,11 @@ valuesSaid (f ∷ fs) [] = []
 
 -- The number of the words behind a kind's name, 0 for none. How many there are is judged before what they say.
 unfoldable pub wordsNumber : List ℕ → List (List ℕ) → ℕ
-wordsNumber fs ws = orElse (countNumber fs ws) (wrongWord fs ws)
+wordsNumber fs ws = orElse (wordCountNumber fs ws) (wrongWord fs ws)
 
 -- By the kind that the first word names: the call of the words' values, where nothing is wrong.
 abbrev pub kindValues : ℕ → ℕ → List (List ℕ) → ParsedValues
-kindValues e zero ws = record { number = unknown; calls = [] }
+kindValues e zero ws = record { number = unknownReason; calls = [] }
 kindValues e (suc k) ws =
     let fs = fieldsOf e (suc k) in
     record { number = wordsNumber fs ws; calls = unlessRefused (wordsNumber fs ws) (λ n. []) (callOf e (suc k) (valuesSaid fs ws) ∷ []) }

@@ -2,11 +2,12 @@
 // those for a lent buffer answer 15 and leave it as it is where the whole does not go in.
 ghost use mathlib.Core.Path.{_≡_};
 ghost use mathlib.Core.Bool.{_||_};
-ghost use mathlib.Core.List.{[], _∷_, _++_};
+ghost use mathlib.Core.List.{_++_};
 ghost use Prim.Native.Nat.{_≤_};
 ghost use lib.Dec.{leb};
 ghost use lib.ListN.{length};
 ghost use Rattle.numerals.specs.Laid.{lentOut, Put};
+ghost use Rattle.numerals.specs.Texts.{bytes};
 ghost use Rattle.load.specs.Format.{fieldsOf};
 ghost use Rattle.load.specs.Reading.{editionOf, walk, openNumber};
 ghost use Rattle.load_text.specs.Answers.{printedValues};
@@ -46,7 +47,7 @@ fn put_digits(out: &mut [u8], at: usize, value: u64, k: usize) -> usize
 
 // A value as a word after a space: a set of groups in hex, any other in decimal.
 fn put_word(out: &mut [u8], at: usize, field: u8, value: u64) -> usize
-    ensures { λ r. ⌜ Put (now (out .entry)) at ((32 ∷ []) ++ wordOf field value) r (now (out .exit)) ⌝ }
+    ensures { λ r. ⌜ Put (now (out .entry)) at (bytes " " ++ wordOf field value) r (now (out .exit)) ⌝ }
 {
     let m = numerals::put_byte(out, at, b' ');
     if field == parse::GROUPS {

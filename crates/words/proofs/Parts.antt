@@ -10,32 +10,32 @@ use lib.Dec.{leb, leb·suc-zero, leb·suc-suc}
 use borrow.Author.Tests.{not-true, leb-true, le-leb, lt-leb}
 use lib.ListN.{length, getD, take, drop, drop-of-length-le, length-drop}
 use lib.Seq.{drop-cons, drop-drop, getD-drop, take-all}
-use Rattle.words.specs.Parts.{before, until, since, none, placeOf, parts, inFront, isFeed, linesIn}
+use Rattle.words.specs.Parts.{bytesBefore, until, since, none, placeOf, parts, inFront, isFeed, linesIn}
 use Rattle.words.proofs.Cases.{either}
 
 module _ (p : ℕ → Bool) where
   -- ── of a text from its start on ──
-  before-length : (l : List ℕ) → before p l ≤ length l
-  unfolding before
+  before-length : (l : List ℕ) → bytesBefore p l ≤ length l
+  unfolding bytesBefore
   before-length [] = omega arith
   before-length (b ∷ l) = either (p b) (λ e. rw e (omega arith)) (λ e. rw e (omega (arith, before-length l)))
 
-  parts-of : (l : List ℕ) → 0 < length l → parts p l ≡ until p l ∷ parts p (drop (suc (before p l)) l)
-  unfolding before parts
+  parts-of : (l : List ℕ) → 0 < length l → parts p l ≡ until p l ∷ parts p (drop (suc (bytesBefore p l)) l)
+  unfolding bytesBefore parts
   parts-of [] h = absurd (omega arith)
   parts-of (b ∷ []) h = either (p b) (λ e. rw e) (λ e. rw e)
   parts-of (b ∷ c ∷ l) h = either (p b) (λ e. rw e) (λ e. rw e (ap (inFront b) (parts-of (c ∷ l) (omega arith))))
 
-  before-passes : (l : List ℕ) → before p l < length l → p (getD l (before p l) 0) ≡ true
-  unfolding before
+  before-passes : (l : List ℕ) → bytesBefore p l < length l → p (getD l (bytesBefore p l) 0) ≡ true
+  unfolding bytesBefore
   before-passes [] h = absurd (omega arith)
   before-passes (b ∷ l) h = either (p b) (λ e. rw e e) (λ e. rw e (before-passes l (omega (arith, rw e at h))))
 
   -- ── where no byte passes ──
-  none-before : (l : List ℕ) → leb (length l) (before p l) ≡ none p l
-  unfolding none before
+  none-before : (l : List ℕ) → leb (length l) (bytesBefore p l) ≡ none p l
+  unfolding none bytesBefore
   none-before [] = refl
-  none-before (b ∷ l) = either (p b) (λ e. rw e (leb·suc-zero (length l))) (λ e. rw e (leb·suc-suc (length l) (before p l) ∙ none-before l))
+  none-before (b ∷ l) = either (p b) (λ e. rw e (leb·suc-zero (length l))) (λ e. rw e (leb·suc-suc (length l) (bytesBefore p l) ∙ none-before l))
 
   none-place : (l : List ℕ) (r : ℕ) → r ≡ placeOf p l 0 → leb (length l) r ≡ none p l
   unfolding placeOf
@@ -56,20 +56,20 @@ module _ (p : ℕ → Bool) where
   none-at (b ∷ l) (suc i) z h = none-at l i z (none-cons b l h .1)
 
   pub until-none : (l : List ℕ) → none p l ≡ true → until p l ≡ l
-  until-none l h = take-all (before p l) l (leb-true _ _ (none-before l ∙ h))
+  until-none l h = take-all (bytesBefore p l) l (leb-true _ _ (none-before l ∙ h))
 
   module _ (s : List ℕ) where
     -- ── the place from `at` on: where the byte there passes, where it does not, and after the end ──
     pub place-here : (at : ℕ) → at < length s → p (getD s at 0) ≡ true → placeOf p s at ≡ at
-    unfolding placeOf before
+    unfolding placeOf bytesBefore
     place-here at h e = rw (drop-cons s at 0 h, e) (add-zero at)
 
     pub place-on : (at : ℕ) → at < length s → p (getD s at 0) ≡ false → placeOf p s at ≡ placeOf p s (at + 1)
-    unfolding placeOf before
+    unfolding placeOf bytesBefore
     place-on at h e = rw (drop-cons s at 0 h, e, add-one) (omega arith)
 
     pub place-end : (at : ℕ) → length s ≤ at → placeOf p s at ≡ at
-    unfolding placeOf before
+    unfolding placeOf bytesBefore
     place-end at h = rw (drop-of-length-le s h) (add-zero at)
 
     pub place-low : (at : ℕ) → at ≤ placeOf p s at
@@ -83,10 +83,10 @@ module _ (p : ℕ → Bool) where
     pub place-passes : (at : ℕ) → placeOf p s at < length s → p (getD s (placeOf p s at) 0) ≡ true
     unfolding placeOf
     place-passes at h =
-        ap (λ b. p b) (sym (getD-drop at s (before p (drop at s)) 0)) ∙ before-passes (drop at s) (omega (arith, length-drop at s))
+        ap (λ b. p b) (sym (getD-drop at s (bytesBefore p (drop at s)) 0)) ∙ before-passes (drop at s) (omega (arith, length-drop at s))
 
     -- ── what lies before it, and from it on ──
-    past : (at : ℕ) → placeOf p s at - at ≡ before p (drop at s)
+    past : (at : ℕ) → placeOf p s at - at ≡ bytesBefore p (drop at s)
     unfolding placeOf
     past at = omega arith
 
@@ -96,13 +96,13 @@ module _ (p : ℕ → Bool) where
 
     pub since-drop : (at : ℕ) → since p (drop at s) ≡ drop (placeOf p s at) s
     unfolding placeOf
-    since-drop at = drop-drop (before p (drop at s)) at s
+    since-drop at = drop-drop (bytesBefore p (drop at s)) at s
 
     pub parts-cut : (at : ℕ) → at < length s → parts p (drop at s) ≡ take (placeOf p s at - at) (drop at s) ∷ parts p (drop (placeOf p s at + 1) s)
     parts-cut at h =
-        let far : at + suc (before p (drop at s)) ≡ placeOf p s at + 1 = omega (arith, past at, place-low at) in
+        let far : at + suc (bytesBefore p (drop at s)) ≡ placeOf p s at + 1 = omega (arith, past at, place-low at) in
         parts-of (drop at s) (omega (arith, length-drop at s))
-        ∙ ap (λ k. until p (drop at s) ∷ parts p k) (drop-drop (suc (before p (drop at s))) at s ∙ ap (λ n. drop n s) far)
+        ∙ ap (λ k. until p (drop at s) ∷ parts p k) (drop-drop (suc (bytesBefore p (drop at s))) at s ∙ ap (λ n. drop n s) far)
         ∙ rw (past at)
 
 -- ── lines from a place on ──

@@ -9,7 +9,7 @@ use lib.Dec.{leb}
 use lib.ListN.{length, getD, take, drop, drop-of-length-le, length-drop, length-take}
 use lib.Seq.{drop-cons, take-all, take-take}
 use borrow.Author.Tests.{not-true, le-leb, lt-leb}
-use Rattle.words.specs.Parts.{before, until, since, placeOf, parts, full, is, isBlank, isFull, edgeOf, wordsIn, wordAt, FirstWord, chomped, said}
+use Rattle.words.specs.Parts.{bytesBefore, until, since, placeOf, parts, notEmpty, is, isBlank, isFull, edgeOf, wordsIn, wordAt, FirstWord, chomped, said, carriageReturn, hash}
 use Rattle.words.proofs.Cases.{either, below}
 use Rattle.words.proofs.Parts.{place-low, place-high, place-end, place-on, place-passes, until-first, since-drop, parts-cut}
 
@@ -20,13 +20,13 @@ edge-is false t b e = either (isBlank b) (λ q. rw (e, q)) (λ q. rw (e, q))
 
 -- Blanks in front of a word say nothing.
 words-since : (l : List ℕ) → wordsIn l ≡ wordsIn (since isFull l)
-unfolding wordsIn before parts
+unfolding wordsIn bytesBefore parts
 words-since [] = refl
 words-since (b ∷ l) = either (isBlank b) (λ e. rw e (words-since l)) (λ e. rw (e, e))
 
-pub full-cons : (w : List ℕ) (ws : List (List ℕ)) → 0 < length w → full (w ∷ ws) ≡ w ∷ full ws
-full-cons [] ws h = absurd (omega arith)
-full-cons (b ∷ w) ws h = refl
+pub not-empty-cons : (w : List ℕ) (ws : List (List ℕ)) → 0 < length w → notEmpty (w ∷ ws) ≡ w ∷ notEmpty ws
+not-empty-cons [] ws h = absurd (omega arith)
+not-empty-cons (b ∷ w) ws h = refl
 
 words-none : (l : List ℕ) (at : ℕ) → length l ≤ at → wordsIn (drop at l) ≡ []
 unfolding wordsIn parts
@@ -50,7 +50,7 @@ module _ (l : List ℕ) (at from to : ℕ) (e : from ≡ placeOf isFull l at) (f
       let g : parts isBlank (drop from l) ≡ wordAt l from to ∷ parts isBlank (drop (to + 1) l) = rw f (parts-cut isBlank l from h) in
       let n : 0 < length (wordAt l from to) = omega (arith, longer h, length-take (to - from) (drop from l), length-drop from l) in
       let q : to < length l → isBlank (getD l to 0) ≡ true = subst (λ k. k < length l → isBlank (getD l k 0) ≡ true) (sym f) (place-passes isBlank l from) in
-      ap full g ∙ full-cons _ (parts isBlank (drop (to + 1) l)) n ∙ ap (λ ws. wordAt l from to ∷ ws) (sym (words-past l to q))
+      ap notEmpty g ∙ not-empty-cons _ (parts isBlank (drop (to + 1) l)) n ∙ ap (λ ws. wordAt l from to ∷ ws) (sym (words-past l to q))
 
   is-first : wordsIn (drop from l) ≡ cond (leb to from) [] (wordAt l from to ∷ wordsIn (drop to l))
   is-first =
@@ -72,15 +72,15 @@ chomped-is : (l : List ℕ) → take (length (chomped l)) l ≡ chomped l
 unfolding chomped
 chomped-is l =
     let n : length (take (length l - 1) l) ≡ length l - 1 = omega (arith, length-take (length l - 1) l) in
-    either (is 13 (getD l (length l - 1) 0)) (λ e. rw (e, n)) (λ e. rw e (take-all (length l) l (omega arith)))
+    either (is carriageReturn (getD l (length l - 1) 0)) (λ e. rw (e, n)) (λ e. rw e (take-all (length l) l (omega arith)))
 
 pub chomped-within : (l : List ℕ) → length (chomped l) ≤ length l
 chomped-within l = omega (arith, ap length (chomped-is l), length-take (length (chomped l)) l)
 
 -- What the code reads of a line: up to the comment of the line up to its end.
-pub said-is : (l : List ℕ) (n m : ℕ) → n ≡ length (chomped l) → m ≡ placeOf (is 35) (take n l) 0 → (m ≤ length l) × (take m l ≡ said l)
+pub said-is : (l : List ℕ) (n m : ℕ) → n ≡ length (chomped l) → m ≡ placeOf (is hash) (take n l) 0 → (m ≤ length l) × (take m l ≡ said l)
 unfolding said
 said-is l n m e f =
-    let h : m ≤ n = omega (arith, f, place-high (is 35) (take n l) 0, length-take n l) in
+    let h : m ≤ n = omega (arith, f, place-high (is hash) (take n l) 0, length-take n l) in
     let q : take n l ≡ chomped l = ap (λ k. take k l) e ∙ chomped-is l in
-    (omega (arith, e, chomped-within l), sym (take-take m n l h) ∙ ap (λ k. take k (take n l)) f ∙ sym (until-first (is 35) (take n l)) ∙ ap (until (is 35)) q)
+    (omega (arith, e, chomped-within l), sym (take-take m n l h) ∙ ap (λ k. take k (take n l)) f ∙ sym (until-first (is hash) (take n l)) ∙ ap (until (is hash)) q)

@@ -15,7 +15,7 @@ use Rattle.groups.specs.Groups.{setFrom, union}
 use Rattle.words.specs.declared.Field.{Field}
 use Rattle.words.specs.declared.Field.the-variants.{Value}
 use Rattle.words.specs.Parts.{until, since, placeOf, isComma, isDash, itemsIn, wordAt}
-use Rattle.words.specs.Sets.{span, groupIn, andThen, upTo, rangeIn, itemIn, withItems}
+use Rattle.words.specs.Sets.{span, oneGroupIn, andThen, rangeTo, rangeIn, itemIn, withItems}
 use Rattle.words.proofs.Cases.{below}
 use Rattle.words.proofs.Parts.{until-first, since-drop, parts-cut}
 
@@ -47,7 +47,7 @@ module _ (low high : ℕ) where
       (omega arith, omega arith, pow-pos low, o, t, (simp sub-zero at (set-value 64 0 h (omega arith))) ∙ two-pow-succ high)
 
 -- ── an item: the group before the dash, and what stands after it ──
-module _ (w : List ℕ) (end : ℕ) (e : end ≡ placeOf isDash w 0) (f : Field) (r : f ≡ groupIn (take end w)) where
+module _ (w : List ℕ) (end : ℕ) (e : end ≡ placeOf isDash w 0) (f : Field) (r : f ≡ oneGroupIn (take end w)) where
   pub item-from : itemIn w ≡ andThen f (rangeIn (drop end w))
   unfolding itemIn
   item-from =
@@ -55,7 +55,7 @@ module _ (w : List ℕ) (end : ℕ) (e : end ≡ placeOf isDash w 0) (f : Field)
       let s : since isDash w ≡ drop end w = since-drop isDash w 0 ∙ ap (λ n. drop n w) (sym e) in
       rw (u, s, r)
 
-  pub item-range : (g : ℕ) → f ≡ Value g → end < length w → andThen (groupIn (take (length w - (end + 1)) (drop (end + 1) w))) (upTo g) ≡ itemIn w
+  pub item-range : (g : ℕ) → f ≡ Value g → end < length w → andThen (oneGroupIn (take (length w - (end + 1)) (drop (end + 1) w))) (rangeTo g) ≡ itemIn w
   item-range g k h =
       rw (item-from, k, drop-cons w end 0 h, add-one, take-all (length w - suc end) (drop (suc end) w) (omega (arith, length-drop (suc end) w)))
 

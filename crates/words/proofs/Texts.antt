@@ -7,19 +7,20 @@ use lib.ListN.{length, take, getD, replicate, length-append, length-replicate}
 use lib.Seq.{take-at}
 use Rattle.numerals.specs.Digits.{decimalOf}
 use Rattle.numerals.specs.Laid.{Put}
+use Rattle.numerals.specs.Texts.{bytes}
 use Rattle.numerals.proofs.Laying.{width-small, decimal-length, put-short, lent-all}
-use Rattle.words.specs.Parts.{placeOf, is}
+use Rattle.words.specs.Parts.{space, placeOf, is}
 use Rattle.words.specs.Reports.{reasons, reasonTexts, reasonText, reportOf, reported}
 
 -- ── texts ──
 -- Each is padded to 32 bytes, with its length; a reason is found by its number's place.
 abbrev padded : List ℕ → List ℕ
-padded t = t ++ replicate (32 - length t) 32
+padded t = t ++ replicate (32 - length t) space
 
 pub text-is : (ts : List (List ℕ)) (i : ℕ)
     → (getD (map length ts) i 0 ≤ length (getD (map padded ts) i [])) × (take (getD (map length ts) i 0) (getD (map padded ts) i []) ≡ getD ts i [])
 text-is [] i = (omega arith, refl)
-text-is (t ∷ ts) zero = (omega (arith, length-append t (replicate (32 - length t) 32)), take-at t _ (length t) refl)
+text-is (t ∷ ts) zero = (omega (arith, length-append t (replicate (32 - length t) space)), take-at t _ (length t) refl)
 text-is (t ∷ ts) (suc i) = text-is ts i
 
 pub reason-is : (n i : ℕ) → i ≡ placeOf (is n) (map (λ r. r .number) reasons) 0 → getD reasonTexts i [] ≡ reasonText n
@@ -44,7 +45,7 @@ reason-length n = text-length reasonTexts (placeOf (is n) (map (λ r. r .number)
 
 report-length : (line n : ℕ) → length (reportOf line n) ≤ 56
 unfolding reportOf
-report-length line n = omega (arith, length-append (decimalOf line) (58 ∷ 32 ∷ reasonText n), decimal-length line, width-small line, reason-length n)
+report-length line n = omega (arith, length-append (decimalOf line) (bytes ": " ++ reasonText n), decimal-length line, width-small line, reason-length n)
 
 -- Laid over 64 bytes it goes in.
 pub report-goes : (line n : ℕ) {r : ℕ} {p : List ℕ} → Put (replicate 64 0) 0 (reportOf line n) r p

@@ -11,8 +11,8 @@ use Rattle.words.specs.declared.Field.{Field}
 use Rattle.words.specs.declared.Field.the-variants.{Value, Wrong}
 use Rattle.words.specs.Answers.{WordValues, wordValues, orElse}
 use Rattle.words.specs.Parts.{until, since, isDash, itemsIn}
-use Rattle.words.specs.Reasons.{backward}
-use Rattle.words.specs.Sets.{groupIn, span, andThen, upTo, rangeIn, itemIn, withItems, isList, groupsIn, firstGroup, behindDash, lastGroup, itemNumber, listNumber, listSet, unlessWrong, groupsValues}
+use Rattle.words.specs.Reasons.{backwardReason}
+use Rattle.words.specs.Sets.{oneGroupIn, span, andThen, rangeTo, rangeIn, itemIn, withItems, isList, groupsIn, firstGroup, behindDash, lastGroup, itemNumber, listNumber, listSet, unlessWrong, groupsValues}
 use Rattle.words.specs.Words.{isNumber, valueIn, numberIn, numberValues}
 use Rattle.words.proofs.Cases.{either}
 use Rattle.words.proofs.Numbers.{Under}
@@ -30,15 +30,15 @@ number-with-values base most none large w f e = (e, ap wordValues e ∙ number-v
 
 -- By the groups before and behind an item's dash.
 abbrev rangeValues : WordValues → WordValues → WordValues
-rangeValues a b = unlessWrong (orElse (a .number) (orElse (b .number) (cond (ltb (b .value) (a .value)) backward 0))) (span (a .value) (b .value))
+rangeValues a b = unlessWrong (orElse (a .number) (orElse (b .number) (cond (ltb (b .value) (a .value)) backwardReason 0))) (span (a .value) (b .value))
 
 range-values : (l : List ℕ) (x : Field) → Under 101 63 x → wordValues (andThen x (rangeIn l)) ≡ rangeValues (wordValues x) (behindDash l (wordValues x))
 range-values l (Wrong zero) u = absurd (omega arith)
 range-values l (Wrong (suc n)) u = refl
 range-values [] (Value v) u = rw (le-ltb v v (omega arith))
-range-values (dash ∷ l) (Value v) u = go (groupIn l) (group-under l) ∙ ap (rangeValues (wordValues (Value v))) (number-values _ _ _ _ l)
+range-values (dash ∷ l) (Value v) u = go (oneGroupIn l) (group-under l) ∙ ap (rangeValues (wordValues (Value v))) (number-values _ _ _ _ l)
   where
-    go : (x : Field) → Under 101 63 x → wordValues (andThen x (upTo v)) ≡ rangeValues (wordValues (Value v)) (wordValues x)
+    go : (x : Field) → Under 101 63 x → wordValues (andThen x (rangeTo v)) ≡ rangeValues (wordValues (Value v)) (wordValues x)
     go (Wrong zero) u = absurd (omega arith)
     go (Wrong (suc n)) u = refl
     go (Value h) u = either (ltb h v) (λ e. rw e) (λ e. rw e)
@@ -46,7 +46,7 @@ range-values (dash ∷ l) (Value v) u = go (groupIn l) (group-under l) ∙ ap (r
 item-values : (w : List ℕ) → wordValues (itemIn w) ≡ unlessWrong (itemNumber w) (span (firstGroup w .value) (lastGroup w .value))
 unfolding itemIn itemNumber
 item-values w =
-    range-values (since isDash w) (groupIn (until isDash w)) (group-under (until isDash w))
+    range-values (since isDash w) (oneGroupIn (until isDash w)) (group-under (until isDash w))
     ∙ ap (λ (x : WordValues). rangeValues x (behindDash (since isDash w) x)) (number-values _ _ _ _ (until isDash w))
 
 list-values : (s : ℕ) (ws : List (List ℕ)) → wordValues (withItems s ws) ≡ unlessWrong (listNumber ws) (listSet s ws)

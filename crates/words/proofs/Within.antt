@@ -9,7 +9,7 @@ use Rattle.groups.specs.Groups.{setFrom, union, has}
 use Rattle.words.specs.declared.Field.{Field}
 use Rattle.words.specs.declared.Field.the-variants.{Value, Wrong}
 use Rattle.words.specs.Parts.{until, since, isDash, itemsIn}
-use Rattle.words.specs.Sets.{groupIn, span, andThen, upTo, rangeIn, itemIn, withItems, isList, groupsIn}
+use Rattle.words.specs.Sets.{oneGroupIn, span, andThen, rangeTo, rangeIn, itemIn, withItems, isList, groupsIn}
 use Rattle.words.proofs.Cases.{either}
 use Rattle.words.proofs.Numbers.{Under, number-under}
 
@@ -36,16 +36,16 @@ span-in : (low high : ℕ) → InWord (Value (span low high))
 unfolding span
 span-in low high = omega (arith, set-below 64 0 (λ g. leb low g && leb g high))
 
-pub group-under : (w : List ℕ) → Under 101 63 (groupIn w)
+pub group-under : (w : List ℕ) → Under 101 63 (oneGroupIn w)
 group-under w = number-under 101 10 _ _ _ w (omega arith) (omega arith)
 
 pub item-in : (w : List ℕ) → InWord (itemIn w)
 unfolding itemIn
-item-in w = under-then 63 _ (groupIn (until isDash w)) (rangeIn (since isDash w)) (group-under (until isDash w)) (range (since isDash w))
+item-in w = under-then 63 _ (oneGroupIn (until isDash w)) (rangeIn (since isDash w)) (group-under (until isDash w)) (range (since isDash w))
   where
     range : (l : List ℕ) (g : ℕ) → InWord (rangeIn l g)
     range [] g = span-in g g
-    range (b ∷ l) g = under-then 63 _ (groupIn l) (upTo g) (group-under l) (λ high. either (ltb high g) (λ e. rw e (omega arith)) (λ e. rw e (span-in g high)))
+    range (b ∷ l) g = under-then 63 _ (oneGroupIn l) (rangeTo g) (group-under l) (λ high. either (ltb high g) (λ e. rw e (omega arith)) (λ e. rw e (span-in g high)))
 
 items-in : (s : ℕ) (ws : List (List ℕ)) → InWord (Value s) → InWord (withItems s ws)
 unfolding withItems

@@ -1,22 +1,46 @@
--- The parts of a text: its lines, a line's words, the items of a list; and what a line says before its comment. Bytes are ASCII: 9 is a tab,
--- 10 a line feed, 13 a carriage return, 32 a space, 35 '#', 44 ',', 45 '-'.
+-- The parts of a text: its lines, a line's words, the items of a list; and what a line says before its comment.
 use Prim.Native.Nat.{ℕ, suc, _+_, _-_, _≤_, max}
+use Prim.Native.Char.{code}
 use mathlib.Core.Path.{_≡_}
 use mathlib.Core.Bool.{Bool, true, false, not, _&&_, _||_, cond}
 use mathlib.Core.List.{List, [], _∷_}
 use lib.Dec.{eqb, leb}
 use lib.ListN.{length, take, drop, getD}
 
+-- ── bytes ──
+-- Those that part a text, by name.
+abbrev pub lineFeed : ℕ
+lineFeed = code "\n"
+
+abbrev pub carriageReturn : ℕ
+carriageReturn = code "\r"
+
+abbrev pub space : ℕ
+space = code " "
+
+abbrev pub tab : ℕ
+tab = code "\t"
+
+abbrev pub hash : ℕ
+hash = code "#"
+
+abbrev pub comma : ℕ
+comma = code ","
+
+abbrev pub dash : ℕ
+dash = code "-"
+
+-- ── parts ──
 -- How many bytes stand before the first that passes p; these bytes, and those from it on.
-unfoldable pub before : (ℕ → Bool) → List ℕ → ℕ
-before p [] = 0
-before p (b ∷ l) = cond (p b) 0 (suc (before p l))
+unfoldable pub bytesBefore : (ℕ → Bool) → List ℕ → ℕ
+bytesBefore p [] = 0
+bytesBefore p (b ∷ l) = cond (p b) 0 (suc (bytesBefore p l))
 
 abbrev pub until : (ℕ → Bool) → List ℕ → List ℕ
-until p l = take (before p l) l
+until p l = take (bytesBefore p l) l
 
 abbrev pub since : (ℕ → Bool) → List ℕ → List ℕ
-since p l = drop (before p l) l
+since p l = drop (bytesBefore p l) l
 
 -- No byte passes p.
 unfoldable pub none : (ℕ → Bool) → List ℕ → Bool
@@ -25,7 +49,7 @@ none p (b ∷ l) = not (p b) && none p l
 
 -- The place of the first byte from `at` on that passes p, or the text's end.
 unfoldable pub placeOf : (ℕ → Bool) → List ℕ → ℕ → ℕ
-placeOf p s at = at + before p (drop at s)
+placeOf p s at = at + bytesBefore p (drop at s)
 
 -- A byte in front of the first part.
 abbrev pub inFront : ℕ → List (List ℕ) → List (List ℕ)
@@ -38,29 +62,29 @@ parts p [] = []
 parts p (b ∷ l) = cond (p b) ([] ∷ parts p l) (inFront b (parts p l))
 
 -- The parts that are not empty.
-abbrev pub full : List (List ℕ) → List (List ℕ)
-full [] = []
-full ([] ∷ ws) = full ws
-full ((b ∷ w) ∷ ws) = (b ∷ w) ∷ full ws
+abbrev pub notEmpty : List (List ℕ) → List (List ℕ)
+notEmpty [] = []
+notEmpty ([] ∷ ws) = notEmpty ws
+notEmpty ((b ∷ w) ∷ ws) = (b ∷ w) ∷ notEmpty ws
 
 -- A byte is a; a line feed, a space or a tab, any other byte, a comma, a dash, either of the two.
 abbrev pub is : ℕ → ℕ → Bool
 is a b = eqb b a
 
 abbrev pub isFeed : ℕ → Bool
-isFeed b = is 10 b
+isFeed b = is lineFeed b
 
 abbrev pub isBlank : ℕ → Bool
-isBlank b = is 32 b || is 9 b
+isBlank b = is space b || is tab b
 
 abbrev pub isFull : ℕ → Bool
 isFull b = not (isBlank b)
 
 abbrev pub isComma : ℕ → Bool
-isComma b = is 44 b
+isComma b = is comma b
 
 abbrev pub isDash : ℕ → Bool
-isDash b = is 45 b
+isDash b = is dash b
 
 abbrev pub isJoint : ℕ → Bool
 isJoint b = isComma b || isDash b
@@ -75,7 +99,7 @@ unfoldable pub linesIn : List ℕ → List (List ℕ)
 linesIn l = parts isFeed l
 
 unfoldable pub wordsIn : List ℕ → List (List ℕ)
-wordsIn l = full (parts isBlank l)
+wordsIn l = notEmpty (parts isBlank l)
 
 unfoldable pub itemsIn : List ℕ → List (List ℕ)
 itemsIn l = parts isComma l
@@ -96,7 +120,7 @@ pub record FirstWord (l : List ℕ) (at from to : ℕ) : Type 0 where
 
 -- A line without the carriage return that ends it, and of that what stands before its comment.
 unfoldable pub chomped : List ℕ → List ℕ
-chomped l = cond (is 13 (getD l (length l - 1) 0)) (take (length l - 1) l) l
+chomped l = cond (is carriageReturn (getD l (length l - 1) 0)) (take (length l - 1) l) l
 
 unfoldable pub said : List ℕ → List ℕ
-said l = until (is 35) (chomped l)
+said l = until (is hash) (chomped l)

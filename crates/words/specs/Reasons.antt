@@ -1,51 +1,51 @@
--- Why a text makes no load, by number, as in src/reasons.rt: from 101 on for a line that says no call, so that no reason can be taken for a
--- number of document 01; 11, 13, 14 and 15 are document 01's own (crate numbers).
+-- Why a line of text says no call, by number, as in src/reasons.rt: from 101 on, so that no reason can be taken for a number of document 01.
+-- Numbers of document 01 that are told of a line are its own (crate numbers).
 use Prim.Native.Nat.{ℕ}
 
-abbrev pub unknown : ℕ
-unknown = 101
+abbrev pub unknownReason : ℕ
+unknownReason = 101
 
-abbrev pub missing : ℕ
-missing = 102
+abbrev pub missingReason : ℕ
+missingReason = 102
 
-abbrev pub tooMany : ℕ
-tooMany = 103
+abbrev pub tooManyReason : ℕ
+tooManyReason = 103
 
-abbrev pub noClock : ℕ
-noClock = 104
+abbrev pub noClockReason : ℕ
+noClockReason = 104
 
-abbrev pub noTicket : ℕ
-noTicket = 105
+abbrev pub noTicketReason : ℕ
+noTicketReason = 105
 
-abbrev pub noLength : ℕ
-noLength = 106
+abbrev pub noLengthReason : ℕ
+noLengthReason = 106
 
-abbrev pub noGroups : ℕ
-noGroups = 107
+abbrev pub noGroupsReason : ℕ
+noGroupsReason = 107
 
-abbrev pub tooLarge : ℕ
-tooLarge = 108
+abbrev pub tooLargeReason : ℕ
+tooLargeReason = 108
 
-abbrev pub over63 : ℕ
-over63 = 109
+abbrev pub over63Reason : ℕ
+over63Reason = 109
 
-abbrev pub backward : ℕ
-backward = 110
+abbrev pub backwardReason : ℕ
+backwardReason = 110
 
-abbrev pub noPool : ℕ
-noPool = 111
+abbrev pub noPoolReason : ℕ
+noPoolReason = 111
 
-abbrev pub noUnits : ℕ
-noUnits = 112
+abbrev pub noUnitsReason : ℕ
+noUnitsReason = 112
 
-abbrev pub noClient : ℕ
-noClient = 113
+abbrev pub noClientReason : ℕ
+noClientReason = 113
 
-abbrev pub noReserved : ℕ
-noReserved = 114
+abbrev pub noReservedReason : ℕ
+noReservedReason = 114
 
-abbrev pub noLimit : ℕ
-noLimit = 115
+abbrev pub noLimitReason : ℕ
+noLimitReason = 115
 
-abbrev pub noGrace : ℕ
-noGrace = 116
+abbrev pub noGraceReason : ℕ
+noGraceReason = 116

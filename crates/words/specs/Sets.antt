@@ -8,11 +8,12 @@ use Rattle.words.specs.declared.Field.{Field}
 use Rattle.words.specs.declared.Field.the-variants.{Value, Wrong}
 use Rattle.words.specs.Answers.{WordValues, orElse, valueUnless}
 use Rattle.words.specs.Parts.{until, since, none, isDash, isJoint, itemsIn}
-use Rattle.words.specs.Reasons.{noGroups, tooLarge, over63, backward}
+use Rattle.words.specs.Reasons.{noGroupsReason, tooLargeReason, over63Reason, backwardReason}
 use Rattle.words.specs.Words.{numberIn, numberValues}
 
-abbrev pub groupIn : List ℕ → Field
-groupIn w = numberIn 10 63 noGroups over63 w
+-- One group, in decimal.
+abbrev pub oneGroupIn : List ℕ → Field
+oneGroupIn w = numberIn 10 63 noGroupsReason over63Reason w
 
 -- The groups from one to another.
 unfoldable pub span : ℕ → ℕ → ℕ
@@ -23,17 +24,18 @@ abbrev pub andThen : Field → (ℕ → Field) → Field
 andThen (Value v) f = f v
 andThen (Wrong n) f = Wrong n
 
-abbrev pub upTo : ℕ → ℕ → Field
-upTo low high = cond (ltb high low) (Wrong backward) (Value (span low high))
+-- The groups from one to another, which is not below it.
+abbrev pub rangeTo : ℕ → ℕ → Field
+rangeTo low high = cond (ltb high low) (Wrong backwardReason) (Value (span low high))
 
 -- The groups from one on, by what stands after it from a dash on.
 abbrev pub rangeIn : List ℕ → ℕ → Field
 rangeIn [] g = Value (span g g)
-rangeIn (dash ∷ l) g = andThen (groupIn l) (upTo g)
+rangeIn (dash ∷ l) g = andThen (oneGroupIn l) (rangeTo g)
 
 -- An item of a list: `5` or `5-7`.
 unfoldable pub itemIn : List ℕ → Field
-itemIn w = andThen (groupIn (until isDash w)) (rangeIn (since isDash w))
+itemIn w = andThen (oneGroupIn (until isDash w)) (rangeIn (since isDash w))
 
 -- Groups, and those of the items of a list; the first that is wrong decides.
 unfoldable pub withItems : ℕ → List (List ℕ) → Field
@@ -45,13 +47,13 @@ isList w = not (none isJoint w)
 
 -- A word with a comma or a dash is a list, any other a set in hex.
 unfoldable pub groupsIn : List ℕ → Field
-groupsIn w = cond (isList w) (withItems 0 (itemsIn w)) (numberIn 16 18446744073709551615 noGroups tooLarge w)
+groupsIn w = cond (isList w) (withItems 0 (itemsIn w)) (numberIn 16 18446744073709551615 noGroupsReason tooLargeReason w)
 
 -- ── in numbers ──
 -- By the bytes alone, without the cases of `Field`.
 -- The groups that an item names: the one before its dash, and the one behind it, or the same where there is no dash.
 abbrev pub groupValues : List ℕ → WordValues
-groupValues w = numberValues 10 63 noGroups over63 w
+groupValues w = numberValues 10 63 noGroupsReason over63Reason w
 
 abbrev pub firstGroup : List ℕ → WordValues
 firstGroup w = groupValues (until isDash w)
@@ -64,7 +66,7 @@ abbrev pub lastGroup : List ℕ → WordValues
 lastGroup w = behindDash (since isDash w) (firstGroup w)
 
 unfoldable pub itemNumber : List ℕ → ℕ
-itemNumber w = orElse (firstGroup w .number) (orElse (lastGroup w .number) (cond (ltb (lastGroup w .value) (firstGroup w .value)) backward 0))
+itemNumber w = orElse (firstGroup w .number) (orElse (lastGroup w .number) (cond (ltb (lastGroup w .value) (firstGroup w .value)) backwardReason 0))
 
 -- The first item of a list that is wrong, and the groups of all with those before them.
 unfoldable pub listNumber : List (List ℕ) → ℕ
@@ -83,4 +85,4 @@ unlessWrong n v = record { number = n; value = valueUnless n v }
 unfoldable pub groupsValues : List ℕ → WordValues
 groupsValues w =
     cond (isList w) (unlessWrong (listNumber (itemsIn w)) (listSet 0 (itemsIn w)))
-    (numberValues 16 18446744073709551615 noGroups tooLarge w)
+    (numberValues 16 18446744073709551615 noGroupsReason tooLargeReason w)

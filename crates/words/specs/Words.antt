@@ -1,5 +1,6 @@
 -- What a word says: a name among names, or a number.
 use Prim.Native.Nat.{ℕ, _+_, _-_, _*_}
+use Prim.Native.Char.{code}
 use mathlib.Core.Bool.{Bool, true, false, _&&_, cond}
 use mathlib.Core.List.{List, [], _∷_}
 use lib.Dec.{eqb, leb, ltb}
@@ -27,9 +28,9 @@ placeIn w k (n ∷ ns) = cond (isWord w n) k (placeIn w (k + 1) ns)
 -- The value of a digit up to F in either case, 16 for any other byte.
 unfoldable pub digitOf : ℕ → ℕ
 digitOf b =
-    cond (leb 48 b && leb b 57) (b - 48)
-    (cond (leb 65 b && leb b 70) (b - 55)
-    (cond (leb 97 b && leb b 102) (b - 87) 16))
+    cond (leb (code "0") b && leb b (code "9")) (b - code "0")
+    (cond (leb (code "A") b && leb b (code "F")) (b - (code "A" - 10))
+    (cond (leb (code "a") b && leb b (code "f")) (b - (code "a" - 10)) 16))
 
 -- v, and the digits after it.
 unfoldable pub valueIn : ℕ → ℕ → List ℕ → ℕ

@@ -1,5 +1,5 @@
-// Why a text makes no load, by number, as in specs/Reasons.antt: from 101 on for a line that says no call, so that no reason can be taken
-// for a number of document 01; 11, 13, 14 and 15 are document 01's own (crate numbers).
+// Why a line of text says no call, by number, as in specs/Reasons.antt: from 101 on, so that no reason can be taken for a number of document
+// 01. Numbers of document 01 that are told of a line are its own (crate numbers).
 pub const UNKNOWN: u8 = 101;
 
 pub const MISSING: u8 = 102;

@@ -3,7 +3,7 @@ ghost use mathlib.Core.Path.{_≡_};
 ghost use Prim.Native.Nat.{_≤_};
 ghost use Rattle.words.specs.Answers.{wordValues};
 ghost use Rattle.words.specs.Parts.{itemsIn};
-ghost use Rattle.words.specs.Sets.{andThen, groupIn, groupsIn, groupsValues, itemIn, span, upTo, withItems};
+ghost use Rattle.words.specs.Sets.{andThen, oneGroupIn, groupsIn, groupsValues, itemIn, span, rangeTo, withItems};
 use crate::Field;
 use crate::Mark;
 use crate::lacks;
@@ -21,14 +21,14 @@ fn span(low: u64, high: u64) -> u64
 }
 
 fn group(word: &[u8]) -> Field
-    ensures { λ r. ⌜ r ≡ groupIn (now (word .entry)) ⌝ }
+    ensures { λ r. ⌜ r ≡ oneGroupIn (now (word .entry)) ⌝ }
 {
     number(word, 10, 63, reasons::NO_GROUPS, reasons::OVER_63)
 }
 
 // The groups from one to the one that a word says.
 fn range(low: u64, word: &[u8]) -> Field
-    ensures { λ r. ⌜ r ≡ andThen (groupIn (now (word .entry))) (upTo low) ⌝ }
+    ensures { λ r. ⌜ r ≡ andThen (oneGroupIn (now (word .entry))) (rangeTo low) ⌝ }
 {
     match group(word) {
         Field::Value(high) => {
