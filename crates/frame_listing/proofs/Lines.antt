@@ -7,8 +7,8 @@ use native.Mathlib.Numerals.{add-one}
 use lib.ListN.{length, take, drop, getD, length-append, length-take, drop-of-length-le}
 use lib.Seq.{drop-cons, getD-take}
 use Rattle.numerals.specs.Digits.{column, pair}
+use Rattle.numerals.specs.Texts.{space, lineFeed}
 use Rattle.numerals.proofs.Laying.{column-length, pair-length}
-use Rattle.words.specs.Parts.{lineFeed, space}
 use Rattle.frame_listing.specs.Lines.{lineOf, onLine, onLines}
 
 -- ── lengths ──

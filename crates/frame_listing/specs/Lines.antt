@@ -3,8 +3,7 @@
 use mathlib.Core.List.{List, [], _∷_, _++_}
 use Prim.Native.Nat.{ℕ}
 use Rattle.numerals.specs.Digits.{column, pair}
-use Rattle.numerals.specs.Texts.{bytes}
-use Rattle.words.specs.Parts.{lineFeed, space}
+use Rattle.numerals.specs.Texts.{bytes, space, lineFeed}
 
 abbrev pub header : List ℕ
 header = bytes "rec answer ticket row contention\n"

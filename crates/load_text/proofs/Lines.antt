@@ -12,8 +12,8 @@ use borrow.Author.Tests.{ne-eqb, ltb-true, lt-ltb, leb-true}
 use Rattle.numbers.specs.Numbers.{noSpaceNumber}
 use Rattle.numerals.specs.Digits.{digits, widthUpTo, widthOf, decimalOf, column}
 use Rattle.numerals.specs.Laid.{Put, spaceNumber, lentOut}
+use Rattle.numerals.specs.Texts.{lineFeed}
 use Rattle.numerals.proofs.Laying.{decimal-length, pair-length, put-short, lent-all, lent-none, lent-known}
-use Rattle.words.specs.Parts.{lineFeed}
 use Rattle.words.proofs.Cases.{either, below}
 use Rattle.load.specs.declared.Call.{Call}
 use Rattle.load.specs.Format.{theGroups, fieldWidths, fieldCount, fieldWidth, format, known, fieldsOf, total, lengthIn, lengthOf, names, nameOf}

@@ -11,9 +11,9 @@ use lib.ListN.{length, getD, length-append}
 use borrow.Author.Tests.{eqb-true, ltb-true, leb-false, leb-true, lt-ltb, le-ltb, le-leb, lt-leb, not-true}
 use Rattle.numbers.specs.Numbers.{editionNumber}
 use Rattle.numerals.specs.Digits.{digits, widthUpTo, widthOf, decimalOf, column}
-use Rattle.numerals.specs.Texts.{bytes}
+use Rattle.numerals.specs.Texts.{bytes, space, lineFeed}
 use Rattle.words.specs.declared.Field.the-variants.{Value}
-use Rattle.words.specs.Parts.{lineFeed, carriageReturn, space, hash, none, bytesBefore, parts, inFront, notEmpty, is, isFeed, isBlank, isJoint, linesIn, wordsIn, chomped, said}
+use Rattle.words.specs.Parts.{carriageReturn, hash, none, bytesBefore, parts, inFront, notEmpty, is, isFeed, isBlank, isJoint, linesIn, wordsIn, chomped, said}
 use Rattle.words.specs.Sets.{isList, groupsIn}
 use Rattle.words.specs.Words.{digitOf, noDigit, digitsIn, valueIn, numberIn, isWord, placeIn}
 use Rattle.words.proofs.Cases.{either, below}

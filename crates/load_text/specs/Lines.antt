@@ -7,8 +7,7 @@ use lib.Dec.{ltb, eqb}
 use lib.ListN.{length}
 use Rattle.numerals.specs.Digits.{decimalOf, column, pair}
 use Rattle.numerals.specs.Laid.{spaceNumber}
-use Rattle.numerals.specs.Texts.{bytes}
-use Rattle.words.specs.Parts.{lineFeed}
+use Rattle.numerals.specs.Texts.{bytes, lineFeed}
 use Rattle.load.specs.declared.Call.{Call}
 use Rattle.load.specs.Format.{theGroups, fieldWidth, fieldsOf, nameOf}
 use Rattle.load.specs.Calls.{valueOf}

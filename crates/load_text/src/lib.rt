@@ -7,9 +7,9 @@ ghost use Rattle.load_text.specs.Answers.{madeValues};
 ghost use Rattle.load_text.specs.Parsing.{lineSays};
 ghost use Rattle.load_text.specs.Making.{Starts, Adds, Gathers, madeOf, madeOut, makeValues};
 
-mod names;
 mod parse;
 mod print;
+mod texts;
 
 use load::Written;
 use parse::Head;

@@ -7,7 +7,7 @@ ghost use Rattle.load.specs.Calls.{bare};
 ghost use Rattle.load_text.specs.declared.parse.Parsed.the-variants.{Said};
 ghost use Rattle.load_text.specs.Answers.{parsedValues};
 ghost use Rattle.load_text.specs.Parsing.{editionIn, fieldIn, filledIn, headSays, lineSays, parseValues, withField};
-use crate::names::kind_named;
+use crate::texts::kind_named;
 use load::Call;
 use words::Field;
 use words::next_word;

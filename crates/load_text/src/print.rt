@@ -12,8 +12,8 @@ ghost use Rattle.load.specs.Format.{fieldsOf};
 ghost use Rattle.load.specs.Reading.{editionOf, walk, openNumber};
 ghost use Rattle.load_text.specs.Answers.{printedValues};
 ghost use Rattle.load_text.specs.Lines.{glyphOf, hexUpTo, wordOf, fieldsText, fieldsMost, lineOf, Brief, stopLine, restOf, headerOf, textOf, printed, printValues};
-use crate::names::put_name;
 use crate::parse;
+use crate::texts::put_name;
 use load::Call;
 use load::Item;
 

@@ -11,3 +11,10 @@ codesFrom (suc n) at s = code (charAt s at) ∷ codesFrom n (suc at) s
 
 abbrev pub bytes : String → List ℕ
 bytes s = codesFrom (len s) 0 s
+
+-- The byte between words, and the one that ends a line.
+abbrev pub space : ℕ
+space = 32
+
+abbrev pub lineFeed : ℕ
+lineFeed = 10

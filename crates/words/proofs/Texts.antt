@@ -7,9 +7,9 @@ use lib.ListN.{length, take, getD, replicate, length-append, length-replicate}
 use lib.Seq.{take-at}
 use Rattle.numerals.specs.Digits.{decimalOf}
 use Rattle.numerals.specs.Laid.{Put}
-use Rattle.numerals.specs.Texts.{bytes}
+use Rattle.numerals.specs.Texts.{bytes, space}
 use Rattle.numerals.proofs.Laying.{width-small, decimal-length, put-short, lent-all}
-use Rattle.words.specs.Parts.{space, placeOf, is}
+use Rattle.words.specs.Parts.{placeOf, is}
 use Rattle.words.specs.Reports.{reasons, reasonTexts, reasonText, reportOf, reported}
 
 -- ── texts ──

@@ -6,17 +6,11 @@ use mathlib.Core.Bool.{Bool, true, false, not, _&&_, _||_, cond}
 use mathlib.Core.List.{List, [], _∷_}
 use lib.Dec.{eqb, leb}
 use lib.ListN.{length, take, drop, getD}
+use Rattle.numerals.specs.Texts.{space, lineFeed}
 
 -- ── bytes ──
--- Those that part a text, by name.
-abbrev pub lineFeed : ℕ
-lineFeed = code "\n"
-
 abbrev pub carriageReturn : ℕ
 carriageReturn = code "\r"
-
-abbrev pub space : ℕ
-space = code " "
 
 abbrev pub tab : ℕ
 tab = code "\t"

@@ -5,8 +5,8 @@ use native.Mathlib.Omega.{arith}
 use borrow.Author.Needs.{needs}
 use Rattle.numerals.proofs.Laying.{behind-none, laid-none, put, put-as}
 use Rattle.load_text.proofs.Tables.{has-name, lacks-name, name-taken}
-use Rattle.load_text.proofs.names.put_name.Statement.{statement}
-use Rattle.load_text.proofs.names.put_name.Tie as tie
+use Rattle.load_text.proofs.texts.put_name.Statement.{statement}
+use Rattle.load_text.proofs.texts.put_name.Tie as tie
 
 returns : tie.Need-returns
 returns c = put-as _ _ (sym (lacks-name _ _ (sym (c .before .length-of .ensures) ∙ c .if1 .taken))) (put (sym (behind-none _ (search needs)), sym (laid-none _ _)))

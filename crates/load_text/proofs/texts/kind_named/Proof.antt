@@ -2,8 +2,8 @@
 use mathlib.Core.Path.{sym, _∙_}
 use borrow.Author.Needs.{needs}
 use Rattle.load_text.proofs.Tables.{is-named, not-named}
-use Rattle.load_text.proofs.names.kind_named.Statement.{statement}
-use Rattle.load_text.proofs.names.kind_named.Tie as tie
+use Rattle.load_text.proofs.texts.kind_named.Statement.{statement}
+use Rattle.load_text.proofs.texts.kind_named.Tie as tie
 
 pub kind-named-spec : {M : Type 1} → statement M
 kind-named-spec =

@@ -6,8 +6,8 @@ use borrow.Author.Needs.{needs}
 use Rattle.words.specs.Words.{isWord}
 use Rattle.words.proofs.Names.{word-test}
 use Rattle.load_text.proofs.Tables.{name-taken}
-use Rattle.load_text.proofs.names.is_name.Statement.{statement}
-use Rattle.load_text.proofs.names.is_name.Tie as tie
+use Rattle.load_text.proofs.texts.is_name.Statement.{statement}
+use Rattle.load_text.proofs.texts.is_name.Tie as tie
 
 returns : tie.Need-returns
 returns c =

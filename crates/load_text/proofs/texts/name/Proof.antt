@@ -2,8 +2,8 @@
 use Rattle.load.specs.Format.{names}
 use Rattle.load.proofs.Format.{unlisted-past}
 use Rattle.load_text.proofs.Tables.{no-name}
-use Rattle.load_text.proofs.names.name.Statement.{statement}
-use Rattle.load_text.proofs.names.name.Tie as tie
+use Rattle.load_text.proofs.texts.name.Statement.{statement}
+use Rattle.load_text.proofs.texts.name.Tie as tie
 
 pub name-spec : {M : Type 1} → statement M
 unfolding names

@@ -8,8 +8,8 @@ use Rattle.words.specs.Words.{placeIn}
 use Rattle.load.specs.Format.{names}
 use Rattle.load_text.specs.Parsing.{kindOf}
 use Rattle.load_text.proofs.Tables.{kind-here, kind-on, kind-none}
-use Rattle.load_text.proofs.names.kind_of.Statement.{statement}
-use Rattle.load_text.proofs.names.kind_of.Tie as tie
+use Rattle.load_text.proofs.texts.kind_of.Statement.{statement}
+use Rattle.load_text.proofs.texts.kind_of.Tie as tie
 
 abbrev Inv-loop : tie.InvT-loop
 Inv-loop word kind₀ kind = placeIn word kind (drop kind names) ≡ kindOf word

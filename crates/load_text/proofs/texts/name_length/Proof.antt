@@ -4,8 +4,8 @@ use mathlib.Core.Path.{refl}
 use Rattle.load.specs.Format.{names}
 use Rattle.load.proofs.Format.{unlisted-past}
 use Rattle.load_text.proofs.Tables.{no-name}
-use Rattle.load_text.proofs.names.name_length.Statement.{statement}
-use Rattle.load_text.proofs.names.name_length.Tie as tie
+use Rattle.load_text.proofs.texts.name_length.Statement.{statement}
+use Rattle.load_text.proofs.texts.name_length.Tie as tie
 
 pub name-length-spec : {M : Type 1} → statement M
 unfolding names
