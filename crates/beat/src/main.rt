@@ -5,7 +5,7 @@ ghost use lib.ListN.{length};
 use frame_listing::Listed;
 
 fn fail(line: u64, reason: u8) {
-    let r = load_text::report(line, reason);
+    let r = words::report(line, reason);
     let text = r.text;
     let n = r.length;
     io::write_all(2, &text[..n]);

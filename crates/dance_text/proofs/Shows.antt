@@ -8,14 +8,13 @@ use native.Mathlib.Nat.{add-zero, zero-add}
 use native.Mathlib.Omega.{arith}
 use lib.Dec.{ltb}
 use lib.ListN.{length, take, drop, length-append}
-use Rattle.load_text.specs.Parsing.{isFeed, placeOf, linesIn}
-use Rattle.load_text.proofs.Headings.{lines-cut, lines-end}
-use Rattle.load_text.proofs.Parts.{place-low}
+use Rattle.words.specs.Parts.{isFeed, placeOf, linesIn}
+use Rattle.words.proofs.Parts.{lines-cut, lines-end, place-low}
 use Rattle.dance_text.specs.declared.Line.{Line}
 use Rattle.dance_text.specs.declared.Line.the-variants.{Silent, Said, Wrong}
 use Rattle.dance_text.specs.declared.Surveyed.{Surveyed}
 use Rattle.dance_text.specs.Lines.{lineSays}
-use Rattle.dance_text.specs.Shows.{saidIn, callsOf, callsIn, saysCall, lineNumber, wrongOr, surveyIn, surveyOf}
+use Rattle.dance_text.specs.Shows.{saidIn, callsOf, callsIn, hasCall, lineNumber, wrongOr, surveyIn, surveyOf}
 
 -- ── what a survey says ──
 -- The first line that is wrong tells, or the rest does.
@@ -79,7 +78,7 @@ unfolding surveyOf saidIn
 pass-start text = record { few = omega arith; fewer = omega arith; is = refl }
 
 -- A line that says a call adds one,
-counted : (l : Line) → length (callsOf l) ≡ cond (saysCall l) 1 0
+counted : (l : Line) → length (callsOf l) ≡ cond (hasCall l) 1 0
 counted Silent = refl
 counted (Said c) = refl
 counted (Wrong n) = refl
@@ -109,7 +108,7 @@ module _ (text : List ℕ) (at line calls : ℕ) (p : Passing text at line calls
     pass-wrong z = wrong-cases (λ s. s ≡ surveyOf text → _≡_ {A = Surveyed} (record { line = line + 1; number = n; calls = 0 }) (surveyOf text)) n (line + 1) _ (λ q e. e) (λ q. absurd (z q)) on
 
     -- or it is not, and says a call or none.
-    pub pass-on : n ≡ 0 → (b : Bool) → b ≡ saysCall l → (k : ℕ) → k ≡ calls + cond b 1 0 → Passing text (j + 1) (line + 1) k
+    pub pass-on : n ≡ 0 → (b : Bool) → b ≡ hasCall l → (k : ℕ) → k ≡ calls + cond b 1 0 → Passing text (j + 1) (line + 1) k
     pass-on z b q k e =
         let s : k ≡ calls + length (callsOf l) = rw (counted l, ← q) e in
         record {

@@ -5,7 +5,7 @@ use mathlib.Core.List.{List, [], _∷_, _++_, map}
 use lib.Dec.{ltb}
 use lib.ListN.{length}
 use Rattle.numbers.specs.Numbers.{misfitNumber}
-use Rattle.load_text.specs.Parsing.{linesIn}
+use Rattle.words.specs.Parts.{linesIn}
 use Rattle.dance_text.specs.declared.Call.{Call}
 use Rattle.dance_text.specs.declared.Call.the-variants.{Rig, Claim, Release}
 use Rattle.dance_text.specs.declared.Line.{Line}
@@ -24,10 +24,10 @@ unfoldable pub callsIn : List Line → List Call
 callsIn [] = []
 callsIn (l ∷ ls) = callsOf l ++ callsIn ls
 
-abbrev pub saysCall : Line → Bool
-saysCall Silent = false
-saysCall (Said c) = true
-saysCall (Wrong n) = false
+abbrev pub hasCall : Line → Bool
+hasCall Silent = false
+hasCall (Said c) = true
+hasCall (Wrong n) = false
 
 -- "The first record is the rig and no other is": whether a call is out of place, after other calls or as the first.
 abbrev pub misplaced : Bool → Call → ℕ

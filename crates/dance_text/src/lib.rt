@@ -3,15 +3,15 @@
 // says is defined in specs/Lines.antt, what is wrong with a text in specs/Shows.antt.
 ghost use mathlib.Core.Path.{_≡_};
 ghost use lib.ListN.{drop};
-ghost use Rattle.load_text.specs.Parsing.{numberIn, wordsIn};
-ghost use Rattle.load_text.specs.Reasons.{noTicket, tooLarge};
+ghost use Rattle.words.specs.Parts.{wordsIn};
+ghost use Rattle.words.specs.Words.{numberIn};
+ghost use Rattle.words.specs.Reasons.{noTicketReason, tooLargeReason};
 ghost use Rattle.dance_text.specs.declared.Call.the-variants.{Rig, Claim, Release};
-ghost use Rattle.dance_text.specs.Lines.{callOr, isCall, lineSays, lineValues, named, parseValues, wordSays, wordsSay};
-ghost use Rattle.dance_text.specs.Shows.{lineNumber, saysCall, surveyOf};
-use load_text::reasons;
-use load_text::sets;
-use load_text::words;
-use load_text::words::Field;
+ghost use Rattle.dance_text.specs.Lines.{callOr, isCall, lineSays, lineValues, callNamed, parseValues, wordSays, wordsSay};
+ghost use Rattle.dance_text.specs.Shows.{lineNumber, hasCall, surveyOf};
+use words::Field;
+use words::reasons;
+use words::sets;
 
 // A call of a dance show: a new rig, a claim of groups, a release of a ticket.
 pub enum Call {
@@ -36,8 +36,8 @@ pub enum Name {
 }
 
 // ---- a line
-fn named(word: &[u8]) -> Name
-    ensures { λ r. ⌜ r ≡ named (now (word .entry)) ⌝ }
+fn call_named(word: &[u8]) -> Name
+    ensures { λ r. ⌜ r ≡ callNamed (now (word .entry)) ⌝ }
 {
     if check::same(word, b"rig") {
         return Name::NewRig;
@@ -77,7 +77,7 @@ fn claim_of(f: Field) -> Line
 }
 
 fn release_of(word: &[u8]) -> Line
-    ensures { λ r. ⌜ r ≡ callOr Release (numberIn 10 65535 noTicket tooLarge (now (word .entry))) ⌝ }
+    ensures { λ r. ⌜ r ≡ callOr Release (numberIn 10 65535 noTicketReason tooLargeReason (now (word .entry))) ⌝ }
 {
     match words::number(word, 10, 65535, reasons::NO_TICKET, reasons::TOO_LARGE) {
         Field::Value(k) => {
@@ -132,7 +132,7 @@ fn is_call(name: Name) -> bool
 pub fn parse_line(line: &[u8]) -> Line
     ensures { λ r. ⌜ (r ≡ lineSays (now (line .entry))) × (lineValues r ≡ parseValues (now (line .entry))) ⌝ }
 {
-    let end = load_text::said_end(line);
+    let end = words::said_end(line);
     let said = &line[..end];
     let w = words::next_word(said, 0);
     let from = w.from;
@@ -140,7 +140,7 @@ pub fn parse_line(line: &[u8]) -> Line
     if to <= from {
         return Line::Silent;
     }
-    let name = named(&said[from..to]);
+    let name = call_named(&said[from..to]);
     if is_call(name) {
         return words_say(name, said, to);
     }
@@ -163,8 +163,8 @@ fn line_number(begun: bool, line: Line) -> u8
     }
 }
 
-fn says_call(line: Line) -> bool
-    ensures { λ r. ⌜ r ≡ saysCall line ⌝ }
+fn has_call(line: Line) -> bool
+    ensures { λ r. ⌜ r ≡ hasCall line ⌝ }
 {
     match line {
         Line::Silent => false,
@@ -199,7 +199,7 @@ pub fn survey(text: &[u8]) -> Surveyed
                 calls: 0,
             };
         }
-        if says_call(said) {
+        if has_call(said) {
             calls += 1;
         }
         at = end + 1;

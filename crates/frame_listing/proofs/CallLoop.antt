@@ -13,15 +13,15 @@ use Rattle.numerals.specs.Laid.{Put, spaceNumber}
 use Rattle.numerals.proofs.Laying.{put-short, lent-all, lent-none, lent-known}
 use Rattle.numerals.proofs.Going.{Going, going-start, going-step, going-as, going-none, going-last}
 use Rattle.frames.specs.declared.Table.{Table}
-use Rattle.frames.specs.Calls.{Model, Step, blank, new}
+use Rattle.frames.specs.Calls.{Model, blank, new}
 use Rattle.frames.specs.Tables.{model}
 use Rattle.frame_table.specs.declared.Outcome.{Outcome}
 use Rattle.frame_table.specs.Valid.{Valid}
 use Rattle.frame_table.specs.Outcomes.{outcome}
 use Rattle.frame_table.proofs.Promised.{outcome-model, outcome-grants, granted-few, new-none}
-use Rattle.load_text.specs.Answers.{wrongAt, lengthUnless, lentAs}
-use Rattle.load_text.specs.Parsing.{isFeed, placeOf}
-use Rattle.load_text.proofs.Parts.{place-low}
+use Rattle.words.specs.Answers.{valueUnless, wrongAt, lentAs}
+use Rattle.words.specs.Parts.{isFeed, placeOf}
+use Rattle.words.proofs.Parts.{place-low}
 use Rattle.dance_text.specs.declared.Call.{Call}
 use Rattle.dance_text.specs.declared.Line.{Line}
 use Rattle.dance_text.specs.declared.Line.the-variants.{Said}
@@ -142,7 +142,7 @@ lists : (text out : List ℕ) (r : Listed) (p : List ℕ) → (r ≡ listedOf te
 unfolding listedOf listingValues
 lists text out r p e = (e .0, (e .1, ap listedValues (e .0) ∙ wrong (surveyOf text .number)))
   where
-    in-buffer : (k n : ℕ) → listedValues (lengthOr k n) ≡ record { number = k; line = 0; length = lengthUnless k n }
+    in-buffer : (k n : ℕ) → listedValues (lengthOr k n) ≡ record { number = k; line = 0; length = valueUnless k n }
     in-buffer zero n = refl
     in-buffer (suc k) n = refl
 

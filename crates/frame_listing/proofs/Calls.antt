@@ -1,5 +1,4 @@
 -- A call of a dance show is one that the frame table promises: a new table, or a call of the table so far.
-use Prim.Native.Nat.{ℕ}
 use Rattle.frames.specs.Calls.{Model, claim, release}
 use Rattle.frame_table.proofs.Promised.{Promised, by-call, by-new}
 use Rattle.dance_text.specs.declared.Call.{Call}

@@ -7,6 +7,7 @@ use native.Mathlib.Numerals.{add-one}
 use lib.ListN.{length, take, drop, getD, length-append, length-take, drop-of-length-le}
 use lib.Seq.{drop-cons, getD-take}
 use Rattle.numerals.specs.Digits.{column, pair}
+use Rattle.numerals.specs.Texts.{space, lineFeed}
 use Rattle.numerals.proofs.Laying.{column-length, pair-length}
 use Rattle.frame_listing.specs.Lines.{lineOf, onLine, onLines}
 
@@ -15,12 +16,12 @@ use Rattle.frame_listing.specs.Lines.{lineOf, onLine, onLines}
 pub line-length : (k n t r c : ℕ) → length (lineOf k n t r c) ≤ 105
 unfolding lineOf
 line-length k n t r c =
-    omega (arith, length-append (pair k n 32) (pair t r 32 ++ column c 10), length-append (pair t r 32) (column c 10), pair-length k n 32, pair-length t r 32, column-length c 10)
+    omega (arith, length-append (pair k n space) (pair t r space ++ column c lineFeed), length-append (pair t r space) (column c lineFeed), pair-length k n space, pair-length t r space, column-length c lineFeed)
 
 -- An `on` line has three bytes before its number and a byte after it;
 on-length : (t : ℕ) → length (onLine t) ≤ 24
 unfolding onLine
-on-length t = omega (arith, column-length t 10)
+on-length t = omega (arith, column-length t lineFeed)
 
 -- there is one for each grant.
 pub ons-length : (ks : List ℕ) → length (onLines ks) ≤ 24 * length ks

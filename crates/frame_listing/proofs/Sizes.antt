@@ -9,7 +9,7 @@ use lib.Dec.{ltb, leb}
 use lib.ListN.{length, length-append}
 use borrow.Author.Tests.{le-leb, lt-leb}
 use Rattle.numerals.specs.Laid.{behind, Put}
-use Rattle.load_text.proofs.Cases.{either, below}
+use Rattle.words.proofs.Cases.{either, below}
 use Rattle.frames.specs.Calls.{Model, Step, blank}
 use Rattle.frame_table.proofs.Promised.{waiting, granted-once, none-waits}
 use Rattle.dance_text.specs.declared.Call.{Call}

@@ -6,7 +6,7 @@ use lib.Dec.{eqb, ltb}
 use lib.ListN.{length}
 use Rattle.numerals.specs.Laid.{spaceNumber, lentOut}
 use Rattle.frames.specs.Calls.{Model, claim, release, Step, step, blank, new}
-use Rattle.load_text.specs.Answers.{TextValues, wrongAt, lentAs}
+use Rattle.words.specs.Answers.{TextValues, wrongAt, lentAs}
 use Rattle.dance_text.specs.declared.Call.{Call}
 use Rattle.dance_text.specs.declared.Call.the-variants.{Rig, Claim, Release}
 use Rattle.dance_text.specs.Shows.{saidIn, callsIn, surveyOf}

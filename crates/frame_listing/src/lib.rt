@@ -13,7 +13,6 @@ ghost use Rattle.frame_listing.specs.Text.{stops, linesOf, textOf, roomF
 use dance_text::Call;
 use dance_text::Line;
 use frame_table::Outcome;
-use load_text::words;
 
 // ── lines: each is laid over a buffer from a place on, as far as that goes, and answers the place after it ──
 

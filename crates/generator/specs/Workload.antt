@@ -4,7 +4,7 @@ use mathlib.Core.List.{List, [], _∷_, _++_, map}
 use Prim.Native.Nat.{ℕ, zero, suc, _+_, _%_}
 use lib.Dec.{leb, eqb}
 use lib.ListN.{length}
-use Rattle.numbers.specs.Numbers.{countNumber, mostClaims}
+use Rattle.numbers.specs.Numbers.{countNumber, mostClaims, orElse}
 use Rattle.numerals.specs.Laid.{spaceNumber}
 use Rattle.groups.specs.Groups.{setWhere, only, union}
 use Rattle.rules.specs.declared.Claim.{Claim}
@@ -19,7 +19,6 @@ use Rattle.load.specs.Answers.{WrittenValues}
 use Rattle.format.specs.Calls.{rig, claim, release}
 use Rattle.format.specs.Records.{recordOf}
 use Rattle.load.specs.Bytes.{loadOf}
-use Rattle.load.specs.Reading.{orElse}
 use Rattle.load.specs.Writing.{answered, answeredValues, begun, lent}
 use Rattle.replay.specs.Records.{stepOf, unrigged}
 use Rattle.generator.specs.declared.Draws.{Draws}

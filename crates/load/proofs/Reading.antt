@@ -10,6 +10,7 @@ use lib.Dec.{ltb, eqb}
 use borrow.Author.Tests.{ltb-false, eqb-true, eqb-false, lt-ltb, le-ltb, eq-eqb, ne-eqb, not-true, not-false}
 use lib.ListN.{length, take, drop, getD, length-drop, drop-of-length-le}
 use lib.Seq.{getD-drop, drop-drop, take-all}
+use Rattle.numbers.specs.Numbers.{orElse}
 use Rattle.format.specs.declared.Call.{Call}
 use Rattle.load.specs.declared.Item.{Item}
 use Rattle.load.specs.declared.Item.the-variants as item
@@ -20,7 +21,7 @@ use Rattle.format.specs.Records.{Record, recordOf, recordsOf, callsOf, memberCo
 use Rattle.load.specs.Bytes.{fieldValues, membersRead, loadBytes}
 use Rattle.load.specs.Answers.{itemValues}
 use Rattle.load.specs.Reading.{inPlace, lengthField, kindField, short, misfit, callIn, countIn, readAt, editionOf, recordAt, NoMembers, itemAt, recordNumber, recordValues, ItemValued, Edition1Bare, OlderClient1}
-use Rattle.load.specs.Reading.{openNumber, Walk, ended, onto, walkIn, walk, orElse, unlessRefused, reading, loadNumber, WalkOfCalls, ReadingTested}
+use Rattle.load.specs.Reading.{openNumber, Walk, ended, onto, walkIn, walk, unlessRefused, reading, loadNumber, WalkOfCalls, ReadingTested}
 use Rattle.format.proofs.Format.{neither, passed, either, has, allRows, tested, least-some}
 use Rattle.format.proofs.Calls.{kind-of-call, lacked}
 use Rattle.format.proofs.Records.{with-none, with-total, with-least}

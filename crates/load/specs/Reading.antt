@@ -6,7 +6,7 @@ use mathlib.Core.List.{List, [], _∷_}
 use mathlib.Core.Path.{_≡_}
 use lib.Dec.{ltb, eqb}
 use lib.ListN.{length, take, drop, getD}
-use Rattle.numbers.specs.Numbers.{shortNumber, misfitNumber, overlongNumber, editionNumber, mostBytes}
+use Rattle.numbers.specs.Numbers.{shortNumber, misfitNumber, overlongNumber, editionNumber, mostBytes, orElse}
 use Rattle.format.specs.declared.Call.{Call}
 use Rattle.load.specs.declared.Item.{Item}
 use Rattle.load.specs.declared.Item.the-variants as item
@@ -148,11 +148,6 @@ walk s at = walkIn (suc (length s)) s at
 -- None of them has members, so far. (Proved in proofs/Reading: walk-of-calls.)
 abbrev pub WalkOfCalls : Type 0
 WalkOfCalls = (s : List ℕ) (at : ℕ) → walk s at .records ≡ recordsOf (callsOf (walk s at .records))
-
--- The first of two numbers, unless it is 0.
-abbrev pub orElse : ℕ → ℕ → ℕ
-orElse zero n = n
-orElse (suc k) n = suc k
 
 -- The refusal of a number, or, where that is 0, what there is.
 abbrev pub unlessRefused : {A : Type 0} → ℕ → (ℕ → A) → A → A

@@ -5,13 +5,13 @@ use mathlib.Core.Bool.{not, _||_, cond}
 use mathlib.Core.List.{List, _++_}
 use lib.Dec.{ltb}
 use lib.ListN.{length, drop}
-use Rattle.numbers.specs.Numbers.{misfitNumber, overlongNumber, noSpaceNumber, mostBytes}
+use Rattle.numbers.specs.Numbers.{misfitNumber, overlongNumber, noSpaceNumber, mostBytes, orElse}
 use Rattle.load.specs.declared.Written.{Written}
 use Rattle.load.specs.declared.Written.the-variants.{Length, Refusal}
 use Rattle.format.specs.Records.{Record, carries}
 use Rattle.load.specs.Answers.{WrittenValues}
 use Rattle.load.specs.Bytes.{recordBytes}
-use Rattle.load.specs.Reading.{inPlace, editionOf, loadNumber, orElse, unlessRefused}
+use Rattle.load.specs.Reading.{inPlace, editionOf, loadNumber, unlessRefused}
 
 -- "that load with one record more behind it".
 unfoldable pub grown : List ℕ → Record → List ℕ

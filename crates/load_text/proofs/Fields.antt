@@ -11,24 +11,25 @@ use Rattle.format.specs.declared.Call.{Call}
 use Rattle.format.specs.Format.{theGroups, fieldWidths, fieldWidth, fieldsOf}
 use Rattle.format.specs.Calls.{withValue, bare}
 use Rattle.format.proofs.Format.{allBelow, below-passes, no-width}
+use Rattle.words.specs.declared.Field.the-variants.{Value}
+use Rattle.words.specs.Words.{numberIn}
+use Rattle.words.specs.Reasons.{unknownReason, tooLargeReason}
 use Rattle.load_text.specs.declared.parse.Parsed.{Parsed}
 use Rattle.load_text.specs.declared.parse.Parsed.the-variants.{Said}
-use Rattle.load_text.specs.declared.words.Field.the-variants.{Value}
-use Rattle.load_text.specs.Parsing.{numberIn, noNumbers, noNumber, fieldIn, withField, filledIn, kindSays}
-use Rattle.load_text.specs.Reasons.{unknown, tooLarge}
+use Rattle.load_text.specs.Parsing.{noNumbers, noNumber, fieldIn, withField, filledIn, kindSays}
 use Rattle.load_text.proofs.Within.{field-fits}
 
 -- ── a field: MOST and NONE ──
 module _ (f : ℕ) (w : List ℕ) (n : f ≡ theGroups → ⊥) where
-  pub field-number : f ≤ 10 → numberIn 10 (getD (map (λ w. 256 ^ w - 1) fieldWidths) f 0) (getD noNumbers f 0) tooLarge w ≡ fieldIn f w
+  pub field-number : f ≤ 10 → numberIn 10 (getD (map (λ w. 256 ^ w - 1) fieldWidths) f 0) (getD noNumbers f 0) tooLargeReason w ≡ fieldIn f w
   unfolding fieldIn allBelow noNumber noNumbers fieldWidth
   field-number h =
       let q = below-passes 11 (λ i. eqb (getD noNumbers i 0) (noNumber i)) refl f (omega arith) in
       rw (ne-eqb f theGroups n, List·getD-map (λ w. 256 ^ w - 1) fieldWidths f 0, eqb-true (getD noNumbers f 0) (noNumber f) q)
 
-  pub field-none : 10 < f → numberIn 10 0 unknown tooLarge w ≡ fieldIn f w
+  pub field-none : 10 < f → numberIn 10 0 unknownReason tooLargeReason w ≡ fieldIn f w
   unfolding fieldIn noNumber noNumbers fieldWidths
-  field-none h = rw (ne-eqb f theGroups n, no-width f h, List·getD-eq-default noNumbers unknown h)
+  field-none h = rw (ne-eqb f theGroups n, no-width f h, List·getD-eq-default noNumbers unknownReason h)
 
 -- ── a word put into a field ──
 pub with-said : (f : ℕ) (w : List ℕ) (p : Parsed) (c : Call) → p ≡ Said c

@@ -3,26 +3,18 @@ use Prim.Native.Nat.{ℕ, zero, suc, _+_, _-_, _≤_, _<_}
 use mathlib.Core.List.{List, [], _∷_, map}
 use mathlib.Core.Path.{_≡_, refl, sym, ap, _∙_}
 use native.Mathlib.Omega.{arith}
-use lib.ListN.{length, take, drop, drop-of-length-le}
+use lib.ListN.{length, take, drop}
 use lib.Seq.{drop-drop}
+use Rattle.numbers.specs.Numbers.{orElse}
 use Rattle.format.specs.Format.{format, knownIn, known}
-use Rattle.load.specs.Reading.{openNumber, orElse}
+use Rattle.load.specs.Reading.{openNumber}
+use Rattle.words.specs.Parts.{isFeed, placeOf, linesIn}
+use Rattle.words.proofs.Parts.{place-low, lines-cut, lines-end}
 use Rattle.load_text.specs.declared.Start.{Start}
 use Rattle.load_text.specs.declared.parse.Head.{Head}
 use Rattle.load_text.specs.declared.parse.Head.the-variants.{Silent, Edition, Other, Misread}
-use Rattle.load_text.specs.Parsing.{isFeed, placeOf, parts, linesIn, headSays}
-use Rattle.load_text.specs.Making.{Heading, plain, headed, headingIn, heading, headingNumber, Starts}
-use Rattle.load_text.proofs.Parts.{place-low, parts-cut}
-
--- ── lines from a place on ──
-pub lines-cut : (text : List ℕ) (at e : ℕ) → at < length text → e ≡ placeOf isFeed text at
-    → linesIn (drop at text) ≡ take (e - at) (drop at text) ∷ linesIn (drop (e + 1) text)
-unfolding linesIn
-lines-cut text at e h i = rw i (parts-cut isFeed text at h)
-
-pub lines-end : (text : List ℕ) (at : ℕ) → length text ≤ at → linesIn (drop at text) ≡ []
-unfolding linesIn parts
-lines-end text at h = rw (drop-of-length-le text h)
+use Rattle.load_text.specs.Parsing.{headSays}
+use Rattle.load_text.specs.Making.{Heading, noHeading, headed, headingIn, heading, headingNumber, Starts}
 
 -- ── the loop ──
 -- Behind `line` lines that say nothing, at a place.
@@ -51,14 +43,14 @@ module _ (text : List ℕ) (h : Heading) (e : h ≡ heading text) where
   }
 
 -- Edition 1 opens.
-starts-plain : (text : List ℕ) → plain ≡ heading text → Starts text (start 0 1 0 0)
+starts-without : (text : List ℕ) → noHeading ≡ heading text → Starts text (start 0 1 0 0)
 unfolding openNumber known knownIn format
-starts-plain text e = starts text plain e 0 (omega arith) refl 0 refl
+starts-without text e = starts text noHeading e 0 (omega arith) refl 0 refl
 
 module _ (text : List ℕ) (at line : ℕ) (t : Heads text at line) where
   pub heads-end : length text ≤ at → Starts text (start 0 1 0 0)
   unfolding headingIn
-  heads-end h = starts-plain text (rw (lines-end text at h) at (t .is))
+  heads-end h = starts-without text (rw (lines-end text at h) at (t .is))
 
   -- A line: j is where it ends.
   module _ (h : at < length text) (j : ℕ) (i : j ≡ placeOf isFeed text at) where
@@ -79,7 +71,7 @@ module _ (text : List ℕ) (at line : ℕ) (t : Heads text at line) where
     heads-on e = record { few = reach; is = rw e at on; rest = next }
 
     pub heads-other : says ≡ Other → Starts text (start 0 1 0 0)
-    heads-other e = starts-plain text (rw e at on)
+    heads-other e = starts-without text (rw e at on)
 
     pub heads-edition : (e n : ℕ) → says ≡ Edition e → n ≡ openNumber (e ∷ []) → Starts text (start n e (line + 1) (j + 1))
     heads-edition e n q o = starts text (record { number = 0; edition = e; lines = line + 1 }) (rw q at on) (j + 1) reach next n o

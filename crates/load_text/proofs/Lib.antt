@@ -3,13 +3,9 @@ pub mod Fields
 pub mod Headings
 pub mod Lines
 pub mod Making
-pub mod Numbers
-pub mod Parts
 pub mod ReadBack
-pub mod Reading
 pub mod Remaking
 pub mod Showing
-pub mod Spans
 pub mod Tables
 pub mod Values
 pub mod Within

@@ -1,32 +1,32 @@
 -- Laws of lines: hex digit by digit, and lengths, none of which is long.
 use Prim.Native.Nat.{ℕ, zero, suc, _+_, _-_, _*_, _/_, _^_, _≤_, _<_, min, max}
 use mathlib.Core.Bool.{Bool, true, false, _&&_, _||_, false≢true}
-use mathlib.Core.List.{List, [], _∷_, _++_, map}
+use mathlib.Core.List.{List, [], _∷_, _++_}
 use mathlib.Core.Path.{_≡_, refl, sym, ap, _∙_}
 use native.Mathlib.Nat.{pow-suc}
 use native.Mathlib.Omega.{arith}
 use lib.Dec.{ltb, leb, eqb}
-use lib.ListN.{length, getD, replicate, length-append, length-replicate}
+use lib.ListN.{length, getD, length-append}
 use borrow.Author.Tests.{ne-eqb, lt-ltb, leb-true}
 use Rattle.numbers.specs.Numbers.{noSpaceNumber}
 use Rattle.numerals.specs.Digits.{digits, widthUpTo, widthOf, decimalOf, column}
 use Rattle.numerals.specs.Laid.{Put, spaceNumber, lentOut}
-use Rattle.numerals.proofs.Laying.{width-small, decimal-length, pair-length, put-short, lent-all, lent-none, lent-known}
+use Rattle.numerals.proofs.Laying.{decimal-length, pair-length, put-short, lent-all, lent-none, lent-known}
 use Rattle.format.specs.declared.Call.{Call}
 use Rattle.format.specs.Records.{recordOf}
 use Rattle.format.specs.Format.{theGroups, fieldWidths, fieldCount, fieldWidth, format, known, fieldsOf, hasKind, total, lengthIn, names, nameOf}
 use Rattle.format.specs.Calls.{valueOf}
 use Rattle.format.proofs.Format.{both, allBelow, below-passes, allRows, kind-tested, known-tested, no-fields, length-of, no-width}
 use Rattle.load.proofs.Bytes.{record-some, call-length}
+use Rattle.numerals.specs.Texts.{lineFeed}
+use Rattle.words.proofs.Cases.{either, below}
 use Rattle.load.specs.Reading.{unlessRefused}
 use Rattle.load.specs.Writing.{answeredValues}
 use Rattle.load_text.specs.declared.print.Printed.{Printed}
 use Rattle.load_text.specs.declared.print.Printed.the-variants.{Length, Refusal}
 use Rattle.load_text.specs.Answers.{printedValues}
-use Rattle.load_text.specs.Lines.{glyphOf, hexUpTo, wordOf, fieldsText, lineOf, wordMost, fieldsMost, Brief, stopLine, headerOf, reasons, reasonTexts, reasonText, reportOf, reported, printed, printValues}
-use Rattle.load_text.specs.Parsing.{placeOf, is}
-use Rattle.load_text.proofs.Cases.{either, below, not-refused}
-use Rattle.load_text.proofs.Parts.{place-high}
+use Rattle.load_text.specs.Lines.{glyphOf, hexUpTo, wordOf, fieldsText, lineOf, wordMost, fieldsMost, Brief, stopLine, headerOf, printed, printValues}
+use Rattle.load_text.proofs.Cases.{not-refused}
 
 -- ── hex ──
 module _ (v b : ℕ) (g : b ≡ glyphOf v) where
@@ -116,28 +116,7 @@ header-length e k = leb-true (length (headerOf e)) 12 (known-tested (λ i. leb (
 
 pub stop-length : (n k : ℕ) → length (stopLine n k) ≤ 49
 unfolding stopLine
-stop-length n k = omega (arith, pair-length n k 10)
-
--- ── reports ──
-reason-length : (n : ℕ) → length (reasonText n) ≤ 29
-unfolding reasonText reasonTexts reasons allBelow
-reason-length n =
-    let i = placeOf (is n) (map (λ r. r .number) reasons) 0 in
-    let h = place-high (is n) (map (λ r. r .number) reasons) 0 in
-    leb-true (length (getD reasonTexts i [])) 29 (below-passes 20 (λ i. leb (length (getD reasonTexts i [])) 29) refl i (omega arith))
-
-report-length : (line n : ℕ) → length (reportOf line n) ≤ 56
-unfolding reportOf
-report-length line n = omega (arith, length-append (decimalOf line) (58 ∷ 32 ∷ reasonText n), decimal-length line, width-small line, reason-length n)
-
--- Laid over 64 bytes it goes in.
-pub report-goes : (line n : ℕ) {r : ℕ} {p : List ℕ} → Put (replicate 64 0) 0 (reportOf line n) r p
-    → (record { text = p; length = r } ≡ reported line n) × (r ≤ 64)
-report-goes line n {r} {p} w =
-    let h = report-length line n in
-    let e = put-short (omega arith) w in
-    let l = lent-all (reportOf line n) (replicate 64 0) p (omega (arith, length-replicate {A = ℕ} 64 0)) (e .1) in
-    (cc (e .0, l .1), omega (arith, e .0))
+stop-length n k = omega (arith, pair-length n k lineFeed)
 
 -- ── what is answered ──
 -- The answer on a text for a lent buffer o, which becomes p.

@@ -13,6 +13,10 @@ use Rattle.numbers.specs.Numbers.{noSpaceNumber}
 use Rattle.numerals.specs.Laid.{behind, laid, spaceNumber, lentOut}
 use Rattle.numerals.proofs.Laying.{laid-append, laid-length, laid-none, laid-first, behind-small, lent-all, lent-none, lent-known}
 use Rattle.format.specs.declared.Call.{Call}
+use Rattle.words.specs.Answers.{valueUnless}
+use Rattle.words.specs.Parts.{isFeed, placeOf, linesIn}
+use Rattle.words.proofs.Cases.{either, below}
+use Rattle.words.proofs.Parts.{lines-cut, lines-end, place-low}
 use Rattle.load.specs.declared.Written.{Written}
 use Rattle.load.specs.declared.Written.the-variants.{Length, Refusal}
 use Rattle.format.specs.Calls.{Typed}
@@ -29,12 +33,10 @@ use Rattle.load_text.specs.declared.Made.the-variants.{Load, Mistake}
 use Rattle.load_text.specs.declared.Start.{Start}
 use Rattle.load_text.specs.declared.parse.Parsed.{Parsed}
 use Rattle.load_text.specs.declared.parse.Parsed.the-variants.{Nothing, Said, Bad}
-use Rattle.load_text.specs.Answers.{madeValues, parsedValues, lengthUnless}
-use Rattle.load_text.specs.Parsing.{isFeed, placeOf, linesIn, lineSays}
-use Rattle.load_text.specs.Making.{Making, whole, wrong, heading, headingNumber, saidIn, Starts, lineNumber, lineBytes, gathered, made, answerOn, bufferOn, valuesOn, madeOf, madeOut, makeValues, Adds, Gathers, callsIn, MadeReads}
-use Rattle.load_text.proofs.Cases.{either, below, refused, not-refused, was-refused}
-use Rattle.load_text.proofs.Headings.{lines-cut, lines-end}
-use Rattle.load_text.proofs.Parts.{place-low}
+use Rattle.load_text.specs.Answers.{madeValues, parsedValues}
+use Rattle.load_text.specs.Parsing.{lineSays}
+use Rattle.load_text.specs.Making.{Making, whole, wrong, heading, headingNumber, saidIn, Starts, lineNumber, lineBytes, gathered, madeBy, answerOn, bufferOn, valuesOn, madeOf, madeOut, makeValues, Adds, Gathers, callsIn, MadeReads}
+use Rattle.load_text.proofs.Cases.{refused, not-refused, was-refused}
 use Rattle.load_text.proofs.Within.{says-typed, reasons-apart}
 
 -- ── what a line adds ──
@@ -76,8 +78,8 @@ module _ (e n : ℕ) (o : List ℕ) where
 
 -- ── the loop ──
 -- A heading that is wrong.
-pub gather-misread : (text : List ℕ) (r : Start) → Starts text r → (r .number ≡ 0 → ⊥) → made text ≡ wrong (r .line) (r .number)
-unfolding made
+pub gather-misread : (text : List ℕ) (r : Start) → Starts text r → (r .number ≡ 0 → ⊥) → madeBy text ≡ wrong (r .line) (r .number)
+unfolding madeBy
 gather-misread text r s z = rw (refused (wrong (heading text .lines)) _ (headingNumber text) (λ q. z (s .number ∙ q)), s .line, s .number)
 
 -- Behind `line` lines, at a place: the edition byte and `rest` are laid, of which the lines from there on make what the text makes.
@@ -87,13 +89,13 @@ pub record Turn (e : ℕ) (text o₀ o : List ℕ) (size at line : ℕ) : Type 0
   pub rest : List ℕ
   pub long : size ≡ suc (length rest)
   pub lays : o ≡ laid o₀ 1 rest
-  pub is : gathered e line (e ∷ rest) (map (lineSays e) (linesIn (drop at text))) ≡ made text
+  pub is : gathered e line (e ∷ rest) (map (lineSays e) (linesIn (drop at text))) ≡ madeBy text
 
 pub turn-size : {e : ℕ} {text o₀ o : List ℕ} {size at line : ℕ} → Turn e text o₀ o size at line → length o ≡ length o₀
 turn-size {o₀ = o₀} t = ap length (t .lays) ∙ laid-length o₀ 1 (t .rest)
 
 pub turn-start : (text o : List ℕ) (size : ℕ) (r : Start) → Starts text r → r .number ≡ 0 → size ≡ behind 0 1 → Turn (r .edition) text o o size (r .at) (r .line)
-unfolding made saidIn
+unfolding madeBy saidIn
 turn-start text o size r s z b = record {
   few = s .few;
   rest = [];
@@ -106,7 +108,7 @@ module _ (e : ℕ) (text i o₀ o : List ℕ) (b : o₀ ≡ laid i 0 (e ∷ []))
   pub turn-end : length text ≤ at → Gathers text i (Load size) o
   unfolding gathered
   turn-end h =
-      let w : whole (e ∷ t .rest) ≡ made text = rw (lines-end text at h) at (t .is) in
+      let w : whole (e ∷ t .rest) ≡ madeBy text = rw (lines-end text at h) at (t .is) in
       (e ∷ t .rest, sym w, sym (t .long), t .lays ∙ ap (λ x. laid x 1 (t .rest)) b ∙ sym (laid-append i 0 (e ∷ []) (t .rest)))
 
   -- A line: j is where it ends, r the answer on it, q the buffer after it.
@@ -115,7 +117,7 @@ module _ (e : ℕ) (text i o₀ o : List ℕ) (b : o₀ ≡ laid i 0 (e ∷ []))
     abbrev says : Parsed
     says = lineSays e (take (j - at) (drop at text))
 
-    on : made text ≡ unlessRefused (lineNumber e size says) (wrong (line + 1)) (gathered e (line + 1) (e ∷ (t .rest ++ lineBytes e says)) (map (lineSays e) (linesIn (drop (j + 1) text))))
+    on : madeBy text ≡ unlessRefused (lineNumber e size says) (wrong (line + 1)) (gathered e (line + 1) (e ∷ (t .rest ++ lineBytes e says)) (map (lineSays e) (linesIn (drop (j + 1) text))))
     unfolding gathered
     on = sym (t .is) ∙ rw (lines-cut text at j h f, t .long)
 
@@ -133,7 +135,7 @@ module _ (e : ℕ) (text i o₀ o : List ℕ) (b : o₀ ≡ laid i 0 (e ∷ []))
           is = sym (rw (a .0) at on);
         }
 
-    pub turn-wrong : (n : ℕ) → r ≡ Refusal n → made text ≡ wrong (line + 1) n
+    pub turn-wrong : (n : ℕ) → r ≡ Refusal n → madeBy text ≡ wrong (line + 1) n
     turn-wrong n z =
         let a = was-refused Refusal _ (lineNumber e size says) (Refusal n) (λ y. length-not n _ (sym y)) (sym (x .0) ∙ z) in
         let m : lineNumber e size says ≡ n = cc in
@@ -176,8 +178,8 @@ gathered-reads e k (l ∷ ls) rs t u a q =
     go (Said c) i z q f =
         rw (append-snoc rs (recordOf c) (recordsOf (callsIn ps))) at (f (rs ++ (recordOf c ∷ [])) (t ++ callBytes e c) (append-more e rs t c 65536 a (says-typed e l c i) z) (rw (said-bytes e c) at q))
 
-made-ends : (text s : List ℕ) → made text ≡ whole s → Appended (heading text .edition) (recordsOf (callsIn (saidIn text))) s × (editionOf s ≡ heading text .edition)
-unfolding made saidIn headingNumber
+made-ends : (text s : List ℕ) → madeBy text ≡ whole s → Appended (heading text .edition) (recordsOf (callsIn (saidIn text))) s × (editionOf s ≡ heading text .edition)
+unfolding madeBy saidIn headingNumber
 made-ends text s q =
     let h = heading text in
     let b = not-refused (wrong (h .lines)) _ (headingNumber text) (whole s) (λ n. whole-not (h .lines) n s) q in
@@ -190,9 +192,9 @@ Makes text out r q = (r ≡ madeOf text out) × ((q ≡ madeOut text out) × (ma
 
 pub makes : (text out : List ℕ) (r : Made) (q : List ℕ) → (r ≡ madeOf text out) × (q ≡ madeOut text out) → Makes text out r q
 unfolding madeOf makeValues
-makes text out r q e = (e .0, (e .1, ap madeValues (e .0) ∙ on (made text)))
+makes text out r q e = (e .0, (e .1, ap madeValues (e .0) ∙ on (madeBy text)))
   where
-    in-buffer : (k n : ℕ) → madeValues (unlessRefused k (Mistake 0) (Load n)) ≡ record { number = k; line = 0; length = lengthUnless k n }
+    in-buffer : (k n : ℕ) → madeValues (unlessRefused k (Mistake 0) (Load n)) ≡ record { number = k; line = 0; length = valueUnless k n }
     in-buffer zero n = refl
     in-buffer (suc k) n = refl
 
@@ -216,15 +218,15 @@ module _ (text o : List ℕ) (n : ℕ) (p : List ℕ) (g : Gathers text o (Load 
       makes text out _ q (rw (g .1) (rw (w .0) (ap Load (sym (g .2))), w .1))
 
 -- A line that is wrong.
-pub make-wrong : (text out : List ℕ) (k n : ℕ) → made text ≡ wrong k n → Makes text out (Mistake k n) out
+pub make-wrong : (text out : List ℕ) (k n : ℕ) → madeBy text ≡ wrong k n → Makes text out (Mistake k n) out
 unfolding madeOf madeOut
 make-wrong text out k n e = makes text out _ out (rw e (refl, refl))
 
 pub made-reads : MadeReads
 unfolding madeOf madeOut
-made-reads text out n e = go (made text) refl e
+made-reads text out n e = go (madeBy text) refl e
   where
-    go : (m : Making) → made text ≡ m → answerOn m out ≡ Load n
+    go : (m : Making) → madeBy text ≡ m → answerOn m out ≡ Load n
         → (n ≤ length out) × (loadNumber (take n (bufferOn m out)) ≡ 0) × (walk (take n (bufferOn m out)) 1 ≡ record { records = recordsOf (callsIn (saidIn text)); stop = 0 })
         × (editionOf (take n (bufferOn m out)) ≡ heading text .edition)
     go (whole s) i e =

@@ -8,11 +8,21 @@ use native.Mathlib.Omega.{arith}
 use lib.Dec.{ltb, leb, eqb}
 use lib.ListN.{length, getD, length-append}
 use borrow.Author.Tests.{eqb-true, ltb-true, leb-false, leb-true, lt-ltb, le-ltb, le-leb, lt-leb, not-true}
+use Rattle.numbers.specs.Numbers.{editionNumber}
 use Rattle.numerals.specs.Digits.{digits, widthUpTo, widthOf, decimalOf, column}
 use Rattle.format.specs.declared.Call.{Call}
 use Rattle.format.specs.Format.{theGroups, fieldWidth, format, known, fieldsOf, hasKind, names, nameOf}
 use Rattle.format.specs.Calls.{valueOf, withValue, bare, filled, callOf, valuesIn, valuesOf, keeps, Typed}
 use Rattle.format.specs.Records.{Record, callsOf}
+use Rattle.numerals.specs.Texts.{bytes, space, lineFeed}
+use Rattle.words.specs.declared.Field.the-variants.{Value}
+use Rattle.words.specs.Parts.{carriageReturn, hash, none, bytesBefore, parts, inFront, notEmpty, is, isFeed, isBlank, isJoint, linesIn, wordsIn, chomped, said}
+use Rattle.words.specs.Sets.{isList, groupsIn}
+use Rattle.words.specs.Words.{digitOf, noDigit, digitsIn, valueIn, numberIn, isWord, placeIn}
+use Rattle.words.proofs.Cases.{either, below}
+use Rattle.words.proofs.Parts.{none-cons, none-less, none-at, until-none}
+use Rattle.words.proofs.Numbers.{digit-ten, digit-upper}
+use Rattle.words.proofs.Reading.{not-empty-cons}
 use Rattle.load.specs.Reading.{editionOf, walk}
 use Rattle.format.proofs.Format.{both, allRows, kind-tested, known-tested, width-most}
 use Rattle.format.proofs.Calls.{keeps-kind, call-of-values}
@@ -21,17 +31,11 @@ use Rattle.format.proofs.Records.{carries-parts, call-carried}
 use Rattle.load.proofs.Loads.{Sound, Loadable, read-loadable}
 use Rattle.load_text.specs.declared.parse.Head.the-variants.{Edition, Other}
 use Rattle.load_text.specs.declared.parse.Parsed.the-variants.{Nothing, Said}
-use Rattle.load_text.specs.declared.words.Field.the-variants.{Value}
 use Rattle.load_text.specs.Lines.{glyphOf, hexUpTo, wordOf, fieldsText, lineOf, linesOf, restOf, headerOf, textOf}
-use Rattle.load_text.specs.Making.{plain, headingIn, heading, saidIn}
-use Rattle.load_text.specs.Parsing.{none, before, parts, inFront, full, is, isFeed, isBlank, isJoint, isList, linesIn, wordsIn, chomped, said, digitOf, noDigit, digitsIn, valueIn, numberIn, groupsIn, fieldIn, filledIn, isWord, placeIn, kindOf, kindNamed, kindSays, callIn, lineSays, editionWord, editionOr, editionIn, headIn, headSays}
+use Rattle.load_text.specs.Making.{noHeading, headingIn, heading, saidIn}
+use Rattle.load_text.specs.Parsing.{fieldIn, filledIn, kindOf, kindNamed, kindSays, callSaid, lineSays, editionWord, editionOr, editionIn, headIn, headSays}
 use Rattle.load_text.specs.ReadBack.{LineReadBack, TextReadBack}
-use Rattle.numbers.specs.Numbers.{editionNumber}
-use Rattle.load_text.proofs.Cases.{either, below}
 use Rattle.load_text.proofs.Fields.{kind-some}
-use Rattle.load_text.proofs.Parts.{none-cons, none-less, none-at, until-none}
-use Rattle.load_text.proofs.Numbers.{digit-ten, digit-upper}
-use Rattle.load_text.proofs.Reading.{full-cons}
 
 -- ── parts of a text in front of a byte that ends one ──
 module _ (p : ℕ → Bool) where
@@ -54,11 +58,11 @@ module _ (p : ℕ → Bool) where
 -- ── a line of words with a space between them ──
 spaced : List ℕ → List (List ℕ) → List ℕ
 spaced w [] = w
-spaced w (v ∷ vs) = w ++ 32 ∷ spaced v vs
+spaced w (v ∷ vs) = w ++ space ∷ spaced v vs
 
 -- A byte that ends a line or what it says, and one that is no part of a word.
 abbrev isEnd : ℕ → Bool
-isEnd b = isFeed b || (is 35 b || is 13 b)
+isEnd b = isFeed b || (is hash b || is carriageReturn b)
 
 abbrev isMark : ℕ → Bool
 isMark b = isBlank b || isEnd b
@@ -90,30 +94,30 @@ module _ (w : List ℕ) (h : Plain w) where
 
 words-spaced : (w : List ℕ) (ws : List (List ℕ)) → Plain w → Plains ws → wordsIn (spaced w ws) ≡ w ∷ ws
 unfolding wordsIn spaced
-words-spaced w [] h hs = ap full (parts-last isBlank w (h .0) (no-blank w h)) ∙ full-cons w [] (h .0)
+words-spaced w [] h hs = ap notEmpty (parts-last isBlank w (h .0) (no-blank w h)) ∙ not-empty-cons w [] (h .0)
 words-spaced w (v ∷ vs) h (also k ks) =
-    ap full (parts-front isBlank w 32 (spaced v vs) (no-blank w h) refl)
-    ∙ full-cons w (parts isBlank (spaced v vs)) (h .0)
+    ap notEmpty (parts-front isBlank w space (spaced v vs) (no-blank w h) refl)
+    ∙ not-empty-cons w (parts isBlank (spaced v vs)) (h .0)
     ∙ ap (λ ws. w ∷ ws) (words-spaced v vs k ks)
 
 none-spaced : (w : List ℕ) (ws : List (List ℕ)) → Plain w → Plains ws → none isEnd (spaced w ws) ≡ true
 unfolding none spaced
 none-spaced w [] h hs = no-end w h
-none-spaced w (v ∷ vs) h (also k ks) = none-append isEnd w (32 ∷ spaced v vs) (no-end w h) (none-spaced v vs k ks)
+none-spaced w (v ∷ vs) h (also k ks) = none-append isEnd w (space ∷ spaced v vs) (no-end w h) (none-spaced v vs k ks)
 
 -- Nothing of such a line is left out.
 said-whole : (l : List ℕ) → none isEnd l ≡ true → said l ≡ l
 unfolding said chomped
 said-whole l h =
     let x = getD l (length l - 1) 0 in
-    let r = neither (is 35 x) (is 13 x) (neither (isFeed x) _ (none-at isEnd l (length l - 1) refl h) .1) .1 in
-    rw r (until-none (is 35) l (none-less (is 35) isEnd (λ b q. neither (is 35 b) (is 13 b) (neither (isFeed b) _ q .1) .0) l h))
+    let r = neither (is hash x) (is carriageReturn x) (neither (isFeed x) _ (none-at isEnd l (length l - 1) refl h) .1) .1 in
+    rw r (until-none (is hash) l (none-less (is hash) isEnd (λ b q. neither (is hash b) (is carriageReturn b) (neither (isFeed b) _ q .1) .0) l h))
 
 -- A line of plain words in front of other lines, and its words.
 module _ (w : List ℕ) (ws : List (List ℕ)) (h : Plain w) (hs : Plains ws) where
-  line-front : (rest : List ℕ) → linesIn (spaced w ws ++ 10 ∷ rest) ≡ spaced w ws ∷ linesIn rest
+  line-front : (rest : List ℕ) → linesIn (spaced w ws ++ lineFeed ∷ rest) ≡ spaced w ws ∷ linesIn rest
   unfolding linesIn
-  line-front rest = parts-front isFeed (spaced w ws) 10 rest (none-less isFeed isEnd (λ b q. neither (isFeed b) _ q .0) _ (none-spaced w ws h hs)) refl
+  line-front rest = parts-front isFeed (spaced w ws) lineFeed rest (none-less isFeed isEnd (λ b q. neither (isFeed b) _ q .0) _ (none-spaced w ws h hs)) refl
 
   line-words : wordsIn (said (spaced w ws)) ≡ w ∷ ws
   line-words = ap wordsIn (said-whole (spaced w ws) (none-spaced w ws h hs)) ∙ words-spaced w ws h hs
@@ -219,14 +223,14 @@ module _ (c : Call) (t : Typed c) where
   fields-said [] d = refl
   fields-said (f ∷ fs) d = rw (word-said f (valueOf f c) (t f) .1) (fields-said fs (withValue f (valueOf f c) d))
 
-fields-spaced : (c : Call) (rest w : List ℕ) (fs : List ℕ) → (w ++ fieldsText fs c) ++ rest ≡ spaced w (wordsOf fs c) ++ 10 ∷ rest
+fields-spaced : (c : Call) (rest w : List ℕ) (fs : List ℕ) → (w ++ fieldsText fs c) ++ rest ≡ spaced w (wordsOf fs c) ++ lineFeed ∷ rest
 unfolding fieldsText wordsOf spaced
-fields-spaced c rest w [] = append-assoc w (10 ∷ []) rest
+fields-spaced c rest w [] = append-assoc w (bytes "\n") rest
 fields-spaced c rest w (f ∷ fs) =
     let v = wordOf f (valueOf f c) in
-    append-assoc w (32 ∷ (v ++ fieldsText fs c)) rest
-    ∙ ap (λ x. w ++ 32 ∷ x) (fields-spaced c rest v fs)
-    ∙ sym (append-assoc w (32 ∷ spaced v (wordsOf fs c)) (10 ∷ rest))
+    append-assoc w (space ∷ (v ++ fieldsText fs c)) rest
+    ∙ ap (λ x. w ++ space ∷ x) (fields-spaced c rest v fs)
+    ∙ sym (append-assoc w (space ∷ spaced v (wordsOf fs c)) (lineFeed ∷ rest))
 
 -- ── the names ──
 -- A name is that of its kind alone, no edition's, and a plain word.
@@ -268,7 +272,7 @@ record Line (e : ℕ) (c : Call) (rest : List ℕ) : Type 0 where
   head : headSays line ≡ Other
 
 line-of : (e : ℕ) (c : Call) → keeps e c ≡ true → Typed c → (rest : List ℕ) → Line e c rest
-unfolding lineOf lineSays callIn headSays headIn valuesOf callOf
+unfolding lineOf lineSays callSaid headSays headIn valuesOf callOf
 line-of e c h t rest =
     let k = c .kind in
     let n = named e k (keeps-kind e c h) in
@@ -279,7 +283,7 @@ line-of e c h t rest =
     record {
       line = spaced name (wordsOf fs c);
       front = ap linesIn (fields-spaced c rest name fs) ∙ line-front name (wordsOf fs c) (n .word) ps rest;
-      says = ap (callIn e) words ∙ ap (λ (x : ℕ). kindSays e x (wordsOf fs c)) (n .kind) ∙ sym (kind-some e k _ (λ z. omega (arith, n .some))) ∙ fields-said c t fs (bare k) ∙ ap Said (call-of-values e c h);
+      says = ap (callSaid e) words ∙ ap (λ (x : ℕ). kindSays e x (wordsOf fs c)) (n .kind) ∙ sym (kind-some e k _ (λ z. omega (arith, n .some))) ∙ fields-said c t fs (bare k) ∙ ap Said (call-of-values e c h);
       head = ap headIn words ∙ rw (n .other);
     }
 
@@ -298,33 +302,33 @@ lines-read-back e k b (r ∷ rs) (Loadable.one v g) =
     rw (l .front, l .says) (ap (λ l. Said (r .call) ∷ l) (lines-read-back e (k + 1) false rs g))
 
 -- Lines of calls have no heading.
-lines-plain : (e k : ℕ) (b : Bool) (rs : List Record) → Loadable e b rs → (i : ℕ) → headingIn i (map headSays (linesIn (linesOf e k rs 0))) ≡ plain
+lines-unheaded : (e k : ℕ) (b : Bool) (rs : List Record) → Loadable e b rs → (i : ℕ) → headingIn i (map headSays (linesIn (linesOf e k rs 0))) ≡ noHeading
 unfolding linesOf linesIn parts headingIn
-lines-plain e k b [] Loadable.none i = refl
-lines-plain e k b (r ∷ rs) (Loadable.one v g) i = let l = record-read-back e b r v (linesOf e (k + 1) rs 0) in rw (l .front, l .head)
+lines-unheaded e k b [] Loadable.none i = refl
+lines-unheaded e k b (r ∷ rs) (Loadable.one v g) i = let l = record-read-back e b r v (linesOf e (k + 1) rs 0) in rw (l .front, l .head)
 
 -- The header of another edition than 1 says it.
 edition-says : (e : ℕ) → known e ≡ true → (t : List ℕ)
-    → (linesIn (((editionWord ++ (32 ∷ [])) ++ column e 10) ++ t) ≡ spaced editionWord (decimalOf e ∷ []) ∷ linesIn t) × (headSays (spaced editionWord (decimalOf e ∷ [])) ≡ Edition e)
+    → (linesIn (((editionWord ++ bytes " ") ++ column e lineFeed) ++ t) ≡ spaced editionWord (decimalOf e ∷ []) ∷ linesIn t) × (headSays (spaced editionWord (decimalOf e ∷ [])) ≡ Edition e)
 unfolding headSays headIn editionIn column decimalOf widthOf spaced isWord isPlain none format allRows
 edition-says e k t =
     let b = leb-true e 255 (known-tested (λ i. leb i 255) refl e k) in
     let s = decimal-says 19 e (omega arith) in
     let p = plain-word editionWord refl in
     let d : Plain (decimalOf e) = digits-plain 10 (omega arith) (decimalOf e) (s .digit) (s .some) in (
-      ap (λ x. linesIn (editionWord ++ 32 ∷ x)) (append-assoc (decimalOf e) (10 ∷ []) t) ∙ line-front editionWord (decimalOf e ∷ []) p (also d nil) t,
+      ap (λ x. linesIn (editionWord ++ space ∷ x)) (append-assoc (decimalOf e) (bytes "\n") t) ∙ line-front editionWord (decimalOf e ∷ []) p (also d nil) t,
       ap headIn (line-words editionWord (decimalOf e ∷ []) p (also d nil)) ∙ ap editionOr (number-said 10 255 editionNumber editionNumber e (decimalOf e) s b),
     )
 
 text-said : (e : ℕ) (rs : List Record) → known e ≡ true → Loadable e true rs → (t : List ℕ) → t ≡ headerOf e ++ linesOf e 1 rs 0
     → (heading t .number ≡ 0) × (heading t .edition ≡ e) × (saidIn t ≡ cond (eqb e 1) (Nothing ∷ []) [] ++ map Said (callsOf rs))
-unfolding heading headingIn saidIn headerOf headSays headIn lineSays callIn linesIn wordsIn said chomped before parts
+unfolding heading headingIn saidIn headerOf headSays headIn lineSays callSaid linesIn wordsIn said chomped bytesBefore parts
 text-said e rs k g t q =
     let rest = linesOf e 1 rs 0 in
     either (eqb e 1) (λ o.
     let i : e ≡ 1 = eqb-true e 1 o in
-    let l : linesIn t ≡ (35 ∷ 32 ∷ 101 ∷ 100 ∷ 105 ∷ 116 ∷ 105 ∷ 111 ∷ 110 ∷ 32 ∷ 49 ∷ []) ∷ linesIn rest = ap linesIn (rw o at q) in
-    rw (o, l, lines-plain e 1 true rs g 1) (refl, sym i, ap (λ x. Nothing ∷ x) (ap (λ (x : ℕ). map (lineSays x) (linesIn rest)) (sym i) ∙ lines-read-back e 1 true rs g)))
+    let l : linesIn t ≡ bytes "# edition 1" ∷ linesIn rest = ap linesIn (rw o at q) in
+    rw (o, l, lines-unheaded e 1 true rs g 1) (refl, sym i, ap (λ x. Nothing ∷ x) (ap (λ (x : ℕ). map (lineSays x) (linesIn rest)) (sym i) ∙ lines-read-back e 1 true rs g)))
     (λ o. let s = edition-says e k rest in rw (o, ap linesIn (rw o at q) ∙ s .0, s .1) (refl, refl, lines-read-back e 1 true rs g))
 
 pub text-read-back : TextReadBack

@@ -20,7 +20,7 @@ use Rattle.load.proofs.RoundTrip.{next-taken, read-written}
 use Rattle.load_text.specs.declared.parse.Parsed.{Parsed}
 use Rattle.load_text.specs.declared.parse.Parsed.the-variants.{Nothing, Said}
 use Rattle.load_text.specs.Lines.{textOf}
-use Rattle.load_text.specs.Making.{whole, heading, headingNumber, lineNumber, lineBytes, gathered, made}
+use Rattle.load_text.specs.Making.{whole, heading, headingNumber, lineNumber, lineBytes, gathered, madeBy}
 use Rattle.load_text.specs.ReadBack.{ShownMakes}
 use Rattle.load_text.proofs.Making.{said-bytes}
 use Rattle.load_text.proofs.ReadBack.{text-read-back}
@@ -54,7 +54,7 @@ skipped true e s u ps f k = rw append-nil (f (k + 1))
 skipped false e s u ps f k = f k
 
 pub shown-makes : ShownMakes
-unfolding made headingNumber loadBytes recordsBytes
+unfolding madeBy headingNumber loadBytes recordsBytes
 shown-makes s b z =
     let e = editionOf s in
     let cs = callsOf (walk s 1 .records) in

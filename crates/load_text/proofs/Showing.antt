@@ -12,13 +12,14 @@ use Rattle.numerals.proofs.Laying.{put-as}
 use Rattle.numerals.proofs.Going.{Going, going-start, going-step, going-none, going-last}
 use Rattle.format.specs.declared.Call.{Call}
 use Rattle.load.specs.declared.Item.the-variants as item
-use Rattle.load.specs.declared.Item.the-variants.{End, Refused}
+use Rattle.load.specs.declared.Item.the-variants.{End, Refused, Record}
+use Rattle.words.proofs.Cases.{either}
 use Rattle.load.specs.Reading.{editionOf, itemAt, walk, openNumber}
 use Rattle.load.proofs.Reading.{walk-call, walk-end, walk-refused, step-refused, step-next, call-size, open-known}
 use Rattle.format.proofs.Format.{neither}
 use Rattle.load.proofs.Bytes.{call-length}
 use Rattle.load_text.specs.Lines.{lineOf, Brief, stopLine, linesOf, restOf, headerOf, textOf}
-use Rattle.load_text.proofs.Cases.{either, refused}
+use Rattle.load_text.proofs.Cases.{refused}
 use Rattle.load_text.proofs.Lines.{stop-length, header-length}
 
 -- the loop's invariant

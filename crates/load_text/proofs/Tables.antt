@@ -1,51 +1,20 @@
--- The texts of the code's table, and the search for the kind that a word names.
-use Prim.Native.Nat.{ℕ, zero, suc, _+_, _-_, _≤_, _<_}
-use mathlib.Core.Bool.{Bool, true, false, _||_, false≢true}
-use mathlib.Core.List.{List, [], _∷_, _++_, map}
-use mathlib.Core.Path.{_≡_, refl, sym, ap, _∙_}
+-- The names of the kinds, and the search for the one that a word names.
+use Prim.Native.Nat.{ℕ, suc, _+_, _-_, _≤_, _<_}
+use mathlib.Core.Bool.{true, false, _||_}
+use mathlib.Core.List.{List, [], _∷_}
+use mathlib.Core.Path.{_≡_, refl, ap, _∙_}
 use native.Mathlib.Numerals.{add-one}
 use native.Mathlib.Omega.{arith}
 use lib.Dec.{ltb, eqb}
-use lib.ListN.{length, take, drop, getD, replicate, length-append, drop-of-length-le, List·getD-eq-default}
-use lib.Seq.{drop-cons, take-at}
-use borrow.Author.Tests.{eqb-true, eq-eqb, ltb-true, ltb-false}
+use lib.ListN.{length, take, drop, getD, drop-of-length-le, List·getD-eq-default}
+use lib.Seq.{drop-cons}
+use borrow.Author.Tests.{eqb-true, ltb-true, ltb-false}
+use Rattle.words.specs.Words.{isWord, placeIn}
+use Rattle.words.proofs.Names.{word-same, place-said, place-below}
+use Rattle.words.proofs.Cases.{either}
 use Rattle.format.specs.Format.{hasKind, names, nameOf}
-use Rattle.format.proofs.Format.{both, has, allBelow, below-passes, Unlisted, unlisted}
-use Rattle.load_text.specs.Lines.{reasons, reasonTexts, reasonText}
-use Rattle.load_text.specs.Parsing.{placeOf, is, isWord, placeIn, kindOf, kindNamed, NamedByName}
-use Rattle.load_text.proofs.Cases.{either}
-
--- ── words ──
-word-refl : (k : List ℕ) → isWord k k ≡ true
-unfolding isWord
-word-refl [] = refl
-word-refl (a ∷ k) = rw (eq-eqb a a refl) (word-refl k)
-
-word-same : (k n : List ℕ) → isWord k n ≡ true → k ≡ n
-unfolding isWord
-word-same [] [] e = refl
-word-same [] (b ∷ n) e = absurd (false≢true e)
-word-same (a ∷ k) [] e = absurd (false≢true e)
-word-same (a ∷ k) (b ∷ n) e = let q = both (eqb a b) (isWord k n) e in let x = eqb-true a b (q .0) in let y = word-same k n (q .1) in cc
-
-pub word-test : (r : Bool) (k n : List ℕ) → (r ≡ true → k ≡ n) × (k ≡ n → r ≡ true) → isWord k n ≡ r
-word-test true k n h = ap (λ w. isWord w n) (h .0 refl) ∙ word-refl n
-word-test false k n h = either (isWord k n) (λ q. q ∙ sym (h .1 (word-same k n q))) (λ q. q)
-
--- ── the code's texts ──
--- Those of the reasons are each padded to 32 bytes, with its length; a reason is found by its number's place.
-abbrev padded : List ℕ → List ℕ
-padded t = t ++ replicate (32 - length t) 32
-
-pub text-is : (ts : List (List ℕ)) (i : ℕ)
-    → (getD (map length ts) i 0 ≤ length (getD (map padded ts) i [])) × (take (getD (map length ts) i 0) (getD (map padded ts) i []) ≡ getD ts i [])
-text-is [] i = (omega arith, refl)
-text-is (t ∷ ts) zero = (omega (arith, length-append t (replicate (32 - length t) 32)), take-at t _ (length t) refl)
-text-is (t ∷ ts) (suc i) = text-is ts i
-
-pub reason-is : (n i : ℕ) → i ≡ placeOf (is n) (map (λ r. r .number) reasons) 0 → getD reasonTexts i [] ≡ reasonText n
-unfolding reasonText
-reason-is n i e = ap (λ (k : ℕ). getD reasonTexts k []) e
+use Rattle.format.proofs.Format.{has, allBelow, below-passes, Unlisted, unlisted}
+use Rattle.load_text.specs.Parsing.{kindOf, kindNamed, NamedByName}
 
 -- A kind that there is not has no name.
 pub no-name : (js : List ℕ) (k : ℕ) → allBelow (length names) (λ i. has i js || eqb (length (getD names i [])) 0) ≡ true → Unlisted js k → getD names k [] ≡ []
@@ -94,14 +63,6 @@ pub not-named : (e k : ℕ) (w : List ℕ) → k ≡ kindOf w → hasKind e k �
 unfolding kindNamed
 not-named e k w q h = rw (← q, h)
 
--- A word that has a place among names is the name there.
-place-said : (w : List ℕ) (k : ℕ) (ns : List (List ℕ)) → 0 < placeIn w k ns → (i : ℕ) × (placeIn w k ns ≡ k + i) × (isWord w (getD ns i []) ≡ true)
-unfolding placeIn
-place-said w k [] h = absurd (omega arith)
-place-said w k (n ∷ ns) h =
-    either (isWord w n) (λ q. rw q (0, omega arith, q))
-    (λ q. let r = place-said w (k + 1) ns (rw q at h) in rw q (suc (r .0), omega (arith, r .1), r .2))
-
 pub named-by-name : NamedByName
 unfolding kindNamed kindOf placeIn names isWord
 named-by-name e w k h =
@@ -115,11 +76,6 @@ named-by-name e w k h =
         (word-same (b ∷ w) (getD names (r .0) []) (r .2) ∙ ap (λ (j : ℕ). getD names j []) i, omega arith)
 
 -- The kind that a word names is a byte.
-place-below : (w : List ℕ) (k : ℕ) (ns : List (List ℕ)) → placeIn w k ns ≤ k + length ns
-unfolding placeIn
-place-below w k [] = omega arith
-place-below w k (n ∷ ns) = either (isWord w n) (λ q. rw q (omega arith)) (λ q. rw q (omega (arith, place-below w (k + 1) ns)))
-
 pub kind-below : (e : ℕ) (w : List ℕ) → kindNamed e w < 256
 unfolding kindNamed kindOf names
 kind-below e w =

@@ -3,13 +3,16 @@ use Prim.Native.Nat.{ℕ, _+_, _≤_}
 use mathlib.Core.List.{List, [], _∷_, _++_, map}
 use mathlib.Core.Path.{_≡_}
 use lib.ListN.{length, take, drop}
+use Rattle.numbers.specs.Numbers.{orElse}
 use Rattle.numerals.specs.Laid.{laid, spaceNumber, lentOut}
 use Rattle.format.specs.declared.Call.{Call}
 use Rattle.format.specs.Records.{recordOf, recordsOf}
 use Rattle.load.specs.declared.Written.{Written}
 use Rattle.load.specs.declared.Written.the-variants.{Length, Refusal}
 use Rattle.load.specs.Bytes.{callsBytes}
-use Rattle.load.specs.Reading.{editionOf, openNumber, loadNumber, walk, orElse, unlessRefused}
+use Rattle.load.specs.Reading.{editionOf, openNumber, loadNumber, walk, unlessRefused}
+use Rattle.words.specs.Answers.{TextValues, wrongAt, lentAs}
+use Rattle.words.specs.Parts.{linesIn}
 use Rattle.load.specs.Writing.{growNumber}
 use Rattle.load_text.specs.declared.Made.{Made}
 use Rattle.load_text.specs.declared.Made.the-variants.{Load, Mistake}
@@ -17,8 +20,8 @@ use Rattle.load_text.specs.declared.Start.{Start}
 use Rattle.load_text.specs.declared.parse.Head.{Head}
 use Rattle.load_text.specs.declared.parse.Head.the-variants.{Silent, Edition, Other, Misread}
 use Rattle.load_text.specs.declared.parse.Parsed.{Parsed}
-use Rattle.load_text.specs.Answers.{TextValues, parsedValues, wrongAt, lentAs}
-use Rattle.load_text.specs.Parsing.{linesIn, lineSays, headSays}
+use Rattle.load_text.specs.Answers.{parsedValues}
+use Rattle.load_text.specs.Parsing.{lineSays, headSays}
 
 -- ── the heading ──
 -- A show may begin with its edition, before any call; without it the edition is 1. The heading ends after so many lines, the last of which
@@ -28,18 +31,18 @@ pub record Heading : Type 0 where
   pub edition : ℕ
   pub lines : ℕ
 
-abbrev pub plain : Heading
-plain = record { number = 0; edition = 1; lines = 0 }
+abbrev pub noHeading : Heading
+noHeading = record { number = 0; edition = 1; lines = 0 }
 
 -- A heading by the line that is its k-th, unless that says nothing.
 abbrev pub headed : Head → ℕ → Heading → Heading
 headed Silent k h = h
 headed (Edition e) k h = record { number = 0; edition = e; lines = k }
-headed Other k h = plain
+headed Other k h = noHeading
 headed (Misread n) k h = record { number = n; edition = 1; lines = k }
 
 unfoldable pub headingIn : ℕ → List Head → Heading
-headingIn k [] = plain
+headingIn k [] = noHeading
 headingIn k (h ∷ hs) = headed h (k + 1) (headingIn (k + 1) hs)
 
 unfoldable pub heading : List ℕ → Heading
@@ -89,8 +92,8 @@ gathered e k s (p ∷ ps) = unlessRefused (lineNumber e (length s) p) (wrong (k 
 abbrev pub behindHeading : Heading → List Parsed → Making
 behindHeading h ps = gathered (h .edition) (h .lines) (h .edition ∷ []) ps
 
-unfoldable pub made : List ℕ → Making
-made text = unlessRefused (headingNumber text) (wrong (heading text .lines)) (behindHeading (heading text) (saidIn text))
+unfoldable pub madeBy : List ℕ → Making
+madeBy text = unlessRefused (headingNumber text) (wrong (heading text .lines)) (behindHeading (heading text) (saidIn text))
 
 -- ── `make` ──
 -- The first line that is wrong, else 15, whose line is 0, for a load that does not go in.
@@ -104,10 +107,10 @@ bufferOn (whole s) out = lentOut s out
 bufferOn (wrong k n) out = out
 
 unfoldable pub madeOf : List ℕ → List ℕ → Made
-madeOf text out = answerOn (made text) out
+madeOf text out = answerOn (madeBy text) out
 
 unfoldable pub madeOut : List ℕ → List ℕ → List ℕ
-madeOut text out = bufferOn (made text) out
+madeOut text out = bufferOn (madeBy text) out
 
 -- The answer in numbers.
 abbrev pub valuesOn : Making → List ℕ → TextValues
@@ -115,7 +118,7 @@ valuesOn (whole s) out = lentAs s out
 valuesOn (wrong k n) out = wrongAt k n
 
 unfoldable pub makeValues : List ℕ → List ℕ → TextValues
-makeValues text out = valuesOn (made text) out
+makeValues text out = valuesOn (madeBy text) out
 
 -- What the code has in a buffer o of its own: q after a line that says p and a load of edition e and n bytes, with the answer r on the line;
 -- and after a text, whose load is laid over the buffer, or which has a line that is wrong.
@@ -125,8 +128,8 @@ Adds e n o p r q =
     × (q ≡ unlessRefused (lineNumber e n p) (λ k. o) (laid o n (lineBytes e p)))
 
 abbrev pub Gathers : List ℕ → List ℕ → Made → List ℕ → Type 0
-Gathers text o (Load n) q = (s : List ℕ) × (made text ≡ whole s) × (length s ≡ n) × (q ≡ laid o 0 s)
-Gathers text o (Mistake k n) q = made text ≡ wrong k n
+Gathers text o (Load n) q = (s : List ℕ) × (madeBy text ≡ whole s) × (length s ≡ n) × (q ≡ laid o 0 s)
+Gathers text o (Mistake k n) q = madeBy text ≡ wrong k n
 
 -- ── what it reads as ──
 -- The calls that lines say.

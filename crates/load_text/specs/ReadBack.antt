@@ -8,12 +8,13 @@ use lib.Dec.{eqb}
 use Rattle.format.specs.declared.Call.{Call}
 use Rattle.format.specs.Calls.{Typed}
 use Rattle.format.specs.Records.{recordOf, callsOf, carries}
+use Rattle.words.specs.Parts.{linesIn}
 use Rattle.load.specs.Reading.{editionOf, walk, loadNumber}
 use Rattle.load.specs.RoundTrip.{Bytes}
 use Rattle.load_text.specs.declared.parse.Parsed.the-variants.{Nothing, Said}
 use Rattle.load_text.specs.Lines.{lineOf, textOf}
-use Rattle.load_text.specs.Making.{whole, heading, saidIn, made}
-use Rattle.load_text.specs.Parsing.{linesIn, lineSays}
+use Rattle.load_text.specs.Making.{whole, heading, saidIn, madeBy}
+use Rattle.load_text.specs.Parsing.{lineSays}
 
 -- The line that a call is printed as in an edition that carries it says that call, in front of any other lines.
 abbrev pub LineReadBack : Type 0
@@ -28,4 +29,4 @@ TextReadBack = (s : List ℕ) → Bytes s → loadNumber s ≡ 0
 
 -- The text that such a load is printed as makes that load again.
 abbrev pub ShownMakes : Type 0
-ShownMakes = (s : List ℕ) → Bytes s → loadNumber s ≡ 0 → made (textOf s) ≡ whole s
+ShownMakes = (s : List ℕ) → Bytes s → loadNumber s ≡ 0 → madeBy (textOf s) ≡ whole s

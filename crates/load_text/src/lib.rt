@@ -9,20 +9,14 @@ ghost use Rattle.load_text.specs.Making.{Starts, Adds, Gathers, madeOf, 
 
 mod parse;
 mod print;
-pub mod reasons;
-pub mod sets;
 mod texts;
-pub mod words;
 
 use load::Written;
 use parse::Head;
 pub use parse::Parsed;
 pub use parse::parse_line;
-pub use parse::said_end;
 pub use print::Printed;
-pub use print::Reported;
 pub use print::put_line;
-pub use print::report;
 pub use print::show;
 
 // The length of the load that a text makes; or the first line that is wrong, and its number; or 15, at line 0.

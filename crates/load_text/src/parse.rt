@@ -1,21 +1,21 @@
 // A line of text to a call, and the first line of a show to its edition. What a line says is defined in specs/Parsing.antt.
 ghost use mathlib.Core.Path.{_≡_};
-ghost use Prim.Native.Nat.{_≤_};
-ghost use lib.ListN.{length, take, drop};
+ghost use lib.ListN.{drop};
 ghost use Rattle.format.specs.Format.{fieldsOf};
 ghost use Rattle.format.specs.Calls.{bare};
+ghost use Rattle.words.specs.Parts.{said, wordsIn};
 ghost use Rattle.load_text.specs.declared.parse.Parsed.the-variants.{Said};
 ghost use Rattle.load_text.specs.Answers.{parsedValues};
-ghost use Rattle.load_text.specs.Parsing.{chomped, editionIn, fieldIn, filledIn, headSays, lineSays, parseValues, said, withField, wordsIn};
-use crate::reasons;
-use crate::sets::groups_of;
+ghost use Rattle.load_text.specs.Parsing.{editionIn, fieldIn, filledIn, headSays, lineSays, parseValues, withField};
 use crate::texts::kind_named;
-use crate::words::Field;
-use crate::words::next_word;
-use crate::words::number;
-use crate::words::place;
 use format::Call;
 use format::fields;
+use words::Field;
+use words::next_word;
+use words::number;
+use words::reasons;
+use words::said_end;
+use words::sets::groups_of;
 
 // What a line says: nothing, a call, or what is wrong with it.
 pub enum Parsed {
@@ -123,27 +123,6 @@ fn fill(edition: u8, kind: u8, said: &[u8], from: usize) -> Parsed
 }
 
 // ---- lines
-// Where a line ends, before a carriage return; and where its words end, before a comment.
-fn line_end(line: &[u8]) -> usize
-    ensures { λ r. ⌜ r ≡ length (chomped (now (line .entry))) ⌝ }
-{
-    let n = line.len();
-    if n == 0 {
-        return 0;
-    }
-    if line[n - 1] == 13 {
-        return n - 1;
-    }
-    n
-}
-
-pub fn said_end(line: &[u8]) -> usize
-    ensures { λ r. ⌜ (r ≤ length (now (line .entry))) × (take r (now (line .entry)) ≡ said (now (line .entry))) ⌝ }
-{
-    let size = line_end(line);
-    place(&line[..size], b'#', 0)
-}
-
 // A line of a show of an edition, without its line feed: its first word names the call.
 pub fn parse_line(edition: u8, line: &[u8]) -> Parsed
     ensures { λ r. ⌜ (r ≡ lineSays edition (now (line .entry))) × (parsedValues r ≡ parseValues edition (now (line .entry))) ⌝ }

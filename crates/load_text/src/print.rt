@@ -1,18 +1,19 @@
-// Calls, refusals and reports as lines. The private functions lay them over a buffer as far as that goes, and so count them on one byte;
+// Calls and refusals as lines. The private functions lay them over a buffer as far as that goes, and so count them on one byte;
 // those for a lent buffer answer 15 and leave it as it is where the whole does not go in.
 ghost use mathlib.Core.Path.{_≡_};
 ghost use mathlib.Core.Bool.{_||_};
-ghost use mathlib.Core.List.{[], _∷_, _++_};
+ghost use mathlib.Core.List.{_++_};
 ghost use Prim.Native.Nat.{_≤_};
 ghost use lib.Dec.{leb};
 ghost use lib.ListN.{length};
 ghost use Rattle.numerals.specs.Laid.{lentOut, Put};
+ghost use Rattle.numerals.specs.Texts.{bytes};
 ghost use Rattle.format.specs.Format.{fieldsOf};
 ghost use Rattle.load.specs.Reading.{editionOf, walk, openNumber};
 ghost use Rattle.load_text.specs.Answers.{printedValues};
-ghost use Rattle.load_text.specs.Lines.{glyphOf, hexUpTo, wordOf, fieldsText, fieldsMost, lineOf, Brief, stopLine, restOf, headerOf, textOf, reportOf, reported, printed, printValues};
+ghost use Rattle.load_text.specs.Lines.{glyphOf, hexUpTo, wordOf, fieldsText, fieldsMost, lineOf, Brief, stopLine, restOf, headerOf, textOf, printed, printValues};
+use crate::parse;
 use crate::texts::put_name;
-use crate::texts::put_reason;
 use format::Call;
 use format::fields;
 use load::Item;
@@ -47,7 +48,7 @@ fn put_digits(out: &mut [u8], at: usize, value: u64, k: usize) -> usize
 
 // A value as a word after a space: a set of groups in hex, any other in decimal.
 fn put_word(out: &mut [u8], at: usize, field: u8, value: u64) -> usize
-    ensures { λ r. ⌜ Put (now (out .entry)) at ((32 ∷ []) ++ wordOf field value) r (now (out .exit)) ⌝ }
+    ensures { λ r. ⌜ Put (now (out .entry)) at (bytes " " ++ wordOf field value) r (now (out .exit)) ⌝ }
 {
     let m = numerals::put_byte(out, at, b' ');
     if field == fields::GROUPS {
@@ -178,31 +179,4 @@ pub fn show(load: &[u8], out: &mut [u8]) -> Printed
         return Printed::Length(n);
     }
     Printed::Refusal(numbers::NO_SPACE)
-}
-
-// A line that says what is wrong with a line of text.
-fn put_report(out: &mut [u8], line: u64, reason: u8) -> usize
-    ensures { λ r. ⌜ Put (now (out .entry)) 0 (reportOf line reason) r (now (out .exit)) ⌝ }
-{
-    let a = numerals::put_bytes(out, 0, b"line ");
-    let b = numerals::put_decimal(out, a, line);
-    let c = numerals::put_bytes(out, b, b": ");
-    put_reason(out, c, reason)
-}
-
-// Such a line, in the first bytes of 64. It has at most 56.
-pub struct Reported {
-    pub text: [u8; 64],
-    pub length: usize,
-}
-
-pub fn report(line: u64, reason: u8) -> Reported
-    ensures { λ r. ⌜ (r ≡ reported line reason) × (r .length ≤ length (r .text)) ⌝ }
-{
-    let mut text = [0u8; 64];
-    let n = put_report(&mut text, line, reason);
-    Reported {
-        text: text,
-        length: n,
-    }
 }

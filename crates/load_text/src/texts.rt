@@ -1,18 +1,14 @@
-// The texts that are printed: the names of the kinds, what is wrong with a line by its number, and what is said of any other number.
-// proofs/Tables holds them against format's names and specs/Lines.antt.
+// The names of the kinds, as words that are read and as texts that are printed. proofs/Tables holds them against format's names.
 ghost use mathlib.Core.Path.{_≡_};
 ghost use mathlib.Core.List.{[]};
 ghost use Prim.Native.Nat.{_≤_, _<_};
 ghost use lib.ListN.{length, take, getD};
 ghost use Rattle.numerals.specs.Laid.{Put};
 ghost use Rattle.format.specs.Format.{nameOf, names};
-ghost use Rattle.load_text.specs.Lines.{reasonText, reasonTexts};
-ghost use Rattle.load_text.specs.Parsing.{isWord, kindNamed, kindOf};
-use crate::reasons;
-use crate::words::place;
+ghost use Rattle.words.specs.Words.{isWord};
+ghost use Rattle.load_text.specs.Parsing.{kindNamed, kindOf};
 use format::kinds;
 
-// ---- names
 // The name of a kind in the first bytes of eight, and its length; none for a kind that there is not.
 fn name(kind: u8) -> [u8; 8]
     ensures { λ r. ⌜ take (length (getD names kind [])) r ≡ getD names kind [] ⌝ }
@@ -87,92 +83,4 @@ pub(crate) fn put_name(out: &mut [u8], at: usize, edition: u8, kind: u8) -> usiz
     let text = name(kind);
     let n = name_length(kind);
     numerals::put_bytes(out, at, &text[..n])
-}
-
-// ---- reasons
-// The number of each text but the last.
-const REASONS: [u8; 19] = [
-    reasons::UNKNOWN,
-    reasons::MISSING,
-    reasons::TOO_MANY,
-    reasons::NO_CLOCK,
-    reasons::NO_TICKET,
-    reasons::NO_LENGTH,
-    reasons::NO_GROUPS,
-    reasons::TOO_LARGE,
-    reasons::OVER_63,
-    reasons::BACKWARD,
-    reasons::NO_POOL,
-    reasons::NO_UNITS,
-    reasons::NO_CLIENT,
-    reasons::NO_RESERVED,
-    reasons::NO_LIMIT,
-    reasons::NO_GRACE,
-    numbers::EDITION,
-    numbers::MISFIT,
-    numbers::OVERLONG,
-];
-
-const TEXTS: [[u8; 32]; 20] = [
-    *b"unknown call\n                   ",
-    *b"a number is missing\n            ",
-    *b"too many words\n                 ",
-    *b"clock is not a number\n          ",
-    *b"ticket is not a number\n         ",
-    *b"length is not a number\n         ",
-    *b"groups are not hex or a list\n   ",
-    *b"number too large\n               ",
-    *b"group over 63\n                  ",
-    *b"range runs backward\n            ",
-    *b"pool is not a number\n           ",
-    *b"units are not a number\n         ",
-    *b"desk is not a number\n           ",
-    *b"guarantee is not a number\n      ",
-    *b"limit is not a number\n          ",
-    *b"grace is not a number\n          ",
-    *b"unknown edition\n                ",
-    *b"rig must be first\n              ",
-    *b"load over 65,536 bytes\n         ",
-    *b"not written\n                    ",
-];
-
-const LENGTHS: [usize; 20] = [
-    13,
-    20,
-    15,
-    22,
-    23,
-    23,
-    29,
-    17,
-    14,
-    20,
-    21,
-    23,
-    21,
-    26,
-    22,
-    22,
-    16,
-    18,
-    23,
-    12,
-];
-
-fn put_row(out: &mut [u8], at: usize, i: usize) -> usize
-    requires { ⌜ i < 20 ⌝ }
-    ensures { λ r. ⌜ Put (now (out .entry)) at (getD reasonTexts i []) r (now (out .exit)) ⌝ }
-{
-    let row = TEXTS[i];
-    let n = LENGTHS[i];
-    numerals::put_bytes(out, at, &row[..n])
-}
-
-// What is wrong by its number.
-pub(crate) fn put_reason(out: &mut [u8], at: usize, reason: u8) -> usize
-    ensures { λ r. ⌜ Put (now (out .entry)) at (reasonText reason) r (now (out .exit)) ⌝ }
-{
-    let numbers = REASONS;
-    let i = place(&numbers, reason, 0);
-    put_row(out, at, i)
 }

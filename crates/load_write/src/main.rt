@@ -3,7 +3,7 @@
 use load_text::Made;
 
 fn fail(line: u64, reason: u8) {
-    let r = load_text::report(line, reason);
+    let r = words::report(line, reason);
     let text = r.text;
     let n = r.length;
     io::write_all(2, &text[..n]);

@@ -1,6 +1,11 @@
 -- "Numbers for a call that is turned down", each by the trade's word, and the limits: their one home in definitions. Quotations are from
 -- document 01.
-use Prim.Native.Nat.{ℕ}
+use Prim.Native.Nat.{ℕ, zero, suc}
+
+-- The first of two numbers, unless it is 0.
+abbrev pub orElse : ℕ → ℕ → ℕ
+orElse zero n = n
+orElse (suc k) n = suc k
 
 -- "dark: no group in the claim, or in a new rig"
 abbrev pub darkNumber : ℕ

@@ -22,7 +22,8 @@ use Rattle.load.specs.Reading.{misfit, readAt, itemAt, openNumber, walkIn, walk
 use Rattle.replay.specs.StopLine.{stopLine}
 use Rattle.replay.specs.Records.{saysCall, aloneIn, stepOf, ending}
 use Rattle.replay.specs.Replay.{replayFrom, replayIn, replayOf}
-use Rattle.load_text.specs.Parsing.{none, parts, wordsIn, digitOf, valueIn, numberIn, isWord}
+use Rattle.words.specs.Parts.{none, parts, wordsIn}
+use Rattle.words.specs.Words.{digitOf, valueIn, numberIn, isWord}
 use Rattle.question.specs.declared.questions.Question.the-variants.{NoQuestion}
 use Rattle.question.specs.Questions.{numbersIn, ifNamed, questionIn, questionOf}
 use Rattle.question.specs.Answers.{worded, lookupText, ticketsText, freeText, answerText, textOf}

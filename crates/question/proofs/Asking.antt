@@ -5,7 +5,7 @@ use Prim.Native.Nat.{ℕ, _≤_, _<_}
 use native.Mathlib.Omega.{arith}
 use lib.ListN.{length, drop}
 use borrow.Author.Tests.{le-leb, lt-leb}
-use Rattle.load_text.specs.Parsing.{FirstWord, wordAt, wordsIn}
+use Rattle.words.specs.Parts.{FirstWord, wordAt, wordsIn}
 use Rattle.question.specs.declared.questions.Numbers.{Numbers}
 use Rattle.question.specs.declared.questions.Numbers.the-variants.{Empty}
 use Rattle.question.specs.declared.questions.Question.the-variants.{NoQuestion}

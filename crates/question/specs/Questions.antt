@@ -4,9 +4,10 @@ use mathlib.Core.Bool.{Bool, true, false, cond}
 use mathlib.Core.List.{List, [], _∷_}
 use Prim.Native.Nat.{ℕ}
 use Rattle.numerals.specs.Texts.{bytes}
-use Rattle.load_text.specs.declared.words.Field.{Field}
-use Rattle.load_text.specs.declared.words.Field.the-variants.{Value, Wrong}
-use Rattle.load_text.specs.Parsing.{isWord, numberIn, wordsIn}
+use Rattle.words.specs.Parts.{wordsIn}
+use Rattle.words.specs.Words.{isWord, numberIn}
+use Rattle.words.specs.declared.Field.{Field}
+use Rattle.words.specs.declared.Field.the-variants.{Value, Wrong}
 use Rattle.question.specs.declared.questions.Numbers.{Numbers}
 use Rattle.question.specs.declared.questions.Numbers.the-variants.{Empty, One, Two, Bad}
 use Rattle.question.specs.declared.questions.Question.{Question}

@@ -1,11 +1,10 @@
 // The questions, and which of them a line asks. What a line asks is defined in specs/Questions.antt.
 ghost use mathlib.Core.Path.{_≡_};
 ghost use lib.ListN.{drop};
-ghost use Rattle.load_text.specs.Parsing.{wordsIn};
+ghost use Rattle.words.specs.Parts.{wordsIn};
 ghost use Rattle.question.specs.declared.questions.Numbers.the-variants.{Empty};
 ghost use Rattle.question.specs.Questions.{andNumber, andValue, ifNamed, isQuestion, ticketIn, numbersIn, questionNamed, questionOf};
-use load_text::words;
-use load_text::words::Field;
+use words::Field;
 
 // A question: how a ticket stands, which group two tickets share, how many units are free, or none that there is.
 pub enum Question {

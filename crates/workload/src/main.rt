@@ -1,8 +1,7 @@
 // Writes the workload of a seed and a count, its two arguments, to standard output. A wrong argument is told on standard error, and then
 // nothing is written.
 use load::Written;
-use load_text::words;
-use load_text::words::Field;
+use words::Field;
 
 pub enum MaybeNumber {
     Number(u32),

@@ -4,34 +4,34 @@ use native.Mathlib.Omega.{arith}
 use lib.ListN.{length-take}
 use borrow.Author.Needs.{needs}
 use borrow.Author.Tests.{le-leb, lt-leb}
-use Rattle.dance_text.specs.Lines.{callIn, lineSays}
+use Rattle.dance_text.specs.Lines.{callSaid, lineSays}
 use Rattle.dance_text.proofs.Lines.{with-values}
 use Rattle.dance_text.proofs.parse_line.Statement.{statement}
 use Rattle.dance_text.proofs.parse_line.Tie as tie
 
 returns-2 : tie.Need-returns-2
-unfolding lineSays callIn
+unfolding lineSays callSaid
 returns-2 c =
     let i = c .before .before in
     let k = i .before in
     let l = k .before .before in
     let n = l .before in
     with-values _ _
-    (rw (← (n .before .before .said-end .ensures .1), n .next-word .ensures .words, lt-leb _ _ (l .if1 .left), ← (k .named .ensures), sym (i .is-call .ensures) ∙ c .before .if2 .taken)
+    (rw (← (n .before .before .said-end .ensures .1), n .next-word .ensures .words, lt-leb _ _ (l .if1 .left), ← (k .call-named .ensures), sym (i .is-call .ensures) ∙ c .before .if2 .taken)
     (c .words-say .ensures))
 
 returns-3 : tie.Need-returns-3
-unfolding lineSays callIn
+unfolding lineSays callSaid
 returns-3 c =
     let i = c .before in
     let k = i .before in
     let l = k .before .before in
     let n = l .before in
     with-values _ _
-    (rw (← (n .before .before .said-end .ensures .1), n .next-word .ensures .words, lt-leb _ _ (l .if1 .left), ← (k .named .ensures), sym (i .is-call .ensures) ∙ c .if2 .left))
+    (rw (← (n .before .before .said-end .ensures .1), n .next-word .ensures .words, lt-leb _ _ (l .if1 .left), ← (k .call-named .ensures), sym (i .is-call .ensures) ∙ c .if2 .left))
 
 pub parse-line-spec : {M : Type 1} → statement M
-unfolding lineSays callIn
+unfolding lineSays callSaid
 parse-line-spec =
     tie.close
     (tie.spec

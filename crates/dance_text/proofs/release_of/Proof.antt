@@ -2,7 +2,7 @@
 use mathlib.Core.Path.{sym, _∙_}
 use native.Mathlib.Omega.{arith}
 use borrow.Author.Needs.{needs}
-use Rattle.load_text.proofs.Numbers.{number-most}
+use Rattle.words.proofs.Numbers.{number-most}
 use Rattle.dance_text.proofs.release_of.Statement.{statement}
 use Rattle.dance_text.proofs.release_of.Tie as tie
 

@@ -36,7 +36,7 @@ loop-again c =
     let p = s .before .before in
     let l = p .before .before in
     pass-on _ _ _ _ (l .loop .inv) (p .before .loop-test .taken) _ (p .place .ensures .0) _ (s .parse-line .ensures .0) _ (n .line-number .ensures) (i .if1 .left)
-    _ (c .before .says-call .ensures) _ (⊎-elim (λ t. rw (t .0 .taken) (t .1)) (λ t. rw (t .0 .left, add-zero) (t .1)) (c .if2 .came))
+    _ (c .before .has-call .ensures) _ (⊎-elim (λ t. rw (t .0 .taken) (t .1)) (λ t. rw (t .0 .left, add-zero) (t .1)) (c .if2 .came))
 
 pub survey-spec : {M : Type 1} → statement M
 survey-spec =

@@ -6,7 +6,7 @@ use native.Mathlib.Omega.{arith}
 use lib.Dec.{eqb}
 use borrow.Author.Needs.{needs}
 use borrow.Author.Tests.{eq-eqb, ne-eqb}
-use Rattle.load_text.specs.Answers.{TextValues}
+use Rattle.words.specs.Answers.{TextValues}
 use Rattle.frame_listing.specs.declared.Listed.{Listed}
 use Rattle.frame_listing.specs.Text.{listedValues, beatOf}
 use Rattle.frame_listing.proofs.belgwyth_beat.Statement.{statement}

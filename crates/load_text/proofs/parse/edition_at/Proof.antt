@@ -4,8 +4,9 @@ use native.Mathlib.Omega.{arith}
 use lib.ListN.{drop}
 use borrow.Author.Needs.{needs}
 use borrow.Author.Tests.{le-leb, lt-leb}
-use Rattle.load_text.specs.Parsing.{wordsIn, editionOr, editionIn}
-use Rattle.load_text.proofs.Numbers.{number-most}
+use Rattle.words.specs.Parts.{wordsIn}
+use Rattle.words.proofs.Numbers.{number-most}
+use Rattle.load_text.specs.Parsing.{editionOr, editionIn}
 use Rattle.load_text.proofs.parse.edition_at.Statement.{statement}
 use Rattle.load_text.proofs.parse.edition_at.Tie as tie
 

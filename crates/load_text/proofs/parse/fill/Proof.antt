@@ -9,8 +9,9 @@ use Rattle.format.specs.Format.{fieldsOf}
 use Rattle.format.specs.Calls.{bare}
 use Rattle.format.proofs.Format.{fields-few, rest-some}
 use Rattle.format.proofs.Rows.{row-end, row-more}
+use Rattle.words.specs.Parts.{wordsIn}
 use Rattle.load_text.specs.declared.parse.Parsed.the-variants.{Said}
-use Rattle.load_text.specs.Parsing.{wordsIn, filledIn}
+use Rattle.load_text.specs.Parsing.{filledIn}
 use Rattle.load_text.proofs.parse.fill.Statement.{statement}
 use Rattle.load_text.proofs.parse.fill.Tie as tie
 

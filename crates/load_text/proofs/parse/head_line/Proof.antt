@@ -4,8 +4,8 @@ use native.Mathlib.Omega.{arith}
 use lib.ListN.{length-take}
 use borrow.Author.Needs.{needs}
 use borrow.Author.Tests.{le-leb, lt-leb}
+use Rattle.words.proofs.Names.{word-test}
 use Rattle.load_text.specs.Parsing.{headIn, headSays}
-use Rattle.load_text.proofs.Tables.{word-test}
 use Rattle.load_text.proofs.parse.head_line.Statement.{statement}
 use Rattle.load_text.proofs.parse.head_line.Tie as tie
 

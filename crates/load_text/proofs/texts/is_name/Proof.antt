@@ -3,8 +3,9 @@ use lib.ListN.{length-take}
 use mathlib.Core.Path.{sym, ap, _∙_}
 use native.Mathlib.Omega.{arith}
 use borrow.Author.Needs.{needs}
-use Rattle.load_text.specs.Parsing.{isWord}
-use Rattle.load_text.proofs.Tables.{word-test, name-taken}
+use Rattle.words.specs.Words.{isWord}
+use Rattle.words.proofs.Names.{word-test}
+use Rattle.load_text.proofs.Tables.{name-taken}
 use Rattle.load_text.proofs.texts.is_name.Statement.{statement}
 use Rattle.load_text.proofs.texts.is_name.Tie as tie
 

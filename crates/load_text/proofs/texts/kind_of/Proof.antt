@@ -5,7 +5,8 @@ use native.Mathlib.Omega.{arith}
 use lib.ListN.{drop}
 use borrow.Author.Needs.{needs}
 use Rattle.format.specs.Format.{names}
-use Rattle.load_text.specs.Parsing.{placeIn, kindOf}
+use Rattle.load_text.specs.Parsing.{kindOf}
+use Rattle.words.specs.Words.{placeIn}
 use Rattle.load_text.proofs.Tables.{kind-here, kind-on, kind-none}
 use Rattle.load_text.proofs.texts.kind_of.Statement.{statement}
 use Rattle.load_text.proofs.texts.kind_of.Tie as tie

@@ -1,7 +1,7 @@
 -- `questions::and_number` meets its contract: the word says a number, or not.
 use mathlib.Core.Path.{sym, ap, _∙_}
 use native.Mathlib.Omega.{arith}
-use Rattle.load_text.proofs.Numbers.{number-most}
+use Rattle.words.proofs.Numbers.{number-most}
 use Rattle.question.specs.Questions.{andNumber}
 use borrow.Author.Needs.{needs}
 use Rattle.question.proofs.questions.and_number.Statement.{statement}

@@ -1,6 +1,6 @@
 -- `questions::if_named` meets its contract: the word is the name, or not.
 use mathlib.Core.Path.{_∙_}
-use Rattle.load_text.proofs.Tables.{word-test}
+use Rattle.words.proofs.Names.{word-test}
 use Rattle.question.specs.Questions.{ifNamed}
 use borrow.Author.Needs.{needs}
 use Rattle.question.proofs.questions.if_named.Statement.{statement}

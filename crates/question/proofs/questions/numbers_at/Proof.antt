@@ -3,7 +3,7 @@ use Prim.Native.Nat.{_-_}
 use mathlib.Core.Path.{_≡_, refl, _∙_}
 use native.Mathlib.Omega.{arith}
 use lib.ListN.{length, drop}
-use Rattle.load_text.specs.Parsing.{wordsIn}
+use Rattle.words.specs.Parts.{wordsIn}
 use Rattle.question.specs.declared.questions.Numbers.the-variants.{Empty}
 use Rattle.question.specs.Questions.{numbersIn}
 use Rattle.question.proofs.Asking.{word-moves, numbers-end, numbers-on}

@@ -1,0 +1,9 @@
+pub mod Cases
+pub mod Names
+pub mod Numbers
+pub mod Parts
+pub mod Reading
+pub mod Spans
+pub mod Texts
+pub mod Values
+pub mod Within

@@ -1,0 +1,6 @@
+pub mod Answers
+pub mod Parts
+pub mod Reasons
+pub mod Reports
+pub mod Sets
+pub mod Words
