@@ -17,6 +17,7 @@ use crate::claims::waiting_from;
 use crate::claims::wide;
 use crate::pool::draw;
 use crate::pool::enter;
+use groups::MaybeGroup;
 use rules::Claim;
 use rules::Reply;
 use rules::Setting;
@@ -58,11 +59,13 @@ fn bars_by(c: Claim, w: Claim) -> u16
 }
 
 // A new claim put after the others at its planned start, the least that fits. All loops stand here, since a table handed on is copied.
-// Of a claim that draws no units: where a claim bars a candidate, it bars every start from there to its end, which is the next candidate.
-// Cost: one pass over the claims for each jump, one for the start and one to count; a claim bars at most one candidate.
+// First the claims that share a group with it are counted, and their places kept as a set.
+// Of a claim that draws no units: where a claim bars a candidate, it bars every start from there to its end, which is the next candidate,
+// and none after that; so it is left out from then on.
+// Cost: one pass over the claims, and for each candidate a step for each place that is left, at most; a claim bars at most one candidate.
 // Of a claim that draws units: the holds of those that draw units, and of those that share a group with it as if they drew all, are
-// gathered, and its start is the first time with units enough. Cost: count² insertion steps at most, a few for each claim where starts
-// ascend, one sweep over the events, at most 2 × count, and one pass to count.
+// gathered, and its start is the first time with units enough. Cost: two passes, count² insertion steps at most, a few for each claim where
+// starts ascend, and one sweep over the events, at most 2 × count.
 pub(crate) fn place(mut t: Table, w: Claim) -> Placed
     requires { ⌜ Row (ruledIn t (t .clock)) (t .claims) (t .count) × Sized (ruledIn t (t .clock)) w × Capped (take (t .count) (t .claims))
         × (t .count < mostPending) × (t .issued < mostTickets) ⌝ }
@@ -77,19 +80,41 @@ pub(crate) fn place(mut t: Table, w: Claim) -> Placed
     };
     let count = t.count;
     let length = wide(w.length);
+    let mut rivals = 0;
+    let mut time = 0;
+    let mut places: u64 = 0;
+    let mut i = 0;
+    while i < count {
+        let c = t.claims[i];
+        if groups::shares(c.groups, w.groups) {
+            rivals += 1;
+            time += time_left(v, c);
+            places = groups::union(places, groups::only(i));
+        }
+        i += 1;
+    }
+    let bound = clock + time + rivals * (length - 1);
     let start = if w.units == 0 {
         let mut s = clock;
+        let mut left = places;
         'candidates: loop {
-            let mut j = 0;
-            while j < count {
-                let c = t.claims[j];
-                if !clears(v, c, w, s) {
-                    s = end_of(v, c);
-                    continue 'candidates;
+            let mut rest = left;
+            loop {
+                match groups::lowest(rest) {
+                    MaybeGroup::NoGroup => {
+                        break 'candidates s;
+                    }
+                    MaybeGroup::Group(j) => {
+                        let c = t.claims[j];
+                        if !clears(v, c, w, s) {
+                            s = end_of(v, c);
+                            left = groups::without(left, groups::only(j));
+                            continue 'candidates;
+                        }
+                        rest = groups::others(rest);
+                    }
                 }
-                j += 1;
             }
-            break s;
         }
     } else {
         let mut starts = [0u64; 64];
@@ -114,18 +139,6 @@ pub(crate) fn place(mut t: Table, w: Claim) -> Placed
         }
         draw(&mut starts, &mut ends, k, pool, w.units, clock, w.length)
     };
-    let mut rivals = 0;
-    let mut time = 0;
-    let mut i = 0;
-    while i < count {
-        let c = t.claims[i];
-        if groups::shares(c.groups, w.groups) {
-            rivals += 1;
-            time += time_left(v, c);
-        }
-        i += 1;
-    }
-    let bound = clock + time + rivals * (length - 1);
     t.claims[count] = waiting_from(w, start);
     t.issued = t.issued + 1;
     t.count = count + 1;
