@@ -216,58 +216,69 @@ fn overruns(clock: u64, c: Claim) -> bool
     false
 }
 
-// Sets the clock of a table between calls, and packs. While nobody overruns packing would change nothing. Cost: one pass where nobody does.
+// Sets the clock of a table between calls, and packs. While nobody overruns packing would change nothing. Cost: one pass, and that packing.
+// The pass goes to its end: left by a `return` in its midst, it costs a copy of the table more.
 fn at_clock(mut t: Table, clock: u64) -> Table
     requires { ⌜ Valid t × (t .clock ≤ clock) × (clock ≤ mostClock) ⌝ }
     ensures { λ r. ⌜ (r ≡ encode (advance (model t) clock)) × Formed r × Still (model r) ⌝ }
 {
     let count = t.count;
+    let mut packs = false;
     let mut i: usize = 0;
     while i < count {
         let c = t.claims[i];
         if overruns(clock, c) {
-            let pool = t.pool;
-            let grace = t.grace;
-            return packing::pack(
-                t,
-                Setting {
-                    clock: clock,
-                    pool: pool,
-                    grace: grace,
-                },
-            );
+            packs = true;
         }
         i += 1;
     }
-    t.clock = clock;
+    if packs {
+        let pool = t.pool;
+        let grace = t.grace;
+        t = packing::pack(
+            t,
+            Setting {
+                clock: clock,
+                pool: pool,
+                grace: grace,
+            },
+        );
+    } else {
+        t.clock = clock;
+    }
     t
 }
 
 // Sets the clock of a table from which a claim was taken, and packs. Where nobody waits packing would change nothing.
-// Cost: one pass where nobody does.
+// Cost: one pass, and that packing.
 fn pulled(mut t: Table, clock: u64) -> Table
     requires { ⌜ Formed t × (t .clock ≤ clock) × (clock ≤ mostClock) ⌝ }
     ensures { λ r. ⌜ (r ≡ encode (advance (model t) clock)) × Formed r × Still (model r) ⌝ }
 {
     let count = t.count;
+    let mut packs = false;
     let mut i: usize = 0;
     while i < count {
         let c = t.claims[i];
         if !claims::is_on(c) {
-            let pool = t.pool;
-            let grace = t.grace;
-            return packing::pack(
-                t,
-                Setting {
-                    clock: clock,
-                    pool: pool,
-                    grace: grace,
-                },
-            );
+            packs = true;
         }
         i += 1;
     }
-    t.clock = clock;
+    if packs {
+        let pool = t.pool;
+        let grace = t.grace;
+        t = packing::pack(
+            t,
+            Setting {
+                clock: clock,
+                pool: pool,
+                grace: grace,
+            },
+        );
+    } else {
+        t.clock = clock;
+    }
     t
 }
 
@@ -332,7 +343,7 @@ pub struct Taken {
 }
 
 // Takes the claim of a ticket out of a table; those after it move up, and the last place becomes vacant. Where there is a pool the table is
-// packed first, if a holder overruns. Cost: one pass, and that packing.
+// packed first, if a holder overruns. Cost: one pass to find it, one move of those after it, and that packing.
 fn removed(mut t: Table, clock: u64, ticket: u16) -> Taken
     requires { ⌜ Valid t × (t .clock ≤ clock) × (clock ≤ mostClock) ⌝ }
     ensures { λ r. ⌜ (r .standing ≡ standingOf ticket (departed (model t) clock .pending)) × (r .table ≡ encode (remove (departed (model t) clock) ticket))
@@ -343,20 +354,24 @@ fn removed(mut t: Table, clock: u64, ticket: u16) -> Taken
     }
     let count = t.count;
     let mut s = Standing::NotPending;
-    let mut n: usize = 0;
+    let mut at = count;
     let mut i: usize = 0;
     while i < count {
         let c = t.claims[i];
         if c.ticket == ticket {
             s = shown(c);
-        } else {
-            t.claims[n] = c;
-            n += 1;
+            at = i;
         }
         i += 1;
     }
-    if n < count {
-        t.claims[n] = Claim {
+    if at < count {
+        let last = count - 1;
+        while at < last {
+            let c = t.claims[at + 1];
+            t.claims[at] = c;
+            at += 1;
+        }
+        t.claims[last] = Claim {
             groups: 0,
             phase: Phase::Waiting(0),
             length: 0,
@@ -364,8 +379,8 @@ fn removed(mut t: Table, clock: u64, ticket: u16) -> Taken
             units: 0,
             client: 0,
         };
+        t.count = last;
     }
-    t.count = n;
     Taken {
         standing: s,
         table: t,
