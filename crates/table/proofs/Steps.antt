@@ -35,7 +35,7 @@ use Rattle.rules.proofs.Calls.{settable, placed, new-cases, blank-invariant, st
 use Rattle.rules.proofs.Shares.{first-booked}
 use Rattle.rules.proofs.Booking.{step-booked}
 use Rattle.rules.proofs.NoOverrun.{no-overrun-still}
-use Rattle.rules.proofs.Packing.{pack-length, pack-holders, moved-cases}
+use Rattle.rules.proofs.Packing.{pack-length, pack-holders, pack-idle, moved-cases}
 use Rattle.rules.proofs.Repacking.{NoneDraws}
 use Rattle.rules.proofs.Granting.{grant-length}
 use Rattle.rules.proofs.OnePacking.{advance-still, join-still, leave-once, finish-advanced}
@@ -154,7 +154,13 @@ pub idle-is : (t : Table) (u : ℕ) → Formed t → t .clock ≤ u → u ≤ mo
 unfolding advance
 idle-is t u v a b idle r q = advanced-to t u v a b r (q ∙ ap (atClock u) (sym (v .whole)) ∙ ap (λ (ps : List Claim). encode (withPending (withClock (model t) u) ps)) (sym idle))
 
--- It would not while nobody overruns, nor where nobody waits.
+-- It would not at the table's own clock, nor while nobody overruns, nor where nobody waits.
+pub same-clock-idle : (t : Table) (u : ℕ) → Valid t → t .clock ≡ u → pack (ruledIn t u) (model t .pending) ≡ model t .pending
+same-clock-idle t u v e =
+    let s = v .settled in
+    subst (λ (x : ℕ). pack (ruledIn t x) (model t .pending) ≡ model t .pending) e
+    (pack-idle (settingOf (model t)) (model t .pending) (λ c m. s .spaced .proper c m .sane) (s .spaced .fit) (s .spaced .low) (s .earliest))
+
 pub no-overrun-idle : (t : Table) (u : ℕ) → Valid t → t .clock ≤ u → any (pastEnd u) (model t .pending) ≡ false → pack (ruledIn t u) (model t .pending) ≡ model t .pending
 no-overrun-idle t u v a none = no-overrun-still (t .issued) (settingOf (model t)) (ruledIn t u) (model t .pending) (v .settled) (record { later = a; same = refl }) prompt
   where

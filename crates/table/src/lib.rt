@@ -1,6 +1,6 @@
 // The claims table: new, declare, set_grace, claim, release, withdraw, clock, lookup, common, free. Each call takes a table by value and
-// hands one back with its answer. A claim and a clock call pack only where a holder overruns; a release and a withdrawal only where somebody
-// waits, and once more where there is a pool and a holder overruns.
+// hands one back with its answer. A claim and a clock call pack only where the clock moves and a holder overruns; a release and a withdrawal
+// only where somebody waits, and once more where there is a pool, the clock moves and a holder overruns.
 // Packing n claims costs at most n² / 2 tests of two words and two steps for each group of each claim, and for each claim that draws units
 // a sweep over those that do; the search for a claim's start n² tests of two sets, or insertions and a sweep; everything else a few passes.
 ghost use mathlib.Core.Path.{_≡_};
@@ -216,8 +216,8 @@ fn overruns(clock: u64, c: Claim) -> bool
     false
 }
 
-// Sets the clock of a table between calls, and packs. While nobody overruns packing would change nothing. Cost: one pass, and that packing.
-// The pass goes to its end: left by a `return` in its midst, it costs a copy of the table more.
+// Sets the clock of a table between calls, and packs. At the table's own clock, and while nobody overruns, packing would change nothing.
+// Cost: one pass, and that packing. The pass goes to its end: left by a `return` in its midst, it costs a copy of the table more.
 fn at_clock(mut t: Table, clock: u64) -> Table
     requires { ⌜ Valid t × (t .clock ≤ clock) × (clock ≤ mostClock) ⌝ }
     ensures { λ r. ⌜ (r ≡ encode (advance (model t) clock)) × Formed r × Still (model r) ⌝ }
@@ -231,6 +231,9 @@ fn at_clock(mut t: Table, clock: u64) -> Table
             packs = true;
         }
         i += 1;
+    }
+    if t.clock == clock {
+        packs = false;
     }
     if packs {
         let pool = t.pool;

@@ -10,7 +10,7 @@ use Rattle.table.specs.Parts.{ruledIn}
 use Rattle.table.specs.Outcomes.{pastEnd}
 use Rattle.table.proofs.Rows.{row-small, Left, left-start, left-next, left-end}
 use Rattle.table.proofs.Ranges.{formed-row}
-use Rattle.table.proofs.Steps.{advanced-is, idle-is, no-overrun-idle}
+use Rattle.table.proofs.Steps.{advanced-is, idle-is, same-clock-idle, no-overrun-idle}
 use Rattle.table.proofs.at_clock.Statement.{statement}
 use Rattle.table.proofs.at_clock.Tie as tie
 
@@ -34,17 +34,22 @@ loop-again c =
 
 returns : tie.Need-returns Inv-loop μ-loop
 returns c =
-    let b = c .before .before .before .before in
+    let b = c .before .before .before .before .before in
     advanced-is (b .args .t1) (b .args .clock) (b .pre .0 .formed) (b .pre .1) (b .pre .2) _ (c .pack .ensures)
 
 returns-2 : tie.Need-returns-2 Inv-loop μ-loop
 unfolding any
 returns-2 c =
-    let a = c .before in
+    let j = c .before in
+    let a = j .before in
     let b = a .before .before in
     let h = b .pre in
     idle-is (b .args .t1) (b .args .clock) (h .0 .formed) (h .1) (h .2)
-    (no-overrun-idle _ _ (h .0) (h .1) (sym (rw (c .if2 .left) at (left-end (a .before .loop .inv) (a .loop-test .left))))) _ refl
+    (⊎-elim
+    (λ k. same-clock-idle _ _ (h .0) (k .0 .taken))
+    (λ k. no-overrun-idle _ _ (h .0) (h .1) (sym (rw (sym (k .1) ∙ c .if3 .left) at (left-end (a .before .loop .inv) (a .loop-test .left)))))
+    (j .if2 .came))
+    _ refl
 
 pub at-clock-spec : {M : Type 1} → statement M
 at-clock-spec =
@@ -59,6 +64,6 @@ at-clock-spec =
     (λ c. omega arith)
     (λ c. omega arith)
     loop-again
-    (λ c κs. c .before .before .loop .inv .row)
+    (λ c κs. c .before .before .before .loop .inv .row)
     returns
     returns-2)
