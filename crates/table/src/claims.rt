@@ -1,6 +1,7 @@
-// One claim at a time: its phase, its end, its remaining time, and the claim in another phase. A few instructions each.
+// One claim at a time: its phase, its end, its remaining time, and the claim in another phase; and the later of two clocks. A few
+// instructions each.
 ghost use mathlib.Core.Path.{_≡_};
-ghost use Prim.Native.Nat.{_≤_, _<_};
+ghost use Prim.Native.Nat.{_≤_, _<_, max};
 ghost use Rattle.numbers.specs.Numbers.{mostClock};
 ghost use Rattle.rules.specs.Claims.{on, at, withPhase, endOf, remaining};
 ghost use Rattle.rules.specs.declared.Phase.the-variants.{Waiting, On};
@@ -12,6 +13,13 @@ pub(crate) fn wide(x: u32) -> u64
     ensures { λ r. ⌜ (r ≡ x) × (r < 4294967296) ⌝ }
 {
     x as u64
+}
+
+// The later of two clocks.
+pub(crate) fn later(s: u64, e: u64) -> u64
+    ensures { λ r. ⌜ r ≡ max s e ⌝ }
+{
+    if s < e { e } else { s }
 }
 
 pub(crate) fn is_on(c: Claim) -> bool

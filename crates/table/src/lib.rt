@@ -18,6 +18,7 @@ ghost use Rattle.table.specs.Outcomes.{outcome, unchangedIn, Found, time
 
 mod claims;
 mod granting;
+mod insertion;
 mod packing;
 mod placing;
 mod pool;

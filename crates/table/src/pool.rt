@@ -6,8 +6,8 @@ ghost use Prim.Native.Nat.{_+_, _-_, _≤_, _<_};
 ghost use lib.ListN.{take, length as size};
 ghost use Rattle.table.specs.SortKeys.{NeverFalls, Inserted};
 ghost use Rattle.table.specs.Events.{eventWord, timeIn, unitsIn, Events, FirstFit};
-use crate::packing::insert;
-use crate::packing::later;
+use crate::claims::later;
+use crate::insertion::insert;
 
 // An event as one word. Cost: a shift and an addition.
 fn event(time: u64, units: u16) -> u64
