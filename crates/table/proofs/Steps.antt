@@ -46,19 +46,19 @@ use Rattle.table.specs.declared.placing.Placed.{Placed}
 use Rattle.table.specs.Parts.{withClaims, ruledIn, atClock, packedTable, grantedIn, placedIn}
 use Rattle.table.specs.declared.Outcome.{Outcome}
 use Rattle.table.specs.Valid.{Ranged, Formed, Valid}
-use Rattle.table.specs.Outcomes.{outcome, unchangedIn, timeNumber, pastEnd, departed, leaving, without}
+use Rattle.table.specs.Outcomes.{outcome, answeringIn, timeNumber, pastEnd, departed, leaving, without}
 use Rattle.table.proofs.Ranges.{sized-later, sized-waiting, start-small, place-small, model-is, formed-now, formed-is, formed-count, formed-sane, blank-ranged, advance-ranged, remove-ranged, join-ranged, grant-ranged}
 use Rattle.table.proofs.Tests.{timed-passes, step-refused, step-accepted}
 
 -- ── refusals ──
-pub unchanged-is : (t : Table) (n : ℕ) → Formed t → unchangedIn t n ≡ outcome (unchanged (model t) n)
+pub answering-is : (t : Table) (n : ℕ) → Formed t → answeringIn t n ≡ outcome (unchanged (model t) n)
 unfolding pad
-unchanged-is t n v = ap (λ (x : Table). unchangedIn x n) (sym (v .whole))
+answering-is t n v = ap (λ (x : Table). answeringIn x n) (sym (v .whole))
 
 -- A call that the rules refuse with n.
-pub refused : (t : Table) (c : Call) (n : ℕ) (r : Outcome) → Valid t → r ≡ unchangedIn t n → firstOf (tests (model t) c) ≡ n → n ≢ 0 → (r ≡ outcome (step (model t) c)) × Valid (r .table)
+pub refused : (t : Table) (c : Call) (n : ℕ) (r : Outcome) → Valid t → r ≡ answeringIn t n → firstOf (tests (model t) c) ≡ n → n ≢ 0 → (r ≡ outcome (step (model t) c)) × Valid (r .table)
 refused t c n r v e f z =
-    (e ∙ unchanged-is t n (v .formed) ∙ ap outcome (sym (step-refused (model t) c n f z)), subst Valid (sym (ap (λ (x : Outcome). x .table) e)) v)
+    (e ∙ answering-is t n (v .formed) ∙ ap outcome (sym (step-refused (model t) c n f z)), subst Valid (sym (ap (λ (x : Outcome). x .table) e)) v)
 
 -- A call that the rules accept keeps tables valid.
 pub accepted : (t : Table) (c : Call) (r : Outcome) → Valid t → r ≡ outcome (step (model t) c) → Formed (r .table) → (r ≡ outcome (step (model t) c)) × Valid (r .table)
@@ -75,18 +75,18 @@ accepted t c r v e f =
 -- ── what is set before the first claim ──
 -- A call that is accepted and answers nothing but 0: u is the table that it leaves.
 pub prepared-is : (t u : Table) (c : Call) (m : Model) (r : Outcome) → Valid t → firstOf (tests (model t) c) ≡ 0 → act (model t) c ≡ unchanged m 0 → u ≡ encode m → Ranged m
-    → r ≡ unchangedIn u 0 → (r ≡ outcome (step (model t) c)) × Valid (r .table)
+    → r ≡ answeringIn u 0 → (r ≡ outcome (step (model t) c)) × Valid (r .table)
 prepared-is t u c m r v z a q h e =
     let f = formed-is u m q h in
     accepted t c r v
-    (e ∙ unchanged-is u 0 f ∙ ap (λ (x : Model). outcome (unchanged x 0)) (model-is u m q) ∙ ap outcome (sym a ∙ sym (step-accepted (model t) c z)))
+    (e ∙ answering-is u 0 f ∙ ap (λ (x : Model). outcome (unchanged x 0)) (model-is u m q) ∙ ap outcome (sym a ∙ sym (step-accepted (model t) c z)))
     (subst Formed (sym (ap (λ (x : Outcome). x .table) e)) f)
 
 -- The table with another grace.
 abbrev pub graced : Table → ℕ → Table
 graced t n = record { rig = t .rig; clock = t .clock; pool = t .pool; issued = t .issued; grace = n; shares = t .shares; count = t .count; claims = t .claims }
 
-pub graced-is : (t : Table) (n : ℕ) (r : Outcome) → Valid t → firstOf (tests (model t) (setGrace n)) ≡ 0 → r ≡ unchangedIn (graced t n) 0
+pub graced-is : (t : Table) (n : ℕ) (r : Outcome) → Valid t → firstOf (tests (model t) (setGrace n)) ≡ 0 → r ≡ answeringIn (graced t n) 0
     → (r ≡ outcome (step (model t) (setGrace n))) × Valid (r .table)
 unfolding act
 graced-is t n r v z e =
@@ -100,33 +100,33 @@ graced-is t n r v z e =
 abbrev pub emptyTable : ℕ → ℕ → Bool → Table
 emptyTable g k alone = record { rig = g; clock = 0; pool = k; issued = 0; grace = 0; shares = firstShares alone; count = 0; claims = replicate 64 vacant }
 
-opened : (g k n : ℕ) (alone : Bool) (r : Outcome) → k ≤ mostUnits → r ≡ unchangedIn (emptyTable g k alone) n
+opened : (g k n : ℕ) (alone : Bool) (r : Outcome) → k ≤ mostUnits → r ≡ answeringIn (emptyTable g k alone) n
     → (r ≡ outcome (unchanged (blank g k alone) n)) × Valid (r .table)
 unfolding pad
 opened g k n alone r h e =
     let f = formed-is (emptyTable g k alone) (blank g k alone) refl (blank-ranged g k alone h) in
     let m = model-is (emptyTable g k alone) (blank g k alone) refl in (
-      e ∙ unchanged-is (emptyTable g k alone) n f ∙ ap (λ (m : Model). outcome (unchanged m n)) m,
+      e ∙ answering-is (emptyTable g k alone) n f ∙ ap (λ (m : Model). outcome (unchanged m n)) m,
       subst Valid (sym (ap (λ (x : Outcome). x .table) e))
           (record { formed = f; settled = subst Invariant (sym m) (blank-invariant g k alone); booked = subst IsBooked (sym m) (first-booked alone) }),
     )
 
 -- The shares as the code makes them: those of client 1, and seven of nobody.
 pub shares-are : (g k : ℕ) (alone : Bool) (places n : ℕ) (r : Outcome) → places ≡ cond alone 64 0
-    → r ≡ unchangedIn (record { rig = g; clock = 0; pool = k; issued = 0; grace = 0; shares = record { declared = alone; reserved = places; limit = places } ∷ replicate 7 undeclared; count = 0; claims = replicate 64 vacant }) n
-    → r ≡ unchangedIn (emptyTable g k alone) n
+    → r ≡ answeringIn (record { rig = g; clock = 0; pool = k; issued = 0; grace = 0; shares = record { declared = alone; reserved = places; limit = places } ∷ replicate 7 undeclared; count = 0; claims = replicate 64 vacant }) n
+    → r ≡ answeringIn (emptyTable g k alone) n
 shares-are g k true places n r e q = q ∙ rw e
 shares-are g k false places n r e q = q ∙ rw e
 
 -- A rig of 64 bits without groups is 0.
-pub new-dark : (g k : ℕ) (alone : Bool) (r : Outcome) → g < 2 ^ 64 → true ≡ empty g → r ≡ unchangedIn (emptyTable g 0 alone) 1
+pub new-dark : (g k : ℕ) (alone : Bool) (r : Outcome) → g < 2 ^ 64 → true ≡ empty g → r ≡ answeringIn (emptyTable g 0 alone) 1
     → (r ≡ outcome (new g k alone)) × Valid (r .table)
 new-dark g k alone r h d e =
     let z : g ≡ 0 = eqb-true g 0 (sym (empty-word g h) ∙ sym d) in
-    let o = opened 0 0 1 alone r (omega arith) (e ∙ ap (λ (x : ℕ). unchangedIn (emptyTable x 0 alone) 1) z) in
+    let o = opened 0 0 1 alone r (omega arith) (e ∙ ap (λ (x : ℕ). answeringIn (emptyTable x 0 alone) 1) z) in
     new-cases (λ (s : Step). (r ≡ outcome s) × Valid (r .table)) g k alone (λ q. o) (λ q. clash (sym d) q)
 
-pub new-lit : (g k : ℕ) (alone : Bool) (r : Outcome) → k ≤ mostUnits → false ≡ empty g → r ≡ unchangedIn (emptyTable g k alone) 0
+pub new-lit : (g k : ℕ) (alone : Bool) (r : Outcome) → k ≤ mostUnits → false ≡ empty g → r ≡ answeringIn (emptyTable g k alone) 0
     → (r ≡ outcome (new g k alone)) × Valid (r .table)
 new-lit g k alone r h d e = new-cases (λ (s : Step). (r ≡ outcome s) × Valid (r .table)) g k alone (λ q. clash q (sym d)) (λ q. opened g k 0 alone r h e)
 

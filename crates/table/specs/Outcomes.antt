@@ -33,9 +33,9 @@ outcome s =
       grants = pad 0 (a .grants);
     }
 
--- The table handed in, and a number.
-abbrev pub unchangedIn : Table → ℕ → Outcome
-unchangedIn t n = record { table = t; number = n; ticket = 0; start = 0; contention = 0; bound = 0; granted = 0; grants = replicate 64 0 }
+-- A table, and a number as the answer.
+abbrev pub answeringIn : Table → ℕ → Outcome
+answeringIn t n = record { table = t; number = n; ticket = 0; start = 0; contention = 0; bound = 0; granted = 0; grants = replicate 64 0 }
 
 -- ── lookup ──
 -- Place r of a table is that of the claim of ticket k; the count where there is none.

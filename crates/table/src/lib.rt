@@ -14,7 +14,7 @@ ghost use Rattle.rules.specs.Calls.{claims, releases, withdraws, movesClock, at
 ghost use Rattle.rules.specs.Tables.{encode, model};
 ghost use Rattle.rules.specs.Invariants.{Still};
 ghost use Rattle.table.specs.Valid.{Formed, Valid};
-ghost use Rattle.table.specs.Outcomes.{outcome, unchangedIn, Found, timeNumber, shareNumber, placesNumber, pastEnd, departed, phaseNumber, leaving};
+ghost use Rattle.table.specs.Outcomes.{outcome, answeringIn, Found, timeNumber, shareNumber, placesNumber, pastEnd, departed, phaseNumber, leaving};
 
 mod claims;
 mod granting;
@@ -48,9 +48,9 @@ pub struct Outcome {
     pub grants: [u16; 64],
 }
 
-// The table handed in, and a number.
-fn unchanged(t: Table, number: u8) -> Outcome
-    ensures { λ r. ⌜ r ≡ unchangedIn t number ⌝ }
+// A table, and a number as the answer.
+fn answering(t: Table, number: u8) -> Outcome
+    ensures { λ r. ⌜ r ≡ answeringIn t number ⌝ }
 {
     Outcome {
         table: t,
@@ -100,9 +100,9 @@ pub fn new(rig: u64, pool: u16, alone: bool) -> Outcome
     };
     if groups::empty(rig) {
         t.pool = 0;
-        return unchanged(t, numbers::DARK);
+        return answering(t, numbers::DARK);
     }
-    unchanged(t, 0)
+    answering(t, 0)
 }
 
 // ── lookup ──
@@ -315,7 +315,7 @@ pub fn clock(t: Table, clock: u64) -> Outcome
 {
     let n = time_number(t.clock, clock);
     if n != 0 {
-        return unchanged(t, n);
+        return answering(t, n);
     }
     let moved = at_clock(t, clock);
     let r = Reply {
@@ -398,13 +398,13 @@ pub fn leave(t: Table, releasing: bool, clock: u64, ticket: u16) -> Outcome
 {
     let late = time_number(t.clock, clock);
     if late != 0 {
-        return unchanged(t, late);
+        return answering(t, late);
     }
     let k = removed(t, clock, ticket);
     let s = k.standing;
     let wrong = phase_number(releasing, s);
     if wrong != 0 {
-        return unchanged(t, wrong);
+        return answering(t, wrong);
     }
     let rest = k.table;
     let u = pulled(rest, clock);
@@ -468,7 +468,7 @@ pub fn declare(mut t: Table, client: u8, reserved: u8, limit: u8) -> Outcome
             limit: limit,
         };
     }
-    unchanged(t, number)
+    answering(t, number)
 }
 
 // ── grace ──
@@ -479,10 +479,10 @@ pub fn set_grace(mut t: Table, grace: u32) -> Outcome
     ensures { λ r. ⌜ (r ≡ outcome (step (model t) (setsUp (setsGrace grace)))) × Valid (r .table) ⌝ }
 {
     if refusals::bad_grace(t.issued, grace) {
-        return unchanged(t, numbers::GRACE);
+        return answering(t, numbers::GRACE);
     }
     t.grace = grace;
-    unchanged(t, 0)
+    answering(t, 0)
 }
 
 // ── claim ──
@@ -568,7 +568,7 @@ pub fn claim(t: Table, clock: u64, ask: Request) -> Outcome
     }
     let number = claim_number(t, clock, ask, places);
     if number != 0 {
-        return unchanged(t, number);
+        return answering(t, number);
     }
     let u = at_clock(t, clock);
     admitted(u, ask)
