@@ -21,7 +21,7 @@ use Rattle.rules.proofs.Lists.{Each, here, there, keep-length, ascends-drop}
 use Rattle.table.specs.Rows.{Row}
 use Rattle.rules.proofs.Places.{prefix-end, pad-over, pad-less, Storing, store-start, store-more, store-end}
 use Rattle.table.proofs.Rows.{row-count, row-step}
-use Rattle.table.specs.Outcomes.{without}
+use Rattle.table.specs.Outcomes.{lacking}
 
 module _ (k : ℕ) (c : Claim) (l : List Claim) where
   pub found : c .ticket ≡ k → standing c ≡ standingOf k (c ∷ l)
@@ -40,7 +40,7 @@ pub record Taking (k : ℕ) (v : Setting) (l : List Claim) (n i : ℕ) (s : Stan
   pub within : i ≤ n
   pub fewer : m ≤ i
   pub rest : (j : ℕ) → i ≤ j → getD new j vacant ≡ getD l j vacant
-  pub stays : Storing l (without k (take n l)) (without k (drop i (take n l))) m new
+  pub stays : Storing l (lacking k (take n l)) (lacking k (drop i (take n l))) m new
   pub told : ((m ≡ i) × (s ≡ NotPending) × (standingOf k (drop i (take n l)) ≡ standingOf k (take n l)))
       ⊎ ((m + 1 ≡ i) × (s ≡ standingOf k (take n l)) × Each (λ d. d .ticket ≢ k) (drop i (take n l)))
 
@@ -53,7 +53,7 @@ module _ {k : ℕ} {v : Setting} {l : List Claim} {n i : ℕ} {s : Standing} {m 
   pending = take n l
 
   abbrev staying : List Claim
-  staying = without k (take n l)
+  staying = lacking k (take n l)
 
   -- A place that is not done yet is as it was.
   pub taking-rest : getD new i vacant ≡ getD l i vacant

@@ -46,7 +46,7 @@ use Rattle.table.specs.declared.placing.Placed.{Placed}
 use Rattle.table.specs.Parts.{withClaims, ruledIn, atClock, packedTable, grantedIn, placedIn}
 use Rattle.table.specs.declared.Outcome.{Outcome}
 use Rattle.table.specs.Valid.{Ranged, Formed, Valid}
-use Rattle.table.specs.Outcomes.{outcome, answeringIn, timeNumber, pastEnd, departed, leaving, without}
+use Rattle.table.specs.Outcomes.{outcome, answeringIn, timeNumber, pastEnd, departed, leaving, lacking}
 use Rattle.table.proofs.Ranges.{sized-later, sized-waiting, start-small, place-small, model-is, formed-now, formed-is, formed-count, formed-sane, blank-ranged, advance-ranged, remove-ranged, join-ranged, grant-ranged}
 use Rattle.table.proofs.Tests.{timed-passes, step-refused, step-accepted}
 
@@ -205,7 +205,7 @@ abbrev pub counted : Table → ℕ → List Claim → Table
 counted t n l = record { rig = t .rig; clock = t .clock; pool = t .pool; issued = t .issued; grace = t .grace; shares = t .shares; count = n; claims = l }
 
 -- t is the table t₀ with other claims; with l as its claims, m of them, it is t₀ without the claim of ticket k.
-pub removed-is : (t₀ t : Table) (k m : ℕ) (l : List Claim) → Formed t₀ → t ≡ withClaims t₀ (t .claims) → m ≡ length (without k (model t₀ .pending)) → l ≡ pad vacant (without k (model t₀ .pending))
+pub removed-is : (t₀ t : Table) (k m : ℕ) (l : List Claim) → Formed t₀ → t ≡ withClaims t₀ (t .claims) → m ≡ length (lacking k (model t₀ .pending)) → l ≡ pad vacant (lacking k (model t₀ .pending))
     → (r : Table) → r ≡ counted t m l → (r ≡ encode (remove (model t₀) k)) × Formed r
 unfolding remove
 removed-is t₀ t k m l v e f g r q =

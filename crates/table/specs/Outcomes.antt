@@ -82,5 +82,5 @@ leaving true t k = release t k
 leaving false t k = withdraw t k
 
 -- The claims but that of ticket k.
-abbrev pub without : ℕ → List Claim → List Claim
-without k ps = keep (λ c. not (named k c)) ps
+abbrev pub lacking : ℕ → List Claim → List Claim
+lacking k ps = keep (λ c. not (named k c)) ps

@@ -15,8 +15,8 @@ use crate::claims::start_or_grant;
 use crate::claims::time_left;
 use crate::claims::waiting_from;
 use crate::claims::wide;
-use crate::pool::draw;
 use crate::pool::enter;
+use crate::pool::enter_first_fit;
 use groups::MaybeGroup;
 use rules::Claim;
 use rules::Reply;
@@ -137,7 +137,7 @@ pub(crate) fn place(mut t: Table, w: Claim) -> Placed
             }
             g += 1;
         }
-        draw(&mut starts, &mut ends, k, pool, w.units, clock, w.length)
+        enter_first_fit(&mut starts, &mut ends, k, pool, w.units, clock, w.length)
     };
     t.claims[count] = waiting_from(w, start);
     t.issued = t.issued + 1;

@@ -96,7 +96,7 @@ fn first_fit(
 
 // The first time, not before `from`, at which so many units of a pool are free beside n holds for the whole length; a hold from then on
 // is entered. Cost: the sweep, and two insertions.
-pub(crate) fn draw(
+pub(crate) fn enter_first_fit(
     starts: &mut [u64; 64],
     ends: &mut [u64; 64],
     n: usize,

@@ -12,7 +12,7 @@ use Rattle.rules.specs.declared.Table.{Table}
 use Rattle.rules.specs.Calls.{Model, remove, standingOf}
 use Rattle.rules.specs.Tables.{encode, model, pad, vacant}
 use Rattle.table.specs.Parts.{withClaims, ruledIn}
-use Rattle.table.specs.Outcomes.{departed, without}
+use Rattle.table.specs.Outcomes.{departed, lacking}
 use Rattle.table.specs.Valid.{Formed}
 use Rattle.table.proofs.Rows.{row-small, other-claims}
 use Rattle.table.proofs.Ranges.{model-is, formed-now, formed-claims}
@@ -60,7 +60,7 @@ taken : (c : tie.Joined1 Inv-loop μ-loop Inv-loop2 μ-loop2) →
     let t = c .if1 .t in
     let x = departed (model (c .before .args .t1)) (c .before .args .clock) in
     let k = c .before .args .ticket in
-    (u : Table) (s : Standing) (m : ℕ) (l : List Claim) → u ≡ withClaims t (u .claims) → s ≡ standingOf k (model t .pending) → m ≡ length (without k (model t .pending)) → l ≡ pad vacant (without k (model t .pending))
+    (u : Table) (s : Standing) (m : ℕ) (l : List Claim) → u ≡ withClaims t (u .claims) → s ≡ standingOf k (model t .pending) → m ≡ length (lacking k (model t .pending)) → l ≡ pad vacant (lacking k (model t .pending))
     → (r : Table) → r ≡ counted u m l → (s ≡ standingOf k (x .pending)) × (r ≡ encode (remove x k)) × Formed r
 taken c u s m l e f n g r q =
     let k = c .before .args .ticket in

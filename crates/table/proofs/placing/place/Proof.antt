@@ -211,8 +211,8 @@ loop3-again c =
     (λ k. rw (k .1, k .2, k .3) (omega arith, omega (arith, turn), gather-none _ _ _ _ here (z .loop3 .inv .2) _ (c .before .bars-by .ensures) (k .0 .left)))
     (c .if4 .came)
 
-draw-requires : tie.Need-draw-requires Inv-loop μ-loop Inv-loop2 μ-loop2 Inv-candidates μ-candidates Inv-loop3 μ-loop3
-draw-requires c κs =
+enter-first-fit-requires : tie.Need-enter-first-fit-requires Inv-loop μ-loop Inv-loop2 μ-loop2 Inv-candidates μ-candidates Inv-loop3 μ-loop3
+enter-first-fit-requires c κs =
     let z = c .before .before .before in
     let b = z .before .before .before .before .before .before in
     let p = z .loop3 .inv .2 in
@@ -314,7 +314,7 @@ place-spec =
     (λ c. omega arith)
     (λ c. omega arith)
     loop3-again
-    draw-requires
+    enter-first-fit-requires
     -- waiting-from-requires, mul-t, element-set-from-t, add-t, add-t-2
     (λ c κs. search needs)
     (λ c. omega arith)

@@ -1,10 +1,10 @@
--- `pool::draw` meets its contract: the first fit is no later than the last end, so that the hold can be entered. Assumes nothing.
+-- `pool::enter_first_fit` meets its contract: the first fit is no later than the last end, so that the hold can be entered. Assumes nothing.
 use Prim.Native.Nat.{_≤_}
 use native.Mathlib.Omega.{arith}
 use borrow.Author.Needs.{needs}
 use Rattle.table.proofs.Plots.{fit-early}
-use Rattle.table.proofs.pool.draw.Statement.{statement}
-use Rattle.table.proofs.pool.draw.Tie as tie
+use Rattle.table.proofs.pool.enter_first_fit.Statement.{statement}
+use Rattle.table.proofs.pool.enter_first_fit.Tie as tie
 
 early : (c : tie.After-first-fit) → c .first-fit .result ≤ 3000000000000
 early c = let h = c .before .before .before .pre in fit-early (h .3) (c .first-fit .ensures) (h .5)
@@ -23,5 +23,5 @@ returns c =
     let e = c .enter .ensures in
     (c .before .before .before .first-fit .ensures, e .0, e .1, e .2, e .3)
 
-pub draw-spec : {M : Type 1} → statement M
-draw-spec = tie.close (tie.spec (λ c. omega arith) (λ c. search needs) (λ c κs. search needs) add-enter enter-requires returns)
+pub enter-first-fit-spec : {M : Type 1} → statement M
+enter-first-fit-spec = tie.close (tie.spec (λ c. omega arith) (λ c. search needs) (λ c κs. search needs) add-enter enter-requires returns)
