@@ -21,7 +21,7 @@ use Rattle.rules.proofs.Lists.{Each, sum-le, sum-gap, sum-snoc}
 use Rattle.rules.proofs.Claims.{end-le}
 use Rattle.rules.proofs.Pool.{covers-e, covers-i}
 use Rattle.rules.proofs.Placing.{place-low, place-fits, place-least}
-use Rattle.table.specs.Rows.{Sized, Row, Capped}
+use Rattle.table.specs.Rows.{Sized, InPlaces, Capped}
 use Rattle.table.proofs.Rows.{row-member}
 use Rattle.table.specs.SortKeys.{claimAt, Inserted}
 use Rattle.table.specs.Events.{eventWord, FirstFit}
@@ -91,17 +91,17 @@ module _ (v : Setting) (w c : Claim) (s : ℕ) (long : 1 ≤ w .length) (lasts :
       ⊎-elim (λ q. omega (arith, e .going)) (λ q. omega (arith, e .begun (q .0), q .1)) r
 
 -- ── the planned start ──
-module _ (v : Setting) (l : List Claim) (n : ℕ) (w : Claim) (row : Row v l n) (size : Sized v w) (drawing : 0 < w .units) (least-pool : v .pool ≤ 65535)
+module _ (v : Setting) (l : List Claim) (n : ℕ) (w : Claim) (row : InPlaces v l n) (size : Sized v w) (drawing : 0 < w .units) (least-pool : v .pool ≤ 65535)
     {starts ends : List ℕ} {k s : ℕ} (plot : Plot (v .clock) starts ends k (λ x. barred v w x (take n l)))
     (first : FirstFit 0 (take k starts) (take k ends) (v .pool - w .units) (v .clock) (w .length) s) where
   small : Each (λ c. c .units ≤ 65535) (take n l)
-  small c m = omega (arith, row .sized c m .sane .drawn)
+  small c m = omega (arith, row .ranges .sized c m .sane .drawn)
 
   fits-at : Fits v (take n l) w s
   fits-at =
       let drawn = size .sane .drawn in
       record {
-        room = λ c m h. room-clear v w c s (size .sane .long) (claim-long v c (row .sized c m)) (λ x a b q.
+        room = λ c m h. room-clear v w c s (size .sane .long) (claim-long v c (row .ranges .sized c m)) (λ x a b q.
             within-rival v (take n l) w small (v .pool - w .units) x (omega arith) (fit-room plot _ _ _ s (omega arith) first x a b) c m q h);
         spare = λ z x a b. omega (arith, within-used v (take n l) w small (v .pool - w .units) x (fit-room plot _ _ _ s (omega arith) first x a b));
       }
@@ -114,7 +114,7 @@ module _ (v : Setting) (l : List Claim) (n : ℕ) (w : Claim) (row : Row v l n) 
         place-least v (take n l) w (size .sane) s (fit-low plot _ _ _ s (omega arith) first) fits-at,
         fit-least plot _ _ _ s (omega arith) first (place v (take n l) w) (place-low v (take n l) w) (λ x a b.
             within v (take n l) w small (v .pool - w .units) x
-            (λ c m q h. clear-room v w c (place v (take n l) w) (size .sane .long) (claim-long v c (row .sized c m)) (p .room c m h) x a b q)
+            (λ c m q h. clear-room v w c (place v (take n l) w) (size .sane .long) (claim-long v c (row .ranges .sized c m)) (p .room c m h) x a b q)
             (omega (arith, p .spare drawing x a b))),
       )
 
@@ -156,9 +156,9 @@ pub gather-start : (v : Setting) (w : Claim) (claims : List Claim) → Plot (v .
 unfolding barred sum
 gather-start v w claims = plot-none
 
-pub claim-early : (v : Setting) (claims : List Claim) (n : ℕ) → Row v claims n → Capped (take n claims) → (g : ℕ) → g < n
+pub claim-early : (v : Setting) (claims : List Claim) (n : ℕ) → InPlaces v claims n → Capped (take n claims) → (g : ℕ) → g < n
     → (at (claimAt claims g) ≤ 1000300000000) × (endOf v (claimAt claims g) ≤ 3000000000000)
 claim-early v claims n row low g h =
     let m = row-member row g h in
     let c = claimAt claims g in
-    (low c m, end-le v c 3000000000000 (omega (arith, low c m, row .sized c m .short)) (omega (arith, row .timely, row .lenient)))
+    (low c m, end-le v c 3000000000000 (omega (arith, low c m, row .ranges .sized c m .short)) (omega (arith, row .ranges .timely, row .ranges .lenient)))

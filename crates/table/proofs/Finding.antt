@@ -24,7 +24,7 @@ module _ (t : Table) (k : ℕ) (v : Formed t) where
   found-here i h e =
       record {
         within = omega arith;
-        here = λ _. ap (λ (x : ℕ). keep (named x) (model t .pending)) (sym e) ∙ one-named (model t .pending) (v .ranged .ascending) _ (row-member (formed-now t v) i h);
+        here = λ _. ap (λ (x : ℕ). keep (named x) (model t .pending)) (sym e) ∙ one-named (model t .pending) (v .ranged .ranges .ascending) _ (row-member (formed-now t v) i h);
         none = λ q. absurd (omega arith);
       }
 

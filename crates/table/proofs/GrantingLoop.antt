@@ -26,7 +26,7 @@ use Rattle.rules.specs.Tables.{vacant, pad}
 use Rattle.rules.proofs.Bools.{by-test, clash, both-ways, or-e, or-r}
 use Rattle.rules.proofs.Lists.{Each, keep-length, sum-snoc}
 use Rattle.rules.proofs.Granting.{granted-cases, grant-length, goes-at, goes-truly-free, goes-quick, taken-front}
-use Rattle.table.specs.Rows.{Row, rewritten}
+use Rattle.table.specs.Rows.{InPlaces, rewritten}
 use Rattle.table.specs.Holders.{holds, Held, HeldWith, goesAt}
 use Rattle.rules.proofs.Places.{prefix-end, Storing, store-start, store-more, store-same, store-end, pad-stored}
 use Rattle.table.proofs.Rows.{row-count, row-step}
@@ -90,7 +90,7 @@ taken v ps c = cond (goes v ps c) (c .units) 0
 
 -- The first i of n claims are done: the row is now `new`, the first m of `out` are tickets, and so many units are still free.
 pub record Written (v : Setting) (l : List Claim) (n i : ℕ) (new : List Claim) (m : ℕ) (out : List ℕ) (free : ℕ) : Type 0 where
-  pub row : Row v l n
+  pub row : InPlaces v l n
   pub within : i ≤ n
   pub fewer : m ≤ i
   pub rest : (j : ℕ) → i ≤ j → getD new j vacant ≡ getD l j vacant
@@ -98,7 +98,7 @@ pub record Written (v : Setting) (l : List Claim) (n i : ℕ) (new : List Claim)
   pub filled : Storing (replicate 64 0) (grants v (take n l)) (tickets v (take n l) (drop i (take n l))) m out
   pub spent : free + heldUnits (take n l) + sum (taken v (take n l)) (take i (take n l)) ≡ v .pool
 
-pub written-start : {v : Setting} {l : List Claim} {n : ℕ} → Row v l n → (free : ℕ) → free + heldUnits (take n l) ≡ v .pool → Written v l n 0 l 0 (replicate 64 0) free
+pub written-start : {v : Setting} {l : List Claim} {n : ℕ} → InPlaces v l n → (free : ℕ) → free + heldUnits (take n l) ≡ v .pool → Written v l n 0 l 0 (replicate 64 0) free
 unfolding grants grant sum
 written-start r free e = record { spent = omega arith; row = r; within = omega arith; fewer = omega arith; rest = λ j h. refl; claims = store-start; filled = store-start }
 
@@ -124,7 +124,7 @@ module _ {v : Setting} {l : List Claim} {n i : ℕ} {new : List Claim} {m : ℕ}
     before-next a =
         subst
         (λ (ps : List Claim). Each (Sane v) ps → Ascending ps → sum (takenBefore (goes v ps) next) ps ≡ sum (taken v ps) (take i pending)) (sym around)
-        (λ s u. taken-front v (take i pending) (drop (suc i) pending) next s u a) (λ d j. w .row .sized d j .sane) (w .row .ascending)
+        (λ s u. taken-front v (take i pending) (drop (suc i) pending) next s u a) (λ d j. w .row .ranges .sized d j .sane) (w .row .ranges .ascending)
 
     -- The units free tell whether its units are truly free.
     free-is : at next ≡ v .clock → trulyFree v pending (goes v pending) next ≡ leb (next .units) free

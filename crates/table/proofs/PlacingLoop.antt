@@ -30,7 +30,7 @@ use Rattle.rules.proofs.Bools.{by-test, clash, and-l, and-i, or-e, or-l, or-r, 
 use Rattle.rules.proofs.Lists.{all-i}
 use Rattle.rules.proofs.Pool.{spare-none}
 use Rattle.rules.proofs.Placing.{barred, fits-e, place-fits, place-least}
-use Rattle.table.specs.Rows.{Row}
+use Rattle.table.specs.Rows.{InPlaces}
 use Rattle.table.specs.declared.placing.Placed.{Placed}
 use Rattle.table.specs.SortKeys.{claimAt}
 use Rattle.table.proofs.Sorting.{place-of}
@@ -146,7 +146,7 @@ pub record Counted (v : Setting) (w : Claim) (ps rest : List Claim) (count time 
   pub few : contention ps w ≤ 64
   pub short : sum (remaining v) (rivals ps w) ≤ 230400000
 
-pub count-none : {v : Setting} {l : List Claim} (n : ℕ) (w : Claim) → Row v l n → Counted v w (take n l) (take n l) 0 0
+pub count-none : {v : Setting} {l : List Claim} (n : ℕ) (w : Claim) → InPlaces v l n → Counted v w (take n l) (take n l) 0 0
 count-none {v} {l} n w r = record { number = omega arith; total = omega arith; few = rivals-few v l n w r; short = time-short v l n w r }
 
 module _ {v : Setting} {w : Claim} {ps : List Claim} where

@@ -38,7 +38,7 @@ pub record ClaimsByTicket (t : Table) : Type 0 where
   pub meant : take (t .count) (t .claims) ≡ model t .pending
 
 pub claims-by-ticket : (t : Table) → Valid t → ClaimsByTicket t
-claims-by-ticket t v = record { places = formed-length t (v .formed); few = formed-few t (v .formed); ascending = v .formed .ranged .ascending; meant = refl }
+claims-by-ticket t v = record { places = formed-length t (v .formed); few = formed-few t (v .formed); ascending = v .formed .ranged .ranges .ascending; meant = refl }
 
 -- A table between calls is the one that its meaning encodes: nothing stands after the claims.
 pub valid-whole : (t : Table) → Valid t → encode (model t) ≡ t

@@ -34,7 +34,7 @@ use Rattle.rules.proofs.Granting.{granted-cases, granted-ticket, grant-stock}
 use Rattle.rules.proofs.Invariants.{Later, later-sane}
 use Rattle.rules.proofs.Sizes.{start-cap}
 use Rattle.rules.proofs.Placing.{place-is}
-use Rattle.table.specs.Rows.{Sized, Row, Capped}
+use Rattle.table.specs.Rows.{Sized, InRange, InPlaces, Capped}
 use Rattle.table.specs.Parts.{ruledIn}
 use Rattle.table.specs.Valid.{Ranged, Formed}
 use Rattle.rules.proofs.Places.{pad-length, pad-take}
@@ -48,27 +48,39 @@ sized-later v u c l s = record { sane = later-sane l (s .sane); short = s .short
 pub sized-waiting : {v : Setting} {s : ℕ} {c : Claim} → Sized v c → s ≤ 2000000000000 → Sized v (withPhase c (Waiting s))
 sized-waiting z h = record { sane = record { long = z .sane .long; small = z .sane .small; drawn = z .sane .drawn }; short = z .short; aged = λ o. clash o refl; planned = λ o. h }
 
+-- Claims in range at a later clock, or with another grace.
+pub in-range-later : {v u : Setting} {ps : List Claim} → Later v u → u .clock ≤ mostClock → u .grace ≤ mostGrace → InRange v ps → InRange u ps
+in-range-later {v} {u} l h g r = record {
+  few = r .few;
+  timely = h;
+  ascending = r .ascending;
+  sized = λ c m. sized-later v u c l (r .sized c m);
+  pooled = omega (arith, r .pooled, l .same);
+  stock = omega (arith, r .stock, l .same);
+  lenient = g;
+}
+
 -- A packed start is at most the latest clock and 65 lengths: no grace is longer than the longest length.
-pub start-small : (v : Setting) (ps : List Claim) → v .clock ≤ mostClock → v .grace ≤ mostGrace → length ps ≤ 64 → Each (Sized v) ps → (c : Claim) → c ∈ ps → on c ≡ false
-    → packedStart v ps c ≤ 1000300000000
-start-small v ps h l few sized c m o =
-    omega (arith, start-cap v 1000003600000 ps (λ d i. sized d i .sane) (omega arith) ends c m o, sum-le-each (λ c. c .length) mostLength ps (λ d i. sized d i .short))
+pub start-small : {v : Setting} {ps : List Claim} → InRange v ps → (c : Claim) → c ∈ ps → on c ≡ false → packedStart v ps c ≤ 1000300000000
+start-small {v} {ps} r c m o =
+    omega (arith, start-cap v 1000003600000 ps (λ d i. r .sized d i .sane) (omega (arith, r .timely)) ends c m o, sum-le-each (λ c. c .length) mostLength ps (λ d i. r .sized d i .short), r .few)
   where
     ends : (d : Claim) → d ∈ ps → on d ≡ true → endOf v d ≤ 1000003600000
-    ends d i q = end-le v d 1000003600000 (omega (arith, sized d i .aged q, sized d i .short)) (omega arith)
+    ends d i q = end-le v d 1000003600000 (omega (arith, r .sized d i .aged q, r .sized d i .short, r .timely)) (omega (arith, r .timely, r .lenient))
 
-pub packed-small : (v : Setting) (claims : List Claim) (n : ℕ) → Row v claims n → (c : Claim) → c ∈ take n claims
+pub packed-small : (v : Setting) (claims : List Claim) (n : ℕ) → InPlaces v claims n → (c : Claim) → c ∈ take n claims
     → at (moved (packedStart v (take n claims)) c) ≤ 1000000000000000000
 packed-small v claims n row c m =
+    let r = row .ranges in
     moved-cases (λ (d : Claim). at d ≤ 1000000000000000000) (packedStart v (take n claims)) c
-    (λ o. sized-small v c (row .timely) (row .sized c m))
-    (λ o. omega (arith, start-small v (take n claims) (row .timely) (row .lenient) (omega (arith, row .few, length-take n claims)) (row .sized) c m o))
+    (λ o. sized-small v c (r .timely) (r .sized c m))
+    (λ o. omega (arith, start-small r c m o))
 
 -- ── the conflicting claims, their remaining time, the start bound and the planned start ──
 pub remaining-short : (v : Setting) (c : Claim) → v .grace ≤ mostGrace → Sized v c → remaining v c ≤ mostLength
 remaining-short v c l s = remaining-le v c mostLength (s .aged) (s .short) (omega arith)
 
-module _ (v : Setting) (l : List Claim) (n : ℕ) (w : Claim) (r : Row v l n) where
+module _ (v : Setting) (l : List Claim) (n : ℕ) (w : Claim) (r : InPlaces v l n) where
   pub rivals-few : contention (take n l) w ≤ 64
   unfolding contention
   rivals-few = omega (arith, keep-length (λ c. rival c w) (take n l), length-take n l, r .few)
@@ -78,18 +90,18 @@ module _ (v : Setting) (l : List Claim) (n : ℕ) (w : Claim) (r : Row v l n) wh
   time-short = omega (arith, rivals-few, sum-le-each (remaining v) mostLength (rivals (take n l) w) short)
     where
       short : Each (λ c. remaining v c ≤ mostLength) (rivals (take n l) w)
-      short c m = remaining-short v c (r .lenient) (r .sized c (keep-e (λ d. rival d w) (take n l) m .0))
+      short c m = remaining-short v c (r .ranges .lenient) (r .ranges .sized c (keep-e (λ d. rival d w) (take n l) m .0))
 
   pub bound-small : Sized v w → startBound v (take n l) w ≤ 2000000000000
   unfolding startBound
-  bound-small s = omega (arith, time-short, mul-le-mul-right (w .length - 1) rivals-few, r .timely, s .short)
+  bound-small s = omega (arith, time-short, mul-le-mul-right (w .length - 1) rivals-few, r .ranges .timely, s .short)
 
   -- A planned start is the clock or an end.
   pub place-small : Sized v w → Capped (take n l) → place v (take n l) w ≤ 2000000000000
   place-small s low =
       ⊎-elim
-      (λ e. omega (arith, r .timely))
-      (λ e. omega (arith, e .3, end-le v (e .0) 1000303600000 (omega (arith, low (e .0) (e .1), r .sized (e .0) (e .1) .short)) (omega (arith, r .timely, r .lenient))))
+      (λ e. omega (arith, r .ranges .timely))
+      (λ e. omega (arith, e .3, end-le v (e .0) 1000303600000 (omega (arith, low (e .0) (e .1), r .ranges .sized (e .0) (e .1) .short)) (omega (arith, r .ranges .timely, r .ranges .lenient))))
       (place-is v (take n l) w (s .sane))
 
 -- ── tables and models ──
@@ -111,66 +123,69 @@ module _ (t : Table) (v : Formed t) where
   formed-claims = ap (λ (x : Table). x .claims) (v .whole)
 
   pub formed-few : t .count ≤ 64
-  formed-few = omega (arith, formed-count, v .ranged .few)
+  formed-few = omega (arith, formed-count, v .ranged .ranges .few)
 
   pub formed-length : length (t .claims) ≡ 64
-  formed-length = sym (ap length formed-claims) ∙ pad-length vacant (model t .pending) (v .ranged .few)
+  formed-length = sym (ap length formed-claims) ∙ pad-length vacant (model t .pending) (v .ranged .ranges .few)
 
   pub formed-sane : (u : ℕ) → Each (Sane (ruledIn t u)) (model t .pending)
-  formed-sane u c m = let s = v .ranged .sized c m .sane in record { long = s .long; small = s .small; drawn = s .drawn }
+  formed-sane u c m = let s = v .ranged .ranges .sized c m .sane in record { long = s .long; small = s .small; drawn = s .drawn }
 
 -- The row of a table, at its clock or a later one.
-pub formed-row : (t : Table) (u : ℕ) → Formed t → t .clock ≤ u → u ≤ mostClock → Row (ruledIn t u) (t .claims) (t .count)
+pub formed-row : (t : Table) (u : ℕ) → Formed t → t .clock ≤ u → u ≤ mostClock → InPlaces (ruledIn t u) (t .claims) (t .count)
 formed-row t u v l k = record {
   places = formed-length t v;
   few = formed-few t v;
-  timely = k;
-  ascending = v .ranged .ascending;
-  sized = λ c m. sized-later (settingOf (model t)) (ruledIn t u) c (record { later = l; same = refl }) (v .ranged .sized c m);
-  pooled = v .ranged .pooled;
-  stock = v .ranged .stock;
-  lenient = v .ranged .lenient;
+  ranges = in-range-later (record { later = l; same = refl }) k (v .ranged .ranges .lenient) (v .ranged .ranges);
 }
 
-pub formed-now : (t : Table) → Formed t → Row (ruledIn t (t .clock)) (t .claims) (t .count)
-formed-now t v = formed-row t (t .clock) v (omega arith) (v .ranged .timely)
+pub formed-now : (t : Table) → Formed t → InPlaces (ruledIn t (t .clock)) (t .claims) (t .count)
+formed-now t v = formed-row t (t .clock) v (omega arith) (v .ranged .ranges .timely)
 
 -- ── new ──
 pub blank-ranged : (g k : ℕ) (alone : Bool) → k ≤ mostUnits → Ranged (blank g k alone)
 unfolding heldUnits sum
-blank-ranged g k alone h = record { pooled = h; few = omega arith; timely = omega arith; numbered = omega arith; ascending = tt; sized = λ c m. none m; issued = λ c m. none m; stock = omega arith; lenient = omega arith }
+blank-ranged g k alone h = record {
+  ranges = record { few = omega arith; timely = omega arith; ascending = tt; sized = λ c m. none m; pooled = h; stock = omega arith; lenient = omega arith };
+  numbered = omega arith;
+  issued = λ c m. none m;
+}
 
 -- ── claims that change one by one, and keep their tickets ──
 map-ranged : (m : Model) (t : ℕ) (f : Claim → Claim) → Ranged m → t ≤ mostClock → ((c : Claim) → f c .ticket ≡ c .ticket) → Each (λ c. Sized (ruled m t) (f c)) (m .pending) → heldUnits (map f (m .pending)) ≤ m .pool
     → Ranged (withPending (withClock m t) (map f (m .pending)))
-map-ranged m t f r k e h s = record {
-  few = omega (arith, length-map (m .pending) f, r .few);
-  timely = k;
-  numbered = r .numbered;
-  ascending = ascending-map f (m .pending) e (r .ascending);
-  sized = map-each (Sized (ruled m t)) f (m .pending) h;
-  issued = map-each (λ (c : Claim). c .ticket ≤ m .issued) f (m .pending) (λ c i. omega (arith, e c, r .issued c i));
-  pooled = r .pooled;
-  stock = s;
-  lenient = r .lenient;
-}
+map-ranged m t f r k e h s =
+    let q = r .ranges in
+    record {
+      ranges = record {
+        few = omega (arith, length-map (m .pending) f, q .few);
+        timely = k;
+        ascending = ascending-map f (m .pending) e (q .ascending);
+        sized = map-each (Sized (ruled m t)) f (m .pending) h;
+        pooled = q .pooled;
+        stock = s;
+        lenient = q .lenient;
+      };
+      numbered = r .numbered;
+      issued = map-each (λ (c : Claim). c .ticket ≤ m .issued) f (m .pending) (λ c i. omega (arith, e c, r .issued c i));
+    }
 
 pub advance-ranged : (m : Model) (t : ℕ) → Ranged m → m .clock ≤ t → t ≤ mostClock → Ranged (advance m t)
 unfolding advance pack
 advance-ranged m t r l k =
     let f = packedStart (ruled m t) (m .pending) in
-    let later : Each (Sized (ruled m t)) (m .pending) = λ c i. sized-later (settingOf m) (ruled m t) c (record { later = l; same = refl }) (r .sized c i) in
+    let q : InRange (ruled m t) (m .pending) = in-range-later (record { later = l; same = refl }) k (r .ranges .lenient) (r .ranges) in
     map-ranged m t (moved f) r k (moved-ticket f)
-    (λ c i. moved-cases (Sized (ruled m t)) f c (λ o. later c i) (λ o. sized-waiting (later c i) (omega (arith, start-small (ruled m t) (m .pending) k (r .lenient) (r .few) later c i o))))
-    (omega (arith, pack-held (ruled m t) (m .pending), r .stock))
+    (λ c i. moved-cases (Sized (ruled m t)) f c (λ o. q .sized c i) (λ o. sized-waiting (q .sized c i) (omega (arith, start-small q c i o))))
+    (omega (arith, pack-held (ruled m t) (m .pending), r .ranges .stock))
 
 pub grant-ranged : (m : Model) (r : Reply) → Ranged m → Ranged (granting m r (m .pending) .model)
 unfolding grant
 grant-ranged m rep r =
     let v = settingOf m in
-    map-ranged m (m .clock) (granted v (m .pending)) r (r .timely) (granted-ticket v (m .pending))
-    (λ c i. granted-cases (Sized v) v (m .pending) c (λ g. held c (r .sized c i)) (λ g. r .sized c i))
-    (grant-stock v (m .pending) (λ c i. r .sized c i .sane) (r .ascending) (r .stock))
+    map-ranged m (m .clock) (granted v (m .pending)) r (r .ranges .timely) (granted-ticket v (m .pending))
+    (λ c i. granted-cases (Sized v) v (m .pending) c (λ g. held c (r .ranges .sized c i)) (λ g. r .ranges .sized c i))
+    (grant-stock v (m .pending) (λ c i. r .ranges .sized c i .sane) (r .ranges .ascending) (r .ranges .stock))
   where
     held : (c : Claim) → Sized (settingOf m) c → Sized (settingOf m) (withPhase c (On (m .clock)))
     held c s = record { sane = record { long = s .sane .long; small = s .sane .small; drawn = s .sane .drawn }; short = s .short; aged = λ o. omega arith; planned = λ o. clash refl o }
@@ -180,28 +195,35 @@ pub remove-ranged : (m : Model) (k : ℕ) → Ranged m → Ranged (remove m k)
 unfolding remove heldUnits
 remove-ranged m k r =
     let p : Claim → Bool = λ c. not (named k c) in
+    let q = r .ranges in
     record {
-      few = omega (arith, keep-length p (m .pending), r .few);
-      timely = r .timely;
+      ranges = record {
+        few = omega (arith, keep-length p (m .pending), q .few);
+        timely = q .timely;
+        ascending = ascending-keep p (m .pending) (q .ascending);
+        sized = λ c i. q .sized c (keep-e p (m .pending) i .0);
+        pooled = q .pooled;
+        stock = omega (arith, q .stock, sum-keep-le heldBy p (m .pending));
+        lenient = q .lenient;
+      };
       numbered = r .numbered;
-      ascending = ascending-keep p (m .pending) (r .ascending);
-      sized = λ c i. r .sized c (keep-e p (m .pending) i .0);
       issued = λ c i. r .issued c (keep-e p (m .pending) i .0);
-      pooled = r .pooled;
-      stock = omega (arith, r .stock, sum-keep-le heldBy p (m .pending));
-      lenient = r .lenient;
     }
 
 pub join-ranged : (m : Model) (w : Claim) → Ranged m → length (m .pending) < mostPending → m .issued < mostTickets → Sized (settingOf m) w → on w ≡ false → w .ticket ≡ suc (m .issued) → Ranged (join m w)
 unfolding join heldUnits
-join-ranged m w r few spare s o e = record {
-  few = omega (arith, length-append (m .pending) (w ∷ []));
-  timely = r .timely;
-  numbered = omega arith;
-  ascending = ascending-snoc (m .pending) w (r .ascending) (λ c i. omega (arith, r .issued c i));
-  sized = snoc-each (Sized (settingOf m)) (m .pending) w (r .sized) s;
-  issued = snoc-each (λ (c : Claim). c .ticket ≤ suc (m .issued)) (m .pending) w (λ c i. omega (arith, r .issued c i)) (omega arith);
-  pooled = r .pooled;
-  stock = let z : heldBy w ≡ 0 = rw o in omega (arith, r .stock, sum-snoc heldBy (m .pending) w);
-  lenient = r .lenient;
-}
+join-ranged m w r few spare s o e =
+    let q = r .ranges in
+    record {
+      ranges = record {
+        few = omega (arith, length-append (m .pending) (w ∷ []));
+        timely = q .timely;
+        ascending = ascending-snoc (m .pending) w (q .ascending) (λ c i. omega (arith, r .issued c i));
+        sized = snoc-each (Sized (settingOf m)) (m .pending) w (q .sized) s;
+        pooled = q .pooled;
+        stock = let z : heldBy w ≡ 0 = rw o in omega (arith, q .stock, sum-snoc heldBy (m .pending) w);
+        lenient = q .lenient;
+      };
+      numbered = omega arith;
+      issued = snoc-each (λ (c : Claim). c .ticket ≤ suc (m .issued)) (m .pending) w (λ c i. omega (arith, r .issued c i)) (omega arith);
+    }

@@ -18,7 +18,7 @@ use Rattle.rules.specs.Tests.{named}
 use Rattle.rules.specs.Calls.{standing, standingOf}
 use Rattle.rules.specs.Tables.{vacant, pad}
 use Rattle.rules.proofs.Lists.{Each, here, there, keep-length, ascends-drop}
-use Rattle.table.specs.Rows.{Row}
+use Rattle.table.specs.Rows.{InPlaces}
 use Rattle.rules.proofs.Places.{prefix-end, pad-over, pad-less, Storing, store-start, store-more, store-end}
 use Rattle.table.proofs.Rows.{row-count, row-step}
 use Rattle.table.specs.Outcomes.{lacking}
@@ -36,7 +36,7 @@ module _ (k : ℕ) (c : Claim) (l : List Claim) where
 -- Of the claims l, n of them, the first i are done, and m of these stay: they are the first m of `new`, in which all else is as it was.
 -- The ticket k is still to come, or s is how it stands, and it does not come again.
 pub record Taking (k : ℕ) (v : Setting) (l : List Claim) (n i : ℕ) (s : Standing) (m : ℕ) (new : List Claim) : Type 0 where
-  pub row : Row v l n
+  pub row : InPlaces v l n
   pub within : i ≤ n
   pub fewer : m ≤ i
   pub rest : (j : ℕ) → i ≤ j → getD new j vacant ≡ getD l j vacant
@@ -44,7 +44,7 @@ pub record Taking (k : ℕ) (v : Setting) (l : List Claim) (n i : ℕ) (s : Stan
   pub told : ((m ≡ i) × (s ≡ NotPending) × (standingOf k (drop i (take n l)) ≡ standingOf k (take n l)))
       ⊎ ((m + 1 ≡ i) × (s ≡ standingOf k (take n l)) × Each (λ d. d .ticket ≢ k) (drop i (take n l)))
 
-pub taking-start : {k : ℕ} {v : Setting} {l : List Claim} {n : ℕ} → Row v l n → Taking k v l n 0 NotPending 0 l
+pub taking-start : {k : ℕ} {v : Setting} {l : List Claim} {n : ℕ} → InPlaces v l n → Taking k v l n 0 NotPending 0 l
 taking-start r = record { row = r; within = omega arith; fewer = omega arith; rest = λ j h. refl; stays = store-start; told = inl (refl, refl, refl) }
 
 module _ {k : ℕ} {v : Setting} {l : List Claim} {n i : ℕ} {s : Standing} {m : ℕ} {new : List Claim} (w : Taking k v l n i s m new) where
@@ -103,7 +103,7 @@ module _ {k : ℕ} {v : Setting} {l : List Claim} {n i : ℕ} {s : Standing} {m 
               (λ b. inr (
                 omega (arith, b .0),
                 q ∙ ap standing taking-rest ∙ (found k next behind e ∙ ap (standingOf k) (sym here-next) ∙ b .2),
-                λ d j z. omega (arith, subst Ascending here-next (ascends-drop (λ (c : Claim). c .ticket) i pending (w .row .ascending)) .0 d j, e, z),
+                λ d j z. omega (arith, subst Ascending here-next (ascends-drop (λ (c : Claim). c .ticket) i pending (w .row .ranges .ascending)) .0 d j, e, z),
               ))
               (λ b. absurd (b .2 next (rw here-next here) e))
               (w .told);
@@ -162,11 +162,11 @@ later-in (y ∷ l) (suc j) (suc i) h m = later-in l j i (omega arith) m
 -- Of the claims l, n of them, the first i were looked at. The ticket k is still to come, and r is n; or its claim is at place r, and s is how
 -- it stands. None was moved.
 pub record Looking (k : ℕ) (v : Setting) (l : List Claim) (n i : ℕ) (s : Standing) (r : ℕ) : Type 0 where
-  pub row : Row v l n
+  pub row : InPlaces v l n
   pub within : i ≤ n
   pub found : ((r ≡ n) × (s ≡ NotPending) × Taking k v l n i s i l) ⊎ ((r < i) × Taking k v l n (r + 1) s r l)
 
-pub looking-start : {k : ℕ} {v : Setting} {l : List Claim} {n : ℕ} → Row v l n → Looking k v l n 0 NotPending n
+pub looking-start : {k : ℕ} {v : Setting} {l : List Claim} {n : ℕ} → InPlaces v l n → Looking k v l n 0 NotPending n
 looking-start r = record { row = r; within = omega arith; found = inl (refl, refl, taking-start r) }
 
 module _ {k : ℕ} {v : Setting} {l : List Claim} {n i : ℕ} {s : Standing} {r : ℕ} (w : Looking k v l n i s r) where

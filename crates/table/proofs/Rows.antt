@@ -14,14 +14,14 @@ use Rattle.rules.specs.Claims.{on, at}
 use Rattle.rules.specs.Tables.{vacant}
 use Rattle.rules.proofs.Bools.{by-test}
 use Rattle.rules.proofs.Places.{prefix-step, prefix-end, in-prefix}
-use Rattle.table.specs.Rows.{Sized, Row}
+use Rattle.table.specs.Rows.{Sized, InPlaces}
 use Rattle.table.specs.Parts.{withClaims}
 
 -- ── a row's claims are in range ──
 pub sized-small : (v : Setting) (c : Claim) → v .clock ≤ mostClock → Sized v c → at c ≤ 1000000000000000000
 sized-small v c h s = by-test (on c) (λ o. omega (arith, s .aged o)) (λ o. omega (arith, s .planned o))
 
-module _ {v : Setting} {l : List Claim} {n : ℕ} (r : Row v l n) where
+module _ {v : Setting} {l : List Claim} {n : ℕ} (r : InPlaces v l n) where
   pub row-count : length (take n l) ≡ n
   row-count = length-take-le n l (omega (arith, r .few, r .places))
 
@@ -33,18 +33,18 @@ module _ {v : Setting} {l : List Claim} {n : ℕ} (r : Row v l n) where
   row-member i h = in-prefix vacant l n i h (omega (arith, r .few, r .places))
 
   pub row-sized : (i : ℕ) → i < n → Sized v (getD l i vacant)
-  row-sized i h = r .sized _ (row-member i h)
+  row-sized i h = r .ranges .sized _ (row-member i h)
 
   pub row-small : (i : ℕ) → i < n → at (getD l i vacant) ≤ 1000000000000000000
-  row-small i h = sized-small v _ (r .timely) (row-sized i h)
+  row-small i h = sized-small v _ (r .ranges .timely) (row-sized i h)
 
 -- ── reading a row front to back: P holds of the claims that are left at place i ──
 pub record Left (P : List Claim → Type 0) (v : Setting) (l : List Claim) (n i : ℕ) : Type 0 where
-  pub row : Row v l n
+  pub row : InPlaces v l n
   pub within : i ≤ n
   pub holds : P (drop i (take n l))
 
-pub left-start : {P : List Claim → Type 0} {v : Setting} {l : List Claim} {n : ℕ} → Row v l n → P (take n l) → Left P v l n 0
+pub left-start : {P : List Claim → Type 0} {v : Setting} {l : List Claim} {n : ℕ} → InPlaces v l n → P (take n l) → Left P v l n 0
 left-start r p = record { row = r; within = omega arith; holds = p }
 
 module _ {P : List Claim → Type 0} {v : Setting} {l : List Claim} {n i : ℕ} (w : Left P v l n i) where

@@ -94,8 +94,7 @@ abbrev pub withShares : Table → List Share → Table
 withShares t ss = record { rig = t .rig; clock = t .clock; pool = t .pool; issued = t .issued; grace = t .grace; shares = ss; count = t .count; claims = t .claims }
 
 declared-ranged : (m : Model) (c r l : ℕ) → Ranged m → Ranged (declared m c r l)
-declared-ranged m c r l h =
-    record { few = h .few; timely = h .timely; numbered = h .numbered; ascending = h .ascending; sized = h .sized; issued = h .issued; pooled = h .pooled; stock = h .stock; lenient = h .lenient }
+declared-ranged m c r l h = record { ranges = h .ranges; numbered = h .numbered; issued = h .issued }
 
 pub declared-is : (t : Table) (c r l : ℕ) (o : Outcome) → Valid t → firstOf (tests (model t) (declare c r l)) ≡ 0
     → o ≡ answeringIn (withShares t (set (t .shares) (c - 1) (share r l))) 0 → (o ≡ outcome (step (model t) (declare c r l))) × Valid (o .table)

@@ -39,7 +39,7 @@ use Rattle.rules.proofs.Packing.{pack-length, pack-holders, pack-idle, moved-ca
 use Rattle.rules.proofs.Repacking.{NoneDraws}
 use Rattle.rules.proofs.Granting.{grant-length}
 use Rattle.rules.proofs.OnePacking.{advance-still, join-still, leave-once, finish-advanced}
-use Rattle.table.specs.Rows.{Sized, Row, Capped}
+use Rattle.table.specs.Rows.{Sized, InPlaces, Capped}
 use Rattle.rules.proofs.Places.{pad-take, pad-over, pad-more}
 use Rattle.table.specs.declared.granting.Granted.{Granted}
 use Rattle.table.specs.declared.placing.Placed.{Placed}
@@ -47,7 +47,7 @@ use Rattle.table.specs.Parts.{withClaims, ruledIn, atClock, packedTable,
 use Rattle.table.specs.declared.Outcome.{Outcome}
 use Rattle.table.specs.Valid.{Ranged, Formed, Valid}
 use Rattle.table.specs.Outcomes.{outcome, answeringIn, timeNumber, pastEnd, departed, leaving, lacking}
-use Rattle.table.proofs.Ranges.{sized-later, sized-waiting, start-small, place-small, model-is, formed-now, formed-is, formed-count, formed-sane, blank-ranged, advance-ranged, remove-ranged, join-ranged, grant-ranged}
+use Rattle.table.proofs.Ranges.{in-range-later, sized-waiting, start-small, place-small, model-is, formed-now, formed-is, formed-count, formed-sane, blank-ranged, advance-ranged, remove-ranged, join-ranged, grant-ranged}
 use Rattle.table.proofs.Tests.{timed-passes, step-refused, step-accepted}
 
 -- ── refusals ──
@@ -92,8 +92,7 @@ unfolding act
 graced-is t n r v z e =
     let h = v .formed .ranged in
     prepared-is t (graced t n) (setGrace n) (withGrace (model t) n) r v z refl (ap (λ (x : Table). graced x n) (sym (v .formed .whole)))
-    (record { few = h .few; timely = h .timely; numbered = h .numbered; ascending = h .ascending; sized = λ c m. sized-later (settingOf (model t)) (settingOf (withGrace (model t) n)) c (record { later = omega arith; same = refl }) (h .sized c m); issued = h .issued; pooled = h .pooled; stock = h .stock; lenient = settable (model t) n z .lenient })
-    e
+    (record { ranges = in-range-later (record { later = omega arith; same = refl }) (h .ranges .timely) (settable (model t) n z .lenient) (h .ranges); numbered = h .numbered; issued = h .issued }) e
 
 -- ── new ──
 -- The table that the code makes for a rig and a pool.
@@ -142,7 +141,7 @@ packed-is m u =
 advanced-to : (t : Table) (u : ℕ) → Formed t → t .clock ≤ u → u ≤ mostClock → (r : Table) → r ≡ encode (advance (model t) u)
     → (r ≡ encode (advance (model t) u)) × Formed r × Still (model r)
 advanced-to t u v a b r e =
-    (e, formed-is r _ e (advance-ranged (model t) u (v .ranged) a b), subst Still (sym (model-is r _ e)) (advance-still (model t) u (formed-sane t v u) (v .ranged .ascending) (v .ranged .stock)))
+    (e, formed-is r _ e (advance-ranged (model t) u (v .ranged) a b), subst Still (sym (model-is r _ e)) (advance-still (model t) u (formed-sane t v u) (v .ranged .ranges .ascending) (v .ranged .ranges .stock)))
 
 pub advanced-is : (t : Table) (u : ℕ) → Formed t → t .clock ≤ u → u ≤ mostClock → (r : Table) → r ≡ packedTable (ruledIn t u) t
     → (r ≡ encode (advance (model t) u)) × Formed r × Still (model r)
@@ -175,7 +174,7 @@ none-waits-idle v ps none = pack-holders v ps (λ c m. not-false (on c) (any-non
 
 -- Nobody waits for units where there are none.
 no-pool-draws : (t : Table) → Formed t → t .pool ≡ 0 → NoneDraws (model t .pending)
-no-pool-draws t v z w m o = omega (arith, v .ranged .sized w m .sane .drawn)
+no-pool-draws t v z w m o = omega (arith, v .ranged .ranges .sized w m .sane .drawn)
 
 -- As many claims, tickets and units.
 pub advanced-counts : (t : Table) (u : ℕ) (r : Table) → Formed t → r ≡ encode (advance (model t) u) → (r .count ≡ t .count) × (r .issued ≡ t .issued) × (r .pool ≡ t .pool)
@@ -249,7 +248,7 @@ leave-is : (t : Table) (b : Bool) (x k : ℕ) (rest u : Table) (r : Outcome) →
     → r ≡ outcome (finish (model u) (plain k x)) → r ≡ outcome (step (model t) (leaving b x k))
 leave-is t b x k rest u r v idle z p q f =
     finish-of u (advance (remove (model t) k) x) (plain k x) r (q ∙ ap (λ (m : Model). encode (advance m x)) (model-is rest (remove (model t) k) p)) f
-    ∙ ap outcome (sym (leave-once (model t) x k (plain k x) (formed-sane t v x) (v .ranged .ascending) (v .ranged .stock) idle) ∙ leave-act (model t) b x k ∙ sym (step-accepted (model t) (leaving b x k) z))
+    ∙ ap outcome (sym (leave-once (model t) x k (plain k x) (formed-sane t v x) (v .ranged .ranges .ascending) (v .ranged .ranges .stock) idle) ∙ leave-act (model t) b x k ∙ sym (step-accepted (model t) (leaving b x k) z))
 
 -- With a pool it leaves between two packings.
 leave-packed-is : (t : Table) (b : Bool) (x k : ℕ) (rest u : Table) (r : Outcome) → firstOf (tests (model t) (leaving b x k)) ≡ 0
@@ -261,7 +260,7 @@ leave-packed-is t b x k rest u r z q g s f =
     let clock : rest .clock ≡ x = ap (λ (n : Model). n .clock) e in
     finish-of u (advance (model rest) x) (plain k x) r s f
     ∙ ap (λ (y : ℕ). outcome (finish (advance (model rest) y) (plain k x))) (sym clock)
-    ∙ ap outcome (finish-advanced (model rest) (plain k x) (λ c i. g .ranged .sized c i .sane) (g .ranged .ascending) (g .ranged .stock))
+    ∙ ap outcome (finish-advanced (model rest) (plain k x) (λ c i. g .ranged .ranges .sized c i .sane) (g .ranged .ranges .ascending) (g .ranged .ranges .stock))
     ∙ ap (λ (n : Model). outcome (finish n (plain k x))) e
     ∙ ap outcome (leave-act (model t) b x k ∙ sym (step-accepted (model t) (leaving b x k) z))
 
@@ -298,20 +297,20 @@ unfolding pack
 still-capped t v still c m =
     let f = packedStart (ruledIn t (t .clock)) (model t .pending) in
     let r = map-e (moved f) (model t .pending) (subst (λ (l : List Claim). c ∈ l) (sym still) m) in
-    let s = v .ranged .sized (r .0) (r .1) in
+    let s = v .ranged .ranges .sized (r .0) (r .1) in
     omega (
       arith,
       ap at (r .2),
       moved-cases (λ (x : Claim). at x ≤ 1000300000000) f (r .0)
-          (λ o. omega (arith, s .aged o, v .ranged .timely))
-          (λ o. start-small (ruledIn t (t .clock)) (model t .pending) (v .ranged .timely) (v .ranged .lenient) (v .ranged .few) (v .ranged .sized) (r .0) (r .1) o),
+          (λ o. omega (arith, s .aged o, v .ranged .ranges .timely))
+          (λ o. start-small (v .ranged .ranges) (r .0) (r .1) o),
     )
 
 -- A claim placed in a table.
 module _ (t : Table) (ask : Request) (v : Formed t) (few : t .count < mostPending) (i : t .issued < mostTickets) (l : 1 ≤ ask .length) (h : ask .length ≤ mostLength) (d : ask .units ≤ t .pool) (still : Still (model t)) where
-  pub asked-row : Row (ruledIn t (t .clock)) (t .claims) (t .count) × Sized (ruledIn t (t .clock)) (asked t ask) × Capped (take (t .count) (t .claims)) × (t .count < mostPending) × (t .issued < mostTickets)
+  pub asked-row : InPlaces (ruledIn t (t .clock)) (t .claims) (t .count) × Sized (ruledIn t (t .clock)) (asked t ask) × Capped (take (t .count) (t .claims)) × (t .count < mostPending) × (t .issued < mostTickets)
   asked-row =
-      let k = v .ranged .timely in
+      let k = v .ranged .ranges .timely in
       (formed-now t v, record { sane = record { long = l; small = omega arith; drawn = d }; short = h; aged = λ o. clash o refl; planned = λ o. omega arith }, still-capped t v still, few, i)
 
   placed-is : withPhase (asked t ask) (Waiting (place (settingOf (model t)) (model t .pending) (asked t ask))) ≡ placed (model t) ask
@@ -327,7 +326,7 @@ module _ (t : Table) (ask : Request) (v : Formed t) (few : t .count < mostPendin
 
     pub placed-still : Still (model (p .table))
     placed-still =
-        subst Still (sym (model-is (p .table) _ (placed-table .0))) (join-still (model t) ask l d i (formed-sane t v (t .clock)) (v .ranged .ascending) (v .ranged .stock) still)
+        subst Still (sym (model-is (p .table) _ (placed-table .0))) (join-still (model t) ask l d i (formed-sane t v (t .clock)) (v .ranged .ranges .ascending) (v .ranged .ranges .stock) still)
 
     pub admitted-is : (r : Outcome) → r ≡ outcome (finish (model (p .table)) (p .reply)) → r ≡ outcome (admit (model t) ask)
     unfolding admit

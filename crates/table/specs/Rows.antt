@@ -4,7 +4,7 @@ use mathlib.Core.Bool.{true, false}
 use mathlib.Core.List.{List, _++_}
 use Prim.Native.Nat.{ℕ, _≤_}
 use lib.ListN.{length, take, drop}
-use Rattle.numbers.specs.Numbers.{mostClock, mostLength, mostUnits, mostGrace}
+use Rattle.numbers.specs.Numbers.{mostClock, mostLength, mostPending, mostUnits, mostGrace}
 use Rattle.rules.specs.declared.Claim.{Claim}
 use Rattle.rules.specs.declared.Setting.{Setting}
 use Rattle.rules.specs.Lists.{_∈_}
@@ -19,17 +19,22 @@ pub record Sized (v : Setting) (c : Claim) : Type 0 where
   pub aged : on c ≡ true → at c ≤ v .clock
   pub planned : on c ≡ false → at c ≤ 2000000000000
 
--- Of 64 places the first n hold claims in ascending order of ticket, each in range, and no more units are held than there are; clock, pool and
+-- Claims in ascending order of ticket, each in range, no more than there are places, that hold no more units than there are; clock, pool and
 -- grace are in range too.
-pub record Row (v : Setting) (claims : List Claim) (n : ℕ) : Type 0 where
+pub record InRange (v : Setting) (ps : List Claim) : Type 0 where
+  pub few : length ps ≤ mostPending
+  pub timely : v .clock ≤ mostClock
+  pub ascending : Ascending ps
+  pub sized : (c : Claim) → c ∈ ps → Sized v c
+  pub pooled : v .pool ≤ mostUnits
+  pub stock : heldUnits ps ≤ v .pool
+  pub lenient : v .grace ≤ mostGrace
+
+-- Of 64 places the first n hold claims in range.
+pub record InPlaces (v : Setting) (claims : List Claim) (n : ℕ) : Type 0 where
   pub places : length claims ≡ 64
   pub few : n ≤ 64
-  pub timely : v .clock ≤ mostClock
-  pub ascending : Ascending (take n claims)
-  pub sized : (c : Claim) → c ∈ take n claims → Sized v c
-  pub pooled : v .pool ≤ mostUnits
-  pub stock : heldUnits (take n claims) ≤ v .pool
-  pub lenient : v .grace ≤ mostGrace
+  pub ranges : InRange v (take n claims)
 
 -- Starts and grants are as low as in a packed row: no end of theirs is too late to be a planned start.
 abbrev pub Capped : List Claim → Type 0

@@ -2,7 +2,7 @@
 // What is granted is defined in rules, specs/Granting.antt; that these passes tell it is `goes-quick` of its proofs.
 ghost use mathlib.Core.Path.{_≡_};
 ghost use lib.ListN.{take};
-ghost use Rattle.table.specs.Rows.{Row};
+ghost use Rattle.table.specs.Rows.{InPlaces};
 ghost use Rattle.table.specs.Holders.{HeldWith, goesAt};
 ghost use Rattle.rules.specs.Pool.{heldBy};
 ghost use Rattle.rules.specs.Plans.{StartsFrom};
@@ -57,7 +57,7 @@ pub struct Granted {
 // Grants what no pending claim precedes, by ticket while units are free, and lists the tickets. The loops stand here, since a table handed
 // on is a table copied. Cost: two passes over the claims, three where the pool has units.
 pub(crate) fn grant(mut t: Table) -> Granted
-    requires { ⌜ Row (ruledIn t (t .clock)) (t .claims) (t .count) × StartsFrom (t .clock) (take (t .count) (t .claims)) ⌝ }
+    requires { ⌜ InPlaces (ruledIn t (t .clock)) (t .claims) (t .count) × StartsFrom (t .clock) (take (t .count) (t .claims)) ⌝ }
     ensures { λ r. ⌜ r ≡ grantedIn t ⌝ }
 {
     let count = t.count;

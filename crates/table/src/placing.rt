@@ -6,7 +6,7 @@ ghost use Rattle.numbers.specs.Numbers.{mostClock, mostTickets, mostPending};
 ghost use Rattle.rules.specs.Claims.{at};
 ghost use Rattle.rules.specs.Placing.{clear};
 ghost use lib.ListN.{take};
-ghost use Rattle.table.specs.Rows.{Sized, Row, Capped};
+ghost use Rattle.table.specs.Rows.{Sized, InPlaces, Capped};
 ghost use Rattle.table.specs.Parts.{ruledIn, placedIn};
 ghost use Rattle.table.specs.Barring.{barsBy};
 use crate::claims::end_of;
@@ -67,7 +67,7 @@ fn bars_by(c: Claim, w: Claim) -> u16
 // gathered, and its start is the first time with units enough. Cost: two passes, count² insertion steps at most, a few for each claim where
 // starts ascend, and one sweep over the events, at most 2 × count.
 pub(crate) fn place(mut t: Table, w: Claim) -> Placed
-    requires { ⌜ Row (ruledIn t (t .clock)) (t .claims) (t .count) × Sized (ruledIn t (t .clock)) w × Capped (take (t .count) (t .claims))
+    requires { ⌜ InPlaces (ruledIn t (t .clock)) (t .claims) (t .count) × Sized (ruledIn t (t .clock)) w × Capped (take (t .count) (t .claims))
         × (t .count < mostPending) × (t .issued < mostTickets) ⌝ }
     ensures { λ r. ⌜ r ≡ placedIn t w ⌝ }
 {

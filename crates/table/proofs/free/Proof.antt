@@ -22,7 +22,7 @@ abbrev μ-loop : tie.MeasureT-loop
 μ-loop t count n₀ i₀ n i = count - i
 
 loop-holds : tie.Need-loop-holds Inv-loop μ-loop
-loop-holds c = left-start (formed-now _ (c .pre .formed)) (freeing-start (c .pre .formed .ranged .stock))
+loop-holds c = left-start (formed-now _ (c .pre .formed)) (freeing-start (c .pre .formed .ranged .ranges .stock))
 
 sub-n : tie.Need-sub-n Inv-loop μ-loop
 sub-n c = omega (arith, freeing-covers (left-here (c .before .before .before .loop .inv) (omega arith)), c .units-held .ensures)

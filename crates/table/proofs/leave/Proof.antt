@@ -33,7 +33,7 @@ number-is c =
     let l = c .before in
     let e = l .before in
     let b = e .before .before in
-    departed-tests (model (b .args .t)) (b .args .releasing) _ (b .args .ticket) (b .pre .formed .ranged .ascending) (right e .later) (right e .early)
+    departed-tests (model (b .args .t)) (b .args .releasing) _ (b .args .ticket) (b .pre .formed .ranged .ranges .ascending) (right e .later) (right e .early)
     ∙ sym (c .phase-number .ensures ∙ ap (phaseNumber _) (l .removed .ensures .0))
 
 returns-2 : tie.Need-returns-2

@@ -49,7 +49,7 @@ loop3-holds c =
       refl,
       ⊎-elim
           (λ k. rw (k .3) (written-start r _ (freeing-end (left-end (k .1 .inv) (k .2 .left)))))
-          (λ k. rw (k .1) (written-start r _ (omega (arith, r .stock, k .0 .left))))
+          (λ k. rw (k .1) (written-start r _ (omega (arith, r .ranges .stock, k .0 .left))))
           (c .if1 .came),
     )
 
@@ -105,7 +105,7 @@ grant-spec =
     (λ c. omega arith)
     (λ c. left-next (c .before .before .before .loop .inv) (omega arith) (λ h. holding-more h (c .held-with .ensures)))
     -- loop2-holds, mul-c-2, element-copy-out-c-2, units-held-requires
-    (λ c. let r = c .before .before .before .pre .0 in left-start r (freeing-start (r .stock)))
+    (λ c. let r = c .before .before .before .pre .0 in left-start r (freeing-start (r .ranges .stock)))
     (λ c. omega arith)
     (λ c. omega arith)
     (λ c κs. search needs)

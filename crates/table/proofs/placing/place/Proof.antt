@@ -74,7 +74,7 @@ add-time c =
     let y = c .before .before .before .before .before in
     let t = y .before .before .args .t1 in
     let l = y .loop .inv .0 in
-    omega (arith, l .holds, c .time-left .ensures, remaining-short (ruledIn t (t .clock)) _ (l .row .lenient) (row-sized (l .row) (y .loop .i) (omega arith)))
+    omega (arith, l .holds, c .time-left .ensures, remaining-short (ruledIn t (t .clock)) _ (l .row .ranges .lenient) (row-sized (l .row) (y .loop .i) (omega arith)))
 
 loop-again : tie.Need-loop-again Inv-loop μ-loop Inv-loop2 μ-loop2 Inv-candidates μ-candidates Inv-loop3 μ-loop3
 loop-again c =
@@ -153,7 +153,7 @@ clears-requires c κs =
     let b = z .before .before .before .before .before .before .before in (
       row-small (b .pre .0) _ (inside g .1),
       omega (arith, z .loop2 .inv .0, z .before .candidates .inv .1, place-small _ _ _ _ (b .pre .0) (b .pre .1) (b .pre .2)),
-      b .pre .0 .timely,
+      b .pre .0 .ranges .timely,
     )
 
 less : (c : tie.After-others Inv-loop μ-loop Inv-loop2 μ-loop2 Inv-candidates μ-candidates Inv-loop3 μ-loop3) →
@@ -217,7 +217,7 @@ enter-first-fit-requires c κs =
     let b = z .before .before .before .before .before .before in
     let p = z .loop3 .inv .2 in
     let s = b .pre .1 in
-    (omega (arith, b .pre .3), p .starts-long, p .ends-long, p .events, s .sane .drawn, omega (arith, b .pre .0 .timely), s .sane .long, s .short)
+    (omega (arith, b .pre .3), p .starts-long, p .ends-long, p .events, s .sane .drawn, omega (arith, b .pre .0 .ranges .timely), s .sane .long, s .short)
 
 -- ── the planned start ──
 start-is : (c : tie.Joined2 Inv-loop μ-loop Inv-loop2 μ-loop2 Inv-candidates μ-candidates Inv-loop3 μ-loop3) →
@@ -234,7 +234,7 @@ start-is c =
     (λ k.
     let e : k .1 .g ≡ t .count = omega (arith, k .1 .inv, k .2 .left) in
     let p = subst (λ (n : ℕ). Plot (t .clock) (k .1 .starts) (k .1 .ends) (k .1 .k) (λ x. barred (ruledIn t (t .clock)) w x (take n (t .claims)))) e (k .1 .inv .2) in
-    k .6 ∙ drawn-start (ruledIn t (t .clock)) (t .claims) (t .count) w (b .pre .0) (b .pre .1) (omega (arith, k .0 .left)) (b .pre .0 .pooled) p (k .5 .ensures .0))
+    k .6 ∙ drawn-start (ruledIn t (t .clock)) (t .claims) (t .count) w (b .pre .0) (b .pre .1) (omega (arith, k .0 .left)) (b .pre .0 .ranges .pooled) p (k .5 .ensures .0))
     (c .if2 .came)
 
 returns : tie.Need-returns Inv-loop μ-loop Inv-loop2 μ-loop2 Inv-candidates μ-candidates Inv-loop3 μ-loop3
@@ -263,7 +263,7 @@ place-spec =
     (λ c κs. search needs)
     -- add-rivals, time-left-requires
     (λ c. omega arith)
-    (λ c κs. let row = c .before .before .before .before .loop .inv .0 .row in (row-small row _ (omega arith), row .timely))
+    (λ c κs. let row = c .before .before .before .before .loop .inv .0 .row in (row-small row _ (omega arith), row .ranges .timely))
     add-time
     -- only-requires, union-requires, add-i, loop-less
     (λ c κs. search needs)
@@ -290,7 +290,7 @@ place-spec =
     (λ c κs.
     let g = c .before .before .before .before in
     let row = g .before .before .before .before .before .before .before .before .before .before .pre .0 in
-    (row-small row _ (inside g .1), row .timely))
+    (row-small row _ (inside g .1), row .ranges .timely))
     (λ c κs. search needs)
     (λ c κs. search needs)
     (λ c. omega (arith, nearer (c .before .before)))
@@ -308,7 +308,7 @@ place-spec =
     (λ c κs.
     let g = c .before .before .before .before .before in
     let row = g .before .before .before .before .before .before .before .before .pre .0 in
-    (row-small row _ (omega (arith, g .before .loop3-test .taken)), row .timely))
+    (row-small row _ (omega (arith, g .before .loop3-test .taken)), row .ranges .timely))
     enter-requires
     (λ c. omega arith)
     (λ c. omega arith)
