@@ -218,7 +218,8 @@ fn overruns(clock: u64, c: Claim) -> bool
 }
 
 // Sets the clock of a table between calls, and packs. At the table's own clock, and while nobody overruns, packing would change nothing.
-// Cost: one pass, and that packing. The pass goes to its end: left by a `return` in its midst, it costs a copy of the table more.
+// Cost: one pass at most, and that packing. A `return` in the pass costs a copy of the table more, and so does one function over the test for
+// this and `pulled`.
 fn at_clock(mut t: Table, clock: u64) -> Table
     requires { ⌜ Valid t × (t .clock ≤ clock) × (clock ≤ mostClock) ⌝ }
     ensures { λ r. ⌜ (r ≡ encode (advance (model t) clock)) × Formed r × Still (model r) ⌝ }
@@ -230,6 +231,7 @@ fn at_clock(mut t: Table, clock: u64) -> Table
         let c = t.claims[i];
         if overruns(clock, c) {
             packs = true;
+            break;
         }
         i += 1;
     }
@@ -254,7 +256,7 @@ fn at_clock(mut t: Table, clock: u64) -> Table
 }
 
 // Sets the clock of a table from which a claim was taken, and packs. Where nobody waits packing would change nothing.
-// Cost: one pass, and that packing.
+// Cost: one pass at most, and that packing.
 fn pulled(mut t: Table, clock: u64) -> Table
     requires { ⌜ Formed t × (t .clock ≤ clock) × (clock ≤ mostClock) ⌝ }
     ensures { λ r. ⌜ (r ≡ encode (advance (model t) clock)) × Formed r × Still (model r) ⌝ }
@@ -266,6 +268,7 @@ fn pulled(mut t: Table, clock: u64) -> Table
         let c = t.claims[i];
         if !claims::is_on(c) {
             packs = true;
+            break;
         }
         i += 1;
     }

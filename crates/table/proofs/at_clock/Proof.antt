@@ -1,11 +1,13 @@
 -- The loop's invariant: whether any claim overruns is told by what is noted and by those that are left.
 use mathlib.Core.Path.{_≡_, refl, sym, _∙_}
 use mathlib.Core.Logic.{⊎-elim}
-use mathlib.Core.Bool.{_||_, or-true}
+use mathlib.Core.Bool.{false, _||_}
 use Prim.Native.Nat.{_-_}
 use native.Mathlib.Omega.{arith}
 use lib.ListN.{take}
 use Rattle.rules.specs.Lists.{any}
+use Rattle.rules.specs.Tables.{model}
+use Rattle.rules.proofs.Bools.{clash}
 use Rattle.table.specs.Parts.{ruledIn}
 use Rattle.table.specs.Outcomes.{pastEnd}
 use Rattle.table.proofs.Rows.{row-small, Left, left-start, left-next, left-end}
@@ -24,13 +26,13 @@ abbrev μ-loop : tie.MeasureT-loop
 loop-again : tie.Need-loop-again Inv-loop μ-loop
 unfolding any
 loop-again c =
-    let y = c .before .before .before .before in
-    let l = y .loop .inv in
-    let is = sym (c .before .overruns .ensures) in
-    ⊎-elim
-    (λ k. rw (k .1) (left-next l (omega arith) (λ h. sym (or-true (y .loop .packs)) ∙ (rw (is ∙ k .0 .taken) at h))))
-    (λ k. rw (k .1) (left-next l (omega arith) (λ h. rw (is ∙ k .0 .left) at h)))
-    (c .if1 .came)
+    let o = c .before in
+    left-next (o .before .before .before .loop .inv) (omega arith) (λ h. rw (sym (o .overruns .ensures) ∙ c .if1 .left) at h)
+
+-- Where nothing is noted nobody overruns.
+none : (c : tie.Left-loop Inv-loop μ-loop) → c .loop-test .packs ≡ false → let b = c .before .before in any (pastEnd (b .args .clock)) (model (b .args .t1) .pending) ≡ false
+unfolding any
+none c e = ⊎-elim (λ k. sym (rw (sym (k .1) ∙ e) at (left-end (c .before .loop .inv) (k .0 .left)))) (λ k. clash (k .4) e) (c .loop-test .came)
 
 returns : tie.Need-returns Inv-loop μ-loop
 returns c =
@@ -38,17 +40,12 @@ returns c =
     advanced-is (b .args .t1) (b .args .clock) (b .pre .0 .formed) (b .pre .1) (b .pre .2) _ (c .pack .ensures)
 
 returns-2 : tie.Need-returns-2 Inv-loop μ-loop
-unfolding any
 returns-2 c =
     let j = c .before in
-    let a = j .before in
-    let b = a .before .before in
+    let b = j .before .before .before in
     let h = b .pre in
     idle-is (b .args .t1) (b .args .clock) (h .0 .formed) (h .1) (h .2)
-    (⊎-elim
-    (λ k. same-clock-idle _ _ (h .0) (k .0 .taken))
-    (λ k. no-overrun-idle _ _ (h .0) (h .1) (sym (rw (sym (k .1) ∙ c .if3 .left) at (left-end (a .before .loop .inv) (a .loop-test .left)))))
-    (j .if2 .came))
+    (⊎-elim (λ k. same-clock-idle _ _ (h .0) (k .0 .taken)) (λ k. no-overrun-idle _ _ (h .0) (h .1) (none (j .before) (sym (k .1) ∙ c .if3 .left))) (j .if2 .came))
     _ refl
 
 pub at-clock-spec : {M : Type 1} → statement M

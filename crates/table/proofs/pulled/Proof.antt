@@ -1,11 +1,13 @@
 -- The loop's invariant: whether any claim waits is told by what is noted and by those that are left.
 use mathlib.Core.Path.{_≡_, refl, sym, ap, _∙_}
 use mathlib.Core.Logic.{⊎-elim}
-use mathlib.Core.Bool.{not, _||_, or-true}
+use mathlib.Core.Bool.{false, not, _||_}
 use Prim.Native.Nat.{_-_}
 use native.Mathlib.Omega.{arith}
 use lib.ListN.{take}
 use Rattle.rules.specs.Lists.{any}
+use Rattle.rules.specs.Tables.{model}
+use Rattle.rules.proofs.Bools.{clash}
 use Rattle.table.specs.Parts.{ruledIn}
 use Rattle.table.proofs.Rows.{Left, left-start, left-next, left-end}
 use Rattle.table.proofs.Ranges.{formed-row}
@@ -23,13 +25,13 @@ abbrev μ-loop : tie.MeasureT-loop
 loop-again : tie.Need-loop-again Inv-loop μ-loop
 unfolding any
 loop-again c =
-    let y = c .before .before .before .before in
-    let l = y .loop .inv in
-    let is = ap not (sym (c .before .is-on .ensures)) in
-    ⊎-elim
-    (λ k. rw (k .1) (left-next l (omega arith) (λ h. sym (or-true (y .loop .packs)) ∙ (rw (is ∙ k .0 .taken) at h))))
-    (λ k. rw (k .1) (left-next l (omega arith) (λ h. rw (is ∙ k .0 .left) at h)))
-    (c .if1 .came)
+    let o = c .before in
+    left-next (o .before .before .before .loop .inv) (omega arith) (λ h. rw (ap not (sym (o .is-on .ensures)) ∙ c .if1 .left) at h)
+
+-- Where nothing is noted nobody waits.
+none : (c : tie.Left-loop Inv-loop μ-loop) → c .loop-test .packs ≡ false → any waits (model (c .before .before .args .t1) .pending) ≡ false
+unfolding any
+none c e = ⊎-elim (λ k. sym (rw (sym (k .1) ∙ e) at (left-end (c .before .loop .inv) (k .0 .left)))) (λ k. clash (k .4) e) (c .loop-test .came)
 
 returns : tie.Need-returns Inv-loop μ-loop
 returns c =
@@ -37,13 +39,10 @@ returns c =
     advanced-is (b .args .t1) (b .args .clock) (b .pre .0) (b .pre .1) (b .pre .2) _ (c .pack .ensures)
 
 returns-2 : tie.Need-returns-2 Inv-loop μ-loop
-unfolding any
 returns-2 c =
-    let a = c .before in
-    let b = a .before .before in
+    let b = c .before .before .before in
     let h = b .pre in
-    idle-is (b .args .t1) (b .args .clock) (h .0) (h .1) (h .2)
-    (none-waits-idle _ _ (sym (rw (c .if2 .left) at (left-end (a .before .loop .inv) (a .loop-test .left))))) _ refl
+    idle-is (b .args .t1) (b .args .clock) (h .0) (h .1) (h .2) (none-waits-idle _ _ (none (c .before) (c .if2 .left))) _ refl
 
 pub pulled-spec : {M : Type 1} → statement M
 pulled-spec =
