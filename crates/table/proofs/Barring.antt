@@ -27,6 +27,8 @@ use Rattle.table.specs.SortKeys.{claimAt, Inserted}
 use Rattle.table.specs.Events.{eventWord, FirstFit}
 use Rattle.table.specs.Barring.{barsBy, barred}
 use Rattle.table.proofs.Plots.{holdsAt, Plot, plot-none, plot-same, plot-more, fit-low, fit-room, fit-least, claim-long, claim-covers}
+use Rattle.numbers.specs.Numbers.{mostUnits}
+use Rattle.table.specs.Bounds.{mostEnd, mostPacked, unitsInWord}
 
 -- ── by how many a claim is barred ──
 module _ (v : Setting) (w : Claim) (x : ℕ) where
@@ -34,14 +36,14 @@ module _ (v : Setting) (w : Claim) (x : ℕ) where
   bars c = cond (covers v x c) (barsBy w c) 0
 
   -- What holds at x bars by what it uses, or by more.
-  bars-used : (c : Claim) → c .units ≤ 65535 → unitsAt v x c ≤ bars c
+  bars-used : (c : Claim) → c .units ≤ mostUnits → unitsAt v x c ≤ bars c
   unfolding unitsAt
   bars-used c s =
       by-test (covers v x c)
       (λ k. by-test (rival c w) (λ h. rw (k, h) s) (λ h. rw (k, h) (omega arith)))
       (λ k. rw k (omega arith))
 
-  bars-rival : (c : Claim) → rival c w ≡ true → covers v x c ≡ true → bars c ≡ 65535
+  bars-rival : (c : Claim) → rival c w ≡ true → covers v x c ≡ true → bars c ≡ mostUnits
   bars-rival c h k = rw (k, h)
 
   bars-other : (c : Claim) → (covers v x c ≡ true → rival c w ≡ true → ⊥) → bars c ≤ unitsAt v x c
@@ -51,19 +53,19 @@ module _ (v : Setting) (w : Claim) (x : ℕ) where
       (λ k. by-test (rival c w) (λ h. absurd (n k h)) (λ h. rw (k, h) (omega arith)))
       (λ k. rw k (omega arith))
 
-module _ (v : Setting) (ps : List Claim) (w : Claim) (small : Each (λ c. c .units ≤ 65535) ps) where
+module _ (v : Setting) (ps : List Claim) (w : Claim) (small : Each (λ c. c .units ≤ mostUnits) ps) where
   -- Within the room, nobody who shares a group holds at x, and no more is used than the room.
   within-used : (room x : ℕ) → barred v w x ps ≤ room → used v x ps ≤ room
   unfolding barred used
   within-used room x h = omega (arith, sum-le (unitsAt v x) (bars v w x) ps (λ c m. bars-used v w x c (small c m)))
 
-  within-rival : (room x : ℕ) → room < 65535 → barred v w x ps ≤ room → (c : Claim) → c ∈ ps → covers v x c ≡ true → rival c w ≡ true → ⊥
+  within-rival : (room x : ℕ) → room < mostUnits → barred v w x ps ≤ room → (c : Claim) → c ∈ ps → covers v x c ≡ true → rival c w ≡ true → ⊥
   unfolding barred
   within-rival room x less h c m k r =
       omega (
         arith,
         bars-rival v w x c r k,
-        sum-gap (λ (d : Claim). 0) (bars v w x) 65535 m (omega (arith, bars-rival v w x c r k)) (λ d i. omega arith),
+        sum-gap (λ (d : Claim). 0) (bars v w x) mostUnits m (omega (arith, bars-rival v w x c r k)) (λ d i. omega arith),
       )
 
   -- And the other way round.
@@ -91,10 +93,10 @@ module _ (v : Setting) (w c : Claim) (s : ℕ) (long : 1 ≤ w .length) (lasts :
       ⊎-elim (λ q. omega (arith, e .going)) (λ q. omega (arith, e .begun (q .0), q .1)) r
 
 -- ── the planned start ──
-module _ (v : Setting) (l : List Claim) (n : ℕ) (w : Claim) (row : InPlaces v l n) (size : Sized v w) (drawing : 0 < w .units) (least-pool : v .pool ≤ 65535)
+module _ (v : Setting) (l : List Claim) (n : ℕ) (w : Claim) (row : InPlaces v l n) (size : Sized v w) (drawing : 0 < w .units) (least-pool : v .pool ≤ mostUnits)
     {starts ends : List ℕ} {k s : ℕ} (plot : Plot (v .clock) starts ends k (λ x. barred v w x (take n l)))
     (first : FirstFit 0 (take k starts) (take k ends) (v .pool - w .units) (v .clock) (w .length) s) where
-  small : Each (λ c. c .units ≤ 65535) (take n l)
+  small : Each (λ c. c .units ≤ mostUnits) (take n l)
   small c m = omega (arith, row .ranges .sized c m .sane .drawn)
 
   fits-at : Fits v (take n l) w s
@@ -133,7 +135,7 @@ module _ (v : Setting) (w : Claim) (claims : List Claim) (g : ℕ) (here : g < l
         none : (x : ℕ) → bars v w x (claimAt claims g) ≡ 0
         none x = ap (λ (a : ℕ). cond (covers v x (claimAt claims g)) a 0) (sym is ∙ z) ∙ by-test (covers v x (claimAt claims g)) (λ e. rw e) (λ e. rw e)
 
-    pub gather-more : Sized v (claimAt claims g) → u < 65536 → endOf v (claimAt claims g) ≤ 3000000000000 → k < 64
+    pub gather-more : Sized v (claimAt claims g) → u < unitsInWord → endOf v (claimAt claims g) ≤ mostEnd → k < 64
         → (s e : ℕ) → s ≡ at (claimAt claims g) → e ≡ endOf v (claimAt claims g) → (new-starts new-ends : List ℕ)
         → (length new-starts ≡ 64) × (length new-ends ≡ 64) × Inserted (take k starts) (eventWord s u) (take (k + 1) new-starts)
         × Inserted (take k ends) (eventWord e u) (take (k + 1) new-ends)
@@ -157,8 +159,8 @@ unfolding barred sum
 gather-start v w claims = plot-none
 
 pub claim-early : (v : Setting) (claims : List Claim) (n : ℕ) → InPlaces v claims n → Capped (take n claims) → (g : ℕ) → g < n
-    → (at (claimAt claims g) ≤ 1000300000000) × (endOf v (claimAt claims g) ≤ 3000000000000)
+    → (at (claimAt claims g) ≤ mostPacked) × (endOf v (claimAt claims g) ≤ mostEnd)
 claim-early v claims n row low g h =
     let m = row-member row g h in
     let c = claimAt claims g in
-    (low c m, end-le v c 3000000000000 (omega (arith, low c m, row .ranges .sized c m .short)) (omega (arith, row .ranges .timely, row .ranges .lenient)))
+    (low c m, end-le v c mostEnd (omega (arith, low c m, row .ranges .sized c m .short)) (omega (arith, row .ranges .timely, row .ranges .lenient)))

@@ -13,6 +13,7 @@ use Rattle.rules.proofs.Places.{prefix-step, prefix-end}
 use Rattle.table.specs.SortKeys.{NeverFalls}
 use Rattle.table.specs.Events.{timeIn, unitsIn, upTo, Events, FirstFit}
 use Rattle.table.proofs.Events.{up-to-in, up-to-out, up-to-most, before-in, up-to-none, before-none, up-to-all, units-few, rising-times}
+use Rattle.table.specs.Bounds.{timesInWord}
 
 -- ── the next event is the start b, before all ends ──
 module _ {held b : ℕ} {starts ends : List ℕ} (v : Events held (b ∷ starts) ends) (first : Each (λ w. timeIn b < timeIn w) ends) where
@@ -151,7 +152,7 @@ pub record Sweep (starts : List ℕ) (ns : ℕ) (ends : List ℕ) (ne held room 
   pub starts-fit : ns ≤ length starts
   pub ends-fit : ne ≤ length ends
   pub ends-few : ne ≤ 64
-  pub early : s ≤ 281474976710656
+  pub early : s ≤ timesInWord
   pub events : Events used (left starts ns i) (left ends ne j)
   pub answers : (r : ℕ) → FirstFit used (left starts ns i) (left ends ne j) room s hold r
       → FirstFit held (take ns starts) (take ne ends) room from hold r
@@ -204,7 +205,7 @@ module _ {starts : List ℕ} {ns : ℕ} {ends : List ℕ} {ne held room from hol
     pub end-covered : unitsIn (getD ends j 0) ≤ used
     end-covered = end-held end-next (starts-from _ first)
 
-    sweep-end : {t : ℕ} → t ≤ 281474976710656
+    sweep-end : {t : ℕ} → t ≤ timesInWord
         → ((r : ℕ) → FirstFit (used - unitsIn (getD ends j 0)) (left starts ns i) (left ends ne (j + 1)) room t hold r
         → FirstFit used (left starts ns i) (getD ends j 0 ∷ left ends ne (j + 1)) room s hold r)
         → Sweep starts ns ends ne held room from hold t (used - unitsIn (getD ends j 0)) i (j + 1)
@@ -220,6 +221,6 @@ module _ {starts : List ℕ} {ns : ℕ} {ends : List ℕ} {ne held room from hol
     pub sweep-open : used ≤ room → Sweep starts ns ends ne held room from hold s (used - unitsIn (getD ends j 0)) i (j + 1)
     sweep-open o = sweep-end (p .early) (λ r f. end-open end-next (starts-from _ first) o f)
 
-    pub sweep-shut : 1 ≤ hold → room < used → timeIn (getD ends j 0) ≤ 281474976710656
+    pub sweep-shut : 1 ≤ hold → room < used → timeIn (getD ends j 0) ≤ timesInWord
         → Sweep starts ns ends ne held room from hold (max s (timeIn (getD ends j 0))) (used - unitsIn (getD ends j 0)) i (j + 1)
     sweep-shut z o l = sweep-end (omega (arith, p .early)) (λ r f. end-shut end-next (starts-from _ first) z o f)

@@ -36,6 +36,7 @@ use Rattle.table.specs.SortKeys.{claimAt}
 use Rattle.table.proofs.Sorting.{place-of}
 use Rattle.table.specs.Parts.{ruledIn, placedIn}
 use Rattle.table.proofs.Ranges.{rivals-few, time-short}
+use Rattle.numbers.specs.Numbers.{mostLength, mostPending}
 
 -- ── from candidate to candidate ──
 module _ (v : Setting) (w : Claim) (s : ℕ) (ps : List Claim) (sane : Sane v w) (h : s ≤ place v ps w) where
@@ -144,7 +145,7 @@ pub record Counted (v : Setting) (w : Claim) (ps rest : List Claim) (count time 
   pub number : count + contention rest w ≡ contention ps w
   pub total : time + sum (remaining v) (rivals rest w) ≡ sum (remaining v) (rivals ps w)
   pub few : contention ps w ≤ 64
-  pub short : sum (remaining v) (rivals ps w) ≤ 230400000
+  pub short : sum (remaining v) (rivals ps w) ≤ mostPending * mostLength
 
 pub count-none : {v : Setting} {l : List Claim} (n : ℕ) (w : Claim) → InPlaces v l n → Counted v w (take n l) (take n l) 0 0
 count-none {v} {l} n w r = record { number = omega arith; total = omega arith; few = rivals-few v l n w r; short = time-short v l n w r }

@@ -23,6 +23,7 @@ use Rattle.table.specs.SortKeys.{Inserted}
 use Rattle.table.specs.Events.{eventWord, timeIn, unitsIn, upTo, beforeTime, Events, FirstFit}
 use Rattle.table.proofs.Sorting.{inserted-falls, inserted-one}
 use Rattle.table.proofs.Events.{time-of, units-of, inserted-sum, up-to-all, up-to-whole}
+use Rattle.table.specs.Bounds.{mostEnd, unitsInWord}
 
 -- What a hold from s to e of u units uses at x.
 abbrev pub holdsAt : ℕ → ℕ → ℕ → ℕ → ℕ
@@ -57,7 +58,7 @@ plot-none = record {
 }
 
 -- ── one hold more ──
-module _ {t : ℕ} {starts ends : List ℕ} {k : ℕ} {usage : ℕ → ℕ} (p : Plot t starts ends k usage) (s e u : ℕ) (less : u < 65536) (long : s < e) (early : e ≤ 3000000000000) (room : k < 64)
+module _ {t : ℕ} {starts ends : List ℕ} {k : ℕ} {usage : ℕ → ℕ} (p : Plot t starts ends k usage) (s e u : ℕ) (less : u < unitsInWord) (long : s < e) (early : e ≤ mostEnd) (room : k < 64)
     (new-starts new-ends : List ℕ) (size-s : length new-starts ≡ 64) (size-e : length new-ends ≡ 64)
     (into-s : Inserted (take k starts) (eventWord s u) (take (k + 1) new-starts)) (into-e : Inserted (take k ends) (eventWord e u) (take (k + 1) new-ends)) where
   -- What one event more adds up to a time, and before it.
@@ -116,9 +117,9 @@ module _ {t : ℕ} {starts ends : List ℕ} {k : ℕ} {usage : ℕ → ℕ} (p :
   fit-least s h g = f .least s h (λ x a b. omega (arith, g x a b, p .is x (omega arith)))
 
 -- A first fit is no later than the last end.
-pub fit-early : {starts ends : List ℕ} {room from hold r : ℕ} → Events 0 starts ends → FirstFit 0 starts ends room from hold r → from ≤ 3000000000000 → r ≤ 3000000000000
+pub fit-early : {starts ends : List ℕ} {room from hold r : ℕ} → Events 0 starts ends → FirstFit 0 starts ends room from hold r → from ≤ mostEnd → r ≤ mostEnd
 fit-early {starts} {ends} v f h =
-    f .least 3000000000000 h (λ x a b. omega (arith, v .total, up-to-all x starts, up-to-whole x ends (λ w m. omega (arith, v .early w m))))
+    f .least mostEnd h (λ x a b. omega (arith, v .total, up-to-all x starts, up-to-whole x ends (λ w m. omega (arith, v .early w m))))
 
 -- ── the hold of a claim ──
 -- A claim in range holds from its start or grant to its end.

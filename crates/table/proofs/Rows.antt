@@ -16,9 +16,10 @@ use Rattle.rules.proofs.Bools.{by-test}
 use Rattle.rules.proofs.Places.{prefix-step, prefix-end, in-prefix}
 use Rattle.table.specs.Rows.{Sized, InPlaces}
 use Rattle.table.specs.Parts.{withClaims}
+use Rattle.table.specs.Bounds.{mostAt}
 
 -- ── a row's claims are in range ──
-pub sized-small : (v : Setting) (c : Claim) → v .clock ≤ mostClock → Sized v c → at c ≤ 1000000000000000000
+pub sized-small : (v : Setting) (c : Claim) → v .clock ≤ mostClock → Sized v c → at c ≤ mostAt
 sized-small v c h s = by-test (on c) (λ o. omega (arith, s .aged o)) (λ o. omega (arith, s .planned o))
 
 module _ {v : Setting} {l : List Claim} {n : ℕ} (r : InPlaces v l n) where
@@ -35,7 +36,7 @@ module _ {v : Setting} {l : List Claim} {n : ℕ} (r : InPlaces v l n) where
   pub row-sized : (i : ℕ) → i < n → Sized v (getD l i vacant)
   row-sized i h = r .ranges .sized _ (row-member i h)
 
-  pub row-small : (i : ℕ) → i < n → at (getD l i vacant) ≤ 1000000000000000000
+  pub row-small : (i : ℕ) → i < n → at (getD l i vacant) ≤ mostAt
   row-small i h = sized-small v _ (r .ranges .timely) (row-sized i h)
 
 -- ── reading a row front to back: P holds of the claims that are left at place i ──

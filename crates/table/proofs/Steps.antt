@@ -49,6 +49,7 @@ use Rattle.table.specs.Valid.{Ranged, Formed, Valid}
 use Rattle.table.specs.Outcomes.{outcome, answeringIn, timeNumber, pastEnd, departed, leaving, lacking}
 use Rattle.table.proofs.Ranges.{in-range-later, sized-waiting, start-small, place-small, model-is, formed-now, formed-is, formed-count, formed-sane, blank-ranged, advance-ranged, remove-ranged, join-ranged, grant-ranged}
 use Rattle.table.proofs.Tests.{timed-passes, step-refused, step-accepted}
+use Rattle.table.specs.Bounds.{mostPacked}
 
 -- ── refusals ──
 pub answering-is : (t : Table) (n : ℕ) → Formed t → answeringIn t n ≡ outcome (unchanged (model t) n)
@@ -301,7 +302,7 @@ still-capped t v still c m =
     omega (
       arith,
       ap at (r .2),
-      moved-cases (λ (x : Claim). at x ≤ 1000300000000) f (r .0)
+      moved-cases (λ (x : Claim). at x ≤ mostPacked) f (r .0)
           (λ o. omega (arith, s .aged o, v .ranged .ranges .timely))
           (λ o. start-small (v .ranged .ranges) (r .0) (r .1) o),
     )

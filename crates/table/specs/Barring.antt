@@ -8,10 +8,11 @@ use Rattle.rules.specs.declared.Setting.{Setting}
 use Rattle.rules.specs.Lists.{sum}
 use Rattle.rules.specs.Claims.{rival}
 use Rattle.rules.specs.Pool.{covers}
+use Rattle.numbers.specs.Numbers.{mostUnits}
 
 -- The units by which c bars w.
 abbrev pub barsBy : Claim → Claim → ℕ
-barsBy w c = cond (rival c w) 65535 (c .units)
+barsBy w c = cond (rival c w) mostUnits (c .units)
 
 -- By how many w is barred at x.
 unfoldable pub barred : Setting → Claim → ℕ → List Claim → ℕ

@@ -1,3 +1,4 @@
+pub mod Bounds
 pub mod Rows
 pub mod SortKeys
 pub mod Events

@@ -5,6 +5,7 @@ ghost use Prim.Native.Nat.{_≤_, _<_, max};
 ghost use Rattle.numbers.specs.Numbers.{mostClock};
 ghost use Rattle.rules.specs.Claims.{on, at, withPhase, endOf, remaining};
 ghost use Rattle.rules.specs.declared.Phase.the-variants.{Waiting, On};
+ghost use Rattle.table.specs.Bounds.{mostAt};
 use rules::Claim;
 use rules::Phase;
 use rules::Setting;
@@ -71,7 +72,7 @@ pub(crate) fn on_since(c: Claim, grant: u64) -> Claim
 
 // The end of a claim.
 pub(crate) fn end_of(v: Setting, c: Claim) -> u64
-    requires { ⌜ (at c ≤ 1000000000000000000) × (v .clock ≤ mostClock) ⌝ }
+    requires { ⌜ (at c ≤ mostAt) × (v .clock ≤ mostClock) ⌝ }
     ensures { λ r. ⌜ r ≡ endOf v c ⌝ }
 {
     let p = c.phase;
@@ -91,7 +92,7 @@ pub(crate) fn end_of(v: Setting, c: Claim) -> u64
 
 // The time that a claim has left.
 pub(crate) fn time_left(v: Setting, c: Claim) -> u64
-    requires { ⌜ (at c ≤ 1000000000000000000) × (v .clock ≤ mostClock) ⌝ }
+    requires { ⌜ (at c ≤ mostAt) × (v .clock ≤ mostClock) ⌝ }
     ensures { λ r. ⌜ r ≡ remaining v c ⌝ }
 {
     let p = c.phase;

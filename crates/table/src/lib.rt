@@ -15,6 +15,7 @@ ghost use Rattle.rules.specs.Tables.{encode, model};
 ghost use Rattle.rules.specs.Invariants.{Still};
 ghost use Rattle.table.specs.Valid.{Formed, Valid};
 ghost use Rattle.table.specs.Outcomes.{outcome, answeringIn, Found, timeNumber, shareNumber, placesNumber, pastEnd, departed, phaseNumber, leaving};
+ghost use Rattle.table.specs.Bounds.{mostAt};
 
 mod claims;
 mod granting;
@@ -69,7 +70,11 @@ fn answering(t: Table, number: u8) -> Outcome
 pub fn new(rig: u64, pool: u16, alone: bool) -> Outcome
     ensures { λ r. ⌜ (r ≡ outcome (new rig pool alone)) × Valid (r .table) ⌝ }
 {
-    let places: u8 = if alone { 64 } else { 0 };
+    let places: u8 = if alone {
+        numbers::MOST_PENDING as u8
+    } else {
+        0
+    };
     let first = Share {
         declared: alone,
         reserved: places,
@@ -108,7 +113,7 @@ pub fn new(rig: u64, pool: u16, alone: bool) -> Outcome
 // ── lookup ──
 
 fn shown(c: Claim) -> Standing
-    requires { ⌜ at c ≤ 1000000000000000000 ⌝ }
+    requires { ⌜ at c ≤ mostAt ⌝ }
     ensures { λ r. ⌜ r ≡ standing c ⌝ }
 {
     let p = c.phase;
@@ -207,7 +212,7 @@ fn time_number(last: u64, clock: u64) -> u8
 
 // Whether a claim is on with its promised end below the clock.
 fn overruns(clock: u64, c: Claim) -> bool
-    requires { ⌜ at c ≤ 1000000000000000000 ⌝ }
+    requires { ⌜ at c ≤ mostAt ⌝ }
     ensures { λ r. ⌜ r ≡ pastEnd clock c ⌝ }
 {
     if claims::is_on(c) {

@@ -9,6 +9,7 @@ ghost use lib.ListN.{take};
 ghost use Rattle.table.specs.Rows.{Sized, InPlaces, Capped};
 ghost use Rattle.table.specs.Parts.{ruledIn, placedIn};
 ghost use Rattle.table.specs.Barring.{barsBy};
+ghost use Rattle.table.specs.Bounds.{mostAt};
 use crate::claims::end_of;
 use crate::claims::is_on;
 use crate::claims::start_or_grant;
@@ -31,7 +32,7 @@ pub struct Placed {
 
 // Whether the claim `c` leaves room for `w` at `s`. Cost: at most four tests.
 fn clears(v: Setting, c: Claim, w: Claim, s: u64) -> bool
-    requires { ⌜ (at c ≤ 1000000000000000000) × (s ≤ 1000000000000000000) × (v .clock ≤ mostClock) ⌝ }
+    requires { ⌜ (at c ≤ mostAt) × (s ≤ mostAt) × (v .clock ≤ mostClock) ⌝ }
     ensures { λ r. ⌜ r ≡ clear v w s c ⌝ }
 {
     if !groups::shares(c.groups, w.groups) {
@@ -48,12 +49,15 @@ fn clears(v: Setting, c: Claim, w: Claim, s: u64) -> bool
     s + len <= from
 }
 
+// All units that a pool can have.
+const ALL_UNITS: u16 = 65_535;
+
 // The units by which `c` bars `w`: all that there can be where they share a group, else those that it draws. Cost: a test of two sets.
 fn bars_by(c: Claim, w: Claim) -> u16
     ensures { λ r. ⌜ r ≡ barsBy w c ⌝ }
 {
     if groups::shares(c.groups, w.groups) {
-        return 65535;
+        return ALL_UNITS;
     }
     c.units
 }

@@ -6,29 +6,34 @@ ghost use Prim.Native.Nat.{_+_, _-_, _≤_, _<_};
 ghost use lib.ListN.{take, length as size};
 ghost use Rattle.table.specs.SortKeys.{NeverFalls, Inserted};
 ghost use Rattle.table.specs.Events.{eventWord, timeIn, unitsIn, Events, FirstFit};
+ghost use Rattle.numbers.specs.Numbers.{mostLength};
+ghost use Rattle.table.specs.Bounds.{mostEnd, mostTime, timesInWord, unitsInWord};
 use crate::claims::later;
 use crate::insertion::insert;
 
+// A word tells so many numbers of units apart, and its time stands above them.
+const UNITS_IN_WORD: u64 = 65_536;
+
 // An event as one word. Cost: a shift and an addition.
 fn event(time: u64, units: u16) -> u64
-    requires { ⌜ time ≤ 4000000000000 ⌝ }
+    requires { ⌜ time ≤ mostTime ⌝ }
     ensures { λ r. ⌜ r ≡ eventWord time units ⌝ }
 {
-    time * 65536 + units as u64
+    time * UNITS_IN_WORD + units as u64
 }
 
 // The time of an event. Cost: a shift.
 fn time_in(w: u64) -> u64
-    ensures { λ r. ⌜ (r ≡ timeIn w) × (r < 281474976710656) ⌝ }
+    ensures { λ r. ⌜ (r ≡ timeIn w) × (r < timesInWord) ⌝ }
 {
-    w / 65536
+    w / UNITS_IN_WORD
 }
 
 // The units of an event. Cost: a mask.
 fn units_in(w: u64) -> u64
-    ensures { λ r. ⌜ (r ≡ unitsIn w) × (r < 65536) ⌝ }
+    ensures { λ r. ⌜ (r ≡ unitsIn w) × (r < unitsInWord) ⌝ }
 {
-    w % 65536
+    w % UNITS_IN_WORD
 }
 
 // Enters a hold of units after n others. Cost: two insertions, which go from the back.
@@ -41,7 +46,7 @@ pub(crate) fn enter(
     units: u16,
 )
     requires { ⌜ (n < 64) × (size (now starts) ≡ 64) × (size (now ends) ≡ 64) × NeverFalls (take n (now starts)) × NeverFalls (take n (now ends))
-        × (start ≤ 4000000000000) × (end ≤ 4000000000000) ⌝ }
+        × (start ≤ mostTime) × (end ≤ mostTime) ⌝ }
     ensures { λ _. ⌜ (size (now (starts .exit)) ≡ 64) × (size (now (ends .exit)) ≡ 64)
         × Inserted (take n (now (starts .entry))) (eventWord start units) (take (n + 1) (now (starts .exit)))
         × Inserted (take n (now (ends .entry))) (eventWord end units) (take (n + 1) (now (ends .exit))) ⌝ }
@@ -62,7 +67,7 @@ fn first_fit(
     length: u64,
 ) -> u64
     requires { ⌜ (n ≤ 64) × (size (now starts) ≡ 64) × (size (now ends) ≡ 64)
-        × Events 0 (take n (now starts)) (take n (now ends)) × (from ≤ 3000000000000) × (1 ≤ length) × (length ≤ 3600000) ⌝ }
+        × Events 0 (take n (now starts)) (take n (now ends)) × (from ≤ mostEnd) × (1 ≤ length) × (length ≤ mostLength) ⌝ }
     ensures { λ r. ⌜ FirstFit 0 (take n (now (starts .entry))) (take n (now (ends .entry))) room from length r ⌝ }
 {
     let mut s = from;
@@ -106,7 +111,7 @@ pub(crate) fn enter_first_fit(
     length: u32,
 ) -> u64
     requires { ⌜ (n < 64) × (size (now starts) ≡ 64) × (size (now ends) ≡ 64) × Events 0 (take n (now starts)) (take n (now ends))
-        × (units ≤ pool) × (from ≤ 3000000000000) × (1 ≤ length) × (length ≤ 3600000) ⌝ }
+        × (units ≤ pool) × (from ≤ mostEnd) × (1 ≤ length) × (length ≤ mostLength) ⌝ }
     ensures { λ r. ⌜ FirstFit 0 (take n (now (starts .entry))) (take n (now (ends .entry))) (pool - units) from length r
         × (size (now (starts .exit)) ≡ 64) × (size (now (ends .exit)) ≡ 64)
         × Inserted (take n (now (starts .entry))) (eventWord r units) (take (n + 1) (now (starts .exit)))

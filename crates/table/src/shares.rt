@@ -72,7 +72,7 @@ pub(crate) fn number_of(shares: [Share; 8], each: [u8; 8], count: usize, client:
     let own = each[(client - 1) as usize] as usize;
     let mut unfilled: usize = 0;
     let mut i: usize = 0;
-    while i < 8 {
+    while i < numbers::MOST_CLIENTS as usize {
         let r = shares[i];
         let n = each[i];
         if n < r.reserved {
@@ -95,7 +95,7 @@ pub(crate) fn reserved_in_all(shares: [Share; 8]) -> usize
 {
     let mut sum: usize = 0;
     let mut i: usize = 0;
-    while i < 8 {
+    while i < numbers::MOST_CLIENTS as usize {
         let s = shares[i];
         sum += s.reserved as usize;
         i += 1;

@@ -26,4 +26,4 @@ returns-2 c =
 
 pub new-spec : {M : Type 1} → statement M
 new-spec =
-    tie.close (tie.spec (λ c κs. search needs) (λ c κs. search needs) returns (λ c κs. search needs) returns-2)
+    tie.close (tie.spec (λ c. omega arith) (λ c κs. search needs) (λ c κs. search needs) returns (λ c κs. search needs) returns-2)

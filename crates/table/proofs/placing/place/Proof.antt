@@ -24,6 +24,7 @@ use Rattle.table.proofs.PlacingLoop.{jump, found-plain, Rivals, rivals-
 use Rattle.table.proofs.Ranges.{place-small, remaining-short, bound-small}
 use Rattle.table.proofs.placing.place.Statement.{statement}
 use Rattle.table.proofs.placing.place.Tie as tie
+use Rattle.table.specs.Bounds.{mostStart}
 
 abbrev Inv-loop : tie.InvT-loop
 Inv-loop w t clock pool v count length rivals₀ time₀ places₀ i₀ rivals time places i =
@@ -62,7 +63,7 @@ whole : (c : tie.After-loop Inv-loop μ-loop Inv-loop2 μ-loop2 Inv-candidates �
     let ps = take (t .count) (t .claims) in
     (y .loop .rivals ≡ contention ps (a .w))
     × (t .clock + y .loop .time + y .loop .rivals * (y .before .wide .result - 1) ≡ startBound (ruledIn t (t .clock)) ps (a .w))
-    × (startBound (ruledIn t (t .clock)) ps (a .w) ≤ 2000000000000)
+    × (startBound (ruledIn t (t .clock)) ps (a .w) ≤ mostStart)
 whole c =
     let d = c .before .before in
     let p = d .before .pre in

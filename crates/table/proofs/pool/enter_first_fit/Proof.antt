@@ -5,8 +5,9 @@ use borrow.Author.Needs.{needs}
 use Rattle.table.proofs.Plots.{fit-early}
 use Rattle.table.proofs.pool.enter_first_fit.Statement.{statement}
 use Rattle.table.proofs.pool.enter_first_fit.Tie as tie
+use Rattle.table.specs.Bounds.{mostEnd}
 
-early : (c : tie.After-first-fit) → c .first-fit .result ≤ 3000000000000
+early : (c : tie.After-first-fit) → c .first-fit .result ≤ mostEnd
 early c = let h = c .before .before .before .pre in fit-early (h .3) (c .first-fit .ensures) (h .5)
 
 add-enter : tie.Need-add-enter

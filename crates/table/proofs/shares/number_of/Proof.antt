@@ -95,6 +95,7 @@ number-of-spec =
     (λ c. omega arith)
     (λ c. omega arith)
     (λ c. omega arith)
+    (λ c. omega arith)
     (λ c. search needs)
     (λ c. omega (arith, c .before .before .before .before .before .loop .inv .1, c .before .before .struct-known .given))
     (λ c. omega arith)

@@ -40,6 +40,7 @@ reserved-in-all-spec =
     loop-holds
     (λ c. omega arith)
     (λ c. omega arith)
+    (λ c. omega arith)
     (λ c. search needs)
     (λ c. omega (arith, c .before .before .before .loop .inv .1, c .struct-known .given))
     (λ c. omega arith)
