@@ -16,8 +16,8 @@ use Rattle.rules.specs.Tables.{vacant, model}
 use Rattle.rules.proofs.Lookup.{one-named}
 use Rattle.table.specs.Valid.{Formed}
 use Rattle.table.specs.Outcomes.{Found}
-use Rattle.table.proofs.Rows.{row-member}
-use Rattle.table.proofs.Ranges.{formed-few, formed-now}
+use Rattle.plan.proofs.Rows.{row-member}
+use Rattle.table.proofs.Formed.{formed-few, formed-now}
 
 module _ (t : Table) (k : ℕ) (v : Formed t) where
   pub found-here : (i : ℕ) → i < t .count → getD (t .claims) i vacant .ticket ≡ k → Found t k i

@@ -16,7 +16,7 @@ use Rattle.table.specs.declared.Outcome.{Outcome}
 use Rattle.table.specs.Valid.{Valid}
 use Rattle.table.specs.Outcomes.{outcome}
 use Rattle.rules.proofs.Places.{pad-take}
-use Rattle.table.proofs.Ranges.{model-is, formed-few, formed-length}
+use Rattle.table.proofs.Formed.{model-is, formed-few, formed-length}
 
 -- ── what an outcome tells ──
 module _ (o : Outcome) (s : Step) (p : o ≡ outcome s) where

@@ -18,9 +18,9 @@ use Rattle.rules.specs.Tests.{named}
 use Rattle.rules.specs.Calls.{standing, standingOf}
 use Rattle.rules.specs.Tables.{vacant, pad}
 use Rattle.rules.proofs.Lists.{Each, here, there, keep-length, ascends-drop}
-use Rattle.table.specs.Rows.{InPlaces}
+use Rattle.plan.specs.Rows.{InPlaces}
 use Rattle.rules.proofs.Places.{prefix-end, pad-over, pad-less, Storing, store-start, store-more, store-end}
-use Rattle.table.proofs.Rows.{row-count, row-step}
+use Rattle.plan.proofs.Rows.{row-count, row-step}
 use Rattle.table.specs.Outcomes.{lacking}
 
 module _ (k : ℕ) (c : Claim) (l : List Claim) where
@@ -159,8 +159,8 @@ later-in l (suc j) zero h m = absurd (omega arith)
 later-in [] (suc j) (suc i) h m = m
 later-in (y ∷ l) (suc j) (suc i) h m = later-in l j i (omega arith) m
 
--- Of the claims l, n of them, the first i were looked at. The ticket k is still to come, and r is n; or its claim is at place r, and s is how
--- it stands. None was moved.
+-- Of the claims l, n of them, the first i were looked at. The ticket k is still to come, and r is n; or its claim is at place r, and s is
+-- how it stands. None was moved.
 pub record Looking (k : ℕ) (v : Setting) (l : List Claim) (n i : ℕ) (s : Standing) (r : ℕ) : Type 0 where
   pub row : InPlaces v l n
   pub within : i ≤ n

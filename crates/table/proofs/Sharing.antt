@@ -22,7 +22,7 @@ use Rattle.table.specs.declared.Outcome.{Outcome}
 use Rattle.table.specs.Counts.{contested, pendingEach, unfilledEach, numberBy}
 use Rattle.table.specs.Outcomes.{outcome, answeringIn, shareNumber, placesNumber}
 use Rattle.table.specs.Valid.{Ranged, Valid}
-use Rattle.table.proofs.Ranges.{formed-count}
+use Rattle.table.proofs.Formed.{formed-count}
 use Rattle.table.proofs.Counting.{each-at, each-unfilled}
 use Rattle.table.proofs.Steps.{prepared-is}
 

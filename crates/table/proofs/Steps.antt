@@ -39,17 +39,18 @@ use Rattle.rules.proofs.Packing.{pack-length, pack-holders, pack-idle, moved-ca
 use Rattle.rules.proofs.Repacking.{NoneDraws}
 use Rattle.rules.proofs.Granting.{grant-length}
 use Rattle.rules.proofs.OnePacking.{advance-still, join-still, leave-once, finish-advanced}
-use Rattle.table.specs.Rows.{Sized, InPlaces, Capped}
+use Rattle.plan.specs.Rows.{Sized, InPlaces, Capped}
 use Rattle.rules.proofs.Places.{pad-take, pad-over, pad-more}
-use Rattle.table.specs.declared.granting.Granted.{Granted}
-use Rattle.table.specs.declared.placing.Placed.{Placed}
-use Rattle.table.specs.Parts.{withClaims, ruledIn, atClock, packedTable, grantedIn, placedIn}
+use Rattle.plan.specs.declared.granting.Granted.{Granted}
+use Rattle.plan.specs.declared.placing.Placed.{Placed}
+use Rattle.plan.specs.Parts.{withClaims, ruledIn, atClock, packedTable, grantedIn, placedIn}
 use Rattle.table.specs.declared.Outcome.{Outcome}
 use Rattle.table.specs.Valid.{Ranged, Formed, Valid}
 use Rattle.table.specs.Outcomes.{outcome, answeringIn, timeNumber, pastEnd, departed, leaving, lacking}
-use Rattle.table.proofs.Ranges.{in-range-later, sized-waiting, start-small, place-small, model-is, formed-now, formed-is, formed-count, formed-sane, blank-ranged, advance-ranged, remove-ranged, join-ranged, grant-ranged}
+use Rattle.plan.proofs.Ranges.{in-range-later, sized-waiting, start-small, place-small}
+use Rattle.table.proofs.Formed.{model-is, formed-now, formed-is, formed-count, formed-sane, blank-ranged, advance-ranged, remove-ranged, join-ranged, grant-ranged}
 use Rattle.table.proofs.Tests.{timed-passes, step-refused, step-accepted}
-use Rattle.table.specs.Bounds.{mostPacked}
+use Rattle.plan.specs.Bounds.{mostPacked}
 
 -- ── refusals ──
 pub answering-is : (t : Table) (n : ℕ) → Formed t → answeringIn t n ≡ outcome (unchanged (model t) n)

@@ -1,8 +1,7 @@
 // The claims table: new, declare, set_grace, claim, release, withdraw, clock, lookup, common, free. Each call takes a table by value and
-// hands one back with its answer. A claim and a clock call pack only where the clock moves and a holder overruns; a release and a withdrawal
-// only where somebody waits, and once more where there is a pool, the clock moves and a holder overruns.
-// Packing n claims costs at most n² / 2 tests of two words and two steps for each group of each claim, and for each claim that draws units
-// a sweep over those that do; the search for a claim's start n² tests of two sets, or insertions and a sweep; everything else a few passes.
+// hands one back with its answer. A claim and a clock call pack only where the clock moves and a holder overruns; a release and a
+// withdrawal only where somebody waits, and once more where there is a pool, the clock moves and a holder overruns.
+// What packing and placing cost is told in `plan`; everything else is a few passes.
 ghost use mathlib.Core.Path.{_≡_};
 ghost use mathlib.Core.Bool.{true};
 ghost use Prim.Native.Nat.{_+_, _≤_, _<_};
@@ -15,14 +14,8 @@ ghost use Rattle.rules.specs.Tables.{encode, model};
 ghost use Rattle.rules.specs.Invariants.{Still};
 ghost use Rattle.table.specs.Valid.{Formed, Valid};
 ghost use Rattle.table.specs.Outcomes.{outcome, answeringIn, Found, timeNumber, shareNumber, placesNumber, pastEnd, departed, phaseNumber, leaving};
-ghost use Rattle.table.specs.Bounds.{mostAt};
+ghost use Rattle.plan.specs.Bounds.{mostAt};
 
-mod claims;
-mod granting;
-mod insertion;
-mod packing;
-mod placing;
-mod pool;
 mod shares;
 
 use groups::MaybeGroup;
@@ -117,7 +110,7 @@ fn shown(c: Claim) -> Standing
     ensures { λ r. ⌜ r ≡ standing c ⌝ }
 {
     let p = c.phase;
-    let n = claims::wide(c.length);
+    let n = plan::wide(c.length);
     match p {
         Phase::Waiting(s) => Standing::Waits(s),
         Phase::On(g) => Standing::Holds(g + n),
@@ -189,7 +182,7 @@ pub fn free(t: Table) -> u16
     let mut i: usize = 0;
     while i < count {
         let c = t.claims[i];
-        n -= granting::units_held(c);
+        n -= plan::units_held(c);
         i += 1;
     }
     n
@@ -215,16 +208,16 @@ fn overruns(clock: u64, c: Claim) -> bool
     requires { ⌜ at c ≤ mostAt ⌝ }
     ensures { λ r. ⌜ r ≡ pastEnd clock c ⌝ }
 {
-    if claims::is_on(c) {
-        let n = claims::wide(c.length);
-        return claims::start_or_grant(c) + n < clock;
+    if plan::is_on(c) {
+        let n = plan::wide(c.length);
+        return plan::start_or_grant(c) + n < clock;
     }
     false
 }
 
 // Sets the clock of a table between calls, and packs. At the table's own clock, and while nobody overruns, packing would change nothing.
-// Cost: one pass at most, and that packing. A `return` in the pass costs a copy of the table more, and so does one function over the test for
-// this and `pulled`.
+// Cost: one pass at most, and that packing. A `return` in the pass costs a copy of the table more, and so does one function over the test
+// for this and `pulled`.
 fn at_clock(mut t: Table, clock: u64) -> Table
     requires { ⌜ Valid t × (t .clock ≤ clock) × (clock ≤ mostClock) ⌝ }
     ensures { λ r. ⌜ (r ≡ encode (advance (model t) clock)) × Formed r × Still (model r) ⌝ }
@@ -246,7 +239,7 @@ fn at_clock(mut t: Table, clock: u64) -> Table
     if packs {
         let pool = t.pool;
         let grace = t.grace;
-        t = packing::pack(
+        t = plan::pack(
             t,
             Setting {
                 clock: clock,
@@ -271,7 +264,7 @@ fn pulled(mut t: Table, clock: u64) -> Table
     let mut i: usize = 0;
     while i < count {
         let c = t.claims[i];
-        if !claims::is_on(c) {
+        if !plan::is_on(c) {
             packs = true;
             break;
         }
@@ -280,7 +273,7 @@ fn pulled(mut t: Table, clock: u64) -> Table
     if packs {
         let pool = t.pool;
         let grace = t.grace;
-        t = packing::pack(
+        t = plan::pack(
             t,
             Setting {
                 clock: clock,
@@ -299,7 +292,7 @@ fn finished(t: Table, r: Reply) -> Outcome
     requires { ⌜ Formed t × Still (model t) ⌝ }
     ensures { λ o. ⌜ (o ≡ outcome (finish (model t) r)) × Formed (o .table) ⌝ }
 {
-    let g = granting::grant(t);
+    let g = plan::grant(t);
     let after = g.table;
     let tickets = g.tickets;
     Outcome {
@@ -559,7 +552,7 @@ fn admitted(t: Table, ask: Request) -> Outcome
         units: ask.units,
         client: ask.client,
     };
-    let p = placing::place(t, w);
+    let p = plan::place(t, w);
     finished(p.table, p.reply)
 }
 

@@ -8,10 +8,10 @@ use lib.ListN.{take}
 use Rattle.rules.specs.Lists.{any}
 use Rattle.rules.specs.Tables.{model}
 use Rattle.rules.proofs.Bools.{clash}
-use Rattle.table.specs.Parts.{ruledIn}
+use Rattle.plan.specs.Parts.{ruledIn}
 use Rattle.table.specs.Outcomes.{pastEnd}
-use Rattle.table.proofs.Rows.{row-small, Left, left-start, left-next, left-end}
-use Rattle.table.proofs.Ranges.{formed-row}
+use Rattle.plan.proofs.Rows.{row-small, Left, left-start, left-next, left-end}
+use Rattle.table.proofs.Formed.{formed-row}
 use Rattle.table.proofs.Steps.{advanced-is, idle-is, same-clock-idle, no-overrun-idle}
 use Rattle.table.proofs.at_clock.Statement.{statement}
 use Rattle.table.proofs.at_clock.Tie as tie

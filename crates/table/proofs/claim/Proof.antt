@@ -11,7 +11,7 @@ use Rattle.rules.proofs.Calls.{Admissible, admissible}
 use Rattle.rules.proofs.Booking.{room-left}
 use Rattle.table.specs.Counts.{contested}
 use Rattle.table.specs.Outcomes.{placesNumber}
-use Rattle.table.proofs.Ranges.{formed-count}
+use Rattle.table.proofs.Formed.{formed-count}
 use Rattle.table.proofs.Steps.{refused, accepted, advanced-counts, claim-is}
 use borrow.Author.Needs.{needs}
 use Rattle.table.proofs.claim.Statement.{statement}

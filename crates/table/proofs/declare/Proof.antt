@@ -4,6 +4,7 @@ use Prim.Native.Nat.{ℕ, _-_, _≤_}
 use native.Mathlib.Omega.{arith}
 use lib.ListN.{set}
 use borrow.Author.Needs.{needs}
+use Rattle.numbers.specs.Numbers.{mostClients}
 use Rattle.rules.specs.declared.Table.{Table}
 use Rattle.rules.specs.Shares.{share}
 use Rattle.rules.specs.Calls.{declare}
@@ -17,7 +18,7 @@ use Rattle.table.proofs.declare.Statement.{statement}
 use Rattle.table.proofs.declare.Tie as tie
 
 -- Where no test fails the client is one from 1 to 8.
-range : (c : tie.Then1) → (1 ≤ c .before .before .args .client) × (c .before .before .args .client ≤ 8)
+range : (c : tie.Then1) → (1 ≤ c .before .before .args .client) × (c .before .before .args .client ≤ mostClients)
 range c =
     let a = c .before .before .args in
     client-range _ (declarable (model (a .t1)) (a .client) (a .reserved) (a .limit) (sym (c .before .declare-number .ensures) ∙ c .if1 .taken) .client)

@@ -8,9 +8,9 @@ use lib.ListN.{take}
 use Rattle.rules.specs.Lists.{any}
 use Rattle.rules.specs.Tables.{model}
 use Rattle.rules.proofs.Bools.{clash}
-use Rattle.table.specs.Parts.{ruledIn}
-use Rattle.table.proofs.Rows.{Left, left-start, left-next, left-end}
-use Rattle.table.proofs.Ranges.{formed-row}
+use Rattle.plan.specs.Parts.{ruledIn}
+use Rattle.plan.proofs.Rows.{Left, left-start, left-next, left-end}
+use Rattle.table.proofs.Formed.{formed-row}
 use Rattle.table.proofs.Steps.{advanced-is, idle-is, waits, none-waits-idle}
 use borrow.Author.Needs.{needs}
 use Rattle.table.proofs.pulled.Statement.{statement}

@@ -11,11 +11,11 @@ use Rattle.rules.specs.declared.Standing.{Standing}
 use Rattle.rules.specs.declared.Table.{Table}
 use Rattle.rules.specs.Calls.{Model, remove, standingOf}
 use Rattle.rules.specs.Tables.{encode, model, pad, vacant}
-use Rattle.table.specs.Parts.{withClaims, ruledIn}
+use Rattle.plan.specs.Parts.{withClaims, ruledIn}
 use Rattle.table.specs.Outcomes.{departed, lacking}
 use Rattle.table.specs.Valid.{Formed}
-use Rattle.table.proofs.Rows.{row-small, other-claims}
-use Rattle.table.proofs.Ranges.{model-is, formed-now, formed-claims}
+use Rattle.plan.proofs.Rows.{row-small, other-claims}
+use Rattle.table.proofs.Formed.{model-is, formed-now, formed-claims}
 use Rattle.table.proofs.RemovalLoop.{Taking, taking-moved, taking-count, taking-told, taking-none, taking-one, Looking, looking-start, looking-here, looking-on, looking-none, looking-found}
 use Rattle.table.proofs.Steps.{counted, removed-is, departed-none, departed-some}
 use Rattle.table.proofs.removed.Statement.{statement}
