@@ -10,7 +10,7 @@ use lib.Dec.{ltb}
 use lib.ListN.{length, drop, getD, set, replicate, length-set}
 use lib.Seq.{getD-set-same, getD-set-other}
 use borrow.Author.Tests.{eq-eqb, ne-eqb, le-leb, lt-leb}
-use Rattle.numbers.specs.Numbers.{mostPending}
+use Rattle.numbers.specs.Numbers.{mostPending, mostClients}
 use Rattle.rules.specs.declared.Claim.{Claim}
 use Rattle.rules.specs.declared.Share.{Share}
 use Rattle.rules.specs.Lists.{sum}
@@ -23,8 +23,8 @@ use Rattle.table.specs.Counts.{contested, pendingEach, unfilledEach}
 -- ── counting ──
 -- Of the claims of all, those of the rest are still to be counted.
 pub record Counting (all : List ℕ) (rest : List Claim) (each : List ℕ) : Type 0 where
-  pub eight : length each ≡ 8
-  pub sums : (c : ℕ) → 1 ≤ c → c ≤ 8 → getD each (c - 1) 0 + pendingOf (clientsOf rest) c ≡ pendingOf all c
+  pub eight : length each ≡ mostClients
+  pub sums : (c : ℕ) → 1 ≤ c → c ≤ mostClients → getD each (c - 1) 0 + pendingOf (clientsOf rest) c ≡ pendingOf all c
 
 pub counting-start : (ps : List Claim) → Counting (clientsOf ps) ps (replicate 8 0)
 counting-start ps = record {
@@ -33,7 +33,7 @@ counting-start ps = record {
       (omega arith) (omega arith) (omega arith) (omega arith) (omega arith) (omega arith) (omega arith) (omega arith);
 }
 
-module _ {all : List ℕ} {d : Claim} {rest : List Claim} {each : List ℕ} (h : Counting all (d ∷ rest) each) (low : 1 ≤ d .client) (high : d .client ≤ 8) where
+module _ {all : List ℕ} {d : Claim} {rest : List Claim} {each : List ℕ} (h : Counting all (d ∷ rest) each) (low : 1 ≤ d .client) (high : d .client ≤ mostClients) where
   -- No count passes the number of claims.
   pub counting-small : getD each (d .client - 1) 0 < 1 + length all
   counting-small = omega (arith, h .sums (d .client) low high, pending-few all (d .client))
@@ -66,7 +66,7 @@ module _ {all : List ℕ} {d : Claim} {rest : List Claim} {each : List ℕ} (h :
           omega (arith, s, k, g)
 
 -- Eight numbers, one for each client.
-eight-are : (l : List ℕ) (f : ℕ → ℕ) → length l ≡ 8 → ((c : ℕ) → 1 ≤ c → c ≤ 8 → getD l (c - 1) 0 ≡ f c) → l ≡ map f clients
+eight-are : (l : List ℕ) (f : ℕ → ℕ) → length l ≡ mostClients → ((c : ℕ) → 1 ≤ c → c ≤ mostClients → getD l (c - 1) 0 ≡ f c) → l ≡ map f clients
 eight-are [] f e h = absurd (omega arith)
 eight-are (a ∷ []) f e h = absurd (omega arith)
 eight-are (a ∷ b ∷ []) f e h = absurd (omega arith)
@@ -92,7 +92,7 @@ unfolding pendingEach
 counting-end {all} {each} h = eight-are each (pendingOf all) (h .eight) (λ c l u. omega (arith, h .sums c l u, pending-few [] c))
 
 -- What was counted for a client.
-pub each-at : (ks : List ℕ) (c : ℕ) → 1 ≤ c → c ≤ 8 → getD (pendingEach ks) (c - 1) 0 ≡ pendingOf ks c
+pub each-at : (ks : List ℕ) (c : ℕ) → 1 ≤ c → c ≤ mostClients → getD (pendingEach ks) (c - 1) 0 ≡ pendingOf ks c
 unfolding pendingEach
 each-at ks = by-eight (λ c. getD (pendingEach ks) (c - 1) 0 ≡ pendingOf ks c) refl refl refl refl refl refl refl refl
 
@@ -126,21 +126,21 @@ pub share-at : (ss : List Share) (i : ℕ) → shareOf ss (i + 1) ≡ getD ss i 
 unfolding shareOf
 share-at ss i = rw (add-one i)
 
-pub sum-step : (f : ℕ → ℕ) (i : ℕ) → i < 8 → sumFrom f i ≡ f (i + 1) + sumFrom f (i + 1)
+pub sum-step : (f : ℕ → ℕ) (i : ℕ) → i < mostClients → sumFrom f i ≡ f (i + 1) + sumFrom f (i + 1)
 unfolding sum
 sum-step f i h =
     let e : i + 1 - 1 ≡ i = omega arith in
     rw e at (by-eight (λ k. sumFrom f (k - 1) ≡ f k + sumFrom f k) refl refl refl refl refl refl refl refl (i + 1) (omega arith) (omega arith))
 
-pub sum-end : (f : ℕ → ℕ) (i : ℕ) → 8 ≤ i → i ≤ 8 → sumFrom f i ≡ 0
+pub sum-end : (f : ℕ → ℕ) (i : ℕ) → mostClients ≤ i → i ≤ mostClients → sumFrom f i ≡ 0
 unfolding sum
-sum-end f i l h = let e : i ≡ 8 = omega arith in rw e
+sum-end f i l h = let e : i ≡ mostClients = omega arith in rw e
 
 -- Of what is left unfilled, the sum from place i on is a place's and that of the rest.
 abbrev pub unfilledAt : List Share → List ℕ → ℕ → ℕ
 unfilledAt ss ns n = shareOf ss n .reserved - getD ns (n - 1) 0
 
-pub unfilled-step : (ss : List Share) (ns : List ℕ) (i : ℕ) → i < 8
+pub unfilled-step : (ss : List Share) (ns : List ℕ) (i : ℕ) → i < mostClients
     → sumFrom (unfilledAt ss ns) i ≡ (getD ss i undeclared .reserved - getD ns i 0) + sumFrom (unfilledAt ss ns) (i + 1)
 unfilled-step ss ns i h =
     let e : i + 1 - 1 ≡ i = omega arith in
@@ -150,5 +150,5 @@ unfilled-step ss ns i h =
 abbrev pub reservedAt : List Share → ℕ → ℕ
 reservedAt ss n = shareOf ss n .reserved
 
-pub reserved-step : (ss : List Share) (i : ℕ) → i < 8 → sumFrom (reservedAt ss) i ≡ getD ss i undeclared .reserved + sumFrom (reservedAt ss) (i + 1)
+pub reserved-step : (ss : List Share) (i : ℕ) → i < mostClients → sumFrom (reservedAt ss) i ≡ getD ss i undeclared .reserved + sumFrom (reservedAt ss) (i + 1)
 reserved-step ss i h = sum-step (reservedAt ss) i h ∙ ap (λ (s : Share). s .reserved + sumFrom (reservedAt ss) (i + 1)) (share-at ss i)

@@ -16,15 +16,15 @@ use Rattle.rules.specs.Tables.{vacant, model}
 use Rattle.rules.proofs.Lookup.{one-named}
 use Rattle.table.specs.Valid.{Formed}
 use Rattle.table.specs.Outcomes.{Found}
-use Rattle.table.proofs.Rows.{row-member}
-use Rattle.table.proofs.Ranges.{formed-few, formed-now}
+use Rattle.plan.proofs.Rows.{row-member}
+use Rattle.table.proofs.Formed.{formed-few, formed-now}
 
 module _ (t : Table) (k : ℕ) (v : Formed t) where
   pub found-here : (i : ℕ) → i < t .count → getD (t .claims) i vacant .ticket ≡ k → Found t k i
   found-here i h e =
       record {
         within = omega arith;
-        here = λ _. ap (λ (x : ℕ). keep (named x) (model t .pending)) (sym e) ∙ one-named (model t .pending) (v .ranged .ascending) _ (row-member (formed-now t v) i h);
+        here = λ _. ap (λ (x : ℕ). keep (named x) (model t .pending)) (sym e) ∙ one-named (model t .pending) (v .ranged .ranges .ascending) _ (row-member (formed-now t v) i h);
         none = λ q. absurd (omega arith);
       }
 

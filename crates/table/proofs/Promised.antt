@@ -16,7 +16,7 @@ use Rattle.table.specs.declared.Outcome.{Outcome}
 use Rattle.table.specs.Valid.{Valid}
 use Rattle.table.specs.Outcomes.{outcome}
 use Rattle.rules.proofs.Places.{pad-take}
-use Rattle.table.proofs.Ranges.{model-is, formed-few, formed-length}
+use Rattle.table.proofs.Formed.{model-is, formed-few, formed-length}
 
 -- ── what an outcome tells ──
 module _ (o : Outcome) (s : Step) (p : o ≡ outcome s) where
@@ -38,7 +38,7 @@ pub record ClaimsByTicket (t : Table) : Type 0 where
   pub meant : take (t .count) (t .claims) ≡ model t .pending
 
 pub claims-by-ticket : (t : Table) → Valid t → ClaimsByTicket t
-claims-by-ticket t v = record { places = formed-length t (v .formed); few = formed-few t (v .formed); ascending = v .formed .ranged .ascending; meant = refl }
+claims-by-ticket t v = record { places = formed-length t (v .formed); few = formed-few t (v .formed); ascending = v .formed .ranged .ranges .ascending; meant = refl }
 
 -- A table between calls is the one that its meaning encodes: nothing stands after the claims.
 pub valid-whole : (t : Table) → Valid t → encode (model t) ≡ t

@@ -20,9 +20,9 @@ use Rattle.rules.proofs.Tests.{passes, past, front, swapped}
 use Rattle.rules.proofs.Shares.{declared-range, share-place, pending-few, full-by-all, full-for-all, below-not-full, below-not-over}
 use Rattle.table.specs.declared.Outcome.{Outcome}
 use Rattle.table.specs.Counts.{contested, pendingEach, unfilledEach, numberBy}
-use Rattle.table.specs.Outcomes.{outcome, unchangedIn, shareNumber, placesNumber}
+use Rattle.table.specs.Outcomes.{outcome, answeringIn, shareNumber, placesNumber}
 use Rattle.table.specs.Valid.{Ranged, Valid}
-use Rattle.table.proofs.Ranges.{formed-count}
+use Rattle.table.proofs.Formed.{formed-count}
 use Rattle.table.proofs.Counting.{each-at, each-unfilled}
 use Rattle.table.proofs.Steps.{prepared-is}
 
@@ -94,11 +94,10 @@ abbrev pub withShares : Table → List Share → Table
 withShares t ss = record { rig = t .rig; clock = t .clock; pool = t .pool; issued = t .issued; grace = t .grace; shares = ss; count = t .count; claims = t .claims }
 
 declared-ranged : (m : Model) (c r l : ℕ) → Ranged m → Ranged (declared m c r l)
-declared-ranged m c r l h =
-    record { few = h .few; timely = h .timely; numbered = h .numbered; ascending = h .ascending; sized = h .sized; issued = h .issued; pooled = h .pooled; stock = h .stock; lenient = h .lenient }
+declared-ranged m c r l h = record { ranges = h .ranges; numbered = h .numbered; issued = h .issued }
 
 pub declared-is : (t : Table) (c r l : ℕ) (o : Outcome) → Valid t → firstOf (tests (model t) (declare c r l)) ≡ 0
-    → o ≡ unchangedIn (withShares t (set (t .shares) (c - 1) (share r l))) 0 → (o ≡ outcome (step (model t) (declare c r l))) × Valid (o .table)
+    → o ≡ answeringIn (withShares t (set (t .shares) (c - 1) (share r l))) 0 → (o ≡ outcome (step (model t) (declare c r l))) × Valid (o .table)
 unfolding withShare act
 declared-is t c r l o v z e =
     let ss = set (t .shares) (c - 1) (share r l) in

@@ -35,30 +35,32 @@ use Rattle.rules.proofs.Calls.{settable, placed, new-cases, blank-invariant, st
 use Rattle.rules.proofs.Shares.{first-booked}
 use Rattle.rules.proofs.Booking.{step-booked}
 use Rattle.rules.proofs.NoOverrun.{no-overrun-still}
-use Rattle.rules.proofs.Packing.{pack-length, pack-holders, moved-cases}
+use Rattle.rules.proofs.Packing.{pack-length, pack-holders, pack-idle, moved-cases}
 use Rattle.rules.proofs.Repacking.{NoneDraws}
 use Rattle.rules.proofs.Granting.{grant-length}
 use Rattle.rules.proofs.OnePacking.{advance-still, join-still, leave-once, finish-advanced}
-use Rattle.table.specs.Rows.{Sized, Row, Capped}
+use Rattle.plan.specs.Rows.{Sized, InPlaces, Capped}
 use Rattle.rules.proofs.Places.{pad-take, pad-over, pad-more}
-use Rattle.table.specs.declared.granting.Granted.{Granted}
-use Rattle.table.specs.declared.placing.Placed.{Placed}
-use Rattle.table.specs.Parts.{withClaims, ruledIn, atClock, packedTable, grantedIn, placedIn}
+use Rattle.plan.specs.declared.granting.Granted.{Granted}
+use Rattle.plan.specs.declared.placing.Placed.{Placed}
+use Rattle.plan.specs.Parts.{withClaims, ruledIn, atClock, packedTable, grantedIn, placedIn}
 use Rattle.table.specs.declared.Outcome.{Outcome}
 use Rattle.table.specs.Valid.{Ranged, Formed, Valid}
-use Rattle.table.specs.Outcomes.{outcome, unchangedIn, timeNumber, pastEnd, departed, leaving, without}
-use Rattle.table.proofs.Ranges.{sized-later, sized-waiting, start-small, place-small, model-is, formed-now, formed-is, formed-count, formed-sane, blank-ranged, advance-ranged, remove-ranged, join-ranged, grant-ranged}
+use Rattle.table.specs.Outcomes.{outcome, answeringIn, timeNumber, pastEnd, departed, leaving, lacking}
+use Rattle.plan.proofs.Ranges.{in-range-later, sized-waiting, start-small, place-small}
+use Rattle.table.proofs.Formed.{model-is, formed-now, formed-is, formed-count, formed-sane, blank-ranged, advance-ranged, remove-ranged, join-ranged, grant-ranged}
 use Rattle.table.proofs.Tests.{timed-passes, step-refused, step-accepted}
+use Rattle.plan.specs.Bounds.{mostPacked}
 
 -- ── refusals ──
-pub unchanged-is : (t : Table) (n : ℕ) → Formed t → unchangedIn t n ≡ outcome (unchanged (model t) n)
+pub answering-is : (t : Table) (n : ℕ) → Formed t → answeringIn t n ≡ outcome (unchanged (model t) n)
 unfolding pad
-unchanged-is t n v = ap (λ (x : Table). unchangedIn x n) (sym (v .whole))
+answering-is t n v = ap (λ (x : Table). answeringIn x n) (sym (v .whole))
 
 -- A call that the rules refuse with n.
-pub refused : (t : Table) (c : Call) (n : ℕ) (r : Outcome) → Valid t → r ≡ unchangedIn t n → firstOf (tests (model t) c) ≡ n → n ≢ 0 → (r ≡ outcome (step (model t) c)) × Valid (r .table)
+pub refused : (t : Table) (c : Call) (n : ℕ) (r : Outcome) → Valid t → r ≡ answeringIn t n → firstOf (tests (model t) c) ≡ n → n ≢ 0 → (r ≡ outcome (step (model t) c)) × Valid (r .table)
 refused t c n r v e f z =
-    (e ∙ unchanged-is t n (v .formed) ∙ ap outcome (sym (step-refused (model t) c n f z)), subst Valid (sym (ap (λ (x : Outcome). x .table) e)) v)
+    (e ∙ answering-is t n (v .formed) ∙ ap outcome (sym (step-refused (model t) c n f z)), subst Valid (sym (ap (λ (x : Outcome). x .table) e)) v)
 
 -- A call that the rules accept keeps tables valid.
 pub accepted : (t : Table) (c : Call) (r : Outcome) → Valid t → r ≡ outcome (step (model t) c) → Formed (r .table) → (r ≡ outcome (step (model t) c)) × Valid (r .table)
@@ -75,58 +77,57 @@ accepted t c r v e f =
 -- ── what is set before the first claim ──
 -- A call that is accepted and answers nothing but 0: u is the table that it leaves.
 pub prepared-is : (t u : Table) (c : Call) (m : Model) (r : Outcome) → Valid t → firstOf (tests (model t) c) ≡ 0 → act (model t) c ≡ unchanged m 0 → u ≡ encode m → Ranged m
-    → r ≡ unchangedIn u 0 → (r ≡ outcome (step (model t) c)) × Valid (r .table)
+    → r ≡ answeringIn u 0 → (r ≡ outcome (step (model t) c)) × Valid (r .table)
 prepared-is t u c m r v z a q h e =
     let f = formed-is u m q h in
     accepted t c r v
-    (e ∙ unchanged-is u 0 f ∙ ap (λ (x : Model). outcome (unchanged x 0)) (model-is u m q) ∙ ap outcome (sym a ∙ sym (step-accepted (model t) c z)))
+    (e ∙ answering-is u 0 f ∙ ap (λ (x : Model). outcome (unchanged x 0)) (model-is u m q) ∙ ap outcome (sym a ∙ sym (step-accepted (model t) c z)))
     (subst Formed (sym (ap (λ (x : Outcome). x .table) e)) f)
 
 -- The table with another grace.
 abbrev pub graced : Table → ℕ → Table
 graced t n = record { rig = t .rig; clock = t .clock; pool = t .pool; issued = t .issued; grace = n; shares = t .shares; count = t .count; claims = t .claims }
 
-pub graced-is : (t : Table) (n : ℕ) (r : Outcome) → Valid t → firstOf (tests (model t) (setGrace n)) ≡ 0 → r ≡ unchangedIn (graced t n) 0
+pub graced-is : (t : Table) (n : ℕ) (r : Outcome) → Valid t → firstOf (tests (model t) (setGrace n)) ≡ 0 → r ≡ answeringIn (graced t n) 0
     → (r ≡ outcome (step (model t) (setGrace n))) × Valid (r .table)
 unfolding act
 graced-is t n r v z e =
     let h = v .formed .ranged in
     prepared-is t (graced t n) (setGrace n) (withGrace (model t) n) r v z refl (ap (λ (x : Table). graced x n) (sym (v .formed .whole)))
-    (record { few = h .few; timely = h .timely; numbered = h .numbered; ascending = h .ascending; sized = λ c m. sized-later (settingOf (model t)) (settingOf (withGrace (model t) n)) c (record { later = omega arith; same = refl }) (h .sized c m); issued = h .issued; pooled = h .pooled; stock = h .stock; lenient = settable (model t) n z .lenient })
-    e
+    (record { ranges = in-range-later (record { later = omega arith; same = refl }) (h .ranges .timely) (settable (model t) n z .lenient) (h .ranges); numbered = h .numbered; issued = h .issued }) e
 
 -- ── new ──
 -- The table that the code makes for a rig and a pool.
 abbrev pub emptyTable : ℕ → ℕ → Bool → Table
 emptyTable g k alone = record { rig = g; clock = 0; pool = k; issued = 0; grace = 0; shares = firstShares alone; count = 0; claims = replicate 64 vacant }
 
-opened : (g k n : ℕ) (alone : Bool) (r : Outcome) → k ≤ mostUnits → r ≡ unchangedIn (emptyTable g k alone) n
+opened : (g k n : ℕ) (alone : Bool) (r : Outcome) → k ≤ mostUnits → r ≡ answeringIn (emptyTable g k alone) n
     → (r ≡ outcome (unchanged (blank g k alone) n)) × Valid (r .table)
 unfolding pad
 opened g k n alone r h e =
     let f = formed-is (emptyTable g k alone) (blank g k alone) refl (blank-ranged g k alone h) in
     let m = model-is (emptyTable g k alone) (blank g k alone) refl in (
-      e ∙ unchanged-is (emptyTable g k alone) n f ∙ ap (λ (m : Model). outcome (unchanged m n)) m,
+      e ∙ answering-is (emptyTable g k alone) n f ∙ ap (λ (m : Model). outcome (unchanged m n)) m,
       subst Valid (sym (ap (λ (x : Outcome). x .table) e))
           (record { formed = f; settled = subst Invariant (sym m) (blank-invariant g k alone); booked = subst IsBooked (sym m) (first-booked alone) }),
     )
 
 -- The shares as the code makes them: those of client 1, and seven of nobody.
 pub shares-are : (g k : ℕ) (alone : Bool) (places n : ℕ) (r : Outcome) → places ≡ cond alone 64 0
-    → r ≡ unchangedIn (record { rig = g; clock = 0; pool = k; issued = 0; grace = 0; shares = record { declared = alone; reserved = places; limit = places } ∷ replicate 7 undeclared; count = 0; claims = replicate 64 vacant }) n
-    → r ≡ unchangedIn (emptyTable g k alone) n
+    → r ≡ answeringIn (record { rig = g; clock = 0; pool = k; issued = 0; grace = 0; shares = record { declared = alone; reserved = places; limit = places } ∷ replicate 7 undeclared; count = 0; claims = replicate 64 vacant }) n
+    → r ≡ answeringIn (emptyTable g k alone) n
 shares-are g k true places n r e q = q ∙ rw e
 shares-are g k false places n r e q = q ∙ rw e
 
 -- A rig of 64 bits without groups is 0.
-pub new-dark : (g k : ℕ) (alone : Bool) (r : Outcome) → g < 2 ^ 64 → true ≡ empty g → r ≡ unchangedIn (emptyTable g 0 alone) 1
+pub new-dark : (g k : ℕ) (alone : Bool) (r : Outcome) → g < 2 ^ 64 → true ≡ empty g → r ≡ answeringIn (emptyTable g 0 alone) 1
     → (r ≡ outcome (new g k alone)) × Valid (r .table)
 new-dark g k alone r h d e =
     let z : g ≡ 0 = eqb-true g 0 (sym (empty-word g h) ∙ sym d) in
-    let o = opened 0 0 1 alone r (omega arith) (e ∙ ap (λ (x : ℕ). unchangedIn (emptyTable x 0 alone) 1) z) in
+    let o = opened 0 0 1 alone r (omega arith) (e ∙ ap (λ (x : ℕ). answeringIn (emptyTable x 0 alone) 1) z) in
     new-cases (λ (s : Step). (r ≡ outcome s) × Valid (r .table)) g k alone (λ q. o) (λ q. clash (sym d) q)
 
-pub new-lit : (g k : ℕ) (alone : Bool) (r : Outcome) → k ≤ mostUnits → false ≡ empty g → r ≡ unchangedIn (emptyTable g k alone) 0
+pub new-lit : (g k : ℕ) (alone : Bool) (r : Outcome) → k ≤ mostUnits → false ≡ empty g → r ≡ answeringIn (emptyTable g k alone) 0
     → (r ≡ outcome (new g k alone)) × Valid (r .table)
 new-lit g k alone r h d e = new-cases (λ (s : Step). (r ≡ outcome s) × Valid (r .table)) g k alone (λ q. clash q (sym d)) (λ q. opened g k 0 alone r h e)
 
@@ -142,7 +143,7 @@ packed-is m u =
 advanced-to : (t : Table) (u : ℕ) → Formed t → t .clock ≤ u → u ≤ mostClock → (r : Table) → r ≡ encode (advance (model t) u)
     → (r ≡ encode (advance (model t) u)) × Formed r × Still (model r)
 advanced-to t u v a b r e =
-    (e, formed-is r _ e (advance-ranged (model t) u (v .ranged) a b), subst Still (sym (model-is r _ e)) (advance-still (model t) u (formed-sane t v u) (v .ranged .ascending) (v .ranged .stock)))
+    (e, formed-is r _ e (advance-ranged (model t) u (v .ranged) a b), subst Still (sym (model-is r _ e)) (advance-still (model t) u (formed-sane t v u) (v .ranged .ranges .ascending) (v .ranged .ranges .stock)))
 
 pub advanced-is : (t : Table) (u : ℕ) → Formed t → t .clock ≤ u → u ≤ mostClock → (r : Table) → r ≡ packedTable (ruledIn t u) t
     → (r ≡ encode (advance (model t) u)) × Formed r × Still (model r)
@@ -154,7 +155,13 @@ pub idle-is : (t : Table) (u : ℕ) → Formed t → t .clock ≤ u → u ≤ mo
 unfolding advance
 idle-is t u v a b idle r q = advanced-to t u v a b r (q ∙ ap (atClock u) (sym (v .whole)) ∙ ap (λ (ps : List Claim). encode (withPending (withClock (model t) u) ps)) (sym idle))
 
--- It would not while nobody overruns, nor where nobody waits.
+-- It would not at the table's own clock, nor while nobody overruns, nor where nobody waits.
+pub same-clock-idle : (t : Table) (u : ℕ) → Valid t → t .clock ≡ u → pack (ruledIn t u) (model t .pending) ≡ model t .pending
+same-clock-idle t u v e =
+    let s = v .settled in
+    subst (λ (x : ℕ). pack (ruledIn t x) (model t .pending) ≡ model t .pending) e
+    (pack-idle (settingOf (model t)) (model t .pending) (λ c m. s .spaced .proper c m .sane) (s .spaced .fit) (s .spaced .low) (s .earliest))
+
 pub no-overrun-idle : (t : Table) (u : ℕ) → Valid t → t .clock ≤ u → any (pastEnd u) (model t .pending) ≡ false → pack (ruledIn t u) (model t .pending) ≡ model t .pending
 no-overrun-idle t u v a none = no-overrun-still (t .issued) (settingOf (model t)) (ruledIn t u) (model t .pending) (v .settled) (record { later = a; same = refl }) prompt
   where
@@ -169,7 +176,7 @@ none-waits-idle v ps none = pack-holders v ps (λ c m. not-false (on c) (any-non
 
 -- Nobody waits for units where there are none.
 no-pool-draws : (t : Table) → Formed t → t .pool ≡ 0 → NoneDraws (model t .pending)
-no-pool-draws t v z w m o = omega (arith, v .ranged .sized w m .sane .drawn)
+no-pool-draws t v z w m o = omega (arith, v .ranged .ranges .sized w m .sane .drawn)
 
 -- As many claims, tickets and units.
 pub advanced-counts : (t : Table) (u : ℕ) (r : Table) → Formed t → r ≡ encode (advance (model t) u) → (r .count ≡ t .count) × (r .issued ≡ t .issued) × (r .pool ≡ t .pool)
@@ -199,7 +206,7 @@ abbrev pub counted : Table → ℕ → List Claim → Table
 counted t n l = record { rig = t .rig; clock = t .clock; pool = t .pool; issued = t .issued; grace = t .grace; shares = t .shares; count = n; claims = l }
 
 -- t is the table t₀ with other claims; with l as its claims, m of them, it is t₀ without the claim of ticket k.
-pub removed-is : (t₀ t : Table) (k m : ℕ) (l : List Claim) → Formed t₀ → t ≡ withClaims t₀ (t .claims) → m ≡ length (without k (model t₀ .pending)) → l ≡ pad vacant (without k (model t₀ .pending))
+pub removed-is : (t₀ t : Table) (k m : ℕ) (l : List Claim) → Formed t₀ → t ≡ withClaims t₀ (t .claims) → m ≡ length (lacking k (model t₀ .pending)) → l ≡ pad vacant (lacking k (model t₀ .pending))
     → (r : Table) → r ≡ counted t m l → (r ≡ encode (remove (model t₀) k)) × Formed r
 unfolding remove
 removed-is t₀ t k m l v e f g r q =
@@ -243,7 +250,7 @@ leave-is : (t : Table) (b : Bool) (x k : ℕ) (rest u : Table) (r : Outcome) →
     → r ≡ outcome (finish (model u) (plain k x)) → r ≡ outcome (step (model t) (leaving b x k))
 leave-is t b x k rest u r v idle z p q f =
     finish-of u (advance (remove (model t) k) x) (plain k x) r (q ∙ ap (λ (m : Model). encode (advance m x)) (model-is rest (remove (model t) k) p)) f
-    ∙ ap outcome (sym (leave-once (model t) x k (plain k x) (formed-sane t v x) (v .ranged .ascending) (v .ranged .stock) idle) ∙ leave-act (model t) b x k ∙ sym (step-accepted (model t) (leaving b x k) z))
+    ∙ ap outcome (sym (leave-once (model t) x k (plain k x) (formed-sane t v x) (v .ranged .ranges .ascending) (v .ranged .ranges .stock) idle) ∙ leave-act (model t) b x k ∙ sym (step-accepted (model t) (leaving b x k) z))
 
 -- With a pool it leaves between two packings.
 leave-packed-is : (t : Table) (b : Bool) (x k : ℕ) (rest u : Table) (r : Outcome) → firstOf (tests (model t) (leaving b x k)) ≡ 0
@@ -255,7 +262,7 @@ leave-packed-is t b x k rest u r z q g s f =
     let clock : rest .clock ≡ x = ap (λ (n : Model). n .clock) e in
     finish-of u (advance (model rest) x) (plain k x) r s f
     ∙ ap (λ (y : ℕ). outcome (finish (advance (model rest) y) (plain k x))) (sym clock)
-    ∙ ap outcome (finish-advanced (model rest) (plain k x) (λ c i. g .ranged .sized c i .sane) (g .ranged .ascending) (g .ranged .stock))
+    ∙ ap outcome (finish-advanced (model rest) (plain k x) (λ c i. g .ranged .ranges .sized c i .sane) (g .ranged .ranges .ascending) (g .ranged .ranges .stock))
     ∙ ap (λ (n : Model). outcome (finish n (plain k x))) e
     ∙ ap outcome (leave-act (model t) b x k ∙ sym (step-accepted (model t) (leaving b x k) z))
 
@@ -292,20 +299,20 @@ unfolding pack
 still-capped t v still c m =
     let f = packedStart (ruledIn t (t .clock)) (model t .pending) in
     let r = map-e (moved f) (model t .pending) (subst (λ (l : List Claim). c ∈ l) (sym still) m) in
-    let s = v .ranged .sized (r .0) (r .1) in
+    let s = v .ranged .ranges .sized (r .0) (r .1) in
     omega (
       arith,
       ap at (r .2),
-      moved-cases (λ (x : Claim). at x ≤ 1000300000000) f (r .0)
-          (λ o. omega (arith, s .aged o, v .ranged .timely))
-          (λ o. start-small (ruledIn t (t .clock)) (model t .pending) (v .ranged .timely) (v .ranged .lenient) (v .ranged .few) (v .ranged .sized) (r .0) (r .1) o),
+      moved-cases (λ (x : Claim). at x ≤ mostPacked) f (r .0)
+          (λ o. omega (arith, s .aged o, v .ranged .ranges .timely))
+          (λ o. start-small (v .ranged .ranges) (r .0) (r .1) o),
     )
 
 -- A claim placed in a table.
 module _ (t : Table) (ask : Request) (v : Formed t) (few : t .count < mostPending) (i : t .issued < mostTickets) (l : 1 ≤ ask .length) (h : ask .length ≤ mostLength) (d : ask .units ≤ t .pool) (still : Still (model t)) where
-  pub asked-row : Row (ruledIn t (t .clock)) (t .claims) (t .count) × Sized (ruledIn t (t .clock)) (asked t ask) × Capped (take (t .count) (t .claims)) × (t .count < mostPending) × (t .issued < mostTickets)
+  pub asked-row : InPlaces (ruledIn t (t .clock)) (t .claims) (t .count) × Sized (ruledIn t (t .clock)) (asked t ask) × Capped (take (t .count) (t .claims)) × (t .count < mostPending) × (t .issued < mostTickets)
   asked-row =
-      let k = v .ranged .timely in
+      let k = v .ranged .ranges .timely in
       (formed-now t v, record { sane = record { long = l; small = omega arith; drawn = d }; short = h; aged = λ o. clash o refl; planned = λ o. omega arith }, still-capped t v still, few, i)
 
   placed-is : withPhase (asked t ask) (Waiting (place (settingOf (model t)) (model t .pending) (asked t ask))) ≡ placed (model t) ask
@@ -321,7 +328,7 @@ module _ (t : Table) (ask : Request) (v : Formed t) (few : t .count < mostPendin
 
     pub placed-still : Still (model (p .table))
     placed-still =
-        subst Still (sym (model-is (p .table) _ (placed-table .0))) (join-still (model t) ask l d i (formed-sane t v (t .clock)) (v .ranged .ascending) (v .ranged .stock) still)
+        subst Still (sym (model-is (p .table) _ (placed-table .0))) (join-still (model t) ask l d i (formed-sane t v (t .clock)) (v .ranged .ranges .ascending) (v .ranged .ranges .stock) still)
 
     pub admitted-is : (r : Outcome) → r ≡ outcome (finish (model (p .table)) (p .reply)) → r ≡ outcome (admit (model t) ask)
     unfolding admit

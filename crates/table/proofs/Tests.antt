@@ -8,7 +8,7 @@ use native.Mathlib.Omega.{arith}
 use lib.Dec.{ltb, eqb}
 use lib.ListN.{length}
 use borrow.Author.Tests.{eqb-true, ne-eqb, le-ltb}
-use Rattle.numbers.specs.Numbers.{mostClock}
+use Rattle.numbers.specs.Numbers.{mostClock, orElse}
 use Rattle.rules.specs.declared.Claim.{Claim}
 use Rattle.rules.specs.declared.Setting.{Setting}
 use Rattle.rules.specs.Lists.{any}
@@ -22,7 +22,7 @@ use Rattle.rules.specs.Plans.{Ascending}
 use Rattle.rules.proofs.Bools.{by-test}
 use Rattle.rules.proofs.Lists.{Each, any-false}
 use Rattle.rules.proofs.Calls.{Clocked, clock-passes}
-use Rattle.table.specs.Outcomes.{timeNumber, departed, phaseNumber, orElse, leaving}
+use Rattle.table.specs.Outcomes.{timeNumber, departed, phaseNumber, leaving}
 
 -- ── the first test that fails ──
 -- What the tests 5 and 4 say, and what comes after them.

@@ -1,10 +1,3 @@
-pub mod Rows
-pub mod SortKeys
-pub mod Events
-pub mod Barring
-pub mod LastEnds
-pub mod Holders
 pub mod Counts
-pub mod Parts
 pub mod Valid
 pub mod Outcomes

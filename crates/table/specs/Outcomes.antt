@@ -1,7 +1,7 @@
 -- What the calls hand back, by the rules.
 use mathlib.Core.Bool.{Bool, true, false, not, _&&_, cond}
 use mathlib.Core.List.{List, [], _∷_}
-use Prim.Native.Nat.{ℕ, zero, suc, _+_, _≤_, _<_}
+use Prim.Native.Nat.{ℕ, _+_, _≤_, _<_}
 use lib.Dec.{ltb, eqb}
 use mathlib.Core.Path.{_≡_}
 use lib.ListN.{length, getD, replicate}
@@ -33,9 +33,9 @@ outcome s =
       grants = pad 0 (a .grants);
     }
 
--- The table handed in, and a number.
-abbrev pub unchangedIn : Table → ℕ → Outcome
-unchangedIn t n = record { table = t; number = n; ticket = 0; start = 0; contention = 0; bound = 0; granted = 0; grants = replicate 64 0 }
+-- A table, and a number as the answer.
+abbrev pub answeringIn : Table → ℕ → Outcome
+answeringIn t n = record { table = t; number = n; ticket = 0; start = 0; contention = 0; bound = 0; granted = 0; grants = replicate 64 0 }
 
 -- ── lookup ──
 -- Place r of a table is that of the claim of ticket k; the count where there is none.
@@ -71,16 +71,11 @@ phaseNumber false (Waits s) = 0
 phaseNumber true (Holds e) = 0
 phaseNumber false (Holds e) = alreadyOnNumber
 
--- A number that is not 0, or the next.
-abbrev pub orElse : ℕ → ℕ → ℕ
-orElse zero n = n
-orElse (suc k) n = suc k
-
 -- Release (true) or withdraw (false).
 abbrev pub leaving : Bool → ℕ → ℕ → Call
 leaving true t k = release t k
 leaving false t k = withdraw t k
 
 -- The claims but that of ticket k.
-abbrev pub without : ℕ → List Claim → List Claim
-without k ps = keep (λ c. not (named k c)) ps
+abbrev pub lacking : ℕ → List Claim → List Claim
+lacking k ps = keep (λ c. not (named k c)) ps

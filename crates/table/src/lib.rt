@@ -1,8 +1,7 @@
 // The claims table: new, declare, set_grace, claim, release, withdraw, clock, lookup, common, free. Each call takes a table by value and
-// hands one back with its answer. A claim and a clock call pack only where a holder overruns; a release and a withdrawal only where somebody
-// waits, and once more where there is a pool and a holder overruns.
-// Packing n claims costs at most n² / 2 tests of two words and two steps for each group of each claim, and for each claim that draws units
-// a sweep over those that do; the search for a claim's start n² tests of two sets, or insertions and a sweep; everything else a few passes.
+// hands one back with its answer. A claim and a clock call pack only where the clock moves and a holder overruns; a release and a
+// withdrawal only where somebody waits, and once more where there is a pool, the clock moves and a holder overruns.
+// What packing and placing cost is told in `plan`; everything else is a few passes.
 ghost use mathlib.Core.Path.{_≡_};
 ghost use mathlib.Core.Bool.{true};
 ghost use Prim.Native.Nat.{_+_, _≤_, _<_};
@@ -14,13 +13,9 @@ ghost use Rattle.rules.specs.Calls.{claims, releases, withdraws, movesClock, at
 ghost use Rattle.rules.specs.Tables.{encode, model};
 ghost use Rattle.rules.specs.Invariants.{Still};
 ghost use Rattle.table.specs.Valid.{Formed, Valid};
-ghost use Rattle.table.specs.Outcomes.{outcome, unchangedIn, Found, timeNumber, shareNumber, placesNumber, pastEnd, departed, phaseNumber, leaving};
+ghost use Rattle.table.specs.Outcomes.{outcome, answeringIn, Found, timeNumber, shareNumber, placesNumber, pastEnd, departed, phaseNumber, leaving};
+ghost use Rattle.plan.specs.Bounds.{mostAt};
 
-mod claims;
-mod granting;
-mod packing;
-mod placing;
-mod pool;
 mod shares;
 
 use groups::MaybeGroup;
@@ -47,9 +42,9 @@ pub struct Outcome {
     pub grants: [u16; 64],
 }
 
-// The table handed in, and a number.
-fn unchanged(t: Table, number: u8) -> Outcome
-    ensures { λ r. ⌜ r ≡ unchangedIn t number ⌝ }
+// A table, and a number as the answer.
+fn answering(t: Table, number: u8) -> Outcome
+    ensures { λ r. ⌜ r ≡ answeringIn t number ⌝ }
 {
     Outcome {
         table: t,
@@ -68,7 +63,11 @@ fn unchanged(t: Table, number: u8) -> Outcome
 pub fn new(rig: u64, pool: u16, alone: bool) -> Outcome
     ensures { λ r. ⌜ (r ≡ outcome (new rig pool alone)) × Valid (r .table) ⌝ }
 {
-    let places: u8 = if alone { 64 } else { 0 };
+    let places: u8 = if alone {
+        numbers::MOST_PENDING as u8
+    } else {
+        0
+    };
     let first = Share {
         declared: alone,
         reserved: places,
@@ -99,19 +98,19 @@ pub fn new(rig: u64, pool: u16, alone: bool) -> Outcome
     };
     if groups::empty(rig) {
         t.pool = 0;
-        return unchanged(t, numbers::DARK);
+        return answering(t, numbers::DARK);
     }
-    unchanged(t, 0)
+    answering(t, 0)
 }
 
 // ── lookup ──
 
 fn shown(c: Claim) -> Standing
-    requires { ⌜ at c ≤ 1000000000000000000 ⌝ }
+    requires { ⌜ at c ≤ mostAt ⌝ }
     ensures { λ r. ⌜ r ≡ standing c ⌝ }
 {
     let p = c.phase;
-    let n = claims::wide(c.length);
+    let n = plan::wide(c.length);
     match p {
         Phase::Waiting(s) => Standing::Waits(s),
         Phase::On(g) => Standing::Holds(g + n),
@@ -183,7 +182,7 @@ pub fn free(t: Table) -> u16
     let mut i: usize = 0;
     while i < count {
         let c = t.claims[i];
-        n -= granting::units_held(c);
+        n -= plan::units_held(c);
         i += 1;
     }
     n
@@ -206,68 +205,85 @@ fn time_number(last: u64, clock: u64) -> u8
 
 // Whether a claim is on with its promised end below the clock.
 fn overruns(clock: u64, c: Claim) -> bool
-    requires { ⌜ at c ≤ 1000000000000000000 ⌝ }
+    requires { ⌜ at c ≤ mostAt ⌝ }
     ensures { λ r. ⌜ r ≡ pastEnd clock c ⌝ }
 {
-    if claims::is_on(c) {
-        let n = claims::wide(c.length);
-        return claims::start_or_grant(c) + n < clock;
+    if plan::is_on(c) {
+        let n = plan::wide(c.length);
+        return plan::start_or_grant(c) + n < clock;
     }
     false
 }
 
-// Sets the clock of a table between calls, and packs. While nobody overruns packing would change nothing. Cost: one pass where nobody does.
+// Sets the clock of a table between calls, and packs. At the table's own clock, and while nobody overruns, packing would change nothing.
+// Cost: one pass at most, and that packing. A `return` in the pass costs a copy of the table more, and so does one function over the test
+// for this and `pulled`.
 fn at_clock(mut t: Table, clock: u64) -> Table
     requires { ⌜ Valid t × (t .clock ≤ clock) × (clock ≤ mostClock) ⌝ }
     ensures { λ r. ⌜ (r ≡ encode (advance (model t) clock)) × Formed r × Still (model r) ⌝ }
 {
     let count = t.count;
+    let mut packs = false;
     let mut i: usize = 0;
     while i < count {
         let c = t.claims[i];
         if overruns(clock, c) {
-            let pool = t.pool;
-            let grace = t.grace;
-            return packing::pack(
-                t,
-                Setting {
-                    clock: clock,
-                    pool: pool,
-                    grace: grace,
-                },
-            );
+            packs = true;
+            break;
         }
         i += 1;
     }
-    t.clock = clock;
+    if t.clock == clock {
+        packs = false;
+    }
+    if packs {
+        let pool = t.pool;
+        let grace = t.grace;
+        t = plan::pack(
+            t,
+            Setting {
+                clock: clock,
+                pool: pool,
+                grace: grace,
+            },
+        );
+    } else {
+        t.clock = clock;
+    }
     t
 }
 
 // Sets the clock of a table from which a claim was taken, and packs. Where nobody waits packing would change nothing.
-// Cost: one pass where nobody does.
+// Cost: one pass at most, and that packing.
 fn pulled(mut t: Table, clock: u64) -> Table
     requires { ⌜ Formed t × (t .clock ≤ clock) × (clock ≤ mostClock) ⌝ }
     ensures { λ r. ⌜ (r ≡ encode (advance (model t) clock)) × Formed r × Still (model r) ⌝ }
 {
     let count = t.count;
+    let mut packs = false;
     let mut i: usize = 0;
     while i < count {
         let c = t.claims[i];
-        if !claims::is_on(c) {
-            let pool = t.pool;
-            let grace = t.grace;
-            return packing::pack(
-                t,
-                Setting {
-                    clock: clock,
-                    pool: pool,
-                    grace: grace,
-                },
-            );
+        if !plan::is_on(c) {
+            packs = true;
+            break;
         }
         i += 1;
     }
-    t.clock = clock;
+    if packs {
+        let pool = t.pool;
+        let grace = t.grace;
+        t = plan::pack(
+            t,
+            Setting {
+                clock: clock,
+                pool: pool,
+                grace: grace,
+            },
+        );
+    } else {
+        t.clock = clock;
+    }
     t
 }
 
@@ -276,7 +292,7 @@ fn finished(t: Table, r: Reply) -> Outcome
     requires { ⌜ Formed t × Still (model t) ⌝ }
     ensures { λ o. ⌜ (o ≡ outcome (finish (model t) r)) × Formed (o .table) ⌝ }
 {
-    let g = granting::grant(t);
+    let g = plan::grant(t);
     let after = g.table;
     let tickets = g.tickets;
     Outcome {
@@ -300,7 +316,7 @@ pub fn clock(t: Table, clock: u64) -> Outcome
 {
     let n = time_number(t.clock, clock);
     if n != 0 {
-        return unchanged(t, n);
+        return answering(t, n);
     }
     let moved = at_clock(t, clock);
     let r = Reply {
@@ -332,7 +348,7 @@ pub struct Taken {
 }
 
 // Takes the claim of a ticket out of a table; those after it move up, and the last place becomes vacant. Where there is a pool the table is
-// packed first, if a holder overruns. Cost: one pass, and that packing.
+// packed first, if a holder overruns. Cost: one pass to find it, one move of those after it, and that packing.
 fn removed(mut t: Table, clock: u64, ticket: u16) -> Taken
     requires { ⌜ Valid t × (t .clock ≤ clock) × (clock ≤ mostClock) ⌝ }
     ensures { λ r. ⌜ (r .standing ≡ standingOf ticket (departed (model t) clock .pending)) × (r .table ≡ encode (remove (departed (model t) clock) ticket))
@@ -343,20 +359,24 @@ fn removed(mut t: Table, clock: u64, ticket: u16) -> Taken
     }
     let count = t.count;
     let mut s = Standing::NotPending;
-    let mut n: usize = 0;
+    let mut at = count;
     let mut i: usize = 0;
     while i < count {
         let c = t.claims[i];
         if c.ticket == ticket {
             s = shown(c);
-        } else {
-            t.claims[n] = c;
-            n += 1;
+            at = i;
         }
         i += 1;
     }
-    if n < count {
-        t.claims[n] = Claim {
+    if at < count {
+        let last = count - 1;
+        while at < last {
+            let c = t.claims[at + 1];
+            t.claims[at] = c;
+            at += 1;
+        }
+        t.claims[last] = Claim {
             groups: 0,
             phase: Phase::Waiting(0),
             length: 0,
@@ -364,8 +384,8 @@ fn removed(mut t: Table, clock: u64, ticket: u16) -> Taken
             units: 0,
             client: 0,
         };
+        t.count = last;
     }
-    t.count = n;
     Taken {
         standing: s,
         table: t,
@@ -379,13 +399,13 @@ pub fn leave(t: Table, releasing: bool, clock: u64, ticket: u16) -> Outcome
 {
     let late = time_number(t.clock, clock);
     if late != 0 {
-        return unchanged(t, late);
+        return answering(t, late);
     }
     let k = removed(t, clock, ticket);
     let s = k.standing;
     let wrong = phase_number(releasing, s);
     if wrong != 0 {
-        return unchanged(t, wrong);
+        return answering(t, wrong);
     }
     let rest = k.table;
     let u = pulled(rest, clock);
@@ -449,7 +469,7 @@ pub fn declare(mut t: Table, client: u8, reserved: u8, limit: u8) -> Outcome
             limit: limit,
         };
     }
-    unchanged(t, number)
+    answering(t, number)
 }
 
 // ── grace ──
@@ -460,10 +480,10 @@ pub fn set_grace(mut t: Table, grace: u32) -> Outcome
     ensures { λ r. ⌜ (r ≡ outcome (step (model t) (setsUp (setsGrace grace)))) × Valid (r .table) ⌝ }
 {
     if refusals::bad_grace(t.issued, grace) {
-        return unchanged(t, numbers::GRACE);
+        return answering(t, numbers::GRACE);
     }
     t.grace = grace;
-    unchanged(t, 0)
+    answering(t, 0)
 }
 
 // ── claim ──
@@ -532,7 +552,7 @@ fn admitted(t: Table, ask: Request) -> Outcome
         units: ask.units,
         client: ask.client,
     };
-    let p = placing::place(t, w);
+    let p = plan::place(t, w);
     finished(p.table, p.reply)
 }
 
@@ -549,7 +569,7 @@ pub fn claim(t: Table, clock: u64, ask: Request) -> Outcome
     }
     let number = claim_number(t, clock, ask, places);
     if number != 0 {
-        return unchanged(t, number);
+        return answering(t, number);
     }
     let u = at_clock(t, clock);
     admitted(u, ask)

@@ -3,6 +3,7 @@
 ghost use mathlib.Core.Path.{_≡_};
 ghost use Prim.Native.Nat.{_≤_};
 ghost use lib.ListN.{length};
+ghost use Rattle.numbers.specs.Numbers.{mostClients};
 ghost use Rattle.rules.specs.Shares.{shareOf, reservedInAll};
 ghost use Rattle.rules.specs.Calls.{clientsOf};
 ghost use Rattle.rules.specs.Tables.{model};
@@ -13,7 +14,7 @@ use rules::Table;
 
 // The share of a client. Cost: a few instructions.
 pub(crate) fn share_of(shares: [Share; 8], client: u8) -> Share
-    requires { ⌜ length shares ≡ 8 ⌝ }
+    requires { ⌜ length shares ≡ mostClients ⌝ }
     ensures { λ r. ⌜ r ≡ shareOf shares client ⌝ }
 {
     if refusals::no_client(client) {
@@ -29,7 +30,7 @@ pub(crate) fn share_of(shares: [Share; 8], client: u8) -> Share
 // Whether what a declared client has pending decides about 6 and 18. It does not where fewer claims are pending in all than are reserved for
 // it, nor where all places are taken. Cost: a few instructions.
 pub(crate) fn contested(shares: [Share; 8], count: usize, client: u8) -> bool
-    requires { ⌜ length shares ≡ 8 ⌝ }
+    requires { ⌜ length shares ≡ mostClients ⌝ }
     ensures { λ r. ⌜ r ≡ contested shares count client ⌝ }
 {
     let s = share_of(shares, client);
@@ -65,14 +66,14 @@ pub(crate) fn pending_each(t: Table) -> [u8; 8]
 // The share is read here and not by `share_of`: an array that is read at fixed places alone is taken apart by the compiler, and then the
 // table that it came with is copied.
 pub(crate) fn number_of(shares: [Share; 8], each: [u8; 8], count: usize, client: u8) -> u8
-    requires { ⌜ (1 ≤ client) × (client ≤ 8) ⌝ }
+    requires { ⌜ (1 ≤ client) × (client ≤ mostClients) ⌝ }
     ensures { λ r. ⌜ r ≡ numberBy shares each count client ⌝ }
 {
     let s = shares[(client - 1) as usize];
     let own = each[(client - 1) as usize] as usize;
     let mut unfilled: usize = 0;
     let mut i: usize = 0;
-    while i < 8 {
+    while i < numbers::MOST_CLIENTS as usize {
         let r = shares[i];
         let n = each[i];
         if n < r.reserved {
@@ -95,7 +96,7 @@ pub(crate) fn reserved_in_all(shares: [Share; 8]) -> usize
 {
     let mut sum: usize = 0;
     let mut i: usize = 0;
-    while i < 8 {
+    while i < numbers::MOST_CLIENTS as usize {
         let s = shares[i];
         sum += s.reserved as usize;
         i += 1;

@@ -11,7 +11,7 @@ use Rattle.rules.proofs.Calls.{Admissible, admissible}
 use Rattle.rules.proofs.Booking.{room-left}
 use Rattle.table.specs.Counts.{contested}
 use Rattle.table.specs.Outcomes.{placesNumber}
-use Rattle.table.proofs.Ranges.{formed-count}
+use Rattle.table.proofs.Formed.{formed-count}
 use Rattle.table.proofs.Steps.{refused, accepted, advanced-counts, claim-is}
 use borrow.Author.Needs.{needs}
 use Rattle.table.proofs.claim.Statement.{statement}
@@ -48,7 +48,7 @@ returns : tie.Need-returns
 returns c =
     let n = c .before .before in
     let b = n .before .before .before .before in
-    refused _ (claimCall _ _) _ _ (b .pre) (c .unchanged .ensures) (sym (n .claim-number .ensures)) (c .before .if2 .taken)
+    refused _ (claimCall _ _) _ _ (b .pre) (c .answering .ensures) (sym (n .claim-number .ensures)) (c .before .if2 .taken)
 
 at-clock-requires : tie.Need-at-clock-requires
 at-clock-requires c κs = let h = passed c .clocked in (c .before .before .before .before .before .pre, h .later, h .early)

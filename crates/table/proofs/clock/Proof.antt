@@ -11,7 +11,7 @@ returns : tie.Need-returns
 returns c =
     let n = c .before .before in
     let z = c .before .if1 .taken in
-    refused _ (clockCall _) _ _ (n .before .pre) (c .unchanged .ensures) (clock-timed _ _ _ (n .time-number .ensures) z) z
+    refused _ (clockCall _) _ _ (n .before .pre) (c .answering .ensures) (clock-timed _ _ _ (n .time-number .ensures) z) z
 
 at-clock-requires : tie.Need-at-clock-requires
 at-clock-requires c κs =

@@ -6,9 +6,9 @@ use lib.ListN.{take}
 use borrow.Author.Tests.{ne-eqb}
 use Rattle.rules.specs.Lists.{keep}
 use Rattle.rules.specs.Tests.{named}
-use Rattle.table.specs.Parts.{ruledIn}
-use Rattle.table.proofs.Rows.{Left, left-start, left-next, left-end}
-use Rattle.table.proofs.Ranges.{formed-now}
+use Rattle.plan.specs.Parts.{ruledIn}
+use Rattle.plan.proofs.Rows.{Left, left-start, left-next, left-end}
+use Rattle.table.proofs.Formed.{formed-now}
 use Rattle.table.proofs.Finding.{found-here, found-none}
 use Rattle.table.proofs.find.Statement.{statement}
 use Rattle.table.proofs.find.Tie as tie

@@ -1,6 +1,6 @@
 use Rattle.rules.specs.Tables.{model}
 use Rattle.rules.proofs.OnePacking.{still-starts, finish-still}
-use Rattle.table.proofs.Ranges.{formed-now}
+use Rattle.table.proofs.Formed.{formed-now}
 use Rattle.table.proofs.Steps.{granted-is}
 use Rattle.table.proofs.finished.Statement.{statement}
 use Rattle.table.proofs.finished.Tie as tie

@@ -8,10 +8,10 @@ use Rattle.rules.specs.Pool.{freeUnits}
 use Rattle.rules.specs.Calls.{atPool}
 use Rattle.rules.specs.Tables.{model}
 use Rattle.rules.proofs.Lookup.{unrefused}
-use Rattle.table.specs.Parts.{ruledIn}
-use Rattle.table.proofs.Rows.{Left, left-start, left-here, left-next, left-end}
-use Rattle.table.proofs.Ranges.{formed-now}
-use Rattle.table.proofs.GrantingLoop.{Freeing, freeing-start, freeing-covers, freeing-more, freeing-end}
+use Rattle.plan.specs.Parts.{ruledIn}
+use Rattle.plan.proofs.Rows.{Left, left-start, left-here, left-next, left-end}
+use Rattle.table.proofs.Formed.{formed-now}
+use Rattle.plan.proofs.GrantingLoop.{Freeing, freeing-start, freeing-covers, freeing-more, freeing-end}
 use Rattle.table.proofs.free.Statement.{statement}
 use Rattle.table.proofs.free.Tie as tie
 
@@ -22,7 +22,7 @@ abbrev μ-loop : tie.MeasureT-loop
 μ-loop t count n₀ i₀ n i = count - i
 
 loop-holds : tie.Need-loop-holds Inv-loop μ-loop
-loop-holds c = left-start (formed-now _ (c .pre .formed)) (freeing-start (c .pre .formed .ranged .stock))
+loop-holds c = left-start (formed-now _ (c .pre .formed)) (freeing-start (c .pre .formed .ranged .ranges .stock))
 
 sub-n : tie.Need-sub-n Inv-loop μ-loop
 sub-n c = omega (arith, freeing-covers (left-here (c .before .before .before .loop .inv) (omega arith)), c .units-held .ensures)

@@ -19,7 +19,7 @@ returns : tie.Need-returns
 returns c =
     let n = c .before .before in
     let z = c .before .if1 .taken in
-    refused _ (call (n .before)) _ _ (n .before .pre) (c .unchanged .ensures) (leave-timed _ (n .before .args .releasing) _ (n .before .args .ticket) _ (n .time-number .ensures) z) z
+    refused _ (call (n .before)) _ _ (n .before .pre) (c .answering .ensures) (leave-timed _ (n .before .args .releasing) _ (n .before .args .ticket) _ (n .time-number .ensures) z) z
 
 -- The clock is right.
 right : (c : tie.Else1) → Clocked (model (c .before .before .args .t)) (c .before .before .args .clock)
@@ -33,14 +33,14 @@ number-is c =
     let l = c .before in
     let e = l .before in
     let b = e .before .before in
-    departed-tests (model (b .args .t)) (b .args .releasing) _ (b .args .ticket) (b .pre .formed .ranged .ascending) (right e .later) (right e .early)
+    departed-tests (model (b .args .t)) (b .args .releasing) _ (b .args .ticket) (b .pre .formed .ranged .ranges .ascending) (right e .later) (right e .early)
     ∙ sym (c .phase-number .ensures ∙ ap (phaseNumber _) (l .removed .ensures .0))
 
 returns-2 : tie.Need-returns-2
 returns-2 c =
     let p = c .before .before in
     let b = p .before .before .before .before in
-    refused _ (call b) _ _ (b .pre) (c .unchanged2 .ensures) (number-is p) (c .before .if2 .taken)
+    refused _ (call b) _ _ (b .pre) (c .answering2 .ensures) (number-is p) (c .before .if2 .taken)
 
 pulled-requires : tie.Need-pulled-requires
 unfolding remove
@@ -70,7 +70,7 @@ leave-spec =
     (λ c κs. search needs)
     (λ c κs. search needs)
     returns
-    -- removed-requires, phase-number-requires, unchanged-requires-2
+    -- removed-requires, phase-number-requires, answering-requires-2
     (λ c κs. (c .before .before .pre, right c .later, right c .early))
     (λ c κs. search needs)
     (λ c κs. search needs)

@@ -15,15 +15,15 @@ returns c =
     let s = c .before .before in
     let a = s .before .before .args in
     new-dark (a .rig) (a .pool) (a .alone) _ (s .before .before .fits .rig .fits) (sym (c .before .if2 .taken) ∙ s .empty .ensures)
-    (shares-are (a .rig) 0 (a .alone) _ 1 _ (places-are (s .before)) (c .unchanged .ensures))
+    (shares-are (a .rig) 0 (a .alone) _ 1 _ (places-are (s .before)) (c .answering .ensures))
 
 returns-2 : tie.Need-returns-2
 returns-2 c =
     let s = c .before .before in
     let a = s .before .before .args in
     new-lit (a .rig) (a .pool) (a .alone) _ (omega (arith, s .before .before .fits .pool .fits)) (sym (c .before .if2 .left) ∙ s .empty .ensures)
-    (shares-are (a .rig) (a .pool) (a .alone) _ 0 _ (places-are (s .before)) (c .unchanged2 .ensures))
+    (shares-are (a .rig) (a .pool) (a .alone) _ 0 _ (places-are (s .before)) (c .answering2 .ensures))
 
 pub new-spec : {M : Type 1} → statement M
 new-spec =
-    tie.close (tie.spec (λ c κs. search needs) (λ c κs. search needs) returns (λ c κs. search needs) returns-2)
+    tie.close (tie.spec (λ c. omega arith) (λ c κs. search needs) (λ c κs. search needs) returns (λ c κs. search needs) returns-2)

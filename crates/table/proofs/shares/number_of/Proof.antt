@@ -6,6 +6,7 @@ use Prim.Native.Nat.{ℕ, _+_, _*_, _-_, _≤_}
 use native.Mathlib.Omega.{arith}
 use lib.ListN.{getD}
 use borrow.Author.Needs.{needs}
+use Rattle.numbers.specs.Numbers.{mostClients}
 use Rattle.rules.specs.Shares.{undeclared}
 use Rattle.rules.specs.Tests.{Test, firstOf, fullFor, over}
 use Rattle.rules.proofs.Tests.{fails-here, past}
@@ -16,10 +17,10 @@ use Rattle.table.proofs.shares.number_of.Tie as tie
 
 abbrev Inv-loop : tie.InvT-loop
 Inv-loop count client shares each s own unfilled₀ i₀ unfilled i =
-    (i ≤ 8) × (unfilled ≤ i * 255) × (unfilled + sumFrom (unfilledAt shares each) i ≡ unfilledEach shares each)
+    (i ≤ mostClients) × (unfilled ≤ i * 255) × (unfilled + sumFrom (unfilledAt shares each) i ≡ unfilledEach shares each)
 
 abbrev μ-loop : tie.MeasureT-loop
-μ-loop count client shares each s own unfilled₀ i₀ unfilled i = 8 - i
+μ-loop count client shares each s own unfilled₀ i₀ unfilled i = mostClients - i
 
 loop-holds : tie.Need-loop-holds Inv-loop μ-loop
 unfolding unfilledEach
@@ -91,6 +92,7 @@ number-of-spec =
     (λ c. omega (arith, c .before .pre .0, c .before .pre .1))
     (λ c. search needs)
     loop-holds
+    (λ c. omega arith)
     (λ c. omega arith)
     (λ c. omega arith)
     (λ c. omega arith)

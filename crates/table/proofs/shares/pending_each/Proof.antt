@@ -4,14 +4,15 @@ use Prim.Native.Nat.{_≤_, _+_, _-_}
 use native.Mathlib.Omega.{arith}
 use lib.ListN.{take, drop, getD, length-map, length-take}
 use borrow.Author.Needs.{needs}
+use Rattle.numbers.specs.Numbers.{mostClients}
 use Rattle.rules.specs.declared.Claim.{Claim}
 use Rattle.rules.specs.Tables.{vacant}
 use Rattle.rules.specs.Calls.{clientsOf}
 use Rattle.rules.proofs.Lists.{map-i}
 use Rattle.rules.proofs.Shares.{declared-range}
-use Rattle.table.specs.Parts.{ruledIn}
-use Rattle.table.proofs.Rows.{Left, left-start, left-here, left-next, left-end, row-member}
-use Rattle.table.proofs.Ranges.{formed-now, formed-few}
+use Rattle.plan.specs.Parts.{ruledIn}
+use Rattle.plan.proofs.Rows.{Left, left-start, left-here, left-next, left-end, row-member}
+use Rattle.table.proofs.Formed.{formed-now, formed-few}
 use Rattle.table.proofs.Counting.{Counting, counting-start, counting-small, counting-more, counting-end}
 use Rattle.table.proofs.shares.pending_each.Statement.{statement}
 use Rattle.table.proofs.shares.pending_each.Tie as tie
@@ -28,7 +29,7 @@ loop-holds c = left-start (formed-now _ (c .pre .formed)) (counting-start _)
 -- The client of the claim at hand is one from 1 to 8.
 range : (c : tie.In-loop Inv-loop μ-loop) →
     let d = getD (c .before .before .args .t1 .claims) (c .before .loop .i) vacant in
-    (1 ≤ d .client) × (d .client ≤ 8)
+    (1 ≤ d .client) × (d .client ≤ mostClients)
 range c =
     let v = c .before .before .pre in
     declared-range _ (v .booked .eight) _ (v .booked .known _ (map-i (λ (x : Claim). x .client) (row-member (formed-now _ (v .formed)) _ (omega arith))))

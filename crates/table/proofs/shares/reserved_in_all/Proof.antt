@@ -3,16 +3,17 @@ use mathlib.Core.Path.{_≡_}
 use Prim.Native.Nat.{_+_, _*_, _-_, _≤_}
 use native.Mathlib.Omega.{arith}
 use borrow.Author.Needs.{needs}
+use Rattle.numbers.specs.Numbers.{mostClients}
 use Rattle.rules.specs.Shares.{reservedInAll}
 use Rattle.table.proofs.Counting.{sumFrom, reservedAt, reserved-step, sum-end}
 use Rattle.table.proofs.shares.reserved_in_all.Statement.{statement}
 use Rattle.table.proofs.shares.reserved_in_all.Tie as tie
 
 abbrev Inv-loop : tie.InvT-loop
-Inv-loop shares sum₀ i₀ sum i = (i ≤ 8) × (sum ≤ i * 255) × (sum + sumFrom (reservedAt shares) i ≡ reservedInAll shares)
+Inv-loop shares sum₀ i₀ sum i = (i ≤ mostClients) × (sum ≤ i * 255) × (sum + sumFrom (reservedAt shares) i ≡ reservedInAll shares)
 
 abbrev μ-loop : tie.MeasureT-loop
-μ-loop shares sum₀ i₀ sum i = 8 - i
+μ-loop shares sum₀ i₀ sum i = mostClients - i
 
 loop-holds : tie.Need-loop-holds Inv-loop μ-loop
 unfolding reservedInAll
@@ -38,6 +39,7 @@ reserved-in-all-spec =
     Inv-loop
     μ-loop
     loop-holds
+    (λ c. omega arith)
     (λ c. omega arith)
     (λ c. omega arith)
     (λ c. search needs)
