@@ -1,4 +1,5 @@
-// Granting, over the claims of a packed row: one pass for the groups that are held, one for the units, one for those that go on.
+// Granting, over the claims of a packed row: one pass for the groups that are held, and for the units where there are some, and one for those
+// that go on.
 // What is granted is defined in rules, specs/Granting.antt; that these passes tell it is `goes-quick` of its proofs.
 ghost use mathlib.Core.Path.{_≡_};
 ghost use lib.ListN.{take};
@@ -55,7 +56,7 @@ pub struct Granted {
 }
 
 // Grants what no pending claim precedes, by ticket while units are free, and lists the tickets. The loops stand here, since a table handed
-// on is a table copied. Cost: two passes over the claims, three where the pool has units.
+// on is a table copied. Cost: two passes over the claims.
 pub fn grant(mut t: Table) -> Granted
     requires { ⌜ InPlaces (ruledIn t (t .clock)) (t .claims) (t .count) × StartsFrom (t .clock) (take (t .count) (t .claims)) ⌝ }
     ensures { λ r. ⌜ r ≡ grantedIn t ⌝ }
@@ -63,19 +64,20 @@ pub fn grant(mut t: Table) -> Granted
     let count = t.count;
     let clock = t.clock;
     let mut held: u64 = 0;
-    let mut i: usize = 0;
-    while i < count {
-        let c = t.claims[i];
-        held = held_with(held, c);
-        i += 1;
-    }
     let mut free = t.pool;
-    if free != 0 {
-        let mut g: usize = 0;
-        while g < count {
-            let c = t.claims[g];
+    let mut i: usize = 0;
+    if free == 0 {
+        while i < count {
+            let c = t.claims[i];
+            held = held_with(held, c);
+            i += 1;
+        }
+    } else {
+        while i < count {
+            let c = t.claims[i];
+            held = held_with(held, c);
             free -= units_held(c);
-            g += 1;
+            i += 1;
         }
     }
     let mut tickets = [0u16; 64];

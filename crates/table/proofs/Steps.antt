@@ -30,7 +30,7 @@ use Rattle.rules.specs.Tables.{encode, model, pad, vacant}
 use Rattle.rules.specs.Plans.{NoOverrunAt}
 use Rattle.rules.specs.Invariants.{Still, Invariant, IsBooked}
 use Rattle.rules.proofs.Bools.{clash, by-test}
-use Rattle.rules.proofs.Lists.{any-none, map-e}
+use Rattle.rules.proofs.Lists.{any-none, any-false, map-e}
 use Rattle.rules.proofs.Calls.{settable, placed, new-cases, blank-invariant, step-invariant}
 use Rattle.rules.proofs.Shares.{first-booked}
 use Rattle.rules.proofs.Booking.{step-booked}
@@ -46,7 +46,7 @@ use Rattle.plan.specs.declared.placing.Placed.{Placed}
 use Rattle.plan.specs.Parts.{withClaims, ruledIn, atClock, packedTable, grantedIn, placedIn}
 use Rattle.table.specs.declared.Outcome.{Outcome}
 use Rattle.table.specs.Valid.{Ranged, Formed, Valid}
-use Rattle.table.specs.Outcomes.{outcome, answeringIn, timeNumber, pastEnd, departed, leaving, lacking}
+use Rattle.table.specs.Outcomes.{outcome, answeringIn, timeNumber, pastEnd, draws, departed, leaving, lacking}
 use Rattle.plan.proofs.Ranges.{in-range-later, sized-waiting, start-small, place-small}
 use Rattle.table.proofs.Formed.{model-is, formed-now, formed-is, formed-count, formed-sane, blank-ranged, advance-ranged, remove-ranged, join-ranged, grant-ranged}
 use Rattle.table.proofs.Tests.{timed-passes, step-refused, step-accepted}
@@ -174,9 +174,13 @@ waits c = not (on c)
 pub none-waits-idle : (v : Setting) (ps : List Claim) → any waits ps ≡ false → pack v ps ≡ ps
 none-waits-idle v ps none = pack-holders v ps (λ c m. not-false (on c) (any-none waits none m))
 
--- Nobody waits for units where there are none.
-no-pool-draws : (t : Table) → Formed t → t .pool ≡ 0 → NoneDraws (model t .pending)
-no-pool-draws t v z w m o = omega (arith, v .ranged .ranges .sized w m .sane .drawn)
+-- ── units drawn ──
+none-draws : (ps : List Claim) → any draws ps ≡ false → NoneDraws ps
+none-draws ps e w m o = eqb-true (w .units) 0 (not-false _ (any-none draws e m))
+
+-- Nobody draws units where there are none.
+pub no-pool-draws : (t : Table) → Formed t → t .pool ≡ 0 → any draws (model t .pending) ≡ false
+no-pool-draws t v z = any-false draws (model t .pending) (λ w m. rw (eq-eqb (w .units) 0 (omega (arith, v .ranged .ranges .sized w m .sane .drawn))))
 
 -- As many claims, tickets and units.
 pub advanced-counts : (t : Table) (u : ℕ) (r : Table) → Formed t → r ≡ encode (advance (model t) u) → (r .count ≡ t .count) × (r .issued ≡ t .issued) × (r .pool ≡ t .pool)
@@ -252,7 +256,7 @@ leave-is t b x k rest u r v idle z p q f =
     finish-of u (advance (remove (model t) k) x) (plain k x) r (q ∙ ap (λ (m : Model). encode (advance m x)) (model-is rest (remove (model t) k) p)) f
     ∙ ap outcome (sym (leave-once (model t) x k (plain k x) (formed-sane t v x) (v .ranged .ranges .ascending) (v .ranged .ranges .stock) idle) ∙ leave-act (model t) b x k ∙ sym (step-accepted (model t) (leaving b x k) z))
 
--- With a pool it leaves between two packings.
+-- Where a claim draws units it leaves between two packings.
 leave-packed-is : (t : Table) (b : Bool) (x k : ℕ) (rest u : Table) (r : Outcome) → firstOf (tests (model t) (leaving b x k)) ≡ 0
     → rest ≡ encode (remove (advance (model t) x) k) → Formed rest → u ≡ encode (advance (model rest) x) → r ≡ outcome (finish (model u) (plain k x))
     → r ≡ outcome (step (model t) (leaving b x k))
@@ -266,25 +270,25 @@ leave-packed-is t b x k rest u r z q g s f =
     ∙ ap (λ (n : Model). outcome (finish n (plain k x))) e
     ∙ ap outcome (leave-act (model t) b x k ∙ sym (step-accepted (model t) (leaving b x k) z))
 
-pub departed-none : (m : Model) (x : ℕ) → m .pool ≡ 0 → departed m x ≡ m
+pub departed-none : (m : Model) (x : ℕ) → any draws (m .pending) ≡ false → departed m x ≡ m
 unfolding departed
 departed-none m x e = rw e
 
-pub departed-some : (m : Model) (x : ℕ) → m .pool ≢ 0 → departed m x ≡ advance m x
+pub departed-some : (m : Model) (x : ℕ) → any draws (m .pending) ≡ true → departed m x ≡ advance m x
 unfolding departed
-departed-some m x n = by-test (eqb (m .pool) 0) (λ e. absurd (n (eqb-true (m .pool) 0 e))) (λ e. rw e)
+departed-some m x e = rw e
 
 pub departed-clock : (m : Model) (x : ℕ) → m .clock ≤ x → departed m x .clock ≤ x
 unfolding departed advance
-departed-clock m x l = by-test (eqb (m .pool) 0) (λ e. rw e l) (λ e. rw e (omega arith))
+departed-clock m x l = by-test (any draws (m .pending)) (λ e. rw e (omega arith)) (λ e. rw e l)
 
 pub leaves-is : (t : Table) (b : Bool) (x k : ℕ) (rest u : Table) (r : Outcome) → Formed t → firstOf (tests (model t) (leaving b x k)) ≡ 0
     → rest ≡ encode (remove (departed (model t) x) k) → Formed rest → u ≡ encode (advance (model rest) x) → r ≡ outcome (finish (model u) (plain k x))
     → r ≡ outcome (step (model t) (leaving b x k))
 leaves-is t b x k rest u r v z q g s f =
-    by-test (eqb (t .pool) 0)
-    (λ e. let n = eqb-true (t .pool) 0 e in leave-is t b x k rest u r v (no-pool-draws t v n) z (q ∙ ap (λ (m : Model). encode (remove m k)) (departed-none (model t) x n)) s f)
-    (λ e. leave-packed-is t b x k rest u r z (q ∙ ap (λ (m : Model). encode (remove m k)) (departed-some (model t) x (λ n. clash (eq-eqb (t .pool) 0 n) e))) g s f)
+    by-test (any draws (model t .pending))
+    (λ e. leave-packed-is t b x k rest u r z (q ∙ ap (λ (m : Model). encode (remove m k)) (departed-some (model t) x e)) g s f)
+    (λ e. leave-is t b x k rest u r v (none-draws (model t .pending) e) z (q ∙ ap (λ (m : Model). encode (remove m k)) (departed-none (model t) x e)) s f)
 
 -- A new claim with its ticket as the code counts it.
 abbrev pub asked : Table → Request → Claim

@@ -22,7 +22,7 @@ use Rattle.rules.specs.Plans.{Ascending}
 use Rattle.rules.proofs.Bools.{by-test}
 use Rattle.rules.proofs.Lists.{Each, any-false}
 use Rattle.rules.proofs.Calls.{Clocked, clock-passes}
-use Rattle.table.specs.Outcomes.{timeNumber, departed, phaseNumber, leaving}
+use Rattle.table.specs.Outcomes.{timeNumber, draws, departed, phaseNumber, leaving}
 
 -- ── the first test that fails ──
 -- What the tests 5 and 4 say, and what comes after them.
@@ -115,5 +115,6 @@ pub departed-tests : (m : Model) (b : Bool) (t k : ℕ) → Ascending (m .pendin
 unfolding departed advance pack timeNumber firstOf
 departed-tests m b t k a l h =
     leave-tests m b t k 0 a (sym (rw (le-ltb mostClock t h, le-ltb t (m .clock) l))) refl
-    ∙ by-test (eqb (m .pool) 0) (λ e. rw e)
+    ∙ by-test (any draws (m .pending))
     (λ e. rw e (sym (phase-packed b k (ruled m t) (packedStart (ruled m t) (m .pending)) (m .pending))))
+    (λ e. rw e)

@@ -12,7 +12,7 @@ use Rattle.rules.specs.declared.Standing.the-variants.{NotPending, Waits, Holds
 use Rattle.numbers.specs.Numbers.{unknownNumber, notYetOnNumber, alreadyOnNumber}
 use Rattle.rules.specs.Tests.{firstOf, late, backward, named}
 use Rattle.rules.specs.Calls.{Model, fullTo, overOf, Call, release, withdraw, Step, advance}
-use Rattle.rules.specs.Lists.{keep}
+use Rattle.rules.specs.Lists.{any, keep}
 use Rattle.rules.specs.Claims.{on, at}
 use Rattle.rules.specs.Tables.{vacant, encode, model, pad}
 use Rattle.table.specs.declared.Outcome.{Outcome}
@@ -60,9 +60,14 @@ placesNumber m c = cond (contested (m .shares) (length (m .pending)) c) (shareNu
 abbrev pub pastEnd : ℕ → Claim → Bool
 pastEnd t c = on c && ltb (at c + c .length) t
 
--- The table that a claim is taken out of at clock t: packed where there is a pool. Without one that packing would be lost on the next.
+-- c draws units.
+abbrev pub draws : Claim → Bool
+draws c = not (eqb (c .units) 0)
+
+-- The table that a claim is taken out of at clock t: packed where a pending claim draws units. Where none does that packing would be lost on
+-- the next.
 unfoldable pub departed : Model → ℕ → Model
-departed m t = cond (eqb (m .pool) 0) m (advance m t)
+departed m t = cond (any draws (m .pending)) (advance m t) m
 
 abbrev pub phaseNumber : Bool → Standing → ℕ
 phaseNumber b NotPending = unknownNumber

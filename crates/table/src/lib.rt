@@ -1,6 +1,6 @@
 // The claims table: new, declare, set_grace, claim, release, withdraw, clock, lookup, common, free. Each call takes a table by value and
 // hands one back with its answer. A claim and a clock call pack only where the clock moves and a holder overruns; a release and a
-// withdrawal only where somebody waits, and once more where there is a pool, the clock moves and a holder overruns.
+// withdrawal only where somebody waits, and once more where a pending claim draws units, the clock moves and a holder overruns.
 // What packing and placing cost is told in `plan`; everything else is a few passes.
 ghost use mathlib.Core.Path.{_≡_};
 ghost use mathlib.Core.Bool.{true};
@@ -354,7 +354,19 @@ fn removed(mut t: Table, clock: u64, ticket: u16) -> Taken
     ensures { λ r. ⌜ (r .standing ≡ standingOf ticket (departed (model t) clock .pending)) × (r .table ≡ encode (remove (departed (model t) clock) ticket))
         × Formed (r .table) ⌝ }
 {
+    let mut drawn = false;
     if t.pool != 0 {
+        let all = t.count;
+        let mut j: usize = 0;
+        while j < all {
+            let c = t.claims[j];
+            if c.units != 0 {
+                drawn = true;
+            }
+            j += 1;
+        }
+    }
+    if drawn {
         t = at_clock(t, clock);
     }
     let count = t.count;
