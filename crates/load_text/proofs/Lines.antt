@@ -124,7 +124,7 @@ unfolding reasonText reasonTexts reasons allBelow
 reason-length n =
     let i = placeOf (is n) (map (λ r. r .number) reasons) 0 in
     let h = place-high (is n) (map (λ r. r .number) reasons) 0 in
-    leb-true (length (getD reasonTexts i [])) 29 (below-passes 20 (λ i. leb (length (getD reasonTexts i [])) 29) refl i (omega arith))
+    leb-true (length (getD reasonTexts i [])) 29 (below-passes (length reasonTexts) (λ i. leb (length (getD reasonTexts i [])) 29) refl i (omega arith))
 
 report-length : (line n : ℕ) → length (reportOf line n) ≤ 56
 unfolding reportOf
