@@ -163,26 +163,27 @@ pub typed-with : (f v : ℕ) (c : Call) → f < fieldCount → v < 256 ^ fieldWi
 typed-with f v c l h t g =
     either (eqb g f) (λ p. rw (eqb-true g f p, value-same f v c l) h) (λ p. rw (value-other g f v c p) (t g))
 
--- The numbers of a call in the code go into their widths.
-pub typed-call : (c : Call) → c .kind < 2 ^ 8 → c .clock < 2 ^ 64 → c .groups < 2 ^ 64 → c .length < 2 ^ 32 → c .ticket < 2 ^ 16
-    → c .pool < 2 ^ 16 → c .units < 2 ^ 16 → c .client < 2 ^ 8 → c .reserved < 2 ^ 8 → c .limit < 2 ^ 8 → c .grace < 2 ^ 32 → Typed c
-unfolding valueOf numbers fieldWidth fieldWidths
-typed-call c k t g l n p u d r m w zero = k
-typed-call c k t g l n p u d r m w (suc zero) = t
-typed-call c k t g l n p u d r m w (suc (suc zero)) = g
-typed-call c k t g l n p u d r m w (suc (suc (suc zero))) = l
-typed-call c k t g l n p u d r m w (suc (suc (suc (suc zero)))) = n
-typed-call c k t g l n p u d r m w (suc (suc (suc (suc (suc zero))))) = p
-typed-call c k t g l n p u d r m w (suc (suc (suc (suc (suc (suc zero)))))) = u
-typed-call c k t g l n p u d r m w (suc (suc (suc (suc (suc (suc (suc zero))))))) = d
-typed-call c k t g l n p u d r m w (suc (suc (suc (suc (suc (suc (suc (suc zero)))))))) = r
-typed-call c k t g l n p u d r m w (suc (suc (suc (suc (suc (suc (suc (suc (suc zero))))))))) = m
-typed-call c k t g l n p u d r m w (suc (suc (suc (suc (suc (suc (suc (suc (suc (suc zero)))))))))) = w
-typed-call c k t g l n p u d r m w (suc (suc (suc (suc (suc (suc (suc (suc (suc (suc (suc f))))))))))) = omega arith
+-- Each number goes into its width.
+abbrev pub Within : List ℕ → List ℕ → Type 0
+Within [] ws = Unit {0}
+Within (v ∷ vs) [] = (v < 1) × Within vs []
+Within (v ∷ vs) (w ∷ ws) = (v < 256 ^ w) × Within vs ws
+
+within-at : (vs ws : List ℕ) → Within vs ws → (f : ℕ) → getD vs f 0 < 256 ^ getD ws f 0
+within-at [] ws i f = one-le-pow (getD ws f 0) 256 (omega arith)
+within-at (v ∷ vs) [] i zero = i .0
+within-at (v ∷ vs) [] i (suc f) = within-at vs [] (i .1) f
+within-at (v ∷ vs) (w ∷ ws) i zero = i .0
+within-at (v ∷ vs) (w ∷ ws) i (suc f) = within-at vs ws (i .1) f
+
+pub typed-call : (c : Call) → Within (numbers c) fieldWidths → Typed c
+unfolding valueOf fieldWidth
+typed-call c i = within-at (numbers c) fieldWidths i
 
 pub typed-bare : (k : ℕ) → k < 2 ^ 8 → Typed (bare k)
-unfolding bare made defaults default
-typed-bare k h = typed-call (bare k) h (omega arith) (omega arith) (omega arith) (omega arith) (omega arith) (omega arith) (omega arith) (omega arith) (omega arith) (omega arith)
+unfolding numbers bare made defaults default fieldWidths
+typed-bare k h =
+    typed-call (bare k) (h, (omega arith, (omega arith, (omega arith, (omega arith, (omega arith, (omega arith, (omega arith, (omega arith, (omega arith, (omega arith, tt)))))))))))
 
 -- So do the defaults.
 pub default-typed : (f : ℕ) → default f < 256 ^ fieldWidth f
