@@ -1,18 +1,19 @@
 -- Calls and their values, there and back: by one induction over the fields of a row, given that they differ (`proper`).
 use Prim.Native.Nat.{ℕ, zero, suc, _^_, _≤_, _<_}
-use mathlib.Core.Bool.{true, false, _&&_}
+use mathlib.Core.Bool.{true, false, not, _&&_, _||_}
 use mathlib.Core.List.{List, [], _∷_}
+use mathlib.Core.Logic.{⊎-elim}
 use mathlib.Core.Path.{_≡_, refl, sym, ap, subst, _∙_}
 use native.Mathlib.Omega.{arith}
 use native.Mathlib.Nat.{one-le-pow}
-use lib.Dec.{eqb}
-use borrow.Author.Tests.{eqb-true, eqb-false, eq-eqb, ne-eqb}
+use lib.Dec.{ltb, eqb}
+use borrow.Author.Tests.{eqb-true, eqb-false, eq-eqb, ne-eqb, lt-ltb, not-true}
 use lib.ListN.{length, drop, getD, set, length-set, List·getD-eq-default}
 use lib.Seq.{getD-set-same, getD-set-other, set-out, ext-getD}
 use Rattle.format.specs.declared.Call.{Call}
-use Rattle.format.specs.Format.{fieldWidths, fieldCount, fieldWidth, defaults, default, hasKind, fieldsOf}
-use Rattle.format.specs.Calls.{numbers, made, valueOf, withValue, bare, filled, callOf, valuesIn, valuesOf, sameBelow, same, kept, keeps, Typed}
-use Rattle.format.proofs.Format.{both, either, neither, has, proper, proper-parts, fields-proper}
+use Rattle.format.specs.Format.{theClient, format, fieldWidths, fieldCount, fieldWidth, defaults, default, hasKind, fieldsOf}
+use Rattle.format.specs.Calls.{numbers, made, valueOf, withValue, bare, filled, callOf, valuesIn, valuesOf, sameBelow, same, kept, keeps, Typed, OlderCallClient}
+use Rattle.format.proofs.Format.{both, either, neither, has, allRows, tested, proper, proper-parts, fields-proper}
 
 -- ── one field ──
 -- A list is made of what stands at its places.
@@ -153,6 +154,19 @@ pub lacked : (e k : ℕ) (vs : List ℕ) (f : ℕ) → 0 < f → has f (fieldsOf
 unfolding callOf valueOf numbers bare made defaults default
 lacked e k vs zero h n = absurd (omega arith)
 lacked e k vs (suc f) h n = filled-other (fieldsOf e k) vs (bare k) (suc f) n
+
+-- .. so of a field that no edition before `first` has, in their calls ..
+pub older-lacks : (f first : ℕ) → 0 < f → allRows (λ e k fs. not (ltb e first) || not (has f fs)) format ≡ true
+    → (e k : ℕ) (vs : List ℕ) → e < first → valueOf f (callOf e k vs) ≡ default f
+unfolding has
+older-lacks f first z t e k vs l =
+    let n : has f (fieldsOf e k) ≡ false = ⊎-elim (λ n. rw n) (λ p. not-true (has f (fieldsOf e k)) (rw (lt-ltb e first l) at p))
+    (tested (λ e k fs. not (ltb e first) || not (has f fs)) e k t) in
+    lacked e k vs f z n
+
+pub older-call-client : OlderCallClient
+unfolding allRows format has valueOf numbers defaults default
+older-call-client e k vs l = older-lacks theClient 3 (omega arith) refl e k vs l
 
 -- .. and in one that an edition keeps whole.
 pub keeps-none : (e : ℕ) (c : Call) (f : ℕ) → keeps e c ≡ true → has (suc f) (fieldsOf e (c .kind)) ≡ false → valueOf (suc f) c ≡ default (suc f)

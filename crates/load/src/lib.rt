@@ -155,14 +155,13 @@ pub fn grow_number(edition: u8, size: usize, call: Call, room: usize) -> u8
         return numbers::MISFIT;
     }
     let more = 2 + format::length_of(edition, kind);
-    if numbers::MOST_BYTES < size {
+    if numbers::MOST_BYTES < more {
         return numbers::OVERLONG;
     }
-    let whole = size + more;
-    if numbers::MOST_BYTES < whole {
+    if numbers::MOST_BYTES - more < size {
         return numbers::OVERLONG;
     }
-    if room < whole {
+    if room < size + more {
         return numbers::NO_SPACE;
     }
     0
