@@ -1,18 +1,19 @@
 -- Calls and their values, there and back: by one induction over the fields of a row, given that they differ (`proper`).
 use Prim.Native.Nat.{ℕ, zero, suc, _^_, _≤_, _<_}
-use mathlib.Core.Bool.{true, false, _&&_}
+use mathlib.Core.Bool.{true, false, not, _&&_, _||_}
 use mathlib.Core.List.{List, [], _∷_}
+use mathlib.Core.Logic.{⊎-elim}
 use mathlib.Core.Path.{_≡_, refl, sym, ap, subst, _∙_}
 use native.Mathlib.Omega.{arith}
 use native.Mathlib.Nat.{one-le-pow}
-use lib.Dec.{eqb}
-use borrow.Author.Tests.{eqb-true, eqb-false, eq-eqb, ne-eqb}
+use lib.Dec.{ltb, eqb}
+use borrow.Author.Tests.{eqb-true, eqb-false, eq-eqb, ne-eqb, lt-ltb, not-true}
 use lib.ListN.{length, drop, getD, set, length-set, List·getD-eq-default}
 use lib.Seq.{getD-set-same, getD-set-other, set-out, ext-getD}
 use Rattle.format.specs.declared.Call.{Call}
-use Rattle.format.specs.Format.{fieldWidths, fieldCount, fieldWidth, defaults, default, hasKind, fieldsOf}
-use Rattle.format.specs.Calls.{numbers, made, valueOf, withValue, bare, filled, callOf, valuesIn, valuesOf, sameBelow, same, kept, keeps, Typed}
-use Rattle.format.proofs.Format.{both, either, neither, has, proper, proper-parts, fields-proper}
+use Rattle.format.specs.Format.{theClient, format, fieldWidths, fieldCount, fieldWidth, defaults, default, hasKind, fieldsOf}
+use Rattle.format.specs.Calls.{numbers, made, valueOf, withValue, bare, filled, callOf, valuesIn, valuesOf, sameBelow, same, kept, keeps, Typed, OlderCallClient}
+use Rattle.format.proofs.Format.{both, either, neither, has, allRows, tested, proper, proper-parts, fields-proper}
 
 -- ── one field ──
 -- A list is made of what stands at its places.
@@ -154,6 +155,19 @@ unfolding callOf valueOf numbers bare made defaults default
 lacked e k vs zero h n = absurd (omega arith)
 lacked e k vs (suc f) h n = filled-other (fieldsOf e k) vs (bare k) (suc f) n
 
+-- .. so of a field that no edition before `first` has, in their calls ..
+pub older-lacks : (f first : ℕ) → 0 < f → allRows (λ e k fs. not (ltb e first) || not (has f fs)) format ≡ true
+    → (e k : ℕ) (vs : List ℕ) → e < first → valueOf f (callOf e k vs) ≡ default f
+unfolding has
+older-lacks f first z t e k vs l =
+    let n : has f (fieldsOf e k) ≡ false = ⊎-elim (λ n. rw n) (λ p. not-true (has f (fieldsOf e k)) (rw (lt-ltb e first l) at p))
+    (tested (λ e k fs. not (ltb e first) || not (has f fs)) e k t) in
+    lacked e k vs f z n
+
+pub older-call-client : OlderCallClient
+unfolding allRows format has valueOf numbers defaults default
+older-call-client e k vs l = older-lacks theClient 3 (omega arith) refl e k vs l
+
 -- .. and in one that an edition keeps whole.
 pub keeps-none : (e : ℕ) (c : Call) (f : ℕ) → keeps e c ≡ true → has (suc f) (fieldsOf e (c .kind)) ≡ false → valueOf (suc f) c ≡ default (suc f)
 keeps-none e c f h n = ap (valueOf (suc f)) (sym (call-of-values e c h)) ∙ lacked e (c .kind) (valuesOf e c) (suc f) (omega arith) n
@@ -163,26 +177,27 @@ pub typed-with : (f v : ℕ) (c : Call) → f < fieldCount → v < 256 ^ fieldWi
 typed-with f v c l h t g =
     either (eqb g f) (λ p. rw (eqb-true g f p, value-same f v c l) h) (λ p. rw (value-other g f v c p) (t g))
 
--- The numbers of a call in the code go into their widths.
-pub typed-call : (c : Call) → c .kind < 2 ^ 8 → c .clock < 2 ^ 64 → c .groups < 2 ^ 64 → c .length < 2 ^ 32 → c .ticket < 2 ^ 16
-    → c .pool < 2 ^ 16 → c .units < 2 ^ 16 → c .client < 2 ^ 8 → c .reserved < 2 ^ 8 → c .limit < 2 ^ 8 → c .grace < 2 ^ 32 → Typed c
-unfolding valueOf numbers fieldWidth fieldWidths
-typed-call c k t g l n p u d r m w zero = k
-typed-call c k t g l n p u d r m w (suc zero) = t
-typed-call c k t g l n p u d r m w (suc (suc zero)) = g
-typed-call c k t g l n p u d r m w (suc (suc (suc zero))) = l
-typed-call c k t g l n p u d r m w (suc (suc (suc (suc zero)))) = n
-typed-call c k t g l n p u d r m w (suc (suc (suc (suc (suc zero))))) = p
-typed-call c k t g l n p u d r m w (suc (suc (suc (suc (suc (suc zero)))))) = u
-typed-call c k t g l n p u d r m w (suc (suc (suc (suc (suc (suc (suc zero))))))) = d
-typed-call c k t g l n p u d r m w (suc (suc (suc (suc (suc (suc (suc (suc zero)))))))) = r
-typed-call c k t g l n p u d r m w (suc (suc (suc (suc (suc (suc (suc (suc (suc zero))))))))) = m
-typed-call c k t g l n p u d r m w (suc (suc (suc (suc (suc (suc (suc (suc (suc (suc zero)))))))))) = w
-typed-call c k t g l n p u d r m w (suc (suc (suc (suc (suc (suc (suc (suc (suc (suc (suc f))))))))))) = omega arith
+-- Each number goes into its width.
+abbrev pub Within : List ℕ → List ℕ → Type 0
+Within [] ws = Unit {0}
+Within (v ∷ vs) [] = (v < 1) × Within vs []
+Within (v ∷ vs) (w ∷ ws) = (v < 256 ^ w) × Within vs ws
+
+within-at : (vs ws : List ℕ) → Within vs ws → (f : ℕ) → getD vs f 0 < 256 ^ getD ws f 0
+within-at [] ws i f = one-le-pow (getD ws f 0) 256 (omega arith)
+within-at (v ∷ vs) [] i zero = i .0
+within-at (v ∷ vs) [] i (suc f) = within-at vs [] (i .1) f
+within-at (v ∷ vs) (w ∷ ws) i zero = i .0
+within-at (v ∷ vs) (w ∷ ws) i (suc f) = within-at vs ws (i .1) f
+
+pub typed-call : (c : Call) → Within (numbers c) fieldWidths → Typed c
+unfolding valueOf fieldWidth
+typed-call c i = within-at (numbers c) fieldWidths i
 
 pub typed-bare : (k : ℕ) → k < 2 ^ 8 → Typed (bare k)
-unfolding bare made defaults default
-typed-bare k h = typed-call (bare k) h (omega arith) (omega arith) (omega arith) (omega arith) (omega arith) (omega arith) (omega arith) (omega arith) (omega arith) (omega arith)
+unfolding numbers bare made defaults default fieldWidths
+typed-bare k h =
+    typed-call (bare k) (h, (omega arith, (omega arith, (omega arith, (omega arith, (omega arith, (omega arith, (omega arith, (omega arith, (omega arith, (omega arith, tt)))))))))))
 
 -- So do the defaults.
 pub default-typed : (f : ℕ) → default f < 256 ^ fieldWidth f

@@ -229,6 +229,13 @@ no-kind e k js t u =
 pub no-field : (e k i : ℕ) → 7 < i → 0 ≡ getD (fieldsOf e k) i 0
 no-field e k i h = sym (List·getD-eq-default (fieldsOf e k) 0 (omega (arith, fields-few e k)))
 
+-- The keys of a match are all fields.
+pub no-such-field : (js : List ℕ) (f : ℕ) → allBelow fieldCount (λ i. has i js) ≡ true → Unlisted js f → fieldCount ≤ f
+no-such-field js f t u =
+    either (ltb f fieldCount)
+    (λ h. absurd (false≢true (sym (unlisted js f u) ∙ below-passes fieldCount (λ i. has i js) t f (ltb-true f fieldCount h))))
+    (λ h. ltb-false f fieldCount h)
+
 pub no-width : (f : ℕ) → fieldCount ≤ f → fieldWidth f ≡ 0
 unfolding fieldWidth
 no-width f h = List·getD-eq-default fieldWidths 0 h

@@ -2,6 +2,7 @@
 use Prim.Native.Nat.{ℕ, zero, suc, _^_, _<_}
 use mathlib.Core.Bool.{Bool, true, _&&_}
 use mathlib.Core.List.{List, [], _∷_, map}
+use mathlib.Core.Path.{_≡_}
 use lib.Dec.{eqb}
 use lib.ListN.{drop, getD, set}
 use Rattle.format.specs.declared.Call.{Call}
@@ -55,6 +56,10 @@ filled (f ∷ fs) vs c = filled fs (drop 1 vs) (withValue f (getD vs 0 0) c)
 -- The call of a kind with these values in the order of its fields. The fields that the kind lacks have their defaults.
 unfoldable pub callOf : ℕ → ℕ → List ℕ → Call
 callOf e k vs = filled (fieldsOf e k) vs (bare k)
+
+-- "Older editions start with desk 1 declared", and every call of theirs is client 1's. (Proved in proofs/Calls: older-call-client.)
+abbrev pub OlderCallClient : Type 0
+OlderCallClient = (e k : ℕ) (vs : List ℕ) → e < 3 → callOf e k vs .client ≡ 1
 
 -- The values of a call in the order of the fields that its kind has in an edition.
 abbrev pub valuesIn : List ℕ → Call → List ℕ

@@ -84,10 +84,11 @@ module _ (k : ℕ) (vs : List ℕ) (n : ℕ) (s : Shape k (length vs) n) where
       call-length 1 (callOf 1 k vs) (ap (hasKind 1) (kind-of-call 1 k vs) ∙ s .kind) ∙ ap (λ (x : ℕ). 2 + x) e
 
   sound : (first : Bool) → agree (eqb k 1) first ≡ true → (t g l j : ℕ) → callOf 1 k vs ≡ callWith k t g l j → k < 2 ^ 8 → t < 2 ^ 64 → g < 2 ^ 64 → l < 2 ^ 32 → j < 2 ^ 16 → Sound 1 first (recordOf (callOf 1 k vs))
+  unfolding numbers fieldWidths
   sound first p t g l j e hk ht hg hl hj = record {
     place = ap (λ (x : ℕ). agree (eqb x 1) first) (kind-of-call 1 k vs) ∙ p;
     carried = call-carried 1 (callOf 1 k vs) ∙ call-keeps 1 k vs (sym (s .fields)) (s .kind);
-    typed = (subst Typed (sym e) (typed-call (callWith k t g l j) hk ht hg hl hj (omega arith) (omega arith) (omega arith) (omega arith) (omega arith) (omega arith)), tt);
+    typed = (subst Typed (sym e) (typed-call (callWith k t g l j) (hk, (ht, (hg, (hl, (hj, (omega arith, (omega arith, (omega arith, (omega arith, (omega arith, (omega arith, tt)))))))))))), tt);
   }
 
 pub rig-length : (g : ℕ) → length (callBytes 1 (rig g)) ≡ 11

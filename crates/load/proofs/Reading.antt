@@ -2,12 +2,11 @@
 use Prim.Native.Nat.{ℕ, zero, suc, _+_, _-_, _*_, _/_, _≤_, _<_}
 use mathlib.Core.Bool.{true, false, not, _||_}
 use mathlib.Core.List.{List, [], _∷_}
-use mathlib.Core.Logic.{⊎-elim}
 use mathlib.Core.Path.{_≡_, refl, sym, ap, _∙_}
 use native.Mathlib.Omega.{arith}
 use native.Mathlib.Nat.{le-div-iff-mul-le, div-le-self}
 use lib.Dec.{ltb, eqb}
-use borrow.Author.Tests.{ltb-false, eqb-true, eqb-false, lt-ltb, le-ltb, eq-eqb, ne-eqb, not-true, not-false}
+use borrow.Author.Tests.{ltb-false, eqb-true, eqb-false, lt-ltb, le-ltb, eq-eqb, ne-eqb, not-false}
 use lib.ListN.{length, take, drop, getD, length-drop, drop-of-length-le}
 use lib.Seq.{getD-drop, drop-drop, take-all}
 use Rattle.numbers.specs.Numbers.{orElse}
@@ -15,15 +14,14 @@ use Rattle.format.specs.declared.Call.{Call}
 use Rattle.load.specs.declared.Item.{Item}
 use Rattle.load.specs.declared.Item.the-variants as item
 use Rattle.load.specs.declared.Item.the-variants.{End, Refused}
-use Rattle.format.specs.Format.{thePool, theUnits, theClient, format, defaults, default, known, hasKind, fieldsOf, widths, lengthOf, lengthWith, leastLength}
+use Rattle.format.specs.Format.{thePool, theUnits, format, defaults, default, known, hasKind, widths, lengthOf, lengthWith, leastLength}
 use Rattle.format.specs.Calls.{numbers, valueOf, callOf}
 use Rattle.format.specs.Records.{Record, recordOf, recordsOf, callsOf, memberCount}
 use Rattle.load.specs.Bytes.{fieldValues, membersRead, loadBytes}
 use Rattle.load.specs.Answers.{itemValues}
-use Rattle.load.specs.Reading.{inPlace, lengthField, kindField, short, misfit, callIn, countIn, readAt, editionOf, recordAt, NoMembers, itemAt, recordNumber, recordValues, ItemValued, Edition1Bare, OlderClient1}
-use Rattle.load.specs.Reading.{openNumber, Walk, ended, onto, walkIn, walk, unlessRefused, reading, loadNumber, WalkOfCalls, ReadingTested}
-use Rattle.format.proofs.Format.{neither, passed, either, has, allRows, tested, least-some}
-use Rattle.format.proofs.Calls.{kind-of-call, lacked}
+use Rattle.load.specs.Reading.{inPlace, lengthField, kindField, short, misfit, callIn, countIn, readAt, editionOf, recordAt, NoMembers, itemAt, recordNumber, recordValues, ItemValued, Edition1Bare, OlderClient1, openNumber, Walk, ended, onto, walkIn, walk, unlessRefused, reading, loadNumber, WalkOfCalls, ReadingTested}
+use Rattle.format.proofs.Format.{neither, passed, either, has, allRows, least-some}
+use Rattle.format.proofs.Calls.{kind-of-call, older-lacks, older-call-client}
 use Rattle.format.proofs.Records.{with-none, with-total, with-least}
 
 -- ── what stands at a position ──
@@ -115,13 +113,7 @@ no-members s at c = refl
 -- A field that no edition before `first` has reads as its default there.
 older-reads : (f first : ℕ) → 0 < f → allRows (λ e k fs. not (ltb e first) || not (has f fs)) format ≡ true
     → (s : List ℕ) (at : ℕ) (c : Call) (next : ℕ) → editionOf s < first → itemAt s at ≡ item.Record c next → valueOf f c ≡ default f
-unfolding has
-older-reads f first z t s at c next l h =
-    let e = editionOf s in
-    let k = kindField (drop at s) in
-    let n : has f (fieldsOf e k) ≡ false = ⊎-elim (λ n. rw n) (λ p. not-true (has f (fieldsOf e k)) (rw (lt-ltb e first l) at p))
-    (tested (λ e k fs. not (ltb e first) || not (has f fs)) e k t) in
-    ap (valueOf f) (sym (stands s at c next h .call)) ∙ lacked e k _ f z n
+older-reads f first z t s at c next l h = ap (valueOf f) (sym (stands s at c next h .call)) ∙ older-lacks f first z t (editionOf s) (kindField (drop at s)) _ l
 
 pub edition-1-bare : Edition1Bare
 unfolding allRows format has valueOf numbers defaults default
@@ -129,8 +121,7 @@ edition-1-bare s at c next e h =
     (older-reads thePool 2 (omega arith) refl s at c next (omega arith) h, older-reads theUnits 2 (omega arith) refl s at c next (omega arith) h)
 
 pub older-client-1 : OlderClient1
-unfolding allRows format has valueOf numbers defaults default
-older-client-1 s at c next e h = older-reads theClient 3 (omega arith) refl s at c next e h
+older-client-1 s at c next e h = ap (λ (x : Call). x .client) (sym (stands s at c next h .call)) ∙ older-call-client (editionOf s) (kindField (drop at s)) _ e
 
 -- The tests as the code makes them at a position.
 module _ (s : List ℕ) (at : ℕ) where

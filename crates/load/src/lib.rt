@@ -68,9 +68,9 @@ fn misfits(edition: u8, at: usize, n: usize, kind: u8) -> bool
     !placed(kind, at)
 }
 
-// The call that the fields of a record say. Bytes after the fields are not looked at. Cost: a few instructions for each field.
-fn call_of(edition: u8, kind: u8, fields: &[u8]) -> Call
-    ensures { λ r. ⌜ r ≡ callOf edition kind (fieldValues (widths edition kind) (now (fields .entry))) ⌝ }
+// The call that the fields of a record, at the start of some bytes, say. The bytes after them are not looked at. Cost: a few instructions for each field.
+fn call_of(edition: u8, kind: u8, bytes: &[u8]) -> Call
+    ensures { λ r. ⌜ r ≡ callOf edition kind (fieldValues (widths edition kind) (now (bytes .entry))) ⌝ }
 {
     let row = format::row_of(edition, kind);
     let mut numbers = format::bare_numbers(kind);
@@ -82,7 +82,7 @@ fn call_of(edition: u8, kind: u8, fields: &[u8]) -> Call
             return format::made(numbers);
         }
         let w = fields::WIDTHS[f as usize] as usize;
-        numbers[f as usize] = numerals::number(fields, at, w);
+        numbers[f as usize] = numerals::number(bytes, at, w);
         at += w;
         i += 1;
     }
@@ -155,14 +155,13 @@ pub fn grow_number(edition: u8, size: usize, call: Call, room: usize) -> u8
         return numbers::MISFIT;
     }
     let more = 2 + format::length_of(edition, kind);
-    if numbers::MOST_BYTES < size {
+    if numbers::MOST_BYTES < more {
         return numbers::OVERLONG;
     }
-    let whole = size + more;
-    if numbers::MOST_BYTES < whole {
+    if numbers::MOST_BYTES - more < size {
         return numbers::OVERLONG;
     }
-    if room < whole {
+    if room < size + more {
         return numbers::NO_SPACE;
     }
     0

@@ -3,12 +3,11 @@ use Prim.Native.Nat.{ℕ, zero, suc, _-_, _%_, _^_, _≤_, _<_}
 use mathlib.Core.Path.{_≡_, refl, ap, _∙_}
 use mathlib.Core.List.{List, map}
 use native.Mathlib.Nat.{mod-eq-of-lt}
-use native.Mathlib.Omega.{arith}
 use lib.Dec.{eqb}
 use lib.ListN.{getD, List·getD-eq-default, List·getD-map}
 use borrow.Author.Tests.{eqb-true, ne-eqb}
 use Rattle.format.specs.declared.Call.{Call}
-use Rattle.format.specs.Format.{theGroups, fieldWidths, fieldWidth, fieldsOf}
+use Rattle.format.specs.Format.{theGroups, fieldWidths, fieldCount, fieldWidth, fieldsOf}
 use Rattle.format.specs.Calls.{withValue, bare}
 use Rattle.format.proofs.Format.{allBelow, below-passes, no-width}
 use Rattle.words.specs.declared.Field.the-variants.{Value}
@@ -21,13 +20,13 @@ use Rattle.load_text.proofs.Within.{field-fits}
 
 -- ── a field: MOST and NONE ──
 module _ (f : ℕ) (w : List ℕ) (n : f ≡ theGroups → ⊥) where
-  pub field-number : f ≤ 10 → numberIn 10 (getD (map (λ w. 256 ^ w - 1) fieldWidths) f 0) (getD noNumbers f 0) tooLargeReason w ≡ fieldIn f w
-  unfolding fieldIn allBelow noNumber noNumbers fieldWidth
+  pub field-number : f < fieldCount → numberIn 10 (getD (map (λ w. 256 ^ w - 1) fieldWidths) f 0) (getD noNumbers f 0) tooLargeReason w ≡ fieldIn f w
+  unfolding fieldIn allBelow noNumber noNumbers fieldWidth fieldWidths
   field-number h =
-      let q = below-passes 11 (λ i. eqb (getD noNumbers i 0) (noNumber i)) refl f (omega arith) in
+      let q = below-passes fieldCount (λ i. eqb (getD noNumbers i 0) (noNumber i)) refl f h in
       rw (ne-eqb f theGroups n, List·getD-map (λ w. 256 ^ w - 1) fieldWidths f 0, eqb-true (getD noNumbers f 0) (noNumber f) q)
 
-  pub field-none : 10 < f → numberIn 10 0 unknownReason tooLargeReason w ≡ fieldIn f w
+  pub field-none : fieldCount ≤ f → numberIn 10 0 unknownReason tooLargeReason w ≡ fieldIn f w
   unfolding fieldIn noNumber noNumbers fieldWidths
   field-none h = rw (ne-eqb f theGroups n, no-width f h, List·getD-eq-default noNumbers unknownReason h)
 

@@ -4,7 +4,7 @@ use mathlib.Core.List.{List, [], _∷_}
 use mathlib.Core.Path.{_≡_, refl, subst}
 use native.Mathlib.Omega.{arith}
 use lib.Dec.{leb, eqb}
-use lib.ListN.{List·getD-eq-default}
+use lib.ListN.{length, List·getD-eq-default}
 use native.Mathlib.Nat.{one-le-pow}
 use borrow.Author.Tests.{leb-true, eqb-true}
 use Rattle.format.specs.declared.Call.{Call}
@@ -29,7 +29,7 @@ use Rattle.load_text.proofs.Tables.{kind-below}
 no-number-apart : (f : ℕ) → 101 ≤ noNumber f
 unfolding noNumber noNumbers allBelow
 no-number-apart f =
-    below f 11 (λ h. leb-true 101 (noNumber f) (below-passes 11 (λ i. leb 101 (noNumber i)) refl f h))
+    below f (length noNumbers) (λ h. leb-true 101 (noNumber f) (below-passes (length noNumbers) (λ i. leb 101 (noNumber i)) refl f h))
     (λ h. omega (arith, List·getD-eq-default noNumbers unknownReason h))
 
 pub field-under : (f : ℕ) (w : List ℕ) → Under 101 (256 ^ fieldWidth f - 1) (fieldIn f w)

@@ -69,7 +69,7 @@ fn field_of(field: u8, word: &[u8]) -> Field
     if field == fields::GROUPS {
         return groups_of(word);
     }
-    if 10 < field {
+    if fields::COUNT <= field as usize {
         return number(word, 10, 0, reasons::UNKNOWN, reasons::TOO_LARGE);
     }
     let most = MOST[field as usize];

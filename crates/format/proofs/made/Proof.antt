@@ -15,15 +15,15 @@ returns c h =
     let n = c .args .t1 in
     let g = given-is n 7 1 (search needs) in
     rw (
-      mod-eq-of-lt {n = getD n 0 0} {m = 256} (h 0),
-      mod-eq-of-lt {n = getD n 3 0} {m = 4294967296} (h 3),
-      mod-eq-of-lt {n = getD n 4 0} {m = 65536} (h 4),
-      mod-eq-of-lt {n = getD n 5 0} {m = 65536} (h 5),
-      mod-eq-of-lt {n = getD n 6 0} {m = 65536} (h 6),
+      mod-eq-of-lt {n = getD n 0 0} {m = 256} (let q = h 0 in omega arith),
+      mod-eq-of-lt {n = getD n 3 0} {m = 4294967296} (let q = h 3 in omega arith),
+      mod-eq-of-lt {n = getD n 4 0} {m = 65536} (let q = h 4 in omega arith),
+      mod-eq-of-lt {n = getD n 5 0} {m = 65536} (let q = h 5 in omega arith),
+      mod-eq-of-lt {n = getD n 6 0} {m = 65536} (let q = h 6 in omega arith),
       mod-eq-of-lt {n = getD n 7 0} {m = 256} (let q = h 7 in omega (arith, g)),
-      mod-eq-of-lt {n = getD n 8 0} {m = 256} (h 8),
-      mod-eq-of-lt {n = getD n 9 0} {m = 256} (h 9),
-      mod-eq-of-lt {n = getD n 10 0} {m = 4294967296} (h 10),
+      mod-eq-of-lt {n = getD n 8 0} {m = 256} (let q = h 8 in omega arith),
+      mod-eq-of-lt {n = getD n 9 0} {m = 256} (let q = h 9 in omega arith),
+      mod-eq-of-lt {n = getD n 10 0} {m = 4294967296} (let q = h 10 in omega arith),
       g,
     )
 

@@ -1,16 +1,18 @@
 -- `format::with_value` meets its contract: each field has its place among the numbers.
-use Prim.Native.Nat.{_^_, _≤_}
-use native.Mathlib.Omega.{arith}
+use Prim.Native.Nat.{_^_}
+use mathlib.Core.List.{[], _∷_}
+use mathlib.Core.Path.{refl}
 use native.Mathlib.Nat.{mod-eq-of-lt}
 use borrow.Author.Needs.{needs}
 use Rattle.format.specs.Format.{fieldWidth, fieldWidths}
 use Rattle.format.specs.Calls.{withValue, made, numbers}
 use Rattle.format.proofs.Calls.{with-none}
+use Rattle.format.proofs.Format.{has, allBelow, no-such-field}
 use Rattle.format.proofs.with_value.Statement.{statement}
 use Rattle.format.proofs.with_value.Tie as tie
 
 pub with-value-spec : {M : Type 1} → statement M
-unfolding withValue made numbers fieldWidth fieldWidths
+unfolding withValue made numbers fieldWidth fieldWidths allBelow has
 with-value-spec =
     tie.close
     (tie.spec
@@ -34,9 +36,4 @@ with-value-spec =
     (λ c. rw (c .match .keys9))
     (λ c. rw (c .match .keys10))
     (λ c. rw (c .match .keys11))
-    (λ c. let r = c .match .rest in
-    let q = r .0 .0 .0 .0 in
-    let f = c .before .args .field in
-    let l : 4 ≤ f = omega (arith, q .0 .0 .0 .1, q .0 .0 .0 .0 .1, q .0 .0 .0 .0 .0 .1, q .0 .0 .0 .0 .0 .0 .1) in
-    let m : 7 ≤ f = omega (arith, l, q .0 .0 .1, q .0 .1, q .1) in
-    with-none f _ _ (omega (arith, m, r .0 .0 .0 .1, r .0 .0 .1, r .0 .1, r .1))))
+    (λ c. with-none _ _ _ (no-such-field (10 ∷ 9 ∷ 8 ∷ 7 ∷ 6 ∷ 5 ∷ 4 ∷ 3 ∷ 2 ∷ 1 ∷ 0 ∷ []) _ refl (c .match .rest))))

@@ -2,7 +2,7 @@
 use Prim.Native.Nat.{_-_}
 use mathlib.Core.Path.{_≡_, refl, sym, _∙_}
 use native.Mathlib.Omega.{arith}
-use lib.ListN.{drop}
+use lib.ListN.{length, drop}
 use borrow.Author.Needs.{needs}
 use Rattle.format.specs.Format.{names}
 use Rattle.load_text.specs.Parsing.{kindOf}
@@ -15,7 +15,7 @@ abbrev Inv-loop : tie.InvT-loop
 Inv-loop word kind₀ kind = placeIn word kind (drop kind names) ≡ kindOf word
 
 abbrev μ-loop : tie.MeasureT-loop
-μ-loop word kind₀ kind = 9 - kind
+μ-loop word kind₀ kind = length names - kind
 
 pub kind-of-spec : {M : Type 1} → statement M
 unfolding kindOf names
