@@ -160,8 +160,8 @@ story-marked rig n j t d es i r is q h = record {
 
 -- ── one call ──
 -- What a call and its step have to tell of the ledger before it, so that ledger and table go on side by side.
-abbrev pub Told : ℕ → Ledger → Call → Step → Type 0
-Told rig l c s =
+abbrev pub StoryGoesOn : ℕ → Ledger → Call → Step → Type 0
+StoryGoesOn rig l c s =
     let t : Turn = record { call = c; answer = s .answer } in
     Next rig l t × Story rig (noted l t) (s .model)
 
@@ -428,7 +428,7 @@ module _ (rig : ℕ) (l : Ledger) (m : Model) (s : Story rig l m) where
       )
 
   -- So with every call of the rules.
-  pub told : (c : Call) → Told rig l c (step m c)
+  pub told : (c : Call) → StoryGoesOn rig l c (step m c)
   told c =
       let d = step-cases (Does rig l) m does-refused does-claim does-release c in
       (record { number-tested = step-number m c ∙ ap firstOf (tests-told c); claim-answered = d .0; granted = d .1; replied = d .2 }, d .3)
@@ -443,7 +443,7 @@ story-new rig = new-cases (λ (s : Step). Story rig opening (s .model)) rig (λ 
     blank-story r h = record { inv = blank-invariant r; rigged = h; issued = refl; pending = refl; kept = λ e i. none i }
 
 -- Calls that are run by any `run` whose steps tell that.
-module _ (run : Steps) (tells : (rig : ℕ) (l : Ledger) (m : Model) → Story rig l m → (c : Call) → Told rig l c (run m c)) where
+module _ (run : Steps) (tells : (rig : ℕ) (l : Ledger) (m : Model) → Story rig l m → (c : Call) → StoryGoesOn rig l c (run m c)) where
   -- After a list of calls,
   pub story-after : (cs : List Call) (rig : ℕ) (l : Ledger) (m : Model) → Story rig l m → Story rig (notedAll l (turns run m cs)) (tableAfter run m cs)
   unfolding turns tableAfter notedAll

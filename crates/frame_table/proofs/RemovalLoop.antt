@@ -22,7 +22,7 @@ use Rattle.frames.specs.Invariants.{ticketOf}
 use Rattle.frames.specs.Tables.{model, vacant}
 use Rattle.frame_table.specs.declared.Outcome.{Outcome}
 use Rattle.frame_table.specs.Parts.{nearerBy, rowNumber, releaseNumber, remaining, removedIn}
-use Rattle.frame_table.proofs.Tables.{Row, row-count, row-step, withClaims}
+use Rattle.frame_table.proofs.Tables.{InPlaces, row-count, row-step, withClaims}
 
 -- ── one claim ──
 module _ (k by : ℕ) (c : Claim) (l : List Claim) where
@@ -72,7 +72,7 @@ head-few ps = omega (arith, length-map (keep on ps) ticketOf, keep-length on ps)
 -- `held` of them are in the head row: theirs are the first tickets of `head`. The ticket k is still to come, or `number` is that of its
 -- release, and it does not come again.
 pub record Taking (k by : ℕ) (l : List Claim) (n i number : ℕ) (head : List ℕ) (held m : ℕ) (new : List Claim) : Type 0 where
-  pub row : Row l n
+  pub row : InPlaces l n
   pub within : i ≤ n
   pub fewer : m ≤ i
   pub least : held ≤ m
@@ -83,7 +83,7 @@ pub record Taking (k by : ℕ) (l : List Claim) (n i number : ℕ) (head : List 
       ⊎ ((m + 1 ≡ i) × (number ≡ releaseNumber k (take n l)) × Each (λ d. d .ticket ≢ k) (drop i (take n l)))
 
 -- Before the first claim.
-pub taking-start : {k by : ℕ} {l : List Claim} {n : ℕ} → Row l n → Taking k by l n 0 unknownNumber (replicate 64 0) 0 0 l
+pub taking-start : {k by : ℕ} {l : List Claim} {n : ℕ} → InPlaces l n → Taking k by l n 0 unknownNumber (replicate 64 0) 0 0 l
 taking-start r = record {
   row = r;
   within = omega arith;

@@ -38,7 +38,7 @@ valid-is t m e r i =
     subst Valid (sym e) (record { ranged = subst Ranged q r; whole = ap encode (model-encode m); settled = subst Invariant q i })
 
 -- ── the row of a table: 64 places, the first n with claims ──
-pub record Row (l : List Claim) (n : ℕ) : Type 0 where
+pub record InPlaces (l : List Claim) (n : ℕ) : Type 0 where
   pub places : length l ≡ 64
   pub few : n ≤ 64
   pub ascending : Ascends ticketOf (take n l)
@@ -57,14 +57,14 @@ module _ (t : Table) (v : Valid t) where
   valid-claims = ap (λ (x : Table). x .claims) (v .whole)
 
   -- So it has a row.
-  pub valid-row : Row (t .claims) (t .count)
+  pub valid-row : InPlaces (t .claims) (t .count)
   valid-row = record {
     places = sym (ap length valid-claims) ∙ pad-length vacant (model t .pending) (v .ranged .few);
     few = omega (arith, valid-count, v .ranged .few);
     ascending = v .settled .ascending;
   }
 
-module _ {l : List Claim} {n : ℕ} (r : Row l n) where
+module _ {l : List Claim} {n : ℕ} (r : InPlaces l n) where
   -- There are n claims.
   pub row-count : length (take n l) ≡ n
   row-count = length-take-le n l (omega (arith, r .few, r .places))
@@ -75,12 +75,12 @@ module _ {l : List Claim} {n : ℕ} (r : Row l n) where
 
 -- ── reading a row front to back: P holds of the claims that are left at place i ──
 pub record Left (P : List Claim → Type 0) (l : List Claim) (n i : ℕ) : Type 0 where
-  pub row : Row l n
+  pub row : InPlaces l n
   pub within : i ≤ n
   pub holds : P (drop i (take n l))
 
 -- At the first place all are left,
-pub left-start : {P : List Claim → Type 0} {l : List Claim} {n : ℕ} → Row l n → P (take n l) → Left P l n 0
+pub left-start : {P : List Claim → Type 0} {l : List Claim} {n : ℕ} → InPlaces l n → P (take n l) → Left P l n 0
 left-start r p = record { row = r; within = omega arith; holds = p }
 
 module _ {P : List Claim → Type 0} {l : List Claim} {n i : ℕ} (w : Left P l n i) where

@@ -387,8 +387,8 @@ same-claim Q t u ask x e h =
     subst (λ (n : ℕ). Q n x) f (subst (Q t) g h)
 
 -- ── one call ──
-abbrev Told : Type 0 → Ledger → Model → Call → Step → Type 0
-Told P l m c s =
+abbrev StoryGoesOn : Type 0 → Ledger → Model → Call → Step → Type 0
+StoryGoesOn P l m c s =
     let t : Turn = record { call = c; answer = s .answer } in
     Next l t (tells m) (tells (s .model)) × Story (P × NoOverrun l t) (noted l t) (s .model)
 
@@ -412,7 +412,7 @@ module _ (P : Type 0) (l : Ledger) (m : Model) (s : Story P l m) where
   idle-kept c n x y (inl e) h = by-test (eqb n 0) (λ q. rw q (h e)) (λ q. rw q)
   idle-kept c n x y (inr e) h = rw (ne-eqb n 0 e)
 
-  told-idle : (c : Call) (n : ℕ) → Idle c n → Told P l m c (unchanged m n)
+  told-idle : (c : Call) (n : ℕ) → Idle c n → StoryGoesOn P l m c (unchanged m n)
   told-idle c n i =
       let z = idle-refused c n i in (
         record {
@@ -454,7 +454,7 @@ module _ (P : Type 0) (l : Ledger) (m : Model) (s : Story P l m) where
       done : Match (Tracks (P × T)) (finish q rep .model .pending) (map (marked t (finish q rep .answer .grants)) es)
       done = subst (λ (u : ℕ). Match (Tracks (P × T)) (finish q rep .model .pending) (map (marked u (finish q rep .answer .grants)) es)) cl (finish-match (P × T) es q rep sp ma)
 
-  told-claim : (t : ℕ) (ask : Request) → Admissible m t ask → Told P l m (claim t ask) (admit (advance m t) ask)
+  told-claim : (t : ℕ) (ask : Request) → Admissible m t ask → StoryGoesOn P l m (claim t ask) (admit (advance m t) ask)
   unfolding admit finish join advance stay issues sharesBy graceBy
   told-claim t ask a =
       let old = join-old (advance m t) (placed (advance m t) ask) refl in
@@ -543,7 +543,7 @@ module _ (P : Type 0) (l : Ledger) (m : Model) (s : Story P l m) where
       OfGrants l turn → (NoOverrun l turn → Unraised (m .pending) (n .pending) (noted l turn .claims)) → Next l turn (tells m) (tells n))
   next a v g h = record { of-claim = λ u ask e _. no-claim v e; of-grants = g; never-raised = h }
 
-  told-left : (c : Call) (t k : ℕ) (q : Model) → Clocked m t → Leaves m c t k q → Told P l m c (finish q (plain k t))
+  told-left : (c : Call) (t k : ℕ) (q : Model) → Clocked m t → Leaves m c t k q → StoryGoesOn P l m c (finish q (plain k t))
   unfolding finish sharesBy graceBy
   told-left c₀ t₀ k₀ q₀ o (by-release t k) =
       let a : Answer = finish (remove (advance m t) k) (plain k t) .answer in
@@ -568,7 +568,7 @@ module _ (P : Type 0) (l : Ledger) (m : Model) (s : Story P l m) where
         never-raised = λ n k x w. rw (z, e) (unraised P (m .pending) (m .pending) (l .claims) (s .match) still k x w);
       }
 
-  told-declare : (c r k : ℕ) → Declarable m c r k → Told P l m (declare c r k) (unchanged (declared m c r k) 0)
+  told-declare : (c r k : ℕ) → Declarable m c r k → StoryGoesOn P l m (declare c r k) (unchanged (declared m c r k) 0)
   unfolding sharesBy graceBy
   told-declare c r k d = (
     prepared (declare c r k) (declared m c r k) refl refl,
@@ -585,7 +585,7 @@ module _ (P : Type 0) (l : Ledger) (m : Model) (s : Story P l m) where
     },
   )
 
-  told-grace : (n : ℕ) → Settable m n → Told P l m (setGrace n) (unchanged (withGrace m n) 0)
+  told-grace : (n : ℕ) → Settable m n → StoryGoesOn P l m (setGrace n) (unchanged (withGrace m n) 0)
   unfolding sharesBy graceBy
   told-grace n d = (
     prepared (setGrace n) (withGrace m n) refl refl,
@@ -602,8 +602,8 @@ module _ (P : Type 0) (l : Ledger) (m : Model) (s : Story P l m) where
     },
   )
 
-  pub told : (c : Call) → Told P l m c (step m c)
-  told = step-cases (Told P l m) m told-idle told-claim told-left told-declare told-grace
+  pub told : (c : Call) → StoryGoesOn P l m c (step m c)
+  told = step-cases (StoryGoesOn P l m) m told-idle told-claim told-left told-declare told-grace
 
 -- ── the run ──
 story-weaken : (P Q : Type 0) (l : Ledger) (m : Model) → (Q → P) → Story P l m → Story Q l m
