@@ -20,7 +20,7 @@ use Rattle.rules.proofs.Tests.{passes, past, front, swapped}
 use Rattle.rules.proofs.Shares.{declared-range, share-place, pending-few, full-by-all, full-for-all, below-not-full, below-not-over}
 use Rattle.table.specs.declared.Outcome.{Outcome}
 use Rattle.table.specs.Counts.{contested, pendingEach, unfilledEach, numberBy}
-use Rattle.table.specs.Outcomes.{outcome, answeringIn, shareNumber, placesNumber}
+use Rattle.table.specs.Outcomes.{outcome, answeringIn, shareNumber, countedNumber}
 use Rattle.table.specs.Valid.{Ranged, Valid}
 use Rattle.table.proofs.Formed.{formed-count}
 use Rattle.table.proofs.Counting.{each-at, each-unfilled}
@@ -68,10 +68,10 @@ below-none t c v l =
     )
 
 -- What has to be counted for is all that matters.
-pub places-are : (t : Table) (c : ℕ) → Valid t → shareOf (t .shares) c .declared ≡ true → full (t .count) .fails ≡ false
-    → placesNumber (model t) c ≡ shareNumber (model t) c
-unfolding placesNumber contested
-places-are t c v d f =
+pub counted-is : (t : Table) (c : ℕ) → Valid t → shareOf (t .shares) c .declared ≡ true → full (t .count) .fails ≡ false
+    → countedNumber (model t) c ≡ shareNumber (model t) c
+unfolding countedNumber contested
+counted-is t c v d f =
     let n = length (model t .pending) in
     let less : n < 64 = omega (arith, leb-false 64 (t .count) f, formed-count t (v .formed)) in
     rw (d, lt-ltb n 64 less) (by-test (leb (shareOf (t .shares) c .reserved) n) (λ e. rw e) (λ e. rw e (sym (below-none t c v (leb-false (shareOf (t .shares) c .reserved) n e)))))

@@ -53,8 +53,8 @@ unfoldable pub shareNumber : Model → ℕ → ℕ
 shareNumber m c = firstOf (fullTo m c ∷ overOf m c ∷ [])
 
 -- That, where it has to be counted for.
-unfoldable pub placesNumber : Model → ℕ → ℕ
-placesNumber m c = cond (contested (m .shares) (length (m .pending)) c) (shareNumber m c) 0
+unfoldable pub countedNumber : Model → ℕ → ℕ
+countedNumber m c = cond (contested (m .shares) (length (m .pending)) c) (shareNumber m c) 0
 
 -- c is on, and its promised end is below the clock t.
 abbrev pub pastEnd : ℕ → Claim → Bool

@@ -13,7 +13,7 @@ ghost use Rattle.rules.specs.Calls.{claims, releases, withdraws, movesClock, at
 ghost use Rattle.rules.specs.Tables.{encode, model};
 ghost use Rattle.rules.specs.Invariants.{Still};
 ghost use Rattle.table.specs.Valid.{Formed, Valid};
-ghost use Rattle.table.specs.Outcomes.{outcome, answeringIn, Found, timeNumber, shareNumber, placesNumber, pastEnd, departed, phaseNumber, leaving};
+ghost use Rattle.table.specs.Outcomes.{outcome, answeringIn, Found, timeNumber, shareNumber, countedNumber, pastEnd, departed, phaseNumber, leaving};
 ghost use Rattle.plan.specs.Bounds.{mostAt};
 
 mod shares;
@@ -63,15 +63,15 @@ fn answering(t: Table, number: u8) -> Outcome
 pub fn new(rig: u64, pool: u16, alone: bool) -> Outcome
     ensures { λ r. ⌜ (r ≡ outcome (new rig pool alone)) × Valid (r .table) ⌝ }
 {
-    let places: u8 = if alone {
+    let whole: u8 = if alone {
         numbers::MOST_PENDING as u8
     } else {
         0
     };
     let first = Share {
         declared: alone,
-        reserved: places,
-        limit: places,
+        reserved: whole,
+        limit: whole,
     };
     let other = Share {
         declared: false,
@@ -510,9 +510,9 @@ fn share_number(t: Table, client: u8) -> u8
     shares::number_of(held, each, t.count, client)
 }
 
-// The first of its tests that a claim fails, or 0. `places` is what `share_number` gives, where the tests 6 and 18 hang on it.
-fn claim_number(t: Table, clock: u64, ask: Request, places: u8) -> u8
-    requires { ⌜ Valid t × (places ≡ placesNumber (model t) (ask .client)) ⌝ }
+// The first of its tests that a claim fails, or 0. `counted` is what `share_number` gives, where the tests 6 and 18 hang on it.
+fn claim_number(t: Table, clock: u64, ask: Request, counted: u8) -> u8
+    requires { ⌜ Valid t × (counted ≡ countedNumber (model t) (ask .client)) ⌝ }
     ensures { λ r. ⌜ r ≡ firstOf (tests (model t) (timed clock (claims ask))) ⌝ }
 {
     let timing = time_number(t.clock, clock);
@@ -539,8 +539,8 @@ fn claim_number(t: Table, clock: u64, ask: Request, places: u8) -> u8
     if refusals::full(t.count) {
         return numbers::FULL;
     }
-    if places != 0 {
-        return places;
+    if counted != 0 {
+        return counted;
     }
     if refusals::ticketless(t.issued) {
         return numbers::TICKETLESS;
@@ -575,11 +575,11 @@ pub fn claim(t: Table, clock: u64, ask: Request) -> Outcome
     ensures { λ r. ⌜ (r ≡ outcome (step (model t) (timed clock (claims ask)))) × Valid (r .table) ⌝ }
 {
     let held = t.shares;
-    let mut places: u8 = 0;
+    let mut counted: u8 = 0;
     if shares::contested(held, t.count, ask.client) {
-        places = share_number(t, ask.client);
+        counted = share_number(t, ask.client);
     }
-    let number = claim_number(t, clock, ask, places);
+    let number = claim_number(t, clock, ask, counted);
     if number != 0 {
         return answering(t, number);
     }

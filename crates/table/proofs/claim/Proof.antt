@@ -10,7 +10,7 @@ use Rattle.rules.proofs.Bools.{and-l}
 use Rattle.rules.proofs.Calls.{Admissible, admissible}
 use Rattle.rules.proofs.Booking.{room-left}
 use Rattle.table.specs.Counts.{contested}
-use Rattle.table.specs.Outcomes.{placesNumber}
+use Rattle.table.specs.Outcomes.{countedNumber}
 use Rattle.table.proofs.Formed.{formed-count}
 use Rattle.table.proofs.Steps.{refused, accepted, advanced-counts, claim-is}
 use borrow.Author.Needs.{needs}
@@ -25,9 +25,9 @@ is-contested c =
     let b = c .before .before in
     ap (λ (n : ℕ). contested (b .args .t .shares) n (b .args .ask .client)) (formed-count (b .args .t) (b .pre .formed)) ∙ sym (c .contested .ensures)
 
-places-are : (c : tie.Joined1) → let a = c .before .before .before .args in c .if1 .places ≡ placesNumber (model (a .t)) (a .ask .client)
-unfolding placesNumber
-places-are c =
+counted-is : (c : tie.Joined1) → let a = c .before .before .before .args in c .if1 .counted ≡ countedNumber (model (a .t)) (a .ask .client)
+unfolding countedNumber
+counted-is c =
     let e = is-contested (c .before) in
     ⊎-elim
     (λ k. k .2 ∙ k .1 .ensures ∙ sym (rw (e ∙ k .0 .taken)))
@@ -76,7 +76,7 @@ claim-spec =
     (tie.spec
     (λ c κs. c .before .pre .booked .eight)
     share-number-requires
-    (λ c κs. (c .before .before .before .pre, places-are c))
+    (λ c κs. (c .before .before .before .pre, counted-is c))
     (λ c κs. search needs)
     returns
     at-clock-requires

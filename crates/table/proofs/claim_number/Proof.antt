@@ -15,7 +15,7 @@ use Rattle.rules.specs.Tables.{model}
 use Rattle.rules.proofs.Tests.{fails-here, past}
 use Rattle.table.specs.Outcomes.{shareNumber}
 use Rattle.table.proofs.Tests.{timed-fails, timed-passes}
-use Rattle.table.proofs.Sharing.{full-shut, places-are, two-fail, two-pass}
+use Rattle.table.proofs.Sharing.{full-shut, counted-is, two-fail, two-pass}
 use Rattle.table.proofs.claim_number.Statement.{statement}
 use Rattle.table.proofs.claim_number.Tie as tie
 
@@ -62,18 +62,18 @@ behind6 c n h = behind5 (c .before .before) n (past _ _ (sym (c .before .bad-len
 abbrev start : tie.Else7 → tie.Start
 start c = c .before .before .before .before .before .before .before .before .before .before .before .before .before .before .before .before
 
-places : (c : tie.Else7) → let a = start c .args in a .places ≡ shareNumber (model (a .t)) (a .ask .client)
-places c =
+counted : (c : tie.Else7) → let a = start c .args in a .counted ≡ shareNumber (model (a .t)) (a .ask .client)
+counted c =
     let b = start c in
     let e = c .before .before .before .before .before .before .before .before .before .before in
-    b .pre .1 ∙ places-are (b .args .t) (b .args .ask .client) (b .pre .0) (not-false _ (sym (known (e .before)) ∙ e .if2 .left)) (sym (c .before .full .ensures) ∙ c .if7 .left)
+    b .pre .1 ∙ counted-is (b .args .t) (b .args .ask .client) (b .pre .0) (not-false _ (sym (known (e .before)) ∙ e .if2 .left)) (sym (c .before .full .ensures) ∙ c .if7 .left)
 
 behind8 : (c : tie.Else8) → Behind 9 (start (c .before))
 unfolding tests shareNumber
 behind8 c n h =
     let a = start (c .before) .args in
     behind6 (c .before .before .before) n
-    (two-pass (fullTo (model (a .t)) (a .ask .client)) (overOf (model (a .t)) (a .ask .client)) _ (omega arith) (omega arith) (sym (places (c .before)) ∙ c .if8 .left) h)
+    (two-pass (fullTo (model (a .t)) (a .ask .client)) (overOf (model (a .t)) (a .ask .client)) _ (omega arith) (omega arith) (sym (counted (c .before)) ∙ c .if8 .left) h)
 
 returns : tie.Need-returns
 unfolding tests
@@ -111,7 +111,7 @@ returns-8 : tie.Need-returns-8
 unfolding tests shareNumber
 returns-8 c =
     let a = start (c .before) .args in
-    behind6 (c .before .before .before) _ (two-fail (fullTo (model (a .t)) (a .ask .client)) (overOf (model (a .t)) (a .ask .client)) _ (places (c .before)) (c .if8 .taken))
+    behind6 (c .before .before .before) _ (two-fail (fullTo (model (a .t)) (a .ask .client)) (overOf (model (a .t)) (a .ask .client)) _ (counted (c .before)) (c .if8 .taken))
 
 returns-9 : tie.Need-returns-9
 unfolding tests
