@@ -1,18 +1,18 @@
 -- Calls and their values, there and back: by one induction over the fields of a row, given that they differ (`proper`).
-use Prim.Native.Nat.{ℕ, zero, suc, _^_, _≤_, _<_}
+use Prim.Native.Nat.{ℕ, zero, suc, _+_, _%_, _^_, _≤_, _<_}
 use mathlib.Core.Bool.{true, false, not, _&&_, _||_}
 use mathlib.Core.List.{List, [], _∷_}
 use mathlib.Core.Logic.{⊎-elim}
 use mathlib.Core.Path.{_≡_, refl, sym, ap, subst, _∙_}
 use native.Mathlib.Omega.{arith}
-use native.Mathlib.Nat.{one-le-pow}
+use native.Mathlib.Nat.{one-le-pow, mod-eq-of-lt}
 use lib.Dec.{ltb, eqb}
 use borrow.Author.Tests.{eqb-true, eqb-false, eq-eqb, ne-eqb, lt-ltb, not-true}
 use lib.ListN.{length, drop, getD, set, length-set, List·getD-eq-default}
 use lib.Seq.{getD-set-same, getD-set-other, set-out, ext-getD}
 use Rattle.format.specs.declared.Call.{Call}
 use Rattle.format.specs.Format.{theClient, format, fieldWidths, fieldCount, fieldWidth, defaults, default, hasKind, fieldsOf}
-use Rattle.format.specs.Calls.{numbers, made, valueOf, withValue, bare, filled, callOf, valuesIn, valuesOf, sameBelow, same, kept, keeps, Typed, OlderCallClient}
+use Rattle.format.specs.Calls.{numbers, made, fittedTo, fitted, valueOf, withValue, bare, filled, callOf, valuesIn, valuesOf, sameBelow, same, kept, keeps, Typed, OlderCallClient}
 use Rattle.format.proofs.Format.{both, either, neither, has, allRows, tested, proper, proper-parts, fields-proper}
 
 -- ── one field ──
@@ -36,6 +36,27 @@ given-is (n ∷ ns) (suc f) d h = given-is ns f d (omega arith)
 numbers-made : (ns : List ℕ) → length ns ≡ fieldCount → numbers (made ns) ≡ ns
 unfolding numbers made listed fieldWidths
 numbers-made ns h = subst (λ (n : ℕ). listed (λ i. getD ns i (default i)) n ≡ ns) h (listed-is default ns)
+
+-- Of numbers that go into their fields nothing is left out.
+fitted-length : (f : ℕ) (ws ns : List ℕ) → length (fittedTo f ws ns) ≡ length ws
+unfolding fittedTo
+fitted-length f [] ns = refl
+fitted-length f (w ∷ ws) ns = ap suc (fitted-length (suc f) ws ns)
+
+fitted-at : (f : ℕ) (ws ns : List ℕ) (i : ℕ) → i < length ws → getD (fittedTo f ws ns) i 0 ≡ getD ns (f + i) 0 % 256 ^ getD ws i 0
+unfolding fittedTo
+fitted-at f [] ns i h = absurd (omega arith)
+fitted-at f (w ∷ ws) ns zero h = ap (λ (k : ℕ). getD ns k 0 % 256 ^ w) (omega arith)
+fitted-at f (w ∷ ws) ns (suc i) h = fitted-at (suc f) ws ns i (omega arith) ∙ ap (λ (k : ℕ). getD ns k 0 % 256 ^ getD ws i 0) (omega arith)
+
+pub made-fitted : (ns : List ℕ) → length ns ≡ fieldCount → Typed (made ns) → made (fitted ns) ≡ made ns
+unfolding fitted valueOf fieldWidth
+made-fitted ns l h =
+    ap made
+    (ext-getD 0 (fittedTo 0 fieldWidths ns) ns (fitted-length 0 fieldWidths ns ∙ sym l)
+    (λ i k. fitted-at 0 fieldWidths ns i (omega (arith, fitted-length 0 fieldWidths ns))
+    ∙ ap (λ (j : ℕ). getD ns j 0 % 256 ^ getD fieldWidths i 0) (omega arith)
+    ∙ mod-eq-of-lt {n = getD ns i 0} {m = 256 ^ getD fieldWidths i 0} (subst (λ (x : List ℕ). getD x i 0 < 256 ^ getD fieldWidths i 0) (numbers-made ns l) (h i))))
 
 -- The numbers of a call make it, and have its values at their places.
 module _ (ns : List ℕ) (c : Call) (e : ns ≡ numbers c) where

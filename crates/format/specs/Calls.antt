@@ -1,5 +1,5 @@
 -- A call as numbers, and its values in the fields of an edition, there and back.
-use Prim.Native.Nat.{ℕ, zero, suc, _^_, _<_}
+use Prim.Native.Nat.{ℕ, zero, suc, _%_, _^_, _<_}
 use mathlib.Core.Bool.{Bool, true, _&&_}
 use mathlib.Core.List.{List, [], _∷_, map}
 use mathlib.Core.Path.{_≡_}
@@ -8,7 +8,7 @@ use lib.ListN.{drop, getD, set}
 use Rattle.format.specs.declared.Call.{Call}
 use Rattle.format.specs.Format.{rigKind, claimKind, releaseKind, withdrawKind, clockKind, declarationKind, graceKind}
 use Rattle.format.specs.Format.{theKind, theClock, theGroups, theLength, theTicket, thePool, theUnits, theClient, theReserved, theLimit, theGrace}
-use Rattle.format.specs.Format.{fieldCount, fieldWidth, default, hasKind, fieldsOf}
+use Rattle.format.specs.Format.{fieldWidths, fieldCount, fieldWidth, default, hasKind, fieldsOf}
 
 -- Each number stands at the place that names its field.
 unfoldable pub numbers : Call → List ℕ
@@ -33,6 +33,14 @@ made ns = record {
   limit = given ns theLimit;
   grace = given ns theGrace;
 }
+
+-- As much of each number as goes into its field's width.
+unfoldable pub fittedTo : ℕ → List ℕ → List ℕ → List ℕ
+fittedTo f [] ns = []
+fittedTo f (w ∷ ws) ns = getD ns f 0 % 256 ^ w ∷ fittedTo (suc f) ws ns
+
+unfoldable pub fitted : List ℕ → List ℕ
+fitted ns = fittedTo 0 fieldWidths ns
 
 unfoldable pub valueOf : ℕ → Call → ℕ
 valueOf f c = getD (numbers c) f 0

@@ -3,7 +3,7 @@ ghost use Prim.Native.Nat.{_%_, _^_, _<_};
 ghost use mathlib.Core.Path.{_≡_};
 ghost use lib.ListN.{getD};
 ghost use Rattle.format.specs.Format.{known, hasKind, fieldsOf, rowOf, fieldWidth, lengthOf, leastLength};
-ghost use Rattle.format.specs.Calls.{numbers, valueOf, made, withValue, bare, kept, same, Typed};
+ghost use Rattle.format.specs.Calls.{numbers, valueOf, fitted, made, withValue, bare, kept, same, Typed};
 ghost use Rattle.format.specs.Records.{recordOf, carries};
 
 pub mod fields;
@@ -197,14 +197,21 @@ pub fn numbers_of(call: Call) -> [u64; fields::COUNT]
     ]
 }
 
-// The call of such numbers, where each goes into its field.
+// As much of a number as goes into eight bytes: all of it.
+fn in_eight(number: u64) -> u64
+    ensures { λ r. ⌜ r ≡ number % 256 ^ 8 ⌝ }
+{
+    number
+}
+
+// The call of such numbers: as much of each as goes into its field.
 pub fn made(numbers: [u64; fields::COUNT]) -> Call
-    ensures { λ r. ⌜ (Typed (made numbers) → r ≡ made numbers) ⌝ }
+    ensures { λ r. ⌜ r ≡ made (fitted numbers) ⌝ }
 {
     Call {
         kind: (numbers[0] % 256) as u8,
-        clock: numbers[1],
-        groups: numbers[2],
+        clock: in_eight(numbers[1]),
+        groups: in_eight(numbers[2]),
         length: (numbers[3] % 4294967296) as u32,
         ticket: (numbers[4] % 65536) as u16,
         pool: (numbers[5] % 65536) as u16,

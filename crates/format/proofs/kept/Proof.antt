@@ -6,7 +6,7 @@ use Prim.Native.Nat.{ℕ, _-_, _<_}
 use lib.ListN.{getD}
 use Rattle.format.specs.Format.{fieldWidths, fieldCount, fieldsOf}
 use Rattle.format.specs.Calls.{made, filled}
-use Rattle.format.proofs.Calls.{made-again, value-at}
+use Rattle.format.proofs.Calls.{made-fitted, made-again, value-at}
 use Rattle.format.proofs.Format.{row-field, row-under}
 use Rattle.format.proofs.Rows.{Keeping, keeping-start, keeping-early, keeping-next, row-end}
 use Rattle.format.proofs.kept.Statement.{statement}
@@ -43,7 +43,7 @@ loop-holds c =
 
 returns : tie.Need-returns Inv-loop μ-loop
 unfolding filled
-returns c = let l = c .before .before in c .made .ensures (so-far l .typed) ∙ rw (row-end _ _ _ _ (field l .0) (c .before .if1 .taken)) at (so-far l .call)
+returns c = let l = c .before .before in c .made .ensures ∙ made-fitted _ (search needs) (so-far l .typed) ∙ rw (row-end _ _ _ _ (field l .0) (c .before .if1 .taken)) at (so-far l .call)
 
 loop-again : tie.Need-loop-again Inv-loop μ-loop
 loop-again c =

@@ -8,6 +8,7 @@ use Rattle.format.specs.Format.{fieldWidths, fieldCount, fieldWidth, fieldsOf}
 use Rattle.format.specs.Calls.{filled}
 use Rattle.format.proofs.Format.{row-field, row-under, width-most}
 use Rattle.format.proofs.Rows.{row-end, row-more}
+use Rattle.format.proofs.Calls.{made-fitted}
 use Rattle.load.proofs.Fields.{Reading, reading-start, reading-early, reading-next}
 use Rattle.load.proofs.call_of.Statement.{statement}
 use Rattle.load.proofs.call_of.Tie as tie
@@ -33,7 +34,7 @@ field l =
 
 returns : tie.Need-returns Inv-loop μ-loop
 unfolding filled
-returns c = let l = c .before .before in c .made .ensures (l .loop .inv .typed) ∙ rw (row-end _ _ _ _ (field l .0) (c .before .if1 .taken)) at (l .loop .inv .call)
+returns c = let l = c .before .before in c .made .ensures ∙ made-fitted _ (search needs) (l .loop .inv .typed) ∙ rw (row-end _ _ _ _ (field l .0) (c .before .if1 .taken)) at (l .loop .inv .call)
 
 loop-again : tie.Need-loop-again Inv-loop μ-loop
 unfolding fieldWidth fieldWidths
