@@ -1,7 +1,7 @@
 -- The theorem refuses the wrong tables of specs/Worthless, by computation on a few calls.
 use mathlib.Core.Path.{_≡_, refl, ap}
 use mathlib.Core.Bool.{true, false}
-use mathlib.Core.List.{List, [], _∷_, List·Memᴰ·eq-of-singleton}
+use mathlib.Core.List.{[], _∷_, List·Memᴰ·eq-of-singleton}
 use Prim.Native.Nat.{ℕ, _≤_}
 use native.Mathlib.Omega.{arith}
 use Rattle.groups.specs.Groups.{someFrom, lowestFrom, common, shares, empty, within}

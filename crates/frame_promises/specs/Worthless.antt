@@ -7,7 +7,7 @@ use Prim.Native.Nat.{ℕ, _+_}
 use Rattle.numbers.specs.Numbers.{darkNumber, fullNumber}
 use Rattle.rules.specs.Lists.{keep}
 use Rattle.frames.specs.Rows.{on, contention}
-use Rattle.frames.specs.Calls.{Call, claim, release, Answer, Model, Step, unchanged, lacking, step, blank}
+use Rattle.frames.specs.Calls.{Call, claim, release, Answer, Step, unchanged, lacking, step, blank}
 use Rattle.frame_promises.specs.Ledger.{Steps}
 use Rattle.frame_promises.specs.BoundedWait.{BoundedWaitOf, NewTestedOf}
 

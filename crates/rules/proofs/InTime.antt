@@ -1,7 +1,7 @@
 -- While nobody overruns the grace changes nothing. Packing and placing look at it only through the ends of holders (`packs-alike`,
 -- `fits-alike`), and packed and planned starts are the only ones with their properties; granting and the tests do not look at it.
 use mathlib.Core.Path.{_≡_, refl, sym, _∙_, ap}
-use mathlib.Core.Bool.{Bool, true, not}
+use mathlib.Core.Bool.{Bool, true}
 use mathlib.Core.List.{List, [], _∷_, map}
 use mathlib.Core.Logic.{_⊎_, inl, inr, ⊎-elim}
 use Prim.Native.Nat.{ℕ, zero, suc, _≤_}
@@ -12,7 +12,7 @@ use Rattle.rules.specs.declared.Claim.{Claim}
 use Rattle.rules.specs.declared.Request.{Request}
 use Rattle.rules.specs.declared.Reply.{Reply}
 use Rattle.rules.specs.declared.Setting.{Setting}
-use Rattle.rules.specs.Claims.{on, at, rival, endOf, remaining}
+use Rattle.rules.specs.Claims.{on, rival, endOf, remaining}
 use Rattle.rules.specs.Order.{rivals}
 use Rattle.rules.specs.Pool.{unitsAt, used}
 use Rattle.rules.specs.Packing.{packedStart, moved, ahead, pack, MayStart, Packs}

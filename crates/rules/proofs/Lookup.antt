@@ -18,7 +18,7 @@ use Rattle.rules.specs.declared.Common.the-variants.{Shared}
 use Rattle.rules.specs.declared.Standing.{Standing}
 use Rattle.rules.specs.declared.Standing.the-variants.{NotPending, Waits, Holds}
 use Rattle.rules.specs.Tests.{firstOf, named}
-use Rattle.rules.specs.Calls.{Model, Look, atTicket, atTwo, looks, lookup, Step, lookTests, tests, unchanged, act, unless, step, StandingValues, standingValues, standing, standingOf, valueAt, lookupGives, commonValues, shared, between, commonOf, groupIn, groupsBetween, commonGives}
+use Rattle.rules.specs.Calls.{Model, Look, atTicket, atTwo, looks, Step, lookTests, tests, unchanged, act, unless, step, StandingValues, standingValues, standing, standingOf, valueAt, lookupGives, commonValues, shared, between, commonOf, groupIn, groupsBetween, commonGives}
 use Rattle.rules.specs.Plans.{Ascending}
 use Rattle.rules.proofs.Bools.{by-test, clash}
 use Rattle.rules.proofs.Lists.{Each, here, there, none}

@@ -7,7 +7,7 @@ use Prim.Native.Nat.{ℕ, _+_, _^_, _≤_, _<_}
 use native.Mathlib.Omega.{arith}
 use native.Mathlib.Numerals.{add-one}
 use lib.ListN.{length, take, set, replicate, length-append}
-use lib.Dec.{ltb, eqb}
+use lib.Dec.{ltb}
 use borrow.Author.Tests.{ltb-false, eq-eqb, eqb-true, not-false}
 use Rattle.numbers.specs.Numbers.{mostClock, mostLength, mostPending, mostTickets, mostUnits}
 use Rattle.groups.specs.Groups.{empty}

@@ -1,5 +1,4 @@
 -- `numerals::eight` meets its contract: four bytes, and four more.
-use Prim.Native.Nat.{_+_}
 use native.Mathlib.Omega.{arith}
 use Rattle.numerals.proofs.BigEndian.{joined}
 use Rattle.numerals.proofs.eight.Statement.{statement}

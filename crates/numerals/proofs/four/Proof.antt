@@ -1,5 +1,4 @@
 -- `numerals::four` meets its contract: two bytes, and two more.
-use Prim.Native.Nat.{_+_}
 use native.Mathlib.Omega.{arith}
 use Rattle.numerals.proofs.BigEndian.{joined}
 use Rattle.numerals.proofs.four.Statement.{statement}
