@@ -37,7 +37,7 @@ range-values : (l : List ℕ) (x : Field) → Under 101 63 x → wordValues (and
 range-values l (Wrong zero) u = absurd (omega arith)
 range-values l (Wrong (suc n)) u = refl
 range-values [] (Value v) u = rw (le-ltb v v (omega arith))
-range-values (dash ∷ l) (Value v) u = go (oneGroupIn l) (group-under l) ∙ ap (rangeValues (wordValues (Value v))) (number-values _ _ _ _ l)
+range-values (b ∷ l) (Value v) u = go (oneGroupIn l) (group-under l) ∙ ap (rangeValues (wordValues (Value v))) (number-values _ _ _ _ l)
   where
     go : (x : Field) → Under 101 63 x → wordValues (andThen x (rangeTo v)) ≡ rangeValues (wordValues (Value v)) (wordValues x)
     go (Wrong zero) u = absurd (omega arith)

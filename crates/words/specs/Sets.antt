@@ -32,7 +32,7 @@ rangeTo low high = cond (ltb high low) (Wrong backwardReason) (Value (span low h
 -- The groups from one on, by what stands after it from a dash on.
 abbrev pub rangeIn : List ℕ → ℕ → Field
 rangeIn [] g = Value (span g g)
-rangeIn (dash ∷ l) g = andThen (oneGroupIn l) (rangeTo g)
+rangeIn (b ∷ l) g = andThen (oneGroupIn l) (rangeTo g)
 
 -- An item of a list: `5` or `5-7`.
 unfoldable pub itemIn : List ℕ → Field
@@ -61,7 +61,7 @@ firstGroup w = groupValues (until isDash w)
 
 abbrev pub behindDash : List ℕ → WordValues → WordValues
 behindDash [] first = first
-behindDash (dash ∷ l) first = groupValues l
+behindDash (b ∷ l) first = groupValues l
 
 abbrev pub lastGroup : List ℕ → WordValues
 lastGroup w = behindDash (since isDash w) (firstGroup w)
