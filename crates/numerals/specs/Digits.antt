@@ -1,5 +1,6 @@
 -- Numbers as digits: bytes "big-endian", as document 01 has them, and decimal digits in ASCII. One definition of digits serves both.
 use Prim.Native.Nat.{ℕ, zero, suc, _+_, _*_, _/_, _%_, min}
+use Prim.Native.Char.{code}
 use mathlib.Core.Bool.{cond}
 use mathlib.Core.List.{List, [], _∷_, _++_}
 use lib.Dec.{ltb}
@@ -29,9 +30,9 @@ widthUpTo (suc k) v = cond (ltb v 10) 1 (suc (widthUpTo k (v / 10)))
 unfoldable pub widthOf : ℕ → ℕ
 widthOf v = widthUpTo 19 v
 
--- A number in decimal; the character 0 is byte 48.
+-- A number in decimal.
 unfoldable pub decimalOf : ℕ → List ℕ
-decimalOf v = digits 10 48 (widthOf v) v
+decimalOf v = digits 10 (code "0") (widthOf v) v
 
 -- A number in decimal, and the byte after it.
 unfoldable pub column : ℕ → ℕ → List ℕ

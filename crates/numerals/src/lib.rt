@@ -184,7 +184,7 @@ pub fn put_decimal(out: &mut [u8], at: usize, value: u64) -> usize
     ensures { λ r. ⌜ (r ≡ behind at (length (decimalOf value))) × (now (out .exit) ≡ laid (now (out .entry)) at (decimalOf value)) ⌝ }
 {
     let n = width(value);
-    put_digits(out, at, n, value, 10, 48)
+    put_digits(out, at, n, value, 10, b'0')
 }
 
 // A number laid in decimal, and a byte after it.
