@@ -6,6 +6,7 @@ use mathlib.Core.Path.{_≡_, refl, ap, _∙_}
 use native.Mathlib.Omega.{arith}
 use lib.Dec.{eqb}
 use borrow.Author.Tests.{ne-eqb}
+use Rattle.numbers.specs.Numbers.{mostTickets}
 use Rattle.words.specs.declared.Field.{Field}
 use Rattle.words.specs.declared.Field.the-variants.{Value}
 use Rattle.words.specs.declared.Field.the-variants as field
@@ -39,7 +40,7 @@ word-values : (n : Name) (w : List ℕ) → lineValues (wordSays n w) ≡ record
 word-values NewRig w = call-values Rig _ (groupsIn w) (groups-in w) ∙ ap (calling Rig) (groups-values w)
 word-values NewClaim w = call-values Claim _ (groupsIn w) (groups-in w) ∙ ap (calling Claim) (groups-values w)
 word-values EndClaim w =
-    call-values Release _ (numberIn 10 65535 noTicketReason tooLargeReason w) (number-under 101 10 _ _ _ w (omega arith) (omega arith)) ∙ ap (calling Release) (number-values _ _ _ _ w)
+    call-values Release _ (numberIn 10 mostTickets noTicketReason tooLargeReason w) (number-under 101 10 _ _ _ w (omega arith) (omega arith)) ∙ ap (calling Release) (number-values _ _ _ _ w)
 word-values NoCall w = refl
 
 words-values : (n : Name) (ws : List (List ℕ)) → lineValues (wordsSay n ws) ≡ wordsValues n ws

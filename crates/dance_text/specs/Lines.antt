@@ -4,6 +4,7 @@ use Prim.Native.Nat.{ℕ}
 use mathlib.Core.Bool.{Bool, true, false, cond}
 use mathlib.Core.List.{List, [], _∷_}
 use lib.Dec.{eqb}
+use Rattle.numbers.specs.Numbers.{mostTickets}
 use Rattle.numerals.specs.Texts.{bytes}
 use Rattle.words.specs.declared.Field.{Field}
 use Rattle.words.specs.declared.Field.the-variants.{Value}
@@ -39,7 +40,7 @@ callOr call (field.Wrong n) = Wrong n
 abbrev pub wordSays : Name → List ℕ → Line
 wordSays NewRig w = callOr Rig (groupsIn w)
 wordSays NewClaim w = callOr Claim (groupsIn w)
-wordSays EndClaim w = callOr Release (numberIn 10 65535 noTicketReason tooLargeReason w)
+wordSays EndClaim w = callOr Release (numberIn 10 mostTickets noTicketReason tooLargeReason w)
 wordSays NoCall w = Wrong unknownReason
 
 -- What the words after it say. How many there are is judged before what they say.
@@ -72,7 +73,7 @@ lineValues (Wrong n) = record { number = n; calls = [] }
 abbrev pub wordAs : Name → List ℕ → WordValues
 wordAs NewRig w = groupsValues w
 wordAs NewClaim w = groupsValues w
-wordAs EndClaim w = numberValues 10 65535 noTicketReason tooLargeReason w
+wordAs EndClaim w = numberValues 10 mostTickets noTicketReason tooLargeReason w
 wordAs NoCall w = record { number = unknownReason; value = 0 }
 
 abbrev pub callWith : Name → ℕ → List Call

@@ -3,6 +3,7 @@
 // says is defined in specs/Lines.antt, what is wrong with a text in specs/Shows.antt.
 ghost use mathlib.Core.Path.{_≡_};
 ghost use lib.ListN.{drop};
+ghost use Rattle.numbers.specs.Numbers.{mostTickets};
 ghost use Rattle.words.specs.Parts.{wordsIn};
 ghost use Rattle.words.specs.Words.{numberIn};
 ghost use Rattle.words.specs.Reasons.{noTicketReason, tooLargeReason};
@@ -77,7 +78,7 @@ fn claim_of(f: Field) -> Line
 }
 
 fn release_of(word: &[u8]) -> Line
-    ensures { λ r. ⌜ r ≡ callOr Release (numberIn 10 65535 noTicketReason tooLargeReason (now (word .entry))) ⌝ }
+    ensures { λ r. ⌜ r ≡ callOr Release (numberIn 10 mostTickets noTicketReason tooLargeReason (now (word .entry))) ⌝ }
 {
     match words::number(word, 10, 65535, reasons::NO_TICKET, reasons::TOO_LARGE) {
         Field::Value(k) => {

@@ -98,6 +98,7 @@ fn edition_3(kind: u8) -> [u8; 8]
     }
 }
 
+// The row of a kind of an edition.
 pub fn row_of(edition: u8, kind: u8) -> [u8; 8]
     ensures { λ r. ⌜ r ≡ rowOf edition kind ⌝ }
 {
@@ -287,6 +288,7 @@ pub fn bare_numbers(kind: u8) -> [u64; fields::COUNT]
     numbers
 }
 
+// That call.
 pub fn bare(kind: u8) -> Call
     ensures { λ r. ⌜ r ≡ bare kind ⌝ }
 {

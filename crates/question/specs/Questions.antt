@@ -3,6 +3,7 @@
 use mathlib.Core.Bool.{Bool, true, false, cond}
 use mathlib.Core.List.{List, [], _∷_}
 use Prim.Native.Nat.{ℕ}
+use Rattle.numbers.specs.Numbers.{mostTickets}
 use Rattle.numerals.specs.Texts.{bytes}
 use Rattle.words.specs.Parts.{wordsIn}
 use Rattle.words.specs.Words.{isWord, numberIn}
@@ -14,9 +15,9 @@ use Rattle.question.specs.declared.questions.Question.{Question}
 use Rattle.question.specs.declared.questions.Question.the-variants.{Lookup, Common, Free, NoQuestion}
 
 -- ── the numbers of a question ──
--- What a word says as a number up to 65,535. (Why it says none is not told.)
+-- What a word says as a ticket. (Why it says none is not told.)
 abbrev pub ticketIn : List ℕ → Field
-ticketIn w = numberIn 10 65535 0 0 w
+ticketIn w = numberIn 10 mostTickets 0 0 w
 
 -- Numbers, and one more after them: at most two.
 abbrev pub andValue : Numbers → ℕ → Numbers

@@ -347,8 +347,9 @@ pub struct Taken {
     pub table: Table,
 }
 
-// Takes the claim of a ticket out of a table; those after it move up, and the last place becomes vacant. Where there is a pool the table is
-// packed first, if a holder overruns. Cost: one pass to find it, one move of those after it, and that packing.
+// Takes the claim of a ticket out of a table; those after it move up, and the last place becomes vacant. Where a pending claim draws units
+// the table is packed first, if a holder overruns. Cost: one pass to find it, one more where there is a pool, one move of those after it, and
+// that packing.
 fn removed(mut t: Table, clock: u64, ticket: u16) -> Taken
     requires { ⌜ Valid t × (t .clock ≤ clock) × (clock ≤ mostClock) ⌝ }
     ensures { λ r. ⌜ (r .standing ≡ standingOf ticket (departed (model t) clock .pending)) × (r .table ≡ encode (remove (departed (model t) clock) ticket))

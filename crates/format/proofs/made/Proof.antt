@@ -1,4 +1,5 @@
 -- `format::made` meets its contract: as much of each number as goes into its field.
+use mathlib.Core.Path.{refl}
 use borrow.Author.Needs.{needs}
 use Rattle.format.specs.Format.{fieldWidths}
 use Rattle.format.specs.Calls.{made, fittedTo, fitted}
@@ -7,7 +8,7 @@ use Rattle.format.proofs.made.Tie as tie
 
 returns : tie.Need-returns
 unfolding made fitted fittedTo fieldWidths
-returns c = rw (c .before .in-eight .ensures, c .in-eight2 .ensures)
+returns c = rw (c .before .in-eight .ensures, c .in-eight2 .ensures) refl
 
 pub made-spec : {M : Type 1} → statement M
 made-spec =
