@@ -1,6 +1,6 @@
 /*
  * A player's side in small: reads a load from a file (or standard input), has it listed, and prints the listing. The buffer is lent
- * small at first and doubled as long as the answer is BELGWYTH_NO_SPACE.
+ * small at first and doubled as long as the answer is BELGWYTH_NO_SPACE. Exit status 1 where reading, memory or writing fails.
  */
 #include <stdio.h>
 #include <stdlib.h>
@@ -24,19 +24,19 @@ int main(int argc, char **argv)
     }
     if (argc == 2 && (in = fopen(argv[1], "rb")) == NULL) {
         perror(argv[1]);
-        return 2;
+        return 1;
     }
     length = fread(load, 1, sizeof load, in);
     if (ferror(in)) {
         perror(argc == 2 ? argv[1] : "standard input");
-        return 2;
+        return 1;
     }
 
     for (;;) {
         out = malloc(room);
         if (out == NULL) {
             fprintf(stderr, "no memory for a listing of %zu bytes\n", room);
-            return 2;
+            return 1;
         }
         written = belgwyth_listing(load, length, out, room);
         if (written != BELGWYTH_NO_SPACE)
@@ -45,7 +45,10 @@ int main(int argc, char **argv)
         free(out);
         room *= 2;
     }
-    fwrite(out, 1, written, stdout);
+    if (fwrite(out, 1, written, stdout) != written || fflush(stdout) != 0) {
+        perror("standard output");
+        return 1;
+    }
     free(out);
     return 0;
 }

@@ -39,7 +39,7 @@ answers() {
 wrong() {
     local name=$1
     shift
-    says '' 'no such question; ask lookup TICKET, ask common TICKET TICKET or ask free\n' "$name" plot "$@"
+    says '' 'usage: ask lookup TICKET < LOAD\n       ask common TICKET TICKET < LOAD\n       ask free < LOAD\n' "$name" plot "$@"
 }
 
 plot='rig F\nclaim 0 8 10\nclaim 0 C 10\nclaim 0 6 11\n'

@@ -1,6 +1,7 @@
 #!/usr/bin/env bash
 # Builds the example player with warnings as errors, in C and with the header in C++, and compares what it prints with the program's
-# listing; and calls the listing of dance shows and the workloads from C. The last line is 'N passed, M failed'.
+# listing; calls the listing of dance shows and the workloads from C; and holds what the header says of the libraries and of numbers. The
+# last line is 'N passed, M failed'.
 set -u -o pipefail
 cd "$(dirname "$0")/.." || exit 2
 . tests/lib.sh || exit 2
@@ -117,5 +118,62 @@ works() {
 try "rt staticlib generator" quiet rt staticlib generator
 try "a caller in C builds with all libraries" gcc -std=c99 -O2 -Wall -Wextra -Wpedantic -Werror -Iinclude -o "$work/workload" "$work/workload.c" "$library" target/staticlib/libframe_listing.a target/staticlib/libgenerator.a
 try "the sample workload from C and from the program" works
+
+# The one library for all calls: the player and both callers with it, what it wants of the C library, and what its calls need of stack.
+one=target/staticlib/libbelgwyth.a
+warned="-std=c99 -O2 -Wall -Wextra -Wpedantic -Werror -Iinclude"
+# wants LIBRARY: the symbols that a library wants of the C library are among those that the header names.
+wants() {
+    [ -z "$(nm -u "$1" | sed -n 's/^ *U //p' | sort -u | grep -vxE 'memcpy|memmove|memset')" ]
+}
+# unwritten LIBRARY: a library has no data that could be written.
+unwritten() {
+    [ "$(size "$1" | awk 'NR > 1 { n += $2 + $3 } END { print n + 0 }')" = 0 ]
+}
+try "rt staticlib belgwyth" quiet rt staticlib belgwyth
+# shellcheck disable=SC2086
+for name in dance workload; do
+    try "$name.c builds with the one library" gcc $warned -o "$work/$name" "$work/$name.c" "$one"
+done
+# shellcheck disable=SC2086
+try "player.c builds with the one library" gcc $warned -o "$work/player" examples/player.c "$one"
+try "the sample show's listing, with the one library" lists_as examples/overture.load examples/overture.listing
+try "the sample dance show from C, with the one library" dances_as examples/duet.show examples/duet.listing
+try "the sample workload from C, with the one library" works
+for name in belgwyth listing frame_listing generator; do
+    try "lib$name.a wants memcpy, memmove and memset alone" wants "target/staticlib/lib$name.a"
+    try "lib$name.a has no data that is written" unwritten "target/staticlib/lib$name.a"
+done
+target/bin/workload 1 1000 >"$work/heavy.load"
+# stacks LIBRARY..: the calls of these libraries need no more stack than the header says.
+stacks() {
+    gcc -std=c11 -O2 -Wall -Wextra -Werror -Iinclude -o "$work/stack" tests/stack.c "$@" && "$work/stack" examples/*.load "$work"/*.load -- examples/duet.show
+}
+try "stack of the calls in the one library" stacks "$one"
+try "stack of the calls in three libraries" stacks "$library" target/staticlib/libframe_listing.a target/staticlib/libgenerator.a
+
+# A player that cannot read or write says so and has exit status 1.
+# fails TEXT COMMAND..: a command's exit status is 1, and it says the text on standard error.
+fails() {
+    local text=$1
+    shift
+    "$@" 2>"$work/err" >"$work/out"
+    [ $? -eq 1 ] && grep -qxF "$text" "$work/err"
+}
+try "player of a directory" fails "$work: Is a directory" "$work/player" "$work"
+try "player of a closed input" fails "standard input: Bad file descriptor" sh -c '"$1" <&-' _ "$work/player"
+try "player on a full disk" fails "standard output: No space left on device" sh -c '"$1" examples/overture.load >/dev/full' _ "$work/player"
+
+# The header's numbers are those of docs/FORMAT.md, word by word.
+numbered() {
+    local rows row number name
+    rows=$(sed -n '/^## The numbers/,/^## /p' docs/FORMAT.md | sed -nE 's/^\| ([0-9]+) \| ([a-z -]+) \|.*/\1 \2/p')
+    [ "$(wc -l <<<"$rows")" -eq 21 ] || return 1
+    while read -r number row; do
+        name=$(tr 'a-z -' 'A-Z__' <<<"$row")
+        grep -qE "^ +BELGWYTH_$name = $number[, ]" include/belgwyth.h || { echo "no BELGWYTH_$name = $number"; return 1; }
+    done <<<"$rows"
+}
+try "the header's numbers are those of FORMAT" numbered
 
 total

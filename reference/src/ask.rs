@@ -16,8 +16,11 @@ use crate::text::number;
 /// The most bytes of a question.
 pub const MAX_QUESTION: usize = 4_096;
 /// What is said on standard error of anything but a question.
-pub const WRONG: &str =
-    "no such question; ask lookup TICKET, ask common TICKET TICKET or ask free\n";
+pub const WRONG: &str = "\
+usage: ask lookup TICKET < LOAD
+       ask common TICKET TICKET < LOAD
+       ask free < LOAD
+";
 
 /// A question.
 #[derive(Clone, Copy, PartialEq, Eq, Debug)]

@@ -237,7 +237,7 @@ fn anything_else_is_no_question() {
     }
     assert_eq!(
         WRONG,
-        "no such question; ask lookup TICKET, ask common TICKET TICKET or ask free\n"
+        "usage: ask lookup TICKET < LOAD\n       ask common TICKET TICKET < LOAD\n       ask free < LOAD\n"
     );
     assert_eq!(read(b"lookup 1\xFF"), None);
     assert_eq!(read(b"free\xFF"), None);

@@ -35,14 +35,9 @@ fn joined(line: &mut [u8]) -> usize
 }
 
 fn tell_usage() {
-    let mut text = [0u8; 256];
-    match question::usage(&mut text) {
-        Asked::Written(n) => {
-            io::write_all(2, &text[..n]);
-        }
-        Asked::NoSuch => {}
-        Asked::NoRoom => {}
-    }
+    streams::tell_usage(
+        b"ask lookup TICKET < LOAD\n       ask common TICKET TICKET < LOAD\n       ask free < LOAD",
+    );
 }
 
 // `text` is for any answer.
@@ -50,7 +45,7 @@ fn print(load: &[u8], line: &[u8]) {
     let mut text = [0u8; 256];
     match question::answer(load, line, &mut text) {
         Asked::Written(n) => {
-            io::write_all(1, &text[..n]);
+            streams::write_output(b"ask", &text[..n]);
         }
         Asked::NoSuch => tell_usage(),
         Asked::NoRoom => {}
@@ -64,7 +59,11 @@ fn run(line: &[u8], mut room: [u8; 65537]) {
         tell_usage();
         return;
     }
-    let n = io::read_full(0, &mut room);
+    let input = streams::read_input(b"ask", &mut room);
+    if input.failed {
+        return;
+    }
+    let n = input.length;
     print(&room[..n], line);
 }
 

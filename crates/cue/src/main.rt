@@ -1,4 +1,4 @@
-// Reads a load on standard input and prints its listing.
+// Reads a load on standard input and prints its listing. Where reading fails that is told, and nothing is printed.
 ghost use mathlib.Core.Path.{_≡_};
 ghost use lib.ListN.{length};
 ghost use Prim.Native.Nat.{_≤_};
@@ -21,11 +21,18 @@ fn listing_buffer() -> [u8; 1409024]
 fn print(load: &[u8]) {
     let mut out = listing_buffer();
     let n = listing::belgwyth_listing(load, &mut out);
-    io::write_all(1, &out[..n]);
+    streams::write_output(b"cue", &out[..n]);
 }
 
 fn main() {
+    if streams::has_arguments(b"cue < LOAD") {
+        return;
+    }
     let mut load = load_buffer();
-    let n = io::read_full(0, &mut load);
+    let input = streams::read_input(b"cue", &mut load);
+    if input.failed {
+        return;
+    }
+    let n = input.length;
     print(&load[..n]);
 }

@@ -5,7 +5,7 @@ use load_text::Printed;
 fn print(load: &[u8], mut room: [u8; 196666]) {
     match load_text::show(load, &mut room) {
         Printed::Length(n) => {
-            io::write_all(1, &room[..n]);
+            streams::write_output(b"load_show", &room[..n]);
         }
         Printed::Refusal(_n) => {}
     }
@@ -13,10 +13,17 @@ fn print(load: &[u8], mut room: [u8; 196666]) {
 
 // `room` is for the longest load and one byte more.
 fn run(mut room: [u8; 65537]) {
-    let n = io::read_full(0, &mut room);
+    let input = streams::read_input(b"load_show", &mut room);
+    if input.failed {
+        return;
+    }
+    let n = input.length;
     print(&room[..n], [0; 196666]);
 }
 
 fn main() {
+    if streams::has_arguments(b"load_show < LOAD") {
+        return;
+    }
     run([0; 65537]);
 }

@@ -13,7 +13,7 @@ fn write(text: &[u8]) {
     let mut load = io::large_buffer();
     match load_text::make(text, &mut load) {
         Made::Load(n) => {
-            io::write_all(1, &load[..n]);
+            streams::write_output(b"load_write", &load[..n]);
         }
         Made::Mistake(line, reason) => fail(line, reason),
     }
@@ -21,7 +21,11 @@ fn write(text: &[u8]) {
 
 // `room` is for the longest text and one byte more.
 fn run(mut room: [u8; 1048577]) {
-    let n = io::read_full(0, &mut room);
+    let input = streams::read_input(b"load_write", &mut room);
+    if input.failed {
+        return;
+    }
+    let n = input.length;
     if 1048576 < n {
         io::write_all(2, b"text over 1,048,576 bytes\n");
         return;
@@ -30,5 +34,8 @@ fn run(mut room: [u8; 1048577]) {
 }
 
 fn main() {
+    if streams::has_arguments(b"load_write < SHOW > LOAD") {
+        return;
+    }
     run([0; 1048577]);
 }

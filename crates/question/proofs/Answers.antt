@@ -27,7 +27,7 @@ use Rattle.question.specs.declared.questions.Question.the-variants as qu
 use Rattle.question.specs.declared.Asked.{Asked}
 use Rattle.question.specs.declared.Asked.the-variants.{Written, NoSuch, NoRoom}
 use Rattle.question.specs.Questions.{questionOf, isQuestion}
-use Rattle.question.specs.Answers.{worded, standingText, lookupText, ticketsText, absentOf, commonText, freeText, sentenceOf, answerText, textOf, usageText, askedValues, writtenAs, written, lentValues, askedOf, answerValues, askedOut}
+use Rattle.question.specs.Answers.{worded, standingText, lookupText, ticketsText, absentOf, commonText, freeText, sentenceOf, answerText, textOf, askedValues, writtenAs, written, lentValues, askedOf, answerValues, askedOut}
 
 -- ── lengths ──
 decimal-within : (v : ℕ) → length (decimalOf v) ≤ 20
@@ -71,10 +71,6 @@ unfolding textOf answerText
 text-length load q =
     let r = replayOf load in
     simp length-append (add-le-add (stop-length (r .stop) (r .at) 47 [] (omega arith) (omega arith)) (add-le-add (sentence-length (r .left) q) (le-refl 1)))
-
-pub usage-length : length usageText ≤ 74
-unfolding usageText
-usage-length = omega arith
 
 -- ── pieces by cases, as the code lays them ──
 module _ {o : List ℕ} {at r : ℕ} {p : List ℕ} where

@@ -77,14 +77,6 @@ answerText m q = sentenceOf m q ++ (lineFeed ∷ [])
 unfoldable pub textOf : List ℕ → Question → List ℕ
 textOf load q = let r = replayOf load in stopOr (r .stop) (r .at) [] ++ answerText (r .left) q
 
--- The questions there are, for who asks another: a line here for each.
-unfoldable pub usageText : List ℕ
-usageText =
-    (bytes "no such question; ask lookup TICKET"
-    ++ bytes ", ask common TICKET TICKET"
-    ++ bytes " or ask free")
-    ++ (lineFeed ∷ [])
-
 -- ── a call ──
 -- The cases of `Asked` by their number and the count of bytes: 201 is a line that asks no question, no number of document 01 and no reason
 -- of a line of a show.

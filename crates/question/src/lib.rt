@@ -1,8 +1,7 @@
-// Questions about the table that a load leaves: `answer` has the text for a load and a line that asks, `usage` the questions there are. No
-// public function asks anything of its slices. What a line asks is defined in specs/Questions.antt, what is answered in specs/Answers.antt.
+// Questions about the table that a load leaves: `answer` has the text for a load and a line that asks. No public function
+// asks anything of its slices. What a line asks is defined in specs/Questions.antt, what is answered in specs/Answers.antt.
 ghost use mathlib.Core.Path.{_≡_};
-ghost use Rattle.numerals.specs.Laid.{lentOut};
-ghost use Rattle.question.specs.Answers.{answerValues, askedOf, askedOut, askedValues, lentValues, usageText, written};
+ghost use Rattle.question.specs.Answers.{answerValues, askedOf, askedOut, askedValues};
 
 mod questions;
 mod sentences;
@@ -35,19 +34,5 @@ pub fn answer(load: &[u8], line: &[u8], out: &mut [u8]) -> Asked
         return Asked::NoRoom;
     }
     let n = sentences::put_text(out, left, q);
-    Asked::Written(n)
-}
-
-// The questions there are, as a line at the start of a lent buffer.
-pub fn usage(out: &mut [u8]) -> Asked
-    ensures answer { λ r. ⌜ r ≡ written usageText (now (out .entry)) ⌝ }
-    ensures buffer { λ _. ⌜ now (out .exit) ≡ lentOut usageText (now (out .entry)) ⌝ }
-    ensures values { λ r. ⌜ askedValues r ≡ lentValues usageText (now (out .entry)) ⌝ }
-{
-    let mut scrap = [0u8; 1];
-    if out.len() < sentences::put_usage(&mut scrap) {
-        return Asked::NoRoom;
-    }
-    let n = sentences::put_usage(out);
     Asked::Written(n)
 }

@@ -6,7 +6,7 @@ ghost use Rattle.numerals.specs.Laid.{Put};
 ghost use Rattle.rules.specs.Tables.{model};
 ghost use Rattle.table.specs.Valid.{Valid};
 ghost use Rattle.replay.specs.StopLine.{stopOr};
-ghost use Rattle.question.specs.Answers.{absentOf, answerText, commonText, freeText, lookupText, sentenceOf, standingText, ticketsText, usageText, worded};
+ghost use Rattle.question.specs.Answers.{absentOf, answerText, commonText, freeText, lookupText, sentenceOf, standingText, ticketsText, worded};
 use crate::questions::Question;
 use replay::Replayed;
 use rules::Common;
@@ -135,14 +135,4 @@ pub(crate) fn put_text(out: &mut [u8], left: Replayed, q: Question) -> usize
     let m = put_any_stop(out, left.stop, left.at);
     let t = left.table;
     put_answer(out, m, t, q)
-}
-
-// The questions there are.
-pub(crate) fn put_usage(out: &mut [u8]) -> usize
-    ensures { λ r. ⌜ Put (now (out .entry)) 0 usageText r (now (out .exit)) ⌝ }
-{
-    let a = numerals::put_bytes(out, 0, b"no such question; ask lookup TICKET");
-    let b = numerals::put_bytes(out, a, b", ask common TICKET TICKET");
-    let c = numerals::put_bytes(out, b, b" or ask free");
-    numerals::put_byte(out, c, b'\n')
 }

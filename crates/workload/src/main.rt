@@ -33,7 +33,7 @@ fn write(seed: u32, count: u32) {
     let mut load = io::large_buffer();
     match generator::workload(seed, count, &mut load) {
         Written::Length(n) => {
-            io::write_all(1, &load[..n]);
+            streams::write_output(b"workload", &load[..n]);
         }
         Written::Refusal(_n) => tell_count(),
     }
@@ -41,7 +41,7 @@ fn write(seed: u32, count: u32) {
 
 fn main() {
     if os::arg_count() != 3 {
-        io::write_all(2, b"usage: workload SEED COUNT\n");
+        streams::tell_usage(b"workload SEED COUNT > LOAD");
         return;
     }
     let MaybeNumber::Number(seed) = argument(1) else {

@@ -232,7 +232,7 @@ fn wrong_arguments() {
         let (load, said) = outputs_with("workload", words, b"");
         assert_eq!(
             (load, said),
-            (Vec::new(), b"usage: workload SEED COUNT\n".to_vec())
+            (Vec::new(), b"usage: workload SEED COUNT > LOAD\n".to_vec())
         );
     }
 }

@@ -9,13 +9,13 @@ use Rattle.ask.proofs.print.Tie as tie
 
 array-share-prefix-text : tie.Need-array-share-prefix-text
 array-share-prefix-text c =
-    let r = c .before .before .before .before in
-    omega (arith, asked-within _ _ _ _ (sym (r .answer .ensures .0) ∙ c .before .n .given .1), r .answer .kept .1 .1 .0)
-
-slice-aggregate-write-all : tie.Need-slice-aggregate-write-all
-slice-aggregate-write-all c =
     let r = c .before .before .before .before .before in
-    simp length-take (omega (arith, asked-within _ _ _ _ (sym (r .answer .ensures .0) ∙ c .before .before .n .given .1), r .answer .kept .1 .1 .0))
+    omega (arith, asked-within _ _ _ _ (sym (r .answer .ensures .0) ∙ c .before .before .n .given .1), r .answer .kept .1 .1 .0)
+
+slice-aggregate-write-output-2 : tie.Need-slice-aggregate-write-output-2
+slice-aggregate-write-output-2 c =
+    let r = c .before .before .before .before .before .before in
+    simp length-take (omega (arith, asked-within _ _ _ _ (sym (r .answer .ensures .0) ∙ c .before .before .before .n .given .1), r .answer .kept .1 .1 .0))
 
 pub print-spec : {M : Type 1} → statement M
 print-spec =
@@ -24,8 +24,9 @@ print-spec =
     (λ c. search needs)
     (λ c κs. search needs)
     (λ c. search needs)
+    (λ c. search needs)
     array-share-prefix-text
-    slice-aggregate-write-all
+    slice-aggregate-write-output-2
     (λ c κs. search needs)
     (λ c. search needs)
     (λ c κs. search needs)

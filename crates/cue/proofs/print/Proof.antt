@@ -8,12 +8,12 @@ use Rattle.cue.proofs.print.Tie as tie
 
 array-share-prefix-out : tie.Need-array-share-prefix-out
 array-share-prefix-out c =
-    let r = c .before .belgwyth-listing in
+    let r = c .before .before .belgwyth-listing in
     answer-within _ _ (r .last .1 .0) _ (r .ensures .0) (r .kept .1 .0) (omega arith)
 
-slice-aggregate-write-all : tie.Need-slice-aggregate-write-all
-slice-aggregate-write-all c =
-    let r = c .before .before .belgwyth-listing in
+slice-aggregate-write-output-2 : tie.Need-slice-aggregate-write-output-2
+slice-aggregate-write-output-2 c =
+    let r = c .before .before .before .belgwyth-listing in
     sym (length-take-le (r .result) (r .last .1 .0) (array-share-prefix-out (c .before)))
 
 pub print-spec : {M : Type 1} → statement M
@@ -23,7 +23,8 @@ print-spec =
     (λ c κs. search needs)
     (λ c. search needs)
     (λ c κs. search needs)
+    (λ c. search needs)
     array-share-prefix-out
-    slice-aggregate-write-all
+    slice-aggregate-write-output-2
     (λ c κs. search needs)
     (λ c. search needs))
