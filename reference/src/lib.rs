@@ -2,7 +2,8 @@
 //! listing of documents 01 and 02, of the planner's text, of questions about a
 //! load, of the frame table with its dance shows and of the workload, with what
 //! is needed to compare it with another: generators of loads, texts, questions
-//! and shows, monitors of runs and a shrinker.
+//! and shows, monitors of runs and a shrinker. It draws the picture of a load,
+//! too.
 //!
 //! Words of this crate and of document 01: contention is its crowd, start
 //! bound its ceiling, lookup its look, refusal and refused its call turned
@@ -25,9 +26,11 @@ pub mod generate_text;
 pub mod listing;
 pub mod load;
 pub mod monitor;
+pub mod picture;
 pub mod pool;
 pub mod refusal;
 pub mod shrink;
+pub mod svg;
 pub mod table;
 pub mod text;
 pub mod tries;

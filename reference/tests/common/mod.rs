@@ -2,8 +2,10 @@
 
 #![allow(dead_code)]
 
+use std::io::Write;
 use std::ops::Range;
 use std::panic::{catch_unwind, resume_unwind, AssertUnwindSafe};
+use std::process::{Command, Output, Stdio};
 
 use reference::load::{self, Call};
 use reference::table::{Declaration, TableCall, TimedCall};
@@ -93,4 +95,18 @@ fn all<C: Copy + Into<Call>>(rig: Call, calls: &[C]) -> Vec<Call> {
 /// The listing of a load as text.
 pub fn listing(load: &[u8]) -> String {
     String::from_utf8(reference::listing::listing(load)).expect("a listing is plain text")
+}
+
+/// What a program prints for an input.
+pub fn print(program: &str, input: &[u8]) -> Output {
+    let mut child = Command::new(program)
+        .stdin(Stdio::piped())
+        .stdout(Stdio::piped())
+        .stderr(Stdio::piped())
+        .spawn()
+        .expect("the program starts");
+    let mut stdin = child.stdin.take().expect("its input is open");
+    stdin.write_all(input).expect("it reads");
+    drop(stdin);
+    child.wait_with_output().expect("it ends")
 }
