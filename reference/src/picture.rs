@@ -303,7 +303,7 @@ impl Axis {
         let axes = steps.map(|step| Axis {
             first: from / step * step,
             step,
-            last: to.div_ceil(step) * step,
+            last: (to + step - 1) / step * step,
         });
         let mut axes = axes.skip_while(|axis| axis.last - axis.first > 9 * axis.step);
         axes.next().expect("steps grow without end")

@@ -277,7 +277,7 @@ fn lower_record(parts: &mut Parts, index: usize, holds: &mut Holds) -> bool {
 /// Takes the first edition that carries the calls.
 fn lower_edition(parts: &mut Parts, holds: &mut Holds) {
     for (edition, _) in FORMATS {
-        if parts.edition.first().is_none_or(|&own| own <= edition) {
+        if parts.edition.first().map_or(true, |&own| own <= edition) {
             return;
         }
         if let Some(other) = parts.in_edition(edition) {

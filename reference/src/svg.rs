@@ -79,7 +79,7 @@ impl Color {
 
 /// No text in letters of this size is wider.
 pub fn text_width(text: &str, size: u64) -> u64 {
-    (text.len() as u64 * size * 64).div_ceil(100)
+    (text.len() as u64 * size * 64 + 99) / 100
 }
 
 /// The picture as SVG.
@@ -208,10 +208,14 @@ impl Sheet<'_> {
         let (top, base) = (self.pool_top(), self.base());
         let mut parts = self.picture.stack();
         parts.sort_by_key(|part| part.bar);
-        for parts in parts.chunk_by(|one, other| one.bar == other.bar) {
-            self.open_bar(parts[0].bar);
-            self.units_of(parts);
+        let mut rest = &parts[..];
+        while let Some(first) = rest.first() {
+            let count = rest.iter().take_while(|part| part.bar == first.bar).count();
+            let (of_bar, others) = rest.split_at(count);
+            self.open_bar(first.bar);
+            self.units_of(of_bar);
             self.shape("</g>");
+            rest = others;
         }
         self.shape(format!(
             "<path d=\"M{LEFT} {top}h{WIDTH}\" stroke=\"#000\" stroke-dasharray=\"6 3\"/>"
@@ -229,7 +233,7 @@ impl Sheet<'_> {
             let (low, high) = (self.unit_y(part.low), self.unit_y(part.high));
             if self.x(part.from) < self.x(part.to) && high < low {
                 let area = self.block(bar, (part.from, part.to), (high, low - high));
-                if widest.is_none_or(|widest| widest.width < area.width) {
+                if widest.map_or(true, |widest| widest.width < area.width) {
                     widest = Some(area);
                 }
             }

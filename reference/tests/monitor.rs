@@ -857,8 +857,11 @@ impl ClaimsTable for Double {
         self.now = call.clock();
         if self.flaw == Flaw::ReleasesOverrun {
             let now = self.now;
-            self.entries
-                .retain(|entry| entry.grant.is_none_or(|grant| grant + entry.length >= now));
+            self.entries.retain(|entry| {
+                entry
+                    .grant
+                    .map_or(true, |grant| grant + entry.length >= now)
+            });
         }
         if self.flaw != Flaw::NoFirstPacking {
             self.pack();

@@ -328,7 +328,7 @@ fn lacking(holds: &[Hold], pool: u16, units: u16, from: u64, to: u64) -> Vec<(u6
 /// Whether none of some ascending times meets this one.
 fn none_in(times: &[(u64, u64)], from: u64, to: u64) -> bool {
     let at = times.partition_point(|&(_, end)| end <= from);
-    times.get(at).is_none_or(|&(begin, _)| begin >= to)
+    times.get(at).map_or(true, |&(begin, _)| begin >= to)
 }
 
 /// Whether the groups of a claim are free for it from here on, by the words of

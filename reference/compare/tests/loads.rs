@@ -38,7 +38,7 @@ const MISFIT: (u8, usize) = (13, 0);
 /// is whole.
 fn load_of(seed: u64) -> Vec<u8> {
     let mut load = generate::any_load(seed);
-    if load.len() <= MAX_LOAD && !seed.is_multiple_of(8) {
+    if load.len() <= MAX_LOAD && seed % 8 != 0 {
         load.truncate(12_000);
     }
     load
