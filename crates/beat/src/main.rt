@@ -1,8 +1,8 @@
 // A dance show on standard input to its listing on standard output.
 // A line that is wrong is reported on standard error, and then nothing is printed.
-ghost use mathlib.Core.Path.{_≡_};
+ghost use Prim.Native.Nat.{_≤_};
 ghost use lib.ListN.{length};
-use frame_listing::Listed;
+ghost use Rattle.frame_listing.specs.InParts.{partRoom};
 
 fn fail(line: u64, reason: u8) {
     let r = words::report(line, reason);
@@ -11,21 +11,32 @@ fn fail(line: u64, reason: u8) {
     io::write_all(2, &text[..n]);
 }
 
-// Room for the listing of every text that is read: a claim takes 8 bytes of text at least, and prints 30 at most with its `on` line.
-fn listing_buffer() -> [u8; 4194304]
-    ensures { λ r. ⌜ 4194304 ≡ length r ⌝ }
+// The parts of the listing, one after the other, until it has ended or a part is not written.
+fn print_parts(text: &[u8], out: &mut [u8])
+    requires { ⌜ partRoom ≤ length (now out) ⌝ }
 {
-    [0; 4194304]
+    let mut p = frame_listing::first_part(text, out);
+    loop {
+        let n = p.length;
+        if !io::write_all(1, &out[..n]) {
+            break;
+        }
+        if text.len() <= p.at {
+            break;
+        }
+        p = frame_listing::next_part(text, p, out);
+    }
 }
 
+// The text is surveyed first, so that nothing is printed of one with a wrong line.
 fn print(text: &[u8]) {
-    let mut out = listing_buffer();
-    match frame_listing::listing(text, &mut out) {
-        Listed::Length(n) => {
-            io::write_all(1, &out[..n]);
-        }
-        Listed::Mistake(line, reason) => fail(line, reason),
+    let s = dance_text::survey(text);
+    if s.number != 0 {
+        fail(s.line, s.number);
+        return;
     }
+    let mut out = io::large_buffer();
+    print_parts(text, &mut out);
 }
 
 // `room` is for the longest text and one byte more.

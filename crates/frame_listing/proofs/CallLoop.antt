@@ -1,24 +1,23 @@
 -- A turn of the listing's loop: a line that says no call, a call, and the ways out; then what is answered.
--- Rests on the calls from a place on (dance_text/proofs/Shows) and on a run of pieces laid one after the other (numerals/proofs/Going).
+-- Rests on the laws of a listing up to a limit (InParts) and on pieces laid one after the other (numerals/proofs/Laying).
 use mathlib.Core.Path.{_≡_, refl, sym, ap, _∙_}
-use mathlib.Core.Logic.{_≢_}
+use mathlib.Core.Logic.{_≢_, _⊎_, ⊎-elim}
 use mathlib.Core.Bool.{Bool, true, false, cond}
-use mathlib.Core.List.{List, [], _∷_, _++_}
+use mathlib.Core.List.{List, [], _++_, append-assoc, append-nil}
 use Prim.Native.Nat.{ℕ, zero, suc, _+_, _-_, _^_, _≤_, _<_}
 use native.Mathlib.Omega.{arith}
 use lib.Dec.{leb, eqb}
-use lib.ListN.{length, take, drop}
+use lib.ListN.{length, take, drop, length-append, length-take}
 use borrow.Author.Tests.{leb-true, leb-false, ne-eqb}
-use Rattle.numerals.specs.Laid.{Put, spaceNumber}
-use Rattle.numerals.proofs.Laying.{put-short, lent-all, lent-none, lent-known}
-use Rattle.numerals.proofs.Going.{Going, going-start, going-step, going-as, going-none, going-last}
+use Rattle.numerals.specs.Laid.{behind, Put, spaceNumber}
+use Rattle.numerals.proofs.Laying.{laid-length, laid-none, behind-none, behind-under, behind-append, put-then, put-as, put-short, lent-all, lent-none}
 use Rattle.frames.specs.declared.Table.{Table}
-use Rattle.frames.specs.Calls.{Model, blank, new}
+use Rattle.frames.specs.Calls.{Model}
 use Rattle.frames.specs.Tables.{model}
 use Rattle.frame_table.specs.declared.Outcome.{Outcome}
 use Rattle.frame_table.specs.Valid.{Valid}
 use Rattle.frame_table.specs.Outcomes.{outcome}
-use Rattle.frame_table.proofs.Promised.{outcome-model, outcome-grants, granted-few, new-none}
+use Rattle.frame_table.proofs.Promised.{outcome-model, outcome-grants, granted-few}
 use Rattle.words.specs.Answers.{valueUnless, wrongAt, lentAs}
 use Rattle.words.specs.Parts.{isFeed, placeOf}
 use Rattle.words.proofs.Parts.{place-low}
@@ -27,13 +26,20 @@ use Rattle.dance_text.specs.declared.Line.{Line}
 use Rattle.dance_text.specs.declared.Line.the-variants.{Said}
 use Rattle.dance_text.specs.declared.Surveyed.{Surveyed}
 use Rattle.dance_text.specs.Lines.{lineSays}
-use Rattle.dance_text.specs.Shows.{saidIn, callsOf, callsIn, surveyOf}
-use Rattle.dance_text.proofs.Shows.{survey-calls, saidFrom, calls-cut, calls-end}
+use Rattle.dance_text.specs.Shows.{saidIn, callsIn, surveyOf}
+use Rattle.dance_text.proofs.Shows.{survey-calls}
 use Rattle.frame_listing.specs.declared.Listed.{Listed}
 use Rattle.frame_listing.specs.declared.Listed.the-variants.{Length, Mistake}
 use Rattle.frame_listing.specs.Lines.{lineOf, onLines, stopLine}
-use Rattle.frame_listing.specs.Text.{stepOf, stops, entryOf, linesOf, textOf, mistakeOr, lengthOr, listedOf, listedValues, listingValues, listedOut}
+use Rattle.frame_listing.specs.Text.{stepOf, stops, entryOf, textOf, mistakeOr, lengthOr, listedOf, listedValues, listingValues, listedOut}
+use Rattle.frame_listing.specs.InParts.{Standing, called, heard, entryRoom, Reached}
 use Rattle.frame_listing.proofs.Calls.{promised}
+use Rattle.frame_listing.proofs.Lines.{line-length, ons-length}
+use Rattle.frame_listing.proofs.InParts.{from, on-ended, on-full, on-turn}
+
+-- At a place of the text, before call k, with a table.
+abbrev pub stand : List ℕ → Table → ℕ → ℕ → Standing
+stand xs t at k = record { laid = xs; at = at; call = k; table = model t }
 
 -- ── what an outcome prints ──
 -- The line of call k and those of the grants.
@@ -54,84 +60,128 @@ module _ (m : Model) (c : Call) (o : Outcome) (p : o ≡ outcome (stepOf m c)) w
       sym (ap (λ (x : Outcome). lineOf k (x .number) (x .ticket) (x .row) (x .contention)) p) in
       cc (line, ap onLines (outcome-grants o (stepOf m c) p))
 
-  -- The lines of the call and of those after it: a stop line alone, or its own and theirs.
-  module _ (b : Bool) (q : b ≡ stops c (o .number)) (k : ℕ) (cs : List Call) where
+  -- It is no longer than that.
+  entry-short : (k : ℕ) → o .granted ≤ 64 → length (shown k o) ≤ entryRoom
+  entry-short k h =
+      let l = lineOf k (o .number) (o .ticket) (o .row) (o .contention) in
+      let g = take (o .granted) (o .grants) in
+      omega (arith, length-append l (onLines g), line-length k (o .number) (o .ticket) (o .row) (o .contention), ons-length g, length-take (o .granted) (o .grants))
+
+  -- Where the listing stands behind the call.
+  module _ (b : Bool) (q : b ≡ stops c (o .number)) (size : ℕ) (xs : List ℕ) (at k : ℕ) where
     -- The step stops where the outcome does.
     stops-as : stops c (stepOf m c .answer .number) ≡ b
     stops-as = sym (q ∙ ap (λ (x : Outcome). stops c (x .number)) p)
 
     -- The call stops,
-    lines-stop : b ≡ true → linesOf k m (c ∷ cs) ≡ stopLine
-    unfolding linesOf
-    lines-stop t = rw (stops-as ∙ t)
+    called-stop : b ≡ true → called size (record { laid = xs; at = at; call = k; table = m }) c ≡ stand (xs ++ stopLine) (o .table) size k
+    unfolding called
+    called-stop t = rw (stops-as ∙ t, outcome-model o (stepOf m c) p) refl
 
     -- or it does not.
-    lines-call : b ≡ false → linesOf k m (c ∷ cs) ≡ shown k o ++ linesOf (k + 1) (model (o .table)) cs
-    unfolding linesOf
-    lines-call t = rw (stops-as ∙ t, entry-is k, outcome-model o (stepOf m c) p)
+    called-on : b ≡ false → called size (record { laid = xs; at = at; call = k; table = m }) c ≡ stand (xs ++ shown k o) (o .table) at (k + 1)
+    unfolding called
+    called-on t = rw (stops-as ∙ t, entry-is k, outcome-model o (stepOf m c) p) refl
 
 -- ── the loop's invariant ──
--- Where the loop stands: at a place of the text s, before call k, with a table; what is laid of the lines from place `from` on of a buffer
--- that was o₀, and the lines left.
-pub record Turn (s o₀ : List ℕ) (from : ℕ) (out : List ℕ) (t : Table) (at k n : ℕ) : Type 0 where
+-- Where the loop stands: at a place of the text, before call k, with a table. Behind `head`, which ends at place n₀ of a buffer that was o₀,
+-- `more` is laid; and the listing from there on is that from the first place on.
+pub record Turn (text o₀ head : List ℕ) (limit : ℕ) (t₀ : Table) (at₀ k₀ n₀ : ℕ) (out : List ℕ) (t : Table) (at k n : ℕ) : Type 0 where
   pub valid : Valid t
   pub few : k ≤ at + 1
-  pub going : Going o₀ from (linesOf 1 (blank 0) (callsIn (saidIn s))) out n (linesOf k (model t) (callsIn (saidFrom s at)))
-
--- The table before the first call.
-first-table : (r : Outcome) → r ≡ outcome (new 0) → model (r .table) ≡ blank 0
-first-table r e = outcome-model r (new 0) e ∙ new-none
+  pub all : List ℕ
+  pub more : List ℕ
+  pub joined : head ++ more ≡ all
+  pub put : Put o₀ n₀ more n out
+  pub next : n ≡ behind 0 (length all)
+  pub on : from text limit (stand all t at k) ≡ from text limit (stand head t₀ at₀ k₀)
+  pub short : limit < 18446744073709551615 → length all ≤ limit + entryRoom
+  pub room : length o₀ < 2 ^ 64
 
 -- Before the first line.
-pub turn-start : (s o : List ℕ) (from : ℕ) (r : Outcome) → length o < 2 ^ 64 → from < 2 ^ 64 → r ≡ outcome (new 0) → Valid (r .table) → Turn s o from o (r .table) 0 1 from
-unfolding saidIn
-turn-start s o from r h k e v =
+pub turn-start : (text o head : List ℕ) (limit : ℕ) (t : Table) (at k n : ℕ) → length o < 2 ^ 64 → n ≡ behind 0 (length head) → length head ≤ 33 → Valid t → k ≤ at + 1
+    → Turn text o head limit t at k n o t at k n
+turn-start text o head limit t at k n h e l v f =
     record {
       valid = v;
-      few = omega arith;
-      going = going-as o from _ o from _ _ (ap (λ (x : Model). linesOf 1 x (callsIn (saidIn s))) (sym (first-table r e))) (going-start o from _ h k);
+      few = f;
+      all = head;
+      more = [];
+      joined = append-nil head;
+      put = record { next = sym (behind-none n (rw e (behind-under 0 (length head)))); is = sym (laid-none o n) };
+      next = e;
+      on = refl;
+      short = λ z. omega arith;
+      room = h;
     }
 
-module _ (s o₀ : List ℕ) (from : ℕ) (out : List ℕ) (t : Table) (at k n : ℕ) (u : Turn s o₀ from out t at k n) where
-  -- The lines of all calls.
-  abbrev whole : List ℕ
-  whole = linesOf 1 (blank 0) (callsIn (saidIn s))
+module _ (text o₀ head : List ℕ) (limit : ℕ) (t₀ : Table) (at₀ k₀ n₀ : ℕ) (out : List ℕ) (t : Table) (at k n : ℕ) (u : Turn text o₀ head limit t₀ at₀ k₀ n₀ out t at k n) where
+  -- The buffer keeps its length.
+  pub turn-size : length out ≡ length o₀
+  turn-size = ap length (u .put .is) ∙ laid-length o₀ n₀ (u .more)
 
-  -- Behind the last line.
-  pub turn-end : length s ≤ at → Put o₀ from whole n out
-  unfolding linesOf
-  turn-end h = going-none o₀ from whole out n (rw (calls-end s at h) at (u .going))
+  -- The text has ended, or more is laid than the limit.
+  pub turn-end : (o : List ℕ) (l : ℕ) → length o < 2 ^ 64 → Put o 0 head n₀ o₀ → (length text ≤ at) ⊎ (limit < n)
+      → Reached text o head (record { length = l; at = at₀; call = k₀; table = t₀ }) limit (record { length = n; at = at; call = k; table = t }) out
+  turn-end o l h w e = record {
+    reached = stand (u .all) t at k;
+    is = sym (⊎-elim (λ a. on-ended text limit (stand (u .all) t at k) a) (λ a. on-full text limit (stand (u .all) t at k) (rw (u .next) at a)) e) ∙ u .on;
+    put = put-as (head ++ u .more) (u .all) (u .joined) (put-then o 0 head (u .more) n₀ n o₀ out h w (u .put));
+    answer = ap (λ (x : Table). record { length = n; at = at; call = k; table = x }) (sym (u .valid .whole));
+    ready = record { valid = u .valid; few = u .few };
+    short = u .short;
+  }
 
-  -- A line: j is where it ends, l what it says.
-  module _ (h : at < length s) (j : ℕ) (f : j ≡ placeOf isFeed s at) (l : Line) (e : l ≡ lineSays (take (j - at) (drop at s))) where
-    -- The calls left.
-    on : callsIn (saidFrom s at) ≡ callsOf l ++ callsIn (saidFrom s (j + 1))
-    on = rw e (calls-cut s at j h f)
+  -- A line: j is where it ends, l what it says; no more is laid than the limit.
+  module _ (h : at < length text) (w : n ≤ limit) (j : ℕ) (f : j ≡ placeOf isFeed text at) (l : Line) (e : l ≡ lineSays (take (j - at) (drop at text))) where
+    -- The listing from behind it on.
+    onward : from text limit (heard (length text) (stand (u .all) t (j + 1) k) l) ≡ from text limit (stand head t₀ at₀ k₀)
+    onward = rw e (sym (on-turn text limit (stand (u .all) t at k) h j f (rw (u .next) at w)) ∙ u .on)
 
     -- A line that says no call.
-    pub turn-pass : callsOf l ≡ [] → Turn s o₀ from out t (j + 1) k n
+    pub turn-pass : heard (length text) (stand (u .all) t (j + 1) k) l ≡ stand (u .all) t (j + 1) k → Turn text o₀ head limit t₀ at₀ k₀ n₀ out t (j + 1) k n
     turn-pass z = record {
       valid = u .valid;
-      few = omega (arith, u .few, f, place-low isFeed s at);
-      going = rw (on, z) at (u .going);
+      few = omega (arith, u .few, f, place-low isFeed text at);
+      all = u .all;
+      more = u .more;
+      joined = u .joined;
+      put = u .put;
+      next = u .next;
+      on = rw z at onward;
+      short = u .short;
+      room = u .room;
     }
 
-    module _ (c : Call) (q : l ≡ Said c) (o : Outcome) (p : o ≡ outcome (stepOf (model t) c)) (b : Bool) (d : b ≡ stops c (o .number)) (r : ℕ) (x : List ℕ) where
-      -- The calls left where it says one.
-      left : callsIn (saidFrom s at) ≡ c ∷ callsIn (saidFrom s (j + 1))
-      left = rw q at on
+    -- A line that lays xs and leads to table s, place i and call m.
+    turn-laid : (xs : List ℕ) (s : Table) (i m : ℕ) → heard (length text) (stand (u .all) t (j + 1) k) l ≡ stand (u .all ++ xs) s i m → Valid s → m ≤ i + 1
+        → length xs ≤ entryRoom → (r : ℕ) (x : List ℕ) → Put out n xs r x → Turn text o₀ head limit t₀ at₀ k₀ n₀ x s i m r
+    unfolding behind
+    turn-laid xs s i m z v q d r x g = record {
+      valid = v;
+      few = q;
+      all = u .all ++ xs;
+      more = u .more ++ xs;
+      joined = sym (append-assoc head (u .more) xs) ∙ ap (λ (ys : List ℕ). ys ++ xs) (u .joined);
+      put = put-then o₀ n₀ (u .more) xs n r out x (u .room) (u .put) g;
+      next = g .next ∙ rw (u .next) (behind-append 0 (u .all) xs);
+      on = rw z at onward;
+      short = λ y. omega (arith, u .next, length-append (u .all) xs);
+      room = u .room;
+    }
 
+    module _ (c : Call) (q : l ≡ Said c) (o : Outcome) (p : o ≡ outcome (stepOf (model t) c)) (b : Bool) (d : b ≡ stops c (o .number)) (v : Valid (o .table)) (r : ℕ) (x : List ℕ) where
       -- A call that ends the listing.
-      pub turn-stop : b ≡ true → Put out n stopLine r x → Put o₀ from whole r x
-      turn-stop y z = going-last o₀ from whole out n stopLine x r (rw (left, lines-stop (model t) c o p b d k _ y) at (u .going)) z
+      pub turn-stop : b ≡ true → Put out n stopLine r x → Turn text o₀ head limit t₀ at₀ k₀ n₀ x (o .table) (length text) k r
+      turn-stop y z =
+          turn-laid stopLine (o .table) (length text) k (rw q (called-stop (model t) c o p b d (length text) (u .all) (j + 1) k y)) v
+          (omega (arith, u .few)) (omega arith) r x z
 
       -- A call with its lines.
-      pub turn-call : b ≡ false → Valid (o .table) → Put out n (shown k o) r x → Turn s o₀ from x (o .table) (j + 1) (k + 1) r
-      turn-call y v z = record {
-        valid = v;
-        few = omega (arith, u .few, f, place-low isFeed s at);
-        going = going-step o₀ from whole out n (shown k o) _ x r (rw (left, lines-call (model t) c o p b d k _ y) at (u .going)) z;
-      }
+      pub turn-call : b ≡ false → Put out n (shown k o) r x → Turn text o₀ head limit t₀ at₀ k₀ n₀ x (o .table) (j + 1) (k + 1) r
+      turn-call y z =
+          turn-laid (shown k o) (o .table) (j + 1) (k + 1) (rw q (called-on (model t) c o p b d (length text) (u .all) (j + 1) k y)) v
+          (omega (arith, u .few, f, place-low isFeed text at)) (entry-short (model t) c o p k (few-granted (model t) c o p v)) r x z
 
 -- ── what is answered ──
 -- The answer on a text for a lent buffer, which becomes p.
@@ -186,13 +236,3 @@ module _ (text : List ℕ) (s : Surveyed) (e : s ≡ surveyOf text) where
     listed-none z b =
         let a = lent-none (textOf text) out (leb-false (length (textOf text)) (length out) b) in
         lists text out _ out (rw (none-wrong z, a .0), rw (none-wrong z) (a .1))
-
--- A length that is answered is one of the buffer.
-pub listed-within : (text out : List ℕ) (n : ℕ) → listedOf text out ≡ Length n → n ≤ length out
-unfolding listedOf
-listed-within text out n = go (surveyOf text .number) (spaceNumber (textOf text) out) refl
-  where
-    go : (k j : ℕ) → spaceNumber (textOf text) out ≡ j → mistakeOr (surveyOf text .line) k (lengthOr j (length (textOf text))) ≡ Length n → n ≤ length out
-    go zero zero i e = let m : length (textOf text) ≡ n = cc in omega (arith, lent-known (textOf text) out i .0)
-    go zero (suc j) i e = let z : _≡_ {A = ℕ} 0 1 = cc in absurd (omega arith)
-    go (suc k) j i e = let z : _≡_ {A = ℕ} 0 1 = cc in absurd (omega arith)

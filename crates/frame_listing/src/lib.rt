@@ -1,18 +1,20 @@
 // The listing of a dance show: its calls run on a frame table, and each prints what it answers. `listing` has it for any text and buffer,
-// and tells the first line that is wrong; `belgwyth_beat` is the same for C. What is printed is defined in specs/Text.antt.
+// and tells the first line that is wrong; `belgwyth_beat` is the same for C. `first_part` and `next_part` have it in parts, for a buffer
+// shorter than the listing. What is printed is defined in specs/Text.antt, parts in specs/InParts.antt.
 ghost use mathlib.Core.Path.{_≡_};
 ghost use mathlib.Core.List.{_++_};
 ghost use Prim.Native.Nat.{_≤_, _<_};
 ghost use lib.Dec.{leb};
 ghost use lib.ListN.{length, take};
 ghost use Rattle.numerals.specs.Laid.{Put};
-ghost use Rattle.frames.specs.Calls.{blank};
 ghost use Rattle.dance_text.specs.Shows.{saidIn, callsIn};
 ghost use Rattle.frame_listing.specs.Lines.{lineOf, onLine, onLines};
-ghost use Rattle.frame_listing.specs.Text.{stops, linesOf, textOf, roomFor, listedOf, listedValues, listingValues, listedOut, beatOf};
+ghost use Rattle.frame_listing.specs.Text.{stops, textOf, roomFor, listedOf, listedValues, listingValues, listedOut, beatOf};
+ghost use Rattle.frame_listing.specs.InParts.{partOf, partOut, partBehind, start, firstPart, nextPart, Ready, Reached};
 use dance_text::Call;
 use dance_text::Line;
 use frame_table::Outcome;
+use frames::Table;
 
 // ── lines: each is laid over a buffer from a place on, as far as that goes, and answers the place after it ──
 
@@ -75,18 +77,57 @@ fn stops_at(call: Call, number: u8) -> bool
     }
 }
 
-// The lines of a text's calls. What the last call handed back is kept, with its table, so that no table is copied between calls. Each call
-// is made in place: handed on by a function of its own, the table would be copied once or twice more.
-fn put_calls(text: &[u8], out: &mut [u8], from: usize) -> usize
-    ensures { λ r. ⌜ Put (now (out .entry)) from (linesOf 1 (blank 0) (callsIn (saidIn (now (text .entry))))) r (now (out .exit)) ⌝ }
+// A part of a listing: its count of bytes; and where the next begins: the place in the text, the number of the next call, and the table. Where
+// the place is not before the text's end the listing has ended.
+pub struct Part {
+    pub length: usize,
+    pub at: usize,
+    pub call: u64,
+    pub table: Table,
+}
+
+// Behind this the first part begins.
+fn start() -> Part
+    ensures { λ r. ⌜ (r ≡ start) × Ready r ⌝ }
 {
-    let mut o = frame_table::new(0);
-    let mut at: usize = 0;
-    let mut k: u64 = 1;
-    let mut n = from;
+    let o = frame_table::new(0);
+    let t = o.table;
+    Part {
+        length: 0,
+        at: 0,
+        call: 1,
+        table: t,
+    }
+}
+
+// The bytes of `head`, and the lines of the calls behind part p until the text ends or more bytes are laid than a limit. A rig that is refused
+// ends the text. What the last call handed back is kept, with its table, so that no table is copied between calls. Each call is made in place:
+// handed on by a function of its own, the table would be copied once or twice more.
+fn put_calls(text: &[u8], out: &mut [u8], head: &[u8], p: Part, limit: usize) -> Part
+    requires { ⌜ Ready p × (length (now head) ≤ 33) ⌝ }
+    ensures { λ r. ⌜ Reached (now (text .entry)) (now (out .entry)) (now (head .entry)) p limit r (now (out .exit)) ⌝ }
+{
+    let t = p.table;
+    let mut o = Outcome {
+        table: t,
+        number: 0,
+        ticket: 0,
+        row: 0,
+        contention: 0,
+        granted: 0,
+        grants: [0u16; 64],
+    };
+    let mut at = p.at;
+    let mut k = p.call;
+    let mut n = numerals::put_bytes(out, 0, head);
     while at < text.len() {
+        if limit < n {
+            break;
+        }
         let end = words::place(text, 10, at);
-        match dance_text::parse_line(&text[at..end]) {
+        let line = dance_text::parse_line(&text[at..end]);
+        at = end + 1;
+        match line {
             Line::Silent => {}
             Line::Said(call) => {
                 match call {
@@ -101,24 +142,37 @@ fn put_calls(text: &[u8], out: &mut [u8], from: usize) -> usize
                     }
                 }
                 if stops_at(call, o.number) {
-                    return numerals::put_bytes(out, n, b"stop 1 1\n");
+                    n = numerals::put_bytes(out, n, b"stop 1 1\n");
+                    at = text.len();
+                } else {
+                    n = put_entry(out, n, k, o);
+                    k += 1;
                 }
-                n = put_entry(out, n, k, o);
-                k += 1;
             }
             Line::Wrong(_n) => {}
         }
-        at = end + 1;
     }
-    n
+    let last = o.table;
+    Part {
+        length: n,
+        at: at,
+        call: k,
+        table: last,
+    }
 }
 
 // The whole listing laid over a buffer, as far as that goes, and its length.
 fn run(text: &[u8], out: &mut [u8]) -> usize
     ensures { λ r. ⌜ Put (now (out .entry)) 0 (textOf (now (text .entry))) r (now (out .exit)) ⌝ }
 {
-    let n = numerals::put_bytes(out, 0, b"rec answer ticket row contention\n");
-    put_calls(text, out, n)
+    let p = put_calls(
+        text,
+        out,
+        b"rec answer ticket row contention\n",
+        start(),
+        18446744073709551615,
+    );
+    p.length
 }
 
 // Room that the listing of every show of so many calls goes into: the header and a stop line, and for each call a line and an `on` line.
@@ -178,4 +232,43 @@ pub extern "C" fn belgwyth_beat(text: &[u8], out: &mut [u8]) -> usize
         Listed::Length(n) => n,
         Listed::Mistake(line, n) => { if line == 0 { n as usize } else { 0 } }
     }
+}
+
+// ── in parts ──
+
+// The part behind p, with `head` in front. The limit leaves room for the lines of one call, which have 1,641 bytes at most.
+fn part_behind(text: &[u8], out: &mut [u8], head: &[u8], mut p: Part) -> Part
+    requires { ⌜ Ready p × (length (now head) ≤ 33) ⌝ }
+    ensures answer { λ r. ⌜ r ≡ partOf (partBehind (now (text .entry)) (now (head .entry)) p (length (now (out .entry)))) ⌝ }
+    ensures buffer { λ _. ⌜ now (out .exit) ≡ partOut (partBehind (now (text .entry)) (now (head .entry)) p (length (now (out .entry)))) (now (out .entry)) ⌝ }
+    ensures ready { λ r. ⌜ Ready r × (r .length ≤ length (now (out .entry))) ⌝ }
+{
+    if out.len() < 1674 {
+        p.length = 0;
+        return p;
+    }
+    let limit = out.len() - 1641;
+    put_calls(text, out, head, p, limit)
+}
+
+// The first part of the listing of a dance show, with the header, at the start of a lent buffer. A buffer under 1,674 bytes gets nothing, and
+// the part's length is 0. Lines that are wrong are passed over: `dance_text::survey` tells them. Cost: one pass over the text of the part, a
+// call of the table for each of its calls, and a few copies of a table.
+pub fn first_part(text: &[u8], out: &mut [u8]) -> Part
+    ensures answer { λ r. ⌜ r ≡ partOf (firstPart (now (text .entry)) (length (now (out .entry)))) ⌝ }
+    ensures buffer { λ _. ⌜ now (out .exit) ≡ partOut (firstPart (now (text .entry)) (length (now (out .entry)))) (now (out .entry)) ⌝ }
+    ensures ready { λ r. ⌜ Ready r × (r .length ≤ length (now (out .entry))) ⌝ }
+{
+    part_behind(text, out, b"rec answer ticket row contention\n", start())
+}
+
+// The part behind p, which is a part of the same text that `first_part` or `next_part` answered. A buffer under 1,674 bytes gets nothing, and
+// the part ends where p does. Cost: as that of the first part.
+pub fn next_part(text: &[u8], p: Part, out: &mut [u8]) -> Part
+    requires { ⌜ Ready p ⌝ }
+    ensures answer { λ r. ⌜ r ≡ partOf (nextPart (now (text .entry)) p (length (now (out .entry)))) ⌝ }
+    ensures buffer { λ _. ⌜ now (out .exit) ≡ partOut (nextPart (now (text .entry)) p (length (now (out .entry)))) (now (out .entry)) ⌝ }
+    ensures ready { λ r. ⌜ Ready r × (r .length ≤ length (now (out .entry))) ⌝ }
+{
+    part_behind(text, out, b"", p)
 }
