@@ -8,9 +8,10 @@ tmp=$(mktemp -d) || exit 2
 trap 'rm -rf "$tmp"' EXIT
 header='rec answer ticket row contention\n'
 
-# verdict NAME: with the file `in` on standard input the program prints what `want` has and says what `wanterr` has on standard error.
+# verdict NAME: with the file `in` on standard input and a stack of 3 MB the program prints what `want` has and says what `wanterr` has on
+# standard error.
 verdict() {
-    if "$bin/beat" <"$tmp/in" >"$tmp/out" 2>"$tmp/err" && cmp -s "$tmp/out" "$tmp/want" && cmp -s "$tmp/err" "$tmp/wanterr"; then
+    if (ulimit -s 3072 && exec "$bin/beat") <"$tmp/in" >"$tmp/out" 2>"$tmp/err" && cmp -s "$tmp/out" "$tmp/want" && cmp -s "$tmp/err" "$tmp/wanterr"; then
         ok "$1"
     else
         fail "$1"
@@ -115,5 +116,17 @@ echo >>"$tmp/in"
 : >"$tmp/want"
 echo "text over 1,048,576 bytes" >"$tmp/wanterr"
 verdict "text of 1,048,577 bytes"
+try "a text of 1,048,576 bytes with a listing of many parts is made" awk -v show="$tmp/in" -v want="$tmp/want" 'BEGIN {
+    print "rig F" >show
+    print "rec answer ticket row contention\n1 0 0 0 0" >want
+    for (size = 6; size + length(pair = "claim 8\nrelease " ++k) < 1048576; size += length(pair) + 1) {
+        print pair >show
+        print 2 * k " 0 " k " 0 0\non " k "\n" 2 * k + 1 " 0 " k " 0 0" >want
+    }
+    while (size++ < 1048576) printf "#" >show
+}'
+try "it has 1,048,576 bytes" test "$(wc -c <"$tmp/in")" = 1048576
+: >"$tmp/wanterr"
+verdict "text of 1,048,576 bytes with a listing of many parts"
 
 total
