@@ -45,7 +45,7 @@ heard size s Silent = s
 heard size s (Said c) = called size s c
 heard size s (Wrong n) = s
 
--- The lines from there on, until the text ends or more bytes are laid than a limit.
+-- The lines from there on, until the text ends or more bytes are laid than a limit. The greatest usize is no limit: no place is behind it.
 unfoldable pub upTo : ℕ → ℕ → Standing → List (List ℕ) → Standing
 upTo size limit s [] = s
 upTo size limit s (l ∷ ls) =
@@ -63,7 +63,7 @@ partRoom = 1674
 abbrev pub standing : List ℕ → Part → Standing
 standing xs p = record { laid = xs; at = p .at; call = p .call; table = model (p .table) }
 
--- What a part hands on, of n bytes; all that are laid. The buffer begins with them, and its later bytes keep their contents.
+-- What a part of n bytes hands on; of all bytes that are laid. The buffer begins with these, and its later bytes keep their contents.
 abbrev pub partAs : ℕ → Standing → Part
 partAs n s = record { length = n; at = s .at; call = s .call; table = encode (s .table) }
 
@@ -87,7 +87,7 @@ firstPart text room = partBehind text header start room
 abbrev pub nextPart : List ℕ → Part → ℕ → Standing
 nextPart text p room = partBehind text [] p room
 
--- A part that these calls make and take.
+-- A part that these calls make and take: before every call there is a byte of the text.
 pub record Ready (p : Part) : Type 0 where
   pub valid : Valid (p .table)
   pub few : p .call ≤ p .at + 1
