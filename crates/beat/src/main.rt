@@ -18,7 +18,7 @@ fn print_parts(text: &[u8], out: &mut [u8])
     let mut p = frame_listing::first_part(text, out);
     loop {
         let n = p.length;
-        if !io::write_all(1, &out[..n]) {
+        if !streams::write_output(b"beat", &out[..n]) {
             break;
         }
         if text.len() <= p.at {
@@ -41,7 +41,11 @@ fn print(text: &[u8]) {
 
 // `room` is for the longest text and one byte more.
 fn run(mut room: [u8; 1048577]) {
-    let n = io::read_full(0, &mut room);
+    let input = streams::read_input(b"beat", &mut room);
+    if input.failed {
+        return;
+    }
+    let n = input.length;
     if 1048576 < n {
         io::write_all(2, b"text over 1,048,576 bytes\n");
         return;
@@ -50,5 +54,8 @@ fn run(mut room: [u8; 1048577]) {
 }
 
 fn main() {
+    if streams::has_arguments(b"beat < SHOW") {
+        return;
+    }
     run([0; 1048577]);
 }

@@ -10,10 +10,10 @@ use Rattle.beat.proofs.print_parts.Statement.{statement}
 use Rattle.beat.proofs.print_parts.Tie as tie
 
 abbrev Inv-loop : tie.InvT-loop
-Inv-loop text out₀ p₀ out p = Ready p × ((p .length ≤ length out) × ((partRoom ≤ length out) × (length out ≡ length out₀)))
+Inv-loop text out₀ p₀ t out p = Ready p × ((p .length ≤ length out) × ((partRoom ≤ length out) × (length out ≡ length out₀)))
 
 abbrev μ-loop : tie.MeasureT-loop
-μ-loop text out₀ p₀ out p = length text - p .at
+μ-loop text out₀ p₀ t out p = length text - p .at
 
 loop-holds : tie.Need-loop-holds Inv-loop μ-loop
 loop-holds c =
@@ -26,14 +26,14 @@ loop-less : tie.Need-loop-less Inv-loop μ-loop
 loop-less c =
     let n = c .before .before in
     let z = n .before .before in
-    let l = z .before .before .before .before .before .loop in
+    let l = z .before .before .before .before .before .before .loop in
     let g = next-grows _ (l .out) _ _ (l .inv .1 .1 .0) (z .if2 .left) (n .next-part .ensures .0) in
     omega (arith, z .if2 .left)
 
 loop-again : tie.Need-loop-again Inv-loop μ-loop
 loop-again c =
     let n = c .before .before .next-part in
-    let i = c .before .before .before .before .before .before .before .before .before .loop .inv .1 .1 in
+    let i = c .before .before .before .before .before .before .before .before .before .before .loop .inv .1 .1 in
     let r = n .ensures .1 .1 in
     (r .0, (omega (arith, r .1, n .kept .1 .1 .0), (omega (arith, i .0, n .kept .1 .1 .0), n .kept .1 .1 .0 ∙ i .1)))
 
@@ -45,13 +45,14 @@ print-parts-spec =
     μ-loop
     (λ c κs. search needs)
     loop-holds
-    (λ c. c .loop .inv .1 .0)
-    (λ c. simp length-take (omega (arith, c .before .loop .inv .1 .0)))
+    (λ c. search needs)
+    (λ c. c .before .loop .inv .1 .0)
+    (λ c. simp length-take (omega (arith, c .before .before .loop .inv .1 .0)))
     (λ c κs. search needs)
-    (λ c κs. c .before .before .before .before .before .before .loop .inv .0)
+    (λ c κs. c .before .before .before .before .before .before .before .loop .inv .0)
     loop-less
     loop-again
-    (λ c. c .before .before .before .loop .inv .1 .1 .1 ∙ c .before .before .before .before .before .before .first-part .kept .1 .0)
+    (λ c. c .before .before .before .before .loop .inv .1 .1 .1 ∙ c .before .before .before .before .before .before .before .first-part .kept .1 .0)
     (λ c. search needs)
-    (λ c. c .before .before .before .before .before .loop .inv .1 .1 .1 ∙ c .before .before .before .before .before .before .before .before .first-part .kept .1 .0)
+    (λ c. c .before .before .before .before .before .before .loop .inv .1 .1 .1 ∙ c .before .before .before .before .before .before .before .before .before .first-part .kept .1 .0)
     (λ c. search needs))
