@@ -4,11 +4,11 @@ ghost use mathlib.Core.Path.{_≡_};
 ghost use lib.ListN.{length};
 use frame_listing::Listed;
 
-fn fail(line: u64, reason: u8) {
-    let r = words::report(line, reason);
-    let text = r.text;
+fn fail(text: &[u8], line: u64, reason: u8) {
+    let r = dance_text::report(text, line, reason);
+    let told = r.text;
     let n = r.length;
-    io::write_all(2, &text[..n]);
+    io::write_all(2, &told[..n]);
 }
 
 // Room for the listing of every text that is read: a claim takes 8 bytes of text at least, and prints 30 at most with its `on` line.
@@ -24,7 +24,7 @@ fn print(text: &[u8]) {
         Listed::Length(n) => {
             io::write_all(1, &out[..n]);
         }
-        Listed::Mistake(line, reason) => fail(line, reason),
+        Listed::Mistake(line, reason) => fail(text, line, reason),
     }
 }
 
