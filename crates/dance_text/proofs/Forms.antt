@@ -46,9 +46,9 @@ module _ (text : List ℕ) (line n : ℕ) where
 -- ── every line that wants one ──
 pub form-words : FormWords
 unfolding wordsIn parts
-form-words NewRig e = refl
-form-words NewClaim e = refl
-form-words EndClaim e = refl
+form-words NewRig e = (refl, omega arith)
+form-words NewClaim e = (refl, omega arith)
+form-words EndClaim e = (refl, omega arith)
 form-words NoCall e = absurd (false≢true e)
 
 -- The form of a word that names a call.

@@ -1,5 +1,5 @@
 -- The forms of the lines of a dance show, for the report of a line with too few or too many words.
-use Prim.Native.Nat.{ℕ}
+use Prim.Native.Nat.{ℕ, _≤_}
 use mathlib.Core.Bool.{true}
 use mathlib.Core.List.{List, []}
 use mathlib.Core.Path.{_≡_}
@@ -27,9 +27,10 @@ wordForm w = callForm (callNamed w)
 unfoldable pub formOf : List ℕ → ℕ → ℕ → List ℕ
 formOf text line n = formFor wordForm text line n
 
--- A form has as many words as its line needs: the call's name and one more. proofs/Forms has the proof: form-words.
+-- A form has as many words as its line needs, the call's name and one more, and is never left out of a report. proofs/Forms has the proof:
+-- form-words.
 abbrev pub FormWords : Type 0
-FormWords = (n : Name) → isCall n ≡ true → length (wordsIn (callForm n)) ≡ 2
+FormWords = (n : Name) → isCall n ≡ true → (length (wordsIn (callForm n)) ≡ 2) × (length (callForm n) ≤ 64)
 
 -- A line that `survey` finds to have too few or too many words is told with a form that begins with its first word. proofs/Forms has the proof:
 -- forms-told.

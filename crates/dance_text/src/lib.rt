@@ -230,8 +230,8 @@ fn with_form(line: u64, reason: u8, name: Name) -> Reported
     }
 }
 
-// What is wrong with a line of a text, by the line's number and its reason as `survey` has them. Cost: one pass over the text up to the
-// line's first word, where the reason wants a form.
+// What is wrong with a line of a text, by the line's number and its reason as `survey` has them. Cost: where the reason wants a form, one
+// pass over the lines before it and up to three over the line.
 pub fn report(text: &[u8], line: u64, reason: u8) -> Reported
     ensures { λ r. ⌜ (r ≡ reported line reason (formOf (now (text .entry)) line reason)) × (r .length ≤ length (r .text)) ⌝ }
 {

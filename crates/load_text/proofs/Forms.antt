@@ -62,17 +62,17 @@ pub formed : (e k : ℕ) → hasKind e k ≡ true → Formed k (fieldsOf e k) (k
 unfolding kindForm nameOf row-form
 formed e k h = rw h (row-formed e k (fieldsOf e k) (kind-tested form-test e k forms-pass h))
 
+size-few : (e k : ℕ) → hasKind e k ≡ true → length (kindForm e k) ≤ 64
+size-few e k h = let n = length (kindForm e k) in leb-true n 64 (both (ltb 0 n) (leb n 64) (formed e k h .size) .1)
+
 pub form-words : FormWords
-form-words e k h = formed e k h .count
+form-words e k h = (formed e k h .count, size-few e k h)
 
 -- ── as the code finds them ──
 -- What is no field has no word.
 pub no-field-word : (f : ℕ) → length fieldWords ≤ f → fieldWord f ≡ []
 unfolding fieldWord
 no-field-word f h = List·getD-eq-default fieldWords [] h
-
-size-few : (e k : ℕ) → hasKind e k ≡ true → length (kindForm e k) ≤ 64
-size-few e k h = let n = length (kindForm e k) in leb-true n 64 (both (ltb 0 n) (leb n 64) (formed e k h .size) .1)
 
 -- A kind that the edition lacks has no form.
 lacking-few : (e k : ℕ) → hasKind e k ≡ false → length (kindForm e k) ≤ 64

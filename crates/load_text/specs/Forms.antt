@@ -1,6 +1,6 @@
 -- The forms of the lines of a show, such as `claim CLOCK GROUPS LENGTH`, for the report of a line with too few or too many words. A form
 -- follows the format's table: a kind that is added has one by its row.
-use Prim.Native.Nat.{ℕ, suc}
+use Prim.Native.Nat.{ℕ, suc, _≤_}
 use mathlib.Core.Bool.{true, cond}
 use mathlib.Core.List.{List, [], _∷_, _++_}
 use mathlib.Core.Path.{_≡_}
@@ -42,9 +42,10 @@ wordForm e w = cond (isWord w editionWord) editionForm (kindForm e (kindNamed e 
 unfoldable pub formOf : List ℕ → ℕ → ℕ → List ℕ
 formOf text line n = formFor (wordForm (heading text .edition)) text line n
 
--- A form has as many words as its line needs: the kind's name, and one for each field. proofs/Forms has the proof: form-words.
+-- A form has as many words as its line needs, the kind's name and one for each field, and is never left out of a report. proofs/Forms has
+-- the proof: form-words.
 abbrev pub FormWords : Type 0
-FormWords = (e k : ℕ) → hasKind e k ≡ true → length (wordsIn (kindForm e k)) ≡ suc (length (fieldsOf e k))
+FormWords = (e k : ℕ) → hasKind e k ≡ true → (length (wordsIn (kindForm e k)) ≡ suc (length (fieldsOf e k))) × (length (kindForm e k) ≤ 64)
 
 -- A line that `make` finds to have too few or too many words is told with a form that begins with its first word. proofs/Told has the proof:
 -- forms-told.

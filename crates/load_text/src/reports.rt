@@ -86,7 +86,7 @@ fn with_form(line: u64, reason: u8, edition: u8, word: &[u8]) -> Reported
 }
 
 // What is wrong with a line of a text, by the line's number and its reason as `make` has them. Cost: where the reason wants a form, one pass
-// over the text up to the line's first word, and one over its heading.
+// over the text's heading, one over the lines before the wrong one and up to three over that.
 pub fn report(text: &[u8], line: u64, reason: u8) -> Reported
     ensures { λ r. ⌜ (r ≡ reported line reason (formOf (now (text .entry)) line reason)) × (r .length ≤ length (r .text)) ⌝ }
 {

@@ -197,7 +197,8 @@ fn first_in(line: &[u8]) -> Word
     next_word(&line[..end], 0)
 }
 
-// The first word that a line of a text says, lines counted from 1. Cost: one pass over the text up to it.
+// The first word that a line of a text says, lines counted from 1. Cost: one pass over the lines before it, up to three over
+// the line.
 pub fn first_said(text: &[u8], line: u64) -> Word
     ensures { λ r. ⌜ IsPart (now (text .entry)) r (firstSaid (lineAt (now (text .entry)) line)) ⌝ }
 {

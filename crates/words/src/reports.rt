@@ -1,5 +1,5 @@
-// What is told of a line of text that is wrong: the reason's text by its number, and a line with that. proofs/Texts holds the code's texts
-// against specs/Reports.antt.
+// What is told of a line of text that is wrong: the reason's text by its number, and a line with that and a form. proofs/Texts holds the
+// code's texts against specs/Reports.antt.
 ghost use mathlib.Core.Path.{_≡_};
 ghost use mathlib.Core.List.{[]};
 ghost use Prim.Native.Nat.{_≤_, _<_};
