@@ -136,9 +136,9 @@ good "largest numbers" 'rig F\nclaim 18446744073709551615 FFFFFFFFFFFFFFFF 42949
 
 bad "unknown call" 'rig F\n\nclam 0 F 1\n' 'line 3: unknown call'
 bad "upper case call" 'RIG F\n' 'line 1: unknown call'
-bad "missing number" '# x\nrig F\nclock 0\nclaim 0 F\n' 'line 4: a number is missing'
-bad "missing everything" 'rig # F\n' 'line 1: a number is missing'
-bad "too many words" 'rig F\nclock 5 6\n' 'line 2: too many words'
+bad "missing number" '# x\nrig F\nclock 0\nclaim 0 F\n' 'line 4: a number is missing: claim CLOCK GROUPS LENGTH'
+bad "missing everything" 'rig # F\n' 'line 1: a number is missing: rig GROUPS'
+bad "too many words" 'rig F\nclock 5 6\n' 'line 2: too many words: clock CLOCK'
 bad "clock is no number" 'rig F\nclock 5x\n' 'line 2: clock is not a number'
 bad "ticket is no number" 'rig F\nrelease 5 A\n' 'line 2: ticket is not a number'
 bad "length is no number" 'rig F\nclaim 5 A -1\n' 'line 2: length is not a number'
@@ -157,6 +157,27 @@ bad "a long word that is no number" 'rig F\nclock 99999999999999999999999x\n' 'l
 bad "rig not first" 'clock 0\nrig F\n' 'line 1: rig must be first'
 bad "second rig in a text" 'rig F\nclock 0\nrig F\n' 'line 3: rig must be first'
 bad "a bad line at the end writes nothing" 'rig F\nclaim 0 1 1\nclaim 0 1 1\nnonsense\n' 'line 4: unknown call'
+
+# forms NUMBER FORM ..: in an edition, a line of the first word of each form alone, and one of that word and nine others, is reported with the
+# form.
+forms() {
+    local edition=$1 head='# a show\n\n' form word
+    [ "$edition" = 1 ] || head="$head edition $edition\t# x\r\n"
+    shift
+    for form; do
+        word=${form%% *}
+        bad "edition $edition: $word alone" "${head}rig F$([ "$edition" = 1 ] || echo ' 3')\n\n\t$word \r\nfoo\n" \
+            "line $([ "$edition" = 1 ] && echo 5 || echo 6): a number is missing: $form"
+        bad "edition $edition: $word and nine words" "$head$word 1 2 3 4 5 6 7 8 9" "line $([ "$edition" = 1 ] && echo 3 || echo 4): too many words: $form"
+    done
+}
+forms 1 'rig GROUPS' 'claim CLOCK GROUPS LENGTH' 'release CLOCK TICKET' 'withdraw CLOCK TICKET' 'clock CLOCK'
+forms 2 'rig GROUPS POOL' 'claim CLOCK GROUPS LENGTH UNITS' 'release CLOCK TICKET' 'withdraw CLOCK TICKET' 'clock CLOCK'
+forms 3 'rig GROUPS POOL' 'claim CLOCK GROUPS LENGTH UNITS DESK' 'release CLOCK TICKET' 'withdraw CLOCK TICKET' 'clock CLOCK' \
+    'desk DESK GUARANTEE LIMIT' 'grace TICKS'
+bad "an edition's line of one word" '# x\n\n\tedition' 'line 3: a number is missing: edition NUMBER'
+bad "an edition's line of three words" 'edition 3 3\nrig F 3\n' 'line 1: too many words: edition NUMBER'
+bad "a second edition's line of one word" 'edition 2\nedition\n' 'line 2: unknown call'
 
 # editions
 good "edition 1 alone" 'edition 1\n' 01
@@ -177,11 +198,11 @@ bad "edition 4" '# x\nedition 4\nrig F\n' 'line 2: unknown edition'
 bad "edition 3 behind a call" 'rig F\nedition 3\n' 'line 2: unknown call'
 bad "a desk in edition 2" 'edition 2\nrig F 3\ndesk 1 64 64\n' 'line 3: unknown call'
 bad "a desk in edition 1" 'rig F\ndesk 1 64 64\n' 'line 2: unknown call'
-bad "edition 2 with a claim's desk" 'edition 2\nrig F 3\nclaim 0 F 1 2 1\n' 'line 3: too many words'
-bad "edition 3 without a claim's desk" 'edition 3\nrig F 3\nclaim 0 F 1 2\n' 'line 3: a number is missing'
-bad "edition 3 without a pool" 'edition 3\nrig F\n' 'line 2: a number is missing'
-bad "a desk without a limit" 'edition 3\nrig F 3\ndesk 1 64\n' 'line 3: a number is missing'
-bad "a desk with a word more" 'edition 3\nrig F 3\ndesk 1 64 64 64\n' 'line 3: too many words'
+bad "edition 2 with a claim's desk" 'edition 2\nrig F 3\nclaim 0 F 1 2 1\n' 'line 3: too many words: claim CLOCK GROUPS LENGTH UNITS'
+bad "edition 3 without a claim's desk" 'edition 3\nrig F 3\nclaim 0 F 1 2\n' 'line 3: a number is missing: claim CLOCK GROUPS LENGTH UNITS DESK'
+bad "edition 3 without a pool" 'edition 3\nrig F\n' 'line 2: a number is missing: rig GROUPS POOL'
+bad "a desk without a limit" 'edition 3\nrig F 3\ndesk 1 64\n' 'line 3: a number is missing: desk DESK GUARANTEE LIMIT'
+bad "a desk with a word more" 'edition 3\nrig F 3\ndesk 1 64 64 64\n' 'line 3: too many words: desk DESK GUARANTEE LIMIT'
 bad "desk is no number" 'edition 3\nrig F 3\ndesk A 64 64\n' 'line 3: desk is not a number'
 bad "guarantee is no number" 'edition 3\nrig F 3\ndesk 1 -1 64\n' 'line 3: guarantee is not a number'
 bad "limit is no number" 'edition 3\nrig F 3\ndesk 1 64 x\n' 'line 3: limit is not a number'
@@ -193,18 +214,18 @@ bad "a claim's desk 256" 'edition 3\nrig F 3\nclaim 0 F 1 2 256\n' 'line 3: numb
 bad "a desk's line before the rig" 'edition 3\ndesk 1 64 64\nrig F 3\n' 'line 2: rig must be first'
 bad "a grace in edition 2" 'edition 2\nrig F 3\ngrace 60000\n' 'line 3: unknown call'
 bad "a grace in edition 1" 'rig F\ngrace 60000\n' 'line 2: unknown call'
-bad "a grace without its ticks" 'edition 3\nrig F 3\ngrace # 60000\n' 'line 3: a number is missing'
-bad "a grace with a word more" 'edition 3\nrig F 3\ngrace 60000 1\n' 'line 3: too many words'
+bad "a grace without its ticks" 'edition 3\nrig F 3\ngrace # 60000\n' 'line 3: a number is missing: grace TICKS'
+bad "a grace with a word more" 'edition 3\nrig F 3\ngrace 60000 1\n' 'line 3: too many words: grace TICKS'
 bad "grace is no number" 'edition 3\nrig F 3\ngrace 60,000\n' 'line 3: grace is not a number'
 bad "grace in hex" 'edition 3\nrig F 3\ngrace EA60\n' 'line 3: grace is not a number'
 bad "grace of 2^32" 'edition 3\nrig F 3\ngrace 4294967296\n' 'line 3: number too large'
 bad "a grace's line before the rig" 'edition 3\ngrace 60000\nrig F 3\n' 'line 2: rig must be first'
 bad "edition 2 behind a call" 'rig F\nedition 2\n' 'line 2: unknown call'
-bad "edition 1 with a pool" 'rig F 3\n' 'line 1: too many words'
-bad "edition 1 with units" 'edition 1\nrig F\nclaim 0 F 1 2\n' 'line 3: too many words'
-bad "edition 2 without a pool" 'edition 2\nrig F\n' 'line 2: a number is missing'
-bad "edition 2 without units" 'edition 2\nrig F 3\nclaim 0 F 1\n' 'line 3: a number is missing'
-bad "edition 2 with a word more" 'edition 2\nrig F 3\nclaim 0 F 1 2 3\n' 'line 3: too many words'
+bad "edition 1 with a pool" 'rig F 3\n' 'line 1: too many words: rig GROUPS'
+bad "edition 1 with units" 'edition 1\nrig F\nclaim 0 F 1 2\n' 'line 3: too many words: claim CLOCK GROUPS LENGTH'
+bad "edition 2 without a pool" 'edition 2\nrig F\n' 'line 2: a number is missing: rig GROUPS POOL'
+bad "edition 2 without units" 'edition 2\nrig F 3\nclaim 0 F 1\n' 'line 3: a number is missing: claim CLOCK GROUPS LENGTH UNITS'
+bad "edition 2 with a word more" 'edition 2\nrig F 3\nclaim 0 F 1 2 3\n' 'line 3: too many words: claim CLOCK GROUPS LENGTH UNITS'
 bad "pool is no number" 'edition 2\nrig F A\n' 'line 2: pool is not a number'
 bad "units are no number" 'edition 2\nrig F 3\nclaim 0 F 1 -1\n' 'line 3: units are not a number'
 bad "pool of 65,536" 'edition 2\nrig F 65536\n' 'line 2: number too large'
@@ -215,14 +236,14 @@ bad "second rig in edition 2" 'edition 2\nrig F 3\nrig F 3\n' 'line 3: rig must 
 bad "edition 0" 'edition 0\n' 'line 1: unknown edition'
 bad "edition 257" 'edition 257\n' 'line 1: unknown edition'
 bad "edition that is no number" 'edition one\n' 'line 1: unknown edition'
-bad "edition without its number" 'edition # 1\nrig F\n' 'line 1: a number is missing'
-bad "edition with a word more" 'edition 1 rig\n' 'line 1: too many words'
+bad "edition without its number" 'edition # 1\nrig F\n' 'line 1: a number is missing: edition NUMBER'
+bad "edition with a word more" 'edition 1 rig\n' 'line 1: too many words: edition NUMBER'
 bad "edition upper case" 'Edition 1\n' 'line 1: unknown call'
 bad "second edition" 'edition 1\nedition 1\n' 'line 2: unknown call'
 bad "edition behind a call" 'rig F\nedition 1\n' 'line 2: unknown call'
-bad "a wrong line behind the edition" '# x\nedition 1\nrig F\n\nclock\n' 'line 5: a number is missing'
+bad "a wrong line behind the edition" '# x\nedition 1\nrig F\n\nclock\n' 'line 5: a number is missing: clock CLOCK'
 bad "a call before the rig behind the edition" 'edition 1\nclock 0\n' 'line 2: rig must be first'
-bad "the count of words goes before their values" 'rig F\nclaim x y\n' 'line 2: a number is missing'
+bad "the count of words goes before their values" 'rig F\nclaim x y\n' 'line 2: a number is missing: claim CLOCK GROUPS LENGTH'
 bad "the first wrong word decides" 'rig F\nclaim 0 64, x\n' 'line 2: group over 63'
 
 # edition 2, there and back: a load whose lines are of the greatest length

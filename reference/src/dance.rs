@@ -28,7 +28,17 @@ pub enum Call {
 
 /// What `beat` writes to standard output and to standard error.
 pub fn beat(text: &[u8]) -> (Vec<u8>, Vec<u8>) {
-    outputs(text, listing)
+    outputs(text, listing, line_form)
+}
+
+/// The form of a line that begins with a word.
+fn line_form(word: &[u8]) -> &'static str {
+    match word {
+        b"rig" => "rig GROUPS",
+        b"claim" => "claim GROUPS",
+        b"release" => "release TICKET",
+        _ => panic!("no line of a show"),
+    }
 }
 
 /// The calls of a show.

@@ -114,6 +114,7 @@ pub struct Wrong {
     pub reason: Reason,
 }
 
+/// The line and the reason, without a form.
 impl fmt::Display for Wrong {
     fn fmt(&self, f: &mut fmt::Formatter) -> fmt::Result {
         write!(f, "line {}: {}", self.line, self.reason.words())
@@ -122,22 +123,68 @@ impl fmt::Display for Wrong {
 
 /// What `load_write` writes to standard output and to standard error.
 pub fn load_write(text: &[u8]) -> (Vec<u8>, Vec<u8>) {
-    outputs(text, make)
+    let edition = edition_of(text);
+    outputs(text, make, |word| line_form(edition, word))
 }
 
 /// What a program that reads a text writes to standard output and to standard
-/// error.
+/// error, by the form of a line that begins with a word.
 pub(crate) fn outputs(
     text: &[u8],
     made: impl FnOnce(&[u8]) -> Result<Vec<u8>, Wrong>,
+    form: impl FnOnce(&[u8]) -> &'static str,
 ) -> (Vec<u8>, Vec<u8>) {
     if text.len() > MAX_TEXT {
         return (Vec::new(), b"text over 1,048,576 bytes\n".to_vec());
     }
     match made(text) {
         Ok(out) => (out, Vec::new()),
-        Err(wrong) => (Vec::new(), format!("{wrong}\n").into_bytes()),
+        Err(wrong) => {
+            let mut message = wrong.to_string();
+            if matches!(wrong.reason, Reason::Missing | Reason::TooMany) {
+                let line = text.split(|&byte| byte == b'\n').nth(wrong.line - 1);
+                let words = words(line.expect("a line of the text"));
+                message += ": ";
+                message += form(words[0]);
+            }
+            message += "\n";
+            (Vec::new(), message.into_bytes())
+        }
     }
+}
+
+/// The forms of lines, with the editions that have them.
+pub const LINE_FORMS: [(&[u8], &str); 11] = [
+    (&[1, 2, 3], "edition NUMBER"),
+    (&[1], "rig GROUPS"),
+    (&[2, 3], "rig GROUPS POOL"),
+    (&[1], "claim CLOCK GROUPS LENGTH"),
+    (&[2], "claim CLOCK GROUPS LENGTH UNITS"),
+    (&[3], "claim CLOCK GROUPS LENGTH UNITS DESK"),
+    (&[1, 2, 3], "release CLOCK TICKET"),
+    (&[1, 2, 3], "withdraw CLOCK TICKET"),
+    (&[1, 2, 3], "clock CLOCK"),
+    (&[3], "desk DESK GUARANTEE LIMIT"),
+    (&[3], "grace TICKS"),
+];
+
+/// The form of a line that begins with a word.
+fn line_form(edition: u8, word: &[u8]) -> &'static str {
+    let found = LINE_FORMS.iter().find(|(editions, form)| {
+        let name = form.split(' ').next().unwrap_or("");
+        editions.contains(&edition) && name.as_bytes() == word
+    });
+    found.expect("a line of the edition").1
+}
+
+/// The edition that a text is read in.
+fn edition_of(text: &[u8]) -> u8 {
+    text.split(|&byte| byte == b'\n')
+        .map(words)
+        .find(|words| !words.is_empty())
+        .filter(|words| words[0] == b"edition")
+        .and_then(|words| edition(&words).ok())
+        .unwrap_or(UNSAID_EDITION)
 }
 
 /// The load of a text.

@@ -29,8 +29,15 @@ fn wrong(text: &str, line: usize, reason: Reason) {
     let expected = Wrong { line, reason };
     assert_eq!(read(text.as_bytes()), Err(expected), "{text:?}");
     assert_eq!(listing(text.as_bytes()), Err(expected));
-    let message = format!("line {line}: {}\n", reason.words()).into_bytes();
-    assert_eq!(beat(text.as_bytes()), (Vec::new(), message));
+    let mut message = format!("line {line}: {}", reason.words());
+    if matches!(reason, Reason::Missing | Reason::TooMany) {
+        let said = text.lines().nth(line - 1).unwrap();
+        let forms = [": rig GROUPS", ": claim GROUPS", ": release TICKET"];
+        let form = forms.iter().find(|form| said.trim()[..2] == form[2..4]);
+        message += form.unwrap();
+    }
+    message += "\n";
+    assert_eq!(beat(text.as_bytes()), (Vec::new(), message.into_bytes()));
     let mut out = [7; 99];
     assert_eq!(write_listing(text.as_bytes(), &mut out), 0);
     assert_eq!(write_listing(text.as_bytes(), &mut []), 0);

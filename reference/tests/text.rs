@@ -8,7 +8,8 @@ use reference::generate;
 use reference::load::{self, Call, MAX_LOAD};
 use reference::table::TableCall;
 use reference::text::{
-    edition_line, groups, line, load_show, load_write, make, Reason, Wrong, MAX_TEXT, REASONS,
+    edition_line, groups, line, load_show, load_write, make, name, Reason, Wrong, LINE_FORMS,
+    MAX_TEXT, REASONS,
 };
 
 /// The load of a text that is right.
@@ -558,7 +559,7 @@ fn a_text_has_its_greatest_length() {
 
 #[test]
 fn a_wrong_line_is_reported_and_nothing_written() {
-    let message = b"line 2: a number is missing\n".to_vec();
+    let message = b"line 2: a number is missing: clock CLOCK\n".to_vec();
     assert_eq!(load_write(b"rig F\nclock\n"), (Vec::new(), message));
     let numbers: Vec<u8> = REASONS.iter().map(|reason| reason.number()).collect();
     let expected = [
@@ -583,6 +584,47 @@ fn a_wrong_line_is_reported_and_nothing_written() {
     ] {
         let text = format!("edition 3\nrig F 0\n{line}");
         let message = format!("line 3: {words}\n").into_bytes();
+        assert_eq!(load_write(text.as_bytes()), (Vec::new(), message));
+    }
+}
+
+/// A line with too few or too many words is reported with its form, which has
+/// a word for each field of the record.
+#[test]
+fn a_wrong_count_is_reported_with_the_form() {
+    for (edition, kinds) in load::FORMATS {
+        let of_calls = kinds
+            .iter()
+            .map(|&(kind, fields)| (name(kind), fields.len()));
+        for (word, fields) in of_calls.chain([("edition", 1)]) {
+            let mut forms = LINE_FORMS.iter().filter(|(editions, form)| {
+                editions.contains(&edition) && form.split(' ').next() == Some(word)
+            });
+            let form = forms.next().expect("a form").1;
+            assert_eq!(forms.next(), None);
+            assert_eq!(form.split(' ').count(), 1 + fields);
+            let head = match word {
+                "edition" => "# x\n\n".to_string(),
+                _ => format!("\nedition {edition}\n"),
+            };
+            for count in (0..=9).filter(|&count| count != fields) {
+                let reason = match count < fields {
+                    true => "a number is missing",
+                    false => "too many words",
+                };
+                let text = format!("{head}\t{word}{}\r\nfoo\n", " x".repeat(count));
+                let message = format!("line 3: {reason}: {form}\n").into_bytes();
+                assert_eq!(load_write(text.as_bytes()), (Vec::new(), message));
+            }
+        }
+    }
+    for (text, message) in [
+        ("edition", "line 1: a number is missing: edition NUMBER\n"),
+        ("edition 2\nedition\n", "line 2: unknown call\n"),
+        ("rig F\ndesk 1\n", "line 2: unknown call\n"),
+        ("edition 4\nrig\n", "line 1: unknown edition\n"),
+    ] {
+        let message = message.as_bytes().to_vec();
         assert_eq!(load_write(text.as_bytes()), (Vec::new(), message));
     }
 }

@@ -4,11 +4,11 @@ ghost use Prim.Native.Nat.{_≤_};
 ghost use lib.ListN.{length};
 ghost use Rattle.frame_listing.specs.InParts.{partRoom};
 
-fn fail(line: u64, reason: u8) {
-    let r = words::report(line, reason);
-    let text = r.text;
+fn fail(text: &[u8], line: u64, reason: u8) {
+    let r = dance_text::report(text, line, reason);
+    let told = r.text;
     let n = r.length;
-    io::write_all(2, &text[..n]);
+    io::write_all(2, &told[..n]);
 }
 
 // The parts of the listing, one after the other, until it has ended or a part is not written.
@@ -32,7 +32,7 @@ fn print_parts(text: &[u8], out: &mut [u8])
 fn print(text: &[u8]) {
     let s = dance_text::survey(text);
     if s.number != 0 {
-        fail(s.line, s.number);
+        fail(text, s.line, s.number);
         return;
     }
     let mut out = io::large_buffer();

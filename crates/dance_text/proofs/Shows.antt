@@ -18,7 +18,7 @@ use Rattle.dance_text.specs.Shows.{saidIn, callsOf, callsIn, hasCall, li
 
 -- ── what a survey says ──
 -- The first line that is wrong tells, or the rest does.
-wrong-cases : (P : Surveyed → Type 0) (n k : ℕ) (s : Surveyed) → (n ≢ 0 → P (record { line = k; number = n; calls = 0 })) → (n ≡ 0 → P s) → P (wrongOr n k s)
+pub wrong-cases : (P : Surveyed → Type 0) (n k : ℕ) (s : Surveyed) → (n ≢ 0 → P (record { line = k; number = n; calls = 0 })) → (n ≡ 0 → P s) → P (wrongOr n k s)
 wrong-cases P zero k s f g = g refl
 wrong-cases P (suc n) k s f g = f (λ z. omega arith)
 

@@ -1,16 +1,21 @@
 // Dance shows as text, a line for each call of a frame table: `parse_line` has what a line says, `survey` the first line of a text that is
-// wrong. Lines, words, sets of groups and reasons are those of the planner's text. No function asks anything of its slices. What a line
-// says is defined in specs/Lines.antt, what is wrong with a text in specs/Shows.antt.
+// wrong, and `report` tells it. Lines, words, sets of groups and reasons are those of the planner's text. No function asks anything of its
+// slices. What a line says is defined in specs/Lines.antt, what is wrong with a text in specs/Shows.antt, the forms of lines in
+// specs/Forms.antt.
 ghost use mathlib.Core.Path.{_≡_};
-ghost use lib.ListN.{drop};
+ghost use Prim.Native.Nat.{_≤_};
+ghost use lib.ListN.{length, drop};
 ghost use Rattle.numbers.specs.Numbers.{mostTickets};
 ghost use Rattle.words.specs.Parts.{wordsIn};
 ghost use Rattle.words.specs.Words.{numberIn};
 ghost use Rattle.words.specs.Reasons.{noTicketReason, tooLargeReason};
+ghost use Rattle.words.specs.Reports.{reported};
 ghost use Rattle.dance_text.specs.declared.Call.the-variants.{Rig, Claim, Release};
+ghost use Rattle.dance_text.specs.Forms.{callForm, formOf};
 ghost use Rattle.dance_text.specs.Lines.{callOr, isCall, lineSays, lineValues, callNamed, parseValues, wordSays, wordsSay};
 ghost use Rattle.dance_text.specs.Shows.{lineNumber, hasCall, surveyOf};
 use words::Field;
+use words::Reported;
 use words::reasons;
 use words::sets;
 
@@ -210,4 +215,32 @@ pub fn survey(text: &[u8]) -> Surveyed
         number: 0,
         calls: calls,
     }
+}
+
+// ---- reports
+// What is wrong with a line, with the form of a call.
+fn with_form(line: u64, reason: u8, name: Name) -> Reported
+    ensures { λ r. ⌜ (r ≡ reported line reason (callForm name)) × (r .length ≤ length (r .text)) ⌝ }
+{
+    match name {
+        Name::NewRig => words::report(line, reason, b"rig GROUPS"),
+        Name::NewClaim => words::report(line, reason, b"claim GROUPS"),
+        Name::EndClaim => words::report(line, reason, b"release TICKET"),
+        Name::NoCall => words::report(line, reason, b""),
+    }
+}
+
+// What is wrong with a line of a text, by the line's number and its reason as `survey` has them. Cost: where the reason wants a form, one
+// pass over the lines before it and up to three over the line.
+pub fn report(text: &[u8], line: u64, reason: u8) -> Reported
+    ensures { λ r. ⌜ (r ≡ reported line reason (formOf (now (text .entry)) line reason)) × (r .length ≤ length (r .text)) ⌝ }
+{
+    if !words::wants_form(reason) {
+        return words::report(line, reason, b"");
+    }
+    let w = words::first_said(text, line);
+    let from = w.from;
+    let to = w.to;
+    let name = call_named(&text[from..to]);
+    with_form(line, reason, name)
 }

@@ -1,5 +1,6 @@
 pub mod Cases
 pub mod Fields
+pub mod Forms
 pub mod Headings
 pub mod Lines
 pub mod Making
@@ -7,5 +8,6 @@ pub mod ReadBack
 pub mod Remaking
 pub mod Showing
 pub mod Tables
+pub mod Told
 pub mod Values
 pub mod Within

@@ -1,4 +1,5 @@
 pub mod Answers
+pub mod Forms
 pub mod Lines
 pub mod Making
 pub mod Parsing

@@ -1,6 +1,6 @@
-// Loads as text, a line for each call: `make` has a text to a load, `show` a load to its text, `parse_line` and `put_line` one line.
-// No public function asks anything of its slices. What a line says is defined in specs/Parsing.antt, the load that lines make in
-// specs/Making.antt, and the lines of a load in specs/Lines.antt.
+// Loads as text, a line for each call: `make` has a text to a load, `report` tells the line that is wrong, `show` has a load to its text,
+// `parse_line` and `put_line` one line. No public function asks anything of its slices. What a line says is defined in specs/Parsing.antt,
+// the load that lines make in specs/Making.antt, the lines of a load in specs/Lines.antt, and the forms of lines in specs/Forms.antt.
 ghost use mathlib.Core.Path.{_≡_};
 ghost use lib.ListN.{length};
 ghost use Rattle.load_text.specs.Answers.{madeValues};
@@ -9,6 +9,7 @@ ghost use Rattle.load_text.specs.Making.{Starts, Adds, Gathers, madeOf, 
 
 mod parse;
 mod print;
+mod reports;
 mod texts;
 
 use load::Written;
@@ -18,6 +19,7 @@ pub use parse::parse_line;
 pub use print::Printed;
 pub use print::put_line;
 pub use print::show;
+pub use reports::report;
 
 // The length of the load that a text makes; or the first line that is wrong, and its number; or 15, at line 0.
 pub enum Made {
@@ -33,7 +35,7 @@ pub struct Start {
     pub at: usize,
 }
 
-fn heading(text: &[u8]) -> Start
+pub(crate) fn heading(text: &[u8]) -> Start
     ensures { λ r. ⌜ Starts (now (text .entry)) r ⌝ }
 {
     let mut at: usize = 0;

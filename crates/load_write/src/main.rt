@@ -2,11 +2,11 @@
 // A line that is wrong is reported on standard error, and then nothing is written.
 use load_text::Made;
 
-fn fail(line: u64, reason: u8) {
-    let r = words::report(line, reason);
-    let text = r.text;
+fn fail(text: &[u8], line: u64, reason: u8) {
+    let r = load_text::report(text, line, reason);
+    let told = r.text;
     let n = r.length;
-    io::write_all(2, &text[..n]);
+    io::write_all(2, &told[..n]);
 }
 
 fn write(text: &[u8]) {
@@ -15,7 +15,7 @@ fn write(text: &[u8]) {
         Made::Load(n) => {
             streams::write_output(b"load_write", &load[..n]);
         }
-        Made::Mistake(line, reason) => fail(line, reason),
+        Made::Mistake(line, reason) => fail(text, line, reason),
     }
 }
 

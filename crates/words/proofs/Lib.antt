@@ -1,4 +1,5 @@
 pub mod Cases
+pub mod Lines
 pub mod Names
 pub mod Numbers
 pub mod Parts

@@ -7,6 +7,7 @@ use mathlib.Core.List.{List, [], _∷_}
 use lib.Dec.{eqb, leb}
 use lib.ListN.{length, take, drop, getD}
 use Rattle.numerals.specs.Texts.{space, lineFeed}
+use Rattle.words.specs.declared.Word.{Word}
 
 -- ── bytes ──
 abbrev pub carriageReturn : ℕ
@@ -112,9 +113,23 @@ pub record FirstWord (l : List ℕ) (at from to : ℕ) : Type 0 where
   pub high : to ≤ max at (length l)
   pub words : wordsIn (drop at l) ≡ cond (leb to from) [] (wordAt l from to ∷ wordsIn (drop to l))
 
+-- What the code finds of a part: these bytes, from its first to after its last.
+pub record IsPart (l : List ℕ) (r : Word) (w : List ℕ) : Type 0 where
+  pub order : r .from ≤ r .to
+  pub high : r .to ≤ length l
+  pub is : wordAt l (r .from) (r .to) ≡ w
+
 -- A line without the carriage return that ends it, and of that what stands before its comment.
 unfoldable pub chomped : List ℕ → List ℕ
 chomped l = cond (is carriageReturn (getD l (length l - 1) 0)) (take (length l - 1) l) l
 
 unfoldable pub said : List ℕ → List ℕ
 said l = until (is hash) (chomped l)
+
+-- The first word that a line says; empty where it says nothing.
+unfoldable pub firstSaid : List ℕ → List ℕ
+firstSaid l = getD (wordsIn (said l)) 0 []
+
+-- The line of a text that has a number, counted from 1; empty where there is none.
+unfoldable pub lineAt : List ℕ → ℕ → List ℕ
+lineAt text k = getD ([] ∷ linesIn text) k []

@@ -3,10 +3,10 @@
 // and words) and specs/Words.antt (what a word says).
 ghost use mathlib.Core.Path.{_≡_};
 ghost use mathlib.Core.Bool.{true, _||_};
-ghost use Prim.Native.Nat.{_≤_, _<_, max};
-ghost use lib.ListN.{length, take};
+ghost use Prim.Native.Nat.{_-_, _≤_, _<_, max};
+ghost use lib.ListN.{length, take, drop};
 ghost use Rattle.words.specs.Answers.{wordValues};
-ghost use Rattle.words.specs.Parts.{FirstWord, chomped, edgeOf, is, none, placeOf, said};
+ghost use Rattle.words.specs.Parts.{FirstWord, IsPart, chomped, edgeOf, firstSaid, is, lineAt, linesIn, none, placeOf, said};
 ghost use Rattle.words.specs.Words.{digitOf, digitsIn, numberIn, numberValues, passes, upToMost, valueIn};
 
 pub mod reasons;
@@ -15,6 +15,7 @@ pub mod sets;
 
 pub use reports::Reported;
 pub use reports::report;
+pub use reports::wants_form;
 
 // A word of a line, from its first byte to after its last. Both are equal where there is no word.
 pub struct Word {
@@ -52,7 +53,7 @@ pub enum Mark {
     NoDigit(u64),
 }
 
-fn is_either(b: u8, c: u8, d: u8) -> bool
+pub(crate) fn is_either(b: u8, c: u8, d: u8) -> bool
     ensures { λ r. ⌜ r ≡ (is c b || is d b) ⌝ }
 {
     (b == c) | (b == d)
@@ -170,4 +171,48 @@ pub fn said_end(line: &[u8]) -> usize
 {
     let size = line_end(line);
     place(&line[..size], b'#', 0)
+}
+
+// The place where a line of a text begins, lines counted from 1, or the text's end. Cost: one pass over the lines before it.
+fn line_start(text: &[u8], line: u64) -> usize
+    ensures { λ r. ⌜ linesIn (drop r (now (text .entry))) ≡ drop (line - 1) (linesIn (now (text .entry))) ⌝ }
+{
+    let mut at: usize = 0;
+    let mut k: u64 = 1;
+    while k < line {
+        if text.len() <= at {
+            return at;
+        }
+        at = place(text, 10, at) + 1;
+        k += 1;
+    }
+    at
+}
+
+// The first word that a line says.
+fn first_in(line: &[u8]) -> Word
+    ensures { λ r. ⌜ IsPart (now (line .entry)) r (firstSaid (now (line .entry))) ⌝ }
+{
+    let end = said_end(line);
+    next_word(&line[..end], 0)
+}
+
+// The first word that a line of a text says, lines counted from 1. Cost: one pass over the lines before it, up to three over
+// the line.
+pub fn first_said(text: &[u8], line: u64) -> Word
+    ensures { λ r. ⌜ IsPart (now (text .entry)) r (firstSaid (lineAt (now (text .entry)) line)) ⌝ }
+{
+    if line == 0 {
+        return Word { from: 0, to: 0 };
+    }
+    let at = line_start(text, line);
+    if text.len() <= at {
+        return Word { from: 0, to: 0 };
+    }
+    let end = place(text, 10, at);
+    let w = first_in(&text[at..end]);
+    Word {
+        from: at + w.from,
+        to: at + w.to,
+    }
 }

@@ -128,8 +128,8 @@ fn graces_of_edition_3() {
 fn the_reasons() {
     for (line, reason) in [
         ("look 1", "unknown call"),
-        ("clock", "a number is missing"),
-        ("clock 1 2", "too many words"),
+        ("clock", "a number is missing: clock CLOCK"),
+        ("clock 1 2", "too many words: clock CLOCK"),
         ("clock x", "clock is not a number"),
         ("release 0 x", "ticket is not a number"),
         ("claim 0 F x", "length is not a number"),
@@ -140,19 +140,25 @@ fn the_reasons() {
         ("rig F", "rig must be first"),
         ("edition 1", "unknown call"),
         ("edition 2", "unknown call"),
-        ("claim 0 F 1 0", "too many words"),
-        ("rig F 0", "too many words"),
+        ("claim 0 F 1 0", "too many words: claim CLOCK GROUPS LENGTH"),
+        ("rig F 0", "too many words: rig GROUPS"),
     ] {
         let message = format!("line 4: {reason}\n").into_bytes();
         let text = format!("# x\nrig F\n\n{line}\nfoo\n");
         assert_eq!(agreed(text.as_bytes()), (Vec::new(), message), "{line}");
     }
     for (line, reason) in [
-        ("rig F", "a number is missing"),
-        ("claim 0 F 1", "a number is missing"),
-        ("rig F 0 0", "too many words"),
-        ("claim 0 F 1 0 0", "too many words"),
-        ("clock 0 0", "too many words"),
+        ("rig F", "a number is missing: rig GROUPS POOL"),
+        (
+            "claim 0 F 1",
+            "a number is missing: claim CLOCK GROUPS LENGTH UNITS",
+        ),
+        ("rig F 0 0", "too many words: rig GROUPS POOL"),
+        (
+            "claim 0 F 1 0 0",
+            "too many words: claim CLOCK GROUPS LENGTH UNITS",
+        ),
+        ("clock 0 0", "too many words: clock CLOCK"),
         ("rig F x", "pool is not a number"),
         ("rig x x", "groups are not hex or a list"),
         ("rig F 65536", "number too large"),
@@ -172,13 +178,19 @@ fn the_reasons() {
         assert_eq!(agreed(text.as_bytes()), (Vec::new(), message), "{line}");
     }
     for (line, reason) in [
-        ("rig F", "a number is missing"),
-        ("claim 0 F 1 0", "a number is missing"),
-        ("desk", "a number is missing"),
-        ("desk 1 2", "a number is missing"),
-        ("rig F 0 1", "too many words"),
-        ("claim 0 F 1 0 1 1", "too many words"),
-        ("desk 1 2 3 4", "too many words"),
+        ("rig F", "a number is missing: rig GROUPS POOL"),
+        (
+            "claim 0 F 1 0",
+            "a number is missing: claim CLOCK GROUPS LENGTH UNITS DESK",
+        ),
+        ("desk", "a number is missing: desk DESK GUARANTEE LIMIT"),
+        ("desk 1 2", "a number is missing: desk DESK GUARANTEE LIMIT"),
+        ("rig F 0 1", "too many words: rig GROUPS POOL"),
+        (
+            "claim 0 F 1 0 1 1",
+            "too many words: claim CLOCK GROUPS LENGTH UNITS DESK",
+        ),
+        ("desk 1 2 3 4", "too many words: desk DESK GUARANTEE LIMIT"),
         ("claim 0 F 1 0 x", "desk is not a number"),
         ("claim 0 F 1 x x", "units are not a number"),
         ("claim 0 F 1 0 256", "number too large"),
@@ -191,9 +203,9 @@ fn the_reasons() {
         ("desk 1 1 256", "number too large"),
         ("Desk 1 1 1", "unknown call"),
         ("client 1 1 1", "unknown call"),
-        ("grace", "a number is missing"),
-        ("grace 1 2", "too many words"),
-        ("grace x y", "too many words"),
+        ("grace", "a number is missing: grace TICKS"),
+        ("grace 1 2", "too many words: grace TICKS"),
+        ("grace x y", "too many words: grace TICKS"),
         ("grace x", "grace is not a number"),
         ("grace -1", "grace is not a number"),
         ("grace 60,000", "grace is not a number"),
@@ -228,6 +240,19 @@ fn the_reasons() {
             "edition 3\ngrace 4294967296\n",
             "line 2: number too large\n",
         ),
+        (
+            "# x\nedition\n",
+            "line 2: a number is missing: edition NUMBER\n",
+        ),
+        ("edition 3 3\n", "line 1: too many words: edition NUMBER\n"),
+        (
+            "edition 3\nrig F 0\nwithdraw 1\n",
+            "line 3: a number is missing: withdraw CLOCK TICKET\n",
+        ),
+        (
+            "rig F\nrelease 1 2 3\n",
+            "line 2: too many words: release CLOCK TICKET\n",
+        ),
         ("grace 1\n", "line 1: unknown call\n"),
         ("rig F\ngrace 1\n", "line 2: unknown call\n"),
         ("rig F\ngrace x\n", "line 2: unknown call\n"),
@@ -238,7 +263,7 @@ fn the_reasons() {
         ("edition 2\nrig F 0\ndesk 1 1 1\n", "line 3: unknown call\n"),
         (
             "edition 2\nrig F 0\nclaim 0 F 1 0 1\n",
-            "line 3: too many words\n",
+            "line 3: too many words: claim CLOCK GROUPS LENGTH UNITS\n",
         ),
     ] {
         let expected = (Vec::new(), message.as_bytes().to_vec());

@@ -1,4 +1,4 @@
--- A report is a part of its 64 bytes.
+-- A report is a part of its 128 bytes.
 use lib.ListN.{length-take}
 use native.Mathlib.Omega.{arith}
 use borrow.Author.Needs.{needs}

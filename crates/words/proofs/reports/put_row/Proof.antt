@@ -10,7 +10,7 @@ use Rattle.words.proofs.reports.put_row.Tie as tie
 
 returns : tie.Need-returns
 unfolding reasonTexts reasons
-returns c = let p = c .before .before in put-as _ _ (text-is reasonTexts (p .before .before .before .before .before .args .i) .1) (put (p .put-bytes .ensures))
+returns c = let p = c .before .before in put-as _ _ (text-is 32 reasonTexts (p .before .before .before .before .before .args .i) .1) (put (p .put-bytes .ensures))
 
 pub put-row-spec : {M : Type 1} → statement M
 unfolding reasonTexts reasons
@@ -18,6 +18,6 @@ put-row-spec =
     tie.close
     (tie.spec
     (λ c. search needs) (λ c. search needs) (λ c. search needs) (λ c. search needs)
-    (λ c. text-is reasonTexts (c .before .before .before .args .i) .0)
-    (λ c. simp length-take (omega (arith, text-is reasonTexts (c .before .before .before .before .args .i) .0))) (λ c κs. search needs)
+    (λ c. text-is 32 reasonTexts (c .before .before .before .args .i) .0)
+    (λ c. simp length-take (omega (arith, text-is 32 reasonTexts (c .before .before .before .before .args .i) .0))) (λ c κs. search needs)
     (λ c. search needs) returns)

@@ -1,4 +1,4 @@
--- A report goes into 64 bytes.
+-- A report goes into 128 bytes.
 use native.Mathlib.Omega.{arith}
 use borrow.Author.Needs.{needs}
 use Rattle.words.proofs.Texts.{report-goes}
@@ -8,7 +8,7 @@ use Rattle.words.proofs.reports.report.Tie as tie
 returns : tie.Need-returns
 returns c =
     let p = c .before in
-    let g = report-goes _ _ (p .put-report .ensures) in
+    let g = report-goes _ _ _ (p .put-report .ensures) in
     (g .0, omega (arith, g .1, p .put-report .kept .0))
 
 pub report-spec : {M : Type 1} → statement M
