@@ -314,4 +314,54 @@ verdict "text of 1,048,576 bytes"
 : >"$tmp/want"
 verdict "text of 1,048,577 bytes" "text over 1,048,576 bytes"
 
+# The line of a record, by the command that docs/FORMAT.md gives, taken from there: `record_line TEXT N` prints what it prints.
+finder=$(sed -n 's/^    \(grep .*\) examples\/overdue\.show | sed -n 14p$/\1 "$1" | sed -n "${2}p"/p' docs/FORMAT.md)
+record_line() {
+    eval "$finder"
+}
+
+# records NAME TEXT: for every record of a text that makes a load the command prints a line that stands in the text where its number says
+# and that says, alone, what load_show prints of the record; and none behind the last.
+records() {
+    local text=$2 calls line wrong="" n=0
+    run load_write <"$text"
+    mv "$tmp/out" "$tmp/load"
+    run load_show <"$tmp/load"
+    mv "$tmp/out" "$tmp/text"
+    calls=$(($(wc -l <"$tmp/text") - 1))
+    while [ "$n" -lt "$calls" ]; do
+        n=$((n + 1))
+        record_line "$text" "$n" >"$tmp/found"
+        line=$(sed -nE '1s/^([0-9]+):.*/\1/p' "$tmp/found")
+        sed -E '1s/^[0-9]+://' "$tmp/found" >"$tmp/line"
+        sed -n "${line:-1}p" "$text" | grep -a '' | cmp -s - "$tmp/line" || wrong="$wrong $n"
+        # behind the edition, and the rig if it is not that
+        { head -n $((n > 1 ? 2 : 1)) "$tmp/text"; cat "$tmp/line"; } | run load_write
+        mv "$tmp/out" "$tmp/load"
+        run load_show <"$tmp/load"
+        sed -n "$((n + 1))p" "$tmp/text" | cmp -s - <(tail -n 1 "$tmp/out") || wrong="$wrong $n"
+    done
+    record_line "$text" $((n + 1)) >"$tmp/out"
+    : >"$tmp/want"
+    if [ "$n" -eq 0 ] || [ -n "$wrong" ]; then echo "of $n records wrong:$wrong" >>"$tmp/err"; fi
+    verdict "$1"
+}
+
+for show in examples/*.show; do
+    # examples/duet.show is a dance show, which makes no load
+    [ "$show" = examples/duet.show ] || records "the records of $show" "$show"
+done
+printf '%b' '# edition\r\n\t\n \t edition 003#x\r\n\r\n\trig 0-3\t3#edition\n#\n  # \0377\0000 \n\tgrace 5 # 1\n\n\tdesk 1 64 64\r\n # clock 4\nclaim 0 3, 10 0 1#\n' >"$tmp/odd"
+printf '\t# release 3 1\r\n \t clock 00007#8\r\n\r\nrelease 8 1' >>"$tmp/odd"
+records "the records of a text with odd lines" "$tmp/odd"
+record_line examples/overdue.show 14 | sed 's/^/    /' >"$tmp/out"
+grep -A 4 ' examples/overdue.show | sed -n 14p$' docs/FORMAT.md | tail -n 1 >"$tmp/want"
+verdict "the line that docs/FORMAT.md shows"
+record_line examples/duet.show 13 | sed 's/^[0-9]*://' >"$tmp/out"
+tail -n 1 examples/duet.show >"$tmp/want"
+verdict "the last call of a dance show"
+record_line examples/duet.show 14 >"$tmp/out"
+: >"$tmp/want"
+verdict "no call behind the last of a dance show"
+
 total
