@@ -22,6 +22,7 @@ pub mod GrantCounts
 pub mod OnePacking
 pub mod NoOverrun
 pub mod Lookup
+pub mod Chains
 pub mod NoUnits
 pub mod OneClient
 pub mod NoGrace

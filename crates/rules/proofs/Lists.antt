@@ -9,7 +9,7 @@ use native.Mathlib.Nat.{min-eq-left, min-eq-right, le-of-lt}
 use lib.Dec.{eqb}
 use lib.ListN.{length, drop}
 use borrow.Author.Tests.{eqb-true, eqb-false, eq-eqb}
-use Rattle.rules.specs.Lists.{_∈_, greatest, least, sum, all, any, keep, Ascends}
+use Rattle.rules.specs.Lists.{_∈_, greatest, least, sum, all, any, keep, firstWith, Ascends}
 use Rattle.rules.proofs.Bools.{and-l, and-r, and-i, or-e, or-l, or-r, or-fl, or-fr, split, clash, by-test, by-order}
 
 -- Every element has P; every two have R.
@@ -143,6 +143,9 @@ module _ {A : Type 0} where
   any-none p h (List·Memᴰ·head {x = y} {xs = l} e) = ap p e ∙ or-fl (p y) (any p l) h
   any-none p h (List·Memᴰ·tail {x = y} {xs = l} m) = any-none p (or-fr (p y) (any p l) h) m
 
+  pub any-i : (p : A → Bool) {x : A} {l : List A} → p x ≡ true → x ∈ l → any p l ≡ true
+  any-i p {x} {l} h m = by-test (any p l) (λ e. e) (λ e. clash h (any-none p e m))
+
   pub any-false : (p : A → Bool) (l : List A) → Each (λ x. p x ≡ false) l → any p l ≡ false
   unfolding any
   any-false p [] h = refl
@@ -195,6 +198,16 @@ module _ {A : Type 0} where
   unfolding any
   any-cong p q [] h = refl
   any-cong p q (x ∷ l) h = rw (h x here, any-cong p q l (λ y m. h y (there m)))
+
+  -- ── the first that passes ──
+  pub first-e : (p : A → Bool) (d : A) {x : A} {l : List A} → p x ≡ true → x ∈ l → firstWith p d l ∈ l × (p (firstWith p d l) ≡ true)
+  unfolding firstWith
+  first-e p d h (List·Memᴰ·head {x = y} {xs = l} e) =
+      let q : p y ≡ true = sym (ap p e) ∙ h in
+      rw q (here, q)
+  first-e p d h (List·Memᴰ·tail {x = y} {xs = l} m) =
+      let r = first-e p d h m in
+      by-test (p y) (λ e. rw e (here, e)) (λ e. rw e (there (r .0), r .1))
 
   -- ── one element more ──
   pub snoc-each : (P : A → Type 0) (l : List A) (w : A) → Each P l → P w → Each P (l ++ (w ∷ []))
@@ -300,6 +313,16 @@ module _ {A : Type 0} (f : A → ℕ) where
   ascends-keep p (x ∷ l) u =
       let ih = ascends-keep p l (u .1) in
       by-test (p x) (λ e. rw e (λ y m. u .0 y (keep-e p l m .0), ih)) (λ e. rw e ih)
+
+  -- The first that passes has the lowest number.
+  pub ascends-first : (p : A → Bool) (d : A) {x : A} {l : List A} → Ascends f l → p x ≡ true → x ∈ l → f (firstWith p d l) ≤ f x
+  unfolding firstWith
+  ascends-first p d u h (List·Memᴰ·head {x = y} {xs = l} e) =
+      let q : p y ≡ true = sym (ap p e) ∙ h in
+      rw q (omega (arith, ap f e))
+  ascends-first p d {x} u h (List·Memᴰ·tail {x = y} {xs = l} m) =
+      let r = ascends-first p d (u .1) h m in
+      by-test (p y) (λ e. rw e (omega (arith, u .0 x m))) (λ e. rw e r)
 
   pub ascends-drop : (i : ℕ) (l : List A) → Ascends f l → Ascends f (drop i l)
   ascends-drop zero l u = u

@@ -15,5 +15,6 @@ pub mod NoUnits
 pub mod OneClient
 pub mod NoGrace
 pub mod InTime
+pub mod Chains
 pub mod Tables
 pub mod Scenarios

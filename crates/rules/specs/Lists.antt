@@ -1,4 +1,5 @@
 -- The few functions on lists that the rules are written with.
+use mathlib.Core.Logic.{_≢_}
 use mathlib.Core.Bool.{Bool, true, false, _&&_, _||_, cond}
 use mathlib.Core.List.{List, [], _∷_, List·Memᴰ}
 use Prim.Native.Nat.{ℕ, _+_, _<_, min, max}
@@ -37,6 +38,16 @@ any p (x ∷ l) = p x || any p l
 unfoldable pub keep : {A : Type 0} → (A → Bool) → List A → List A
 keep p [] = []
 keep p (x ∷ l) = cond (p x) (x ∷ keep p l) (keep p l)
+
+-- The first element that passes p; d where none does.
+unfoldable pub firstWith : {A : Type 0} → (A → Bool) → A → List A → A
+firstWith p d [] = d
+firstWith p d (x ∷ l) = cond (p x) x (firstWith p d l)
+
+-- No two elements have the same number f x.
+abbrev pub Distinct : {A : Type 0} → (A → ℕ) → List A → Type 0
+Distinct f [] = Unit {0}
+Distinct {A} f (x ∷ l) = ((y : A) → y ∈ l → f x ≢ f y) × Distinct f l
 
 -- The numbers f x ascend, so none of them stands twice.
 abbrev pub Ascends : {A : Type 0} → (A → ℕ) → List A → Type 0

@@ -1,19 +1,21 @@
 -- The starred plots of document 01 ("Plots to try") as one table, and two cases more: what the first packing of a call is for, and the
 -- order of grants; then plots of claims that draw on a pool, with the units free, and of holders that overrun under a grace; what lookup tells
--- of two tickets; and clients with shares.
+-- of two tickets; blocking chains; and clients with shares.
 -- proofs/AllScenarios has the theorem that covers the table.
-use mathlib.Core.Bool.{Bool, true, false}
-use mathlib.Core.List.{List, [], _∷_, _++_, map}
-use Prim.Native.Nat.{ℕ, _+_}
+use mathlib.Core.Bool.{Bool, true, false, cond}
+use mathlib.Core.List.{List, [], _∷_, _++_, map, reverse}
+use Prim.Native.Nat.{ℕ, zero, suc, _+_, _-_, _*_}
+use lib.Dec.{eqb}
 use lib.ListN.{replicate}
 use Rattle.rules.specs.declared.Claim.{Claim}
 use Rattle.rules.specs.declared.Common.{Common}
 use Rattle.rules.specs.declared.Common.the-variants.{Unknown, Shared, Apart}
-use Rattle.rules.specs.declared.Phase.the-variants.{On}
+use Rattle.rules.specs.declared.Phase.the-variants.{Waiting, On}
 use Rattle.rules.specs.declared.Standing.{Standing}
 use Rattle.rules.specs.declared.Standing.the-variants.{NotPending, Waits, Holds}
 use Rattle.rules.specs.Tests.{firstOf}
-use Rattle.rules.specs.Calls.{Model, withIssued, withPending, asking, claims, Call, timed, release, withdraw, clock, declare, setGrace, Answer, tests, new, standingOf, commonOf, freeOf, after, answers}
+use Rattle.rules.specs.Calls.{Model, settingOf, withIssued, withPending, asking, claims, Call, timed, release, withdraw, clock, declare, setGrace, Answer, tests, new, standingOf, commonOf, freeOf, after, answers}
+use Rattle.rules.specs.Chains.{chain, ChainValues, chainRefused, chainOf}
 
 -- Calls made before, calls made now, their answers, and what lookup then tells of tickets 1 to 4.
 pub record Scenario : Type 0 where
@@ -243,6 +245,67 @@ pairs =
 
 unfoldable pub toldOf : Pair → Common
 toldOf p = commonOf (p .first) (p .second) (after rigF (p .calls) .pending)
+
+-- Calls on a table of groups F hex and a pool, a ticket, and what lookup then tells of its blocking chain: its tickets, or 8 or 10.
+pub record ChainScenario : Type 0 where
+  pub pool : ℕ
+  pub calls : List Call
+  pub ticket : ℕ
+  pub told : ChainValues
+
+abbrev pub explained : ℕ → List Call → ℕ → List ℕ → ChainScenario
+explained k c n l = record { pool = k; calls = c; ticket = n; told = record { number = 0; tickets = l } }
+
+abbrev pub unexplained : ℕ → List Call → ℕ → ℕ → ChainScenario
+unexplained k c n r = record { pool = k; calls = c; ticket = n; told = chainRefused r }
+
+unfoldable pub chainScenarios : List ChainScenario
+chainScenarios =
+    -- S: ticket 3 starts as 2 ends, 2 as 1 ends; the same at clock 12, where ticket 1 has overrun, without a grace and with one
+    explained 0 S 3 (3 ∷ 2 ∷ 1 ∷ [])
+    ∷ explained 0 S 2 (2 ∷ 1 ∷ [])
+    ∷ explained 0 (S ++ (clock 12 ∷ [])) 3 (3 ∷ 2 ∷ 1 ∷ [])
+    ∷ explained 0 (setGrace 5 ∷ S ++ (clock 12 ∷ [])) 3 (3 ∷ 2 ∷ 1 ∷ [])
+    ∷ explained 0 (setGrace 5 ∷ S ++ (claim 12 0x8 3 ∷ [])) 4 (4 ∷ 2 ∷ 1 ∷ [])
+    -- a claim waits for one of a higher ticket that came into the gap before it
+    ∷ explained 0 (claim 0 0x8 10 ∷ claim 0 0xC 10 ∷ claim 0 0x6 10 ∷ release 4 1 ∷ []) 2 (2 ∷ 3 ∷ [])
+    -- through the pool; through the pool and then a group; to an overrun holder of units, without a grace and with one
+    ∷ explained 2 (drawing 0 0x1 10 1 ∷ drawing 0 0x2 7 1 ∷ drawing 0 0x4 5 1 ∷ []) 3 (3 ∷ 2 ∷ [])
+    ∷ explained 3 (drawing 0 0x1 10 1 ∷ drawing 0 0x1 10 2 ∷ drawing 0 0x2 11 2 ∷ []) 3 (3 ∷ 2 ∷ 1 ∷ [])
+    ∷ explained 2 (drawing 0 0x0 10 2 ∷ drawing 0 0x0 10 1 ∷ clock 12 ∷ []) 2 (2 ∷ 1 ∷ [])
+    ∷ explained 2 (setGrace 5 ∷ drawing 0 0x0 10 2 ∷ drawing 0 0x0 10 1 ∷ clock 12 ∷ []) 2 (2 ∷ 1 ∷ [])
+    -- two with the same end: the lower ticket; also where it waits and the other is on, and where only the other is why the claim waits
+    ∷ explained 0 (claim 0 0x1 10 ∷ claim 0 0x2 10 ∷ claim 0 0x3 5 ∷ []) 3 (3 ∷ 1 ∷ [])
+    ∷ explained 0 (claim 0 0x1 5 ∷ claim 0 0x1 5 ∷ claim 0 0x2 10 ∷ claim 0 0x3 5 ∷ []) 4 (4 ∷ 2 ∷ 1 ∷ [])
+    ∷ explained 2 (drawing 0 0x0 10 1 ∷ drawing 0 0x1 10 0 ∷ drawing 0 0x1 5 1 ∷ []) 3 (3 ∷ 1 ∷ [])
+    ∷ explained 3 (drawing 0 0x0 10 1 ∷ drawing 0 0x0 10 2 ∷ drawing 0 0x0 5 2 ∷ []) 3 (3 ∷ 1 ∷ [])
+    -- but not where the lower shares nothing with it: no group, and of two that share the pool both draw
+    ∷ explained 0 (claim 0 0x1 10 ∷ claim 0 0x2 10 ∷ claim 0 0x2 5 ∷ []) 3 (3 ∷ 2 ∷ [])
+    ∷ explained 2 (drawing 0 0x1 10 1 ∷ drawing 0 0x2 10 0 ∷ drawing 0 0x2 5 0 ∷ []) 3 (3 ∷ 2 ∷ [])
+    -- 8: never issued, or taken away; 10: on, from the first or since a release
+    ∷ unexplained 0 S 4 8
+    ∷ unexplained 0 S 0 8
+    ∷ unexplained 0 (S ++ (release 4 1 ∷ [])) 1 8
+    ∷ unexplained 0 S 1 10
+    ∷ unexplained 0 (S ++ (release 4 1 ∷ [])) 2 10
+    ∷ []
+
+unfoldable pub chainTold : ChainScenario → ChainValues
+chainTold x =
+    let m : Model = after (new 0xF (x .pool) true .model) (x .calls) in
+    chainOf (settingOf m) (x .ticket) (m .pending)
+
+-- Claims of one group and length, as calls at clock 0 leave them: ticket 1 is on, and each other starts as the one before it ends. The last of 64
+-- has a chain of them all.
+abbrev pub queued : ℕ → Claim
+queued n = record { groups = 0x1; phase = cond (eqb n 1) (On 0) (Waiting (n * 10 - 10)); length = 10; ticket = n; units = 0; client = 1 }
+
+unfoldable pub downFrom : ℕ → List ℕ
+downFrom zero = []
+downFrom (suc n) = suc n ∷ downFrom n
+
+unfoldable pub longestChain : List Claim
+longestChain = chain (settingOf rigF) (map queued (reverse (downFrom 64))) (queued 64)
 
 -- Declarations on a new table of groups F hex, then so many claims of clients 1 and 2 pending, a call, and its number: 0 where it is accepted.
 pub record Sharing : Type 0 where
