@@ -77,6 +77,14 @@ pub enum Common {
     Apart,
 }
 
+// What a lookup tells of why a ticket waits: 8 where it is not pending, 10 where it is on; else 0 and the tickets of its blocking chain, in
+// the first `count` places, 0 behind them.
+pub struct Blocking {
+    pub number: u8,
+    pub count: usize,
+    pub tickets: [u16; 64],
+}
+
 // A request of client 1 for groups for a length of time, and nothing else.
 pub fn asking(groups: u64, length: u32) -> Request
     ensures { λ r. ⌜ r ≡ asking groups length ⌝ }
