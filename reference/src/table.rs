@@ -541,12 +541,12 @@ impl Table {
     }
 
     /// The end of a claim at the table's clock.
-    fn end(&self, claim: &Claim) -> u64 {
+    pub fn end(&self, claim: &Claim) -> u64 {
         claim.end(self.clock, self.grace)
     }
 
     /// The pending claim with this ticket.
-    fn find(&self, ticket: u16) -> Option<&Claim> {
+    pub fn find(&self, ticket: u16) -> Option<&Claim> {
         self.claims.iter().find(|claim| claim.ticket == ticket)
     }
 
