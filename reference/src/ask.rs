@@ -1,16 +1,17 @@
 //! A question about the table that a load leaves: how a ticket stands, which
-//! group two tickets share, or how many units are free.
+//! group two tickets share, how many units are free, or why a ticket waits.
 //!
 //! ```text
 //! lookup TICKET
 //! common TICKET TICKET
 //! free
+//! why TICKET
 //! ```
 
 use crate::listing::stop;
 use crate::load::{new_table, Call, Reader};
 use crate::refusal::Refusal;
-use crate::table::{Common, Lookup, Table};
+use crate::table::{Common, Lookup, State, Table};
 use crate::text::number;
 
 /// The most bytes of a question.
@@ -20,6 +21,7 @@ pub const WRONG: &str = "\
 usage: ask lookup TICKET < LOAD
        ask common TICKET TICKET < LOAD
        ask free < LOAD
+       ask why TICKET < LOAD
 ";
 
 /// A question.
@@ -28,6 +30,7 @@ pub enum Question {
     Lookup(u16),
     Common(u16, u16),
     Free,
+    Why(u16),
 }
 
 /// What `ask` writes to standard output and to standard error. The question is
@@ -59,6 +62,7 @@ pub fn read(line: &[u8]) -> Option<Question> {
         [b"lookup", one] => Some(Question::Lookup(ticket(one)?)),
         [b"common", one, other] => Some(Question::Common(ticket(one)?, ticket(other)?)),
         [b"free"] => Some(Question::Free),
+        [b"why", one] => Some(Question::Why(ticket(one)?)),
         _ => None,
     }
 }
@@ -119,7 +123,29 @@ fn answer(table: &Table, question: Question) -> String {
             Common::Unknown => not_pending(second),
         },
         Question::Free => format!("{} of {} units free\n", table.free(), table.pool()),
+        Question::Why(ticket) => match table.why(ticket) {
+            Ok(chain) => format!("ticket {}\n", explained(table, &chain)),
+            Err(Refusal::AlreadyOn) => format!("ticket {ticket} is on\n"),
+            Err(_) => not_pending(ticket),
+        },
     }
+}
+
+/// A chain in words: each claim waits for its link until its own start, and the
+/// last is on until its end.
+fn explained(table: &Table, chain: &[u16]) -> String {
+    let claims = chain.iter().filter_map(|&ticket| table.find(ticket));
+    let mut parts = Vec::new();
+    for (index, claim) in claims.enumerate() {
+        let ticket = claim.ticket;
+        parts.push(match claim.state {
+            State::Waiting(start) => {
+                format!("{ticket} waits for {} until {start}", chain[index + 1])
+            }
+            State::On(_) => format!("{ticket} is on until {}", table.end(claim)),
+        });
+    }
+    parts.join(", ")
 }
 
 fn not_pending(ticket: u16) -> String {

@@ -338,8 +338,9 @@ pub fn run_of(shape: Shape, seed: u64) -> Run {
     build.run(shape)
 }
 
-/// The calls of a run with lookups of one ticket, of two and of the units free
-/// between them, and with graces, declarations and claims of other clients.
+/// The calls of a run with lookups of one ticket, of two, of the units free and
+/// of chains between them, and with graces, declarations and claims of other
+/// clients.
 /// These are refused, or change nothing for the calls of the run: in a table as
 /// of the older editions all places are kept for client 1. Only the grace of
 /// such a table may come to be another.
@@ -374,6 +375,9 @@ pub fn with_lookups(run: &Run, seed: u64) -> Vec<RunCall> {
         }
         if prng.one_in(8) {
             calls.push(RunCall::Free);
+        }
+        if prng.one_in(2) {
+            calls.push(RunCall::Why(lookup_ticket(&mut prng, &table)));
         }
     }
     calls

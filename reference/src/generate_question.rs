@@ -2,6 +2,7 @@
 
 use crate::ask::left;
 use crate::generate::{self, Prng};
+use crate::table::{Claim, Table};
 
 /// A load to ask about: that of a run which ends anywhere, so that the table
 /// it leaves is at any stage; one in three damaged.
@@ -18,21 +19,36 @@ pub fn asked_load(seed: u64) -> Vec<u8> {
     }
 }
 
-/// A question about a load, of one ticket, of two or of the units free: three
-/// in four good, the others wrong in their words.
+/// The questions' names, each with how many tickets it has.
+const NAMES: [(&str, usize); 4] = [("lookup", 1), ("common", 2), ("free", 0), ("why", 1)];
+
+/// A question about a load, of one ticket, of two, of the units free or of why
+/// a ticket waits: three in four good, the others wrong in their words.
 pub fn question(load: &[u8], seed: u64) -> Vec<u8> {
     let mut prng = Prng::new(seed ^ 0x9E57_1045);
     let table = left(load).0;
-    let tickets = prng.pick(&[0, 1, 1, 2, 2, 2]);
-    let mut words = vec![["free", "lookup", "common"][tickets].to_string()];
+    let (name, tickets) = NAMES[prng.pick(&[0, 0, 1, 1, 1, 2, 3, 3, 3])];
+    let mut words = vec![name.to_string()];
     for _ in 0..tickets {
-        let ticket = generate::lookup_ticket(&mut prng, &table);
+        let ticket = match name {
+            "why" => why_ticket(&mut prng, &table),
+            _ => generate::lookup_ticket(&mut prng, &table),
+        };
         words.push(decimal(&mut prng, u64::from(ticket)));
     }
     if prng.one_in(4) {
         wrong(&mut prng, &mut words);
     }
     spell(&mut prng, &words)
+}
+
+/// A ticket to ask why of: half the time one that waits, where one does.
+fn why_ticket(prng: &mut Prng, table: &Table) -> u16 {
+    let waiting: Vec<&Claim> = table.claims().iter().filter(|own| !own.is_on()).collect();
+    if !waiting.is_empty() && prng.one_in(2) {
+        return prng.pick(&waiting).ticket;
+    }
+    generate::lookup_ticket(prng, table)
 }
 
 /// A number in decimal, now and then with zeros in front.
@@ -59,17 +75,15 @@ fn wrong(prng: &mut Prng, words: &mut Vec<String>) {
             let names = [
                 "look", "Lookup", "LOOKUP", "lookups", "COMMON", "comm", "commons", "share",
                 "ticket", "claim", "stop", "FREE", "Free", "fre", "frees", "units", "pool", "0",
-                "#",
+                "#", "Why", "WHY", "wh", "whys", "why?", "chain",
             ];
             words[0] = prng.pick(&names).to_string();
         }
-        // Another question's name.
+        // The name of a question with another count of tickets.
         1 => {
-            let others = match words[0].as_str() {
-                "lookup" => ["common", "free"],
-                "common" => ["lookup", "free"],
-                _ => ["lookup", "common"],
-            };
+            let tickets = words.len() - 1;
+            let others = NAMES.iter().filter(|(_, count)| *count != tickets);
+            let others: Vec<&str> = others.map(|(name, _)| *name).collect();
             words[0] = prng.pick(&others).to_string();
         }
         // A word less.
@@ -78,7 +92,7 @@ fn wrong(prng: &mut Prng, words: &mut Vec<String>) {
         }
         // A word more.
         3 => {
-            let more = prng.pick(&["1", "0", "lookup", "common", "free", "x", "#"]);
+            let more = prng.pick(&["1", "0", "lookup", "common", "free", "why", "x", "#"]);
             let at = at + prng.below(2) as usize;
             words.insert(at, more.to_string());
         }

@@ -10,7 +10,7 @@
 //! down, overrun its overdue holder, scenario its plot. Document 02's
 //! followspots are the units of a pool, its desks are clients, a desk's
 //! guarantee is what is reserved for the client, its load for the workshop is
-//! the workload.
+//! the workload, its chain that explains a start a blocking chain, or a chain.
 
 #![deny(unsafe_code)]
 

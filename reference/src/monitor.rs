@@ -1,5 +1,5 @@
 //! A monitor of demand 3 (document 01: "A run of calls"), with what document
-//! 02, P3, P4 and P6, makes of it. It judges a run from its rig and pool and the
+//! 02, P3, P4, P6 and P7, makes of it. It judges a run from its rig and pool and the
 //! clients declared in its new table, its calls, their answers and the lookups
 //! asked after each call.
 //!
@@ -19,11 +19,18 @@
 //! - after every call a waiting claim's planned start is not before the end of
 //!   a holder that shares a group with it;
 //! - a lookup says what calls and answers say, one of two tickets the lowest
-//!   group that both claims asked for.
+//!   group that both claims asked for;
+//! - every waiting claim has a chain: it begins with the ticket asked, all its
+//!   tickets are pending, none stands twice, and the last one is on and no
+//!   other; each link shares a group or the pool with the claim before it and
+//!   ends at that one's start, and no lower ticket does; the end of the last
+//!   and the lengths of those between it and the first make the first one's
+//!   start. A ticket that is not pending has 8, one that is on 10.
 //!
 //! The end of a holder is its promised end while the clock is not past it, and
 //! after that the clock and the grace more, which is that of the last accepted
-//! call that set it, and 0 before any.
+//! call that set it, and 0 before any. The end of a waiting claim is its planned
+//! start, by the last lookup, and its length.
 //!
 //! While no accepted call bears a clock past the promised end of a claim held
 //! when it comes, for all claims:
@@ -49,6 +56,8 @@ pub enum RunCall {
     Common(u16, u16),
     /// A lookup of the units free.
     Free,
+    /// A lookup of the chain that explains a ticket's start.
+    Why(u16),
 }
 
 impl From<TimedCall> for RunCall {
@@ -79,6 +88,8 @@ pub enum Asked {
     Common(u16, u16, Common),
     /// A lookup of the units free.
     Free(u16),
+    /// A lookup of the chain that explains a ticket's start.
+    Why(u16, Result<Vec<u16>, Refusal>),
 }
 
 /// One call of a run and what lookups say after it: of every pending ticket,
@@ -122,6 +133,16 @@ pub enum Rule {
     Early,
     /// A lookup contradicts the calls and answers.
     Lookup,
+    /// A chain does not begin with the ticket asked, has a ticket that is not
+    /// pending or one twice, or its lengths do not make the start.
+    Chain,
+    /// A chain ends with a claim that waits, or has one that is on before.
+    Held,
+    /// A link of a chain shares neither group nor pool with the claim before
+    /// it, or does not end at that one's start.
+    Link,
+    /// A lower ticket than a chain's link would be one, too.
+    Lowest,
     /// A planned start is raised.
     Raised,
     /// A claim waits past its first planned start.
@@ -165,6 +186,14 @@ pub struct Summary {
     /// Claims that waited behind an overrun with a grace other than 0, counted
     /// after each accepted call.
     pub behind_grace: usize,
+    /// Chains told of waiting claims.
+    pub chains: usize,
+    /// Of these the ones with more than one link.
+    pub long_chains: usize,
+    /// Links of chains that share the pool and no group.
+    pub pool_links: usize,
+    /// Links of chains where a higher ticket could be one, too.
+    pub tied_links: usize,
 }
 
 /// A pending claim as calls, answers and lookups tell it.
@@ -195,6 +224,18 @@ impl Pending {
                 promised
             }
         })
+    }
+
+    /// The end of a holder, or by the last lookup that of a waiting claim.
+    fn planned_end(&self, clock: u64, grace: u32) -> Option<u64> {
+        let waiting = self.start;
+        self.end(clock, grace)
+            .or_else(|| waiting.map(|start| start.saturating_add(u64::from(self.length))))
+    }
+
+    /// It shares a group with another, or both draw from the pool.
+    fn meets(&self, other: &Pending) -> bool {
+        self.groups & other.groups != 0 || self.units.min(other.units) > 0
     }
 }
 
@@ -332,6 +373,7 @@ impl Monitor {
             Asked::Lookup(ticket, lookup) => self.lookup(*ticket, *lookup)?,
             Asked::Common(first, second, said) => self.common(*first, *second, *said)?,
             Asked::Free(free) => self.free(*free)?,
+            Asked::Why(ticket, said) => self.why(*ticket, said)?,
         }
         self.holders()?;
         self.free(step.free)?;
@@ -740,6 +782,99 @@ impl Monitor {
         )
     }
 
+    /// A ticket that is not pending has 8 and one that is on 10; one that waits
+    /// has a chain.
+    fn why(&mut self, ticket: u16, said: &Result<Vec<u16>, Refusal>) -> Verdict {
+        let refusal = match self.pending.get(&ticket) {
+            None => Some(Refusal::Unknown),
+            Some(claim) if claim.grant.is_some() => Some(Refusal::AlreadyOn),
+            Some(_) => None,
+        };
+        match (refusal, said) {
+            (None, Ok(chain)) => self.chain(ticket, chain),
+            (Some(refusal), Err(said)) if refusal == *said => Ok(()),
+            _ => {
+                let expected = refusal.map_or("a chain".to_string(), |r| r.number().to_string());
+                against(
+                    Rule::Lookup,
+                    format!("ticket {ticket} waits because of {said:?}, not {expected}"),
+                )
+            }
+        }
+    }
+
+    /// A chain explains the start of a waiting claim.
+    fn chain(&mut self, ticket: u16, chain: &[u16]) -> Verdict {
+        let claims = self.members(ticket, chain)?;
+        let (mut pool_links, mut tied_links) = (0, 0);
+        for (tickets, two) in chain.windows(2).zip(claims.windows(2)) {
+            let links = self.links(two[0]);
+            if !links.contains(&tickets[1]) {
+                return against(
+                    Rule::Link,
+                    format!("{chain:?}: {} is no link of {}", tickets[1], tickets[0]),
+                );
+            }
+            if links[0] < tickets[1] {
+                return against(
+                    Rule::Lowest,
+                    format!("{chain:?}: {} is a lower link of {}", links[0], tickets[0]),
+                );
+            }
+            pool_links += usize::from(two[0].groups & two[1].groups == 0);
+            tied_links += usize::from(links.len() > 1);
+        }
+        let (first, holder) = (claims[0], claims[claims.len() - 1]);
+        let between = &claims[1..claims.len() - 1];
+        let lengths: u64 = between.iter().map(|claim| u64::from(claim.length)).sum();
+        let end = holder.end(self.clock, self.grace);
+        if first.start != end.map(|end| end.saturating_add(lengths)) {
+            return against(Rule::Chain, format!("{chain:?}: other lengths"));
+        }
+        self.summary.chains += 1;
+        self.summary.long_chains += usize::from(chain.len() > 2);
+        self.summary.pool_links += pool_links;
+        self.summary.tied_links += tied_links;
+        Ok(())
+    }
+
+    /// The claims of a chain: pending, the asked one first, none twice, and of
+    /// them only the last is on.
+    fn members(&self, ticket: u16, chain: &[u16]) -> Result<Vec<&Pending>, (Rule, String)> {
+        if chain.first() != Some(&ticket) {
+            let other = format!("{chain:?} does not begin with {ticket}");
+            return Err((Rule::Chain, other));
+        }
+        let claims: Vec<&Pending> = chain.iter().filter_map(|t| self.pending.get(t)).collect();
+        if claims.len() < chain.len() {
+            let absent = format!("{chain:?}: one is not pending");
+            return Err((Rule::Chain, absent));
+        }
+        if chain.iter().collect::<BTreeSet<_>>().len() < chain.len() {
+            return Err((Rule::Chain, format!("{chain:?}: one stands twice")));
+        }
+        let held = claims.iter().position(|claim| claim.grant.is_some());
+        if held != Some(chain.len() - 1) {
+            let held = format!("{chain:?}: the last one is on, and no other");
+            return Err((Rule::Held, held));
+        }
+        Ok(claims)
+    }
+
+    /// The tickets, ascending, of the claims that share a group or the pool with
+    /// a waiting one and end at its start.
+    fn links(&self, claim: &Pending) -> Vec<u16> {
+        let ends = |other: &Pending| {
+            let end = other.planned_end(self.clock, self.grace);
+            end.is_some() && end == claim.start
+        };
+        let links = self
+            .pending
+            .iter()
+            .filter(|(_, other)| other.meets(claim) && ends(other));
+        links.map(|(&ticket, _)| ticket).collect()
+    }
+
     /// After an accepted call in a run in time, no claim waits past its first
     /// planned start.
     fn waits(&self, clock: u64) -> Verdict {
@@ -795,6 +930,7 @@ pub trait ClaimsTable {
     fn lookup(&self, ticket: u16) -> Lookup;
     fn common(&self, first: u16, second: u16) -> Common;
     fn free(&self) -> u16;
+    fn why(&self, ticket: u16) -> Result<Vec<u16>, Refusal>;
 }
 
 impl ClaimsTable for Table {
@@ -821,6 +957,10 @@ impl ClaimsTable for Table {
     fn free(&self) -> u16 {
         Table::free(self)
     }
+
+    fn why(&self, ticket: u16) -> Result<Vec<u16>, Refusal> {
+        Table::why(self, ticket)
+    }
 }
 
 /// Runs the calls on a new table. After each, a lookup is asked of every ticket
@@ -843,6 +983,7 @@ pub fn run<C: Copy + Into<RunCall>>(table: &mut dyn ClaimsTable, calls: &[C]) ->
                 Asked::Common(first, second, table.common(first, second))
             }
             RunCall::Free => Asked::Free(table.free()),
+            RunCall::Why(ticket) => Asked::Why(ticket, table.why(ticket)),
         };
         match &asked {
             Asked::Timed(TimedCall::Claim { .. }, answer) if answer.accepted() => {

@@ -23,7 +23,7 @@ pub enum Refusal {
     Unknown = 8,
     /// 9, "not yet on": release of a waiting claim.
     NotYetOn = 9,
-    /// 10, "already on": withdrawal of an on claim.
+    /// 10, "already on": withdrawal of an on claim, or the chain of one.
     AlreadyOn = 10,
     /// 11, "edition": the first byte names no known edition.
     Edition = 11,

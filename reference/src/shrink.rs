@@ -357,6 +357,9 @@ fn lower_tickets(question: &[u8]) -> Vec<Vec<u8>> {
         Some(Question::Lookup(ticket)) => {
             lines.push(format!("lookup {}", down(ticket)).into_bytes());
         }
+        Some(Question::Why(ticket)) => {
+            lines.push(format!("why {}", down(ticket)).into_bytes());
+        }
         Some(Question::Common(first, second)) => {
             for (one, other) in [
                 (down(first), down(second)),

@@ -60,6 +60,12 @@ impl Claim {
         self.common(groups).is_some()
     }
 
+    /// Document 02, P7: "shares a group, or the pool, with it": both have a
+    /// group in common, or both draw units.
+    pub fn meets(&self, other: &Claim) -> bool {
+        self.conflicts(other.groups) || (self.units > 0 && other.units > 0)
+    }
+
     pub fn is_on(&self) -> bool {
         matches!(self.state, State::On(_))
     }
@@ -506,13 +512,41 @@ impl Table {
         self.pool - on.map(|claim| claim.units).sum::<u16>()
     }
 
+    /// Document 02, P7: the blocking chain of a waiting claim, which explains
+    /// its start: its ticket first, then link by link to a claim that is on. 8
+    /// for a ticket that is not pending, 10 for one that is on. It changes
+    /// nothing.
+    pub fn why(&self, ticket: u16) -> Result<Vec<u16>, Refusal> {
+        let mut claim = self.find(ticket).ok_or(Refusal::Unknown)?;
+        if claim.is_on() {
+            return Err(Refusal::AlreadyOn);
+        }
+        let mut chain = vec![ticket];
+        while let State::Waiting(start) = claim.state {
+            claim = self.link(claim, start);
+            chain.push(claim.ticket);
+        }
+        Ok(chain)
+    }
+
+    /// The link of a claim that waits for this start: the lowest ticket of those
+    /// that end there and share a group, or the pool, with it. A waiting claim
+    /// starts before its end, so the starts along a chain fall.
+    fn link(&self, claim: &Claim, start: u64) -> &Claim {
+        // The claims stand by ticket.
+        self.claims
+            .iter()
+            .find(|other| self.end(other) == start && other.meets(claim))
+            .expect("a claim waits for another's end")
+    }
+
     /// The end of a claim at the table's clock.
-    fn end(&self, claim: &Claim) -> u64 {
+    pub fn end(&self, claim: &Claim) -> u64 {
         claim.end(self.clock, self.grace)
     }
 
     /// The pending claim with this ticket.
-    fn find(&self, ticket: u16) -> Option<&Claim> {
+    pub fn find(&self, ticket: u16) -> Option<&Claim> {
         self.claims.iter().find(|claim| claim.ticket == ticket)
     }
 

@@ -8,7 +8,9 @@ use reference::ask::{ask, left, read, Question, MAX_QUESTION, WRONG};
 use reference::generate_question::{asked_load, question};
 use reference::listing::listing;
 use reference::load::MAX_LOAD;
-use reference::table::{Common, Lookup, Table, TableCall, TimedCall, ONLY_CLIENT};
+use reference::refusal::Refusal;
+use reference::table::{Common, Lookup, Table, TableCall, TimedCall};
+use reference::table::{MAX_CLOCK, MAX_LENGTH, ONLY_CLIENT};
 
 /// S of document 01: three claims at clock 0.
 fn s() -> Vec<TimedCall> {
@@ -118,6 +120,145 @@ fn how_many_units_are_free() {
     assert_eq!(answer(&load, "free"), "stop 13 3\n7 of 9 units free\n");
 }
 
+/// A ticket that waits, with all that it waits for.
+#[test]
+fn why_a_ticket_waits() {
+    let load = load_of(0xF, &s());
+    for (question, said) in [
+        (
+            "why 3",
+            "ticket 3 waits for 2 until 20, 2 waits for 1 until 10, 1 is on until 10\n",
+        ),
+        (
+            "\twhy  0003 ",
+            "ticket 3 waits for 2 until 20, 2 waits for 1 until 10, 1 is on until 10\n",
+        ),
+        ("why 2", "ticket 2 waits for 1 until 10, 1 is on until 10\n"),
+        ("why 1", "ticket 1 is on\n"),
+        ("why 9", "ticket 9 is not pending\n"),
+        ("why 0", "ticket 0 is not pending\n"),
+        ("why 65535", "ticket 65535 is not pending\n"),
+    ] {
+        assert_eq!(answer(&load, question), said);
+    }
+    // Behind a holder that waited itself.
+    let calls = [
+        claim(0, 0x8, 10),
+        claim(0, 0x8, 10),
+        claim(0, 0xA, 11),
+        claim(0, 0x1, 20),
+        claim(0, 0x2, 21),
+        release(10, 1),
+    ];
+    let load = load_of(0xF, &calls);
+    assert_eq!(
+        answer(&load, "why 5"),
+        "ticket 5 waits for 3 until 31, 3 waits for 2 until 20, 2 is on until 20\n"
+    );
+    for (ticket, said) in [
+        (1, "ticket 1 is not pending\n"),
+        (2, "ticket 2 is on\n"),
+        (3, "ticket 3 waits for 2 until 20, 2 is on until 20\n"),
+        (4, "ticket 4 is on\n"),
+        (6, "ticket 6 is not pending\n"),
+    ] {
+        assert_eq!(answer(&load, &format!("why {ticket}")), said);
+    }
+    // The lower of two that end at 20; without it the higher one.
+    let tied = [s(), vec![claim(0, 0x3, 20)]].concat();
+    assert_eq!(
+        answer(&load_of(0xF, &tied), "why 3"),
+        "ticket 3 waits for 2 until 20, 2 waits for 1 until 10, 1 is on until 10\n"
+    );
+    assert_eq!(
+        answer(
+            &load_of(0xF, &[tied, vec![release(4, 1)]].concat()),
+            "why 3"
+        ),
+        "ticket 3 waits for 4 until 20, 4 is on until 20\n"
+    );
+}
+
+/// An overrun is on until the clock and the grace more, whatever was promised.
+#[test]
+fn why_a_ticket_waits_behind_an_overrun() {
+    let load = load_of(0xF, &[s(), vec![clock(12)]].concat());
+    assert_eq!(
+        answer(&load, "why 3"),
+        "ticket 3 waits for 2 until 22, 2 waits for 1 until 12, 1 is on until 12\n"
+    );
+    let mut calls = vec![TableCall::Grace(5), ONLY_CLIENT.into()];
+    calls.extend(s().into_iter().map(TableCall::from));
+    calls.push(clock(10).into());
+    let load = client_load_of(0xF, 0, &calls);
+    let on_time = "ticket 2 waits for 1 until 10, 1 is on until 10\n";
+    assert_eq!(answer(&load, "why 2"), on_time);
+    calls.push(clock(12).into());
+    let load = client_load_of(0xF, 0, &calls);
+    assert_eq!(
+        answer(&load, "why 3"),
+        "ticket 3 waits for 2 until 27, 2 waits for 1 until 17, 1 is on until 17\n"
+    );
+    assert_eq!(answer(&load, "why 1"), "ticket 1 is on\n");
+}
+
+#[test]
+fn why_a_ticket_waits_for_units() {
+    let calls = [draw(0, 0x1, 10, 2), draw(0, 0x2, 10, 2), draw(0, 0x0, 5, 3)];
+    let load = pool_load_of(0xF, 3, &calls);
+    assert_eq!(
+        answer(&load, "why 3"),
+        "ticket 3 waits for 2 until 20, 2 waits for 1 until 10, 1 is on until 10\n"
+    );
+}
+
+/// All that can be pending in one chain, at the greatest numbers.
+#[test]
+fn why_the_last_of_64_waits() {
+    let mut calls = vec![claim(MAX_CLOCK, 1, MAX_LENGTH); 64];
+    let load = load_of(1, &calls);
+    let end = |ticket: u64| MAX_CLOCK + ticket * u64::from(MAX_LENGTH);
+    let mut line = "ticket ".to_string();
+    for ticket in (2..=64).rev() {
+        let link = ticket - 1;
+        line += &format!("{ticket} waits for {link} until {}, ", end(link));
+    }
+    line += &format!("1 is on until {}\n", end(1));
+    assert_eq!(answer(&load, "why 64"), line);
+    // Tickets of four digits: as far as a load goes.
+    let turns = (0..1_700).flat_map(|n| [claim(n, 1, 1), release(n, n as u16 + 1)]);
+    calls.splice(..0, turns);
+    let load = load_of(1, &calls);
+    assert!(load.len() <= MAX_LOAD);
+    let said = answer(&load, "why 1764");
+    assert!(said.starts_with("ticket 1764 waits for 1763 until "));
+    assert_eq!(said.matches(" waits for ").count(), 63);
+    assert!(said.ends_with(&format!(", 1701 is on until {}\n", end(1))));
+}
+
+#[test]
+fn why_a_ticket_waits_where_a_load_ends_early() {
+    let plot = load_of(0xF, &s());
+    let cut = &plot[..plot.len() - 1];
+    let second = [&plot[..], &plot[1..]].concat();
+    let two = "ticket 2 waits for 1 until 10, 1 is on until 10\n";
+    let nothing = "ticket 2 is not pending\n";
+    for (load, stop, said) in [
+        (cut, "stop 12 4\n", two),
+        (&second, "stop 13 5\n", two),
+        (&[], "stop 12 0\n", nothing),
+        (&[4], "stop 11 0\n", nothing),
+        (&[1; MAX_LOAD + 1], "stop 14 0\n", nothing),
+        (&[1], "", nothing),
+        (&[1, 0], "stop 12 1\n", nothing),
+        (&load_of(0, &s()), "stop 1 1\n", nothing),
+    ] {
+        assert_eq!(answer(load, "why 2"), format!("{stop}{said}"));
+    }
+    assert_eq!(answer(cut, "why 1"), "stop 12 4\nticket 1 is on\n");
+    assert_eq!(answer(cut, "why 3"), "stop 12 4\nticket 3 is not pending\n");
+}
+
 #[test]
 fn a_load_that_ends_early_is_said_to() {
     let plot = load_of(0xF, &s());
@@ -182,6 +323,8 @@ fn words_have_spaces_or_tabs_between_and_around_them() {
         ("  common 0 00", Question::Common(0, 0)),
         ("free", Question::Free),
         ("\t\tfree\t", Question::Free),
+        ("why 3", Question::Why(3)),
+        ("\twhy \t 065535 ", Question::Why(65_535)),
     ] {
         assert_eq!(read(line.as_bytes()), Some(question), "{line:?}");
     }
@@ -229,6 +372,31 @@ fn anything_else_is_no_question() {
         "free\r",
         "lookup free",
         "free lookup 1",
+        "why",
+        "why 1 2",
+        "why why",
+        "why why 1",
+        "1 why",
+        "why1",
+        "Why 1",
+        "WHY 1",
+        "wh 1",
+        "whys 1",
+        "why? 1",
+        "why 1?",
+        "why 1,",
+        "why -1",
+        "why +1",
+        "why 0x1",
+        "why one",
+        "why 65536",
+        "why 18446744073709551617",
+        "why 1\n",
+        "why\n1",
+        "why 1\r",
+        "lookup why 1",
+        "why lookup 1",
+        "free why",
     ] {
         for load in [&load[..], &[]] {
             let said = ask(line.as_bytes(), load);
@@ -237,10 +405,11 @@ fn anything_else_is_no_question() {
     }
     assert_eq!(
         WRONG,
-        "usage: ask lookup TICKET < LOAD\n       ask common TICKET TICKET < LOAD\n       ask free < LOAD\n"
+        "usage: ask lookup TICKET < LOAD\n       ask common TICKET TICKET < LOAD\n       ask free < LOAD\n       ask why TICKET < LOAD\n"
     );
     assert_eq!(read(b"lookup 1\xFF"), None);
     assert_eq!(read(b"free\xFF"), None);
+    assert_eq!(read(b"why 1\xFF"), None);
     let zeros = |count| format!("lookup {}", "0".repeat(count));
     let most = MAX_QUESTION - "lookup ".len();
     assert_eq!(read(zeros(most).as_bytes()), Some(Question::Lookup(0)));
@@ -248,6 +417,10 @@ fn anything_else_is_no_question() {
     let spaces = |count| format!("{:count$}", "free");
     assert_eq!(read(spaces(MAX_QUESTION).as_bytes()), Some(Question::Free));
     assert_eq!(read(spaces(MAX_QUESTION + 1).as_bytes()), None);
+    let zeros = |count| format!("why {}7", "0".repeat(count));
+    let most = MAX_QUESTION - "why 7".len();
+    assert_eq!(read(zeros(most).as_bytes()), Some(Question::Why(7)));
+    assert_eq!(read(zeros(most + 1).as_bytes()), None);
 }
 
 /// The early end of a load is that of its listing.
@@ -282,7 +455,8 @@ fn generated_questions_are_varied() {
     let (mut wrong, mut on, mut waiting, mut unknown) = (0, 0, 0, 0);
     let (mut shared, mut none, mut first, mut second) = (0, 0, 0, 0);
     let (mut no_pool, mut all, mut some, mut held) = (0, 0, 0, 0);
-    for_seeds(0..1_000, |seed| {
+    let (mut holder, mut absent, mut one_link, mut links) = (0, 0, 0, 0);
+    for_seeds(0..1_500, |seed| {
         let load = asked_load(seed);
         let line = question(&load, seed);
         let table: Table = left(&load).0;
@@ -305,12 +479,20 @@ fn generated_questions_are_varied() {
                 (free, pool) if free == pool => all += 1,
                 _ => some += 1,
             },
+            Some(Question::Why(ticket)) => match table.why(ticket) {
+                Ok(chain) if chain.len() == 2 => one_link += 1,
+                Ok(_) => links += 1,
+                Err(Refusal::AlreadyOn) => holder += 1,
+                Err(_) => absent += 1,
+            },
         }
     });
     let tickets = [wrong, on, waiting, unknown, shared, none, first, second];
     assert!(tickets.iter().all(|&count| count >= 20), "{tickets:?}");
     let units = [no_pool, all, some, held];
     assert!(units.iter().all(|&count| count >= 10), "{units:?}");
+    let chains = [holder, absent, one_link, links];
+    assert!(chains.iter().all(|&count| count >= 20), "{chains:?}");
 }
 
 /// A clock past every promised end moves starts; the question comes after it.

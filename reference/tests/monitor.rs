@@ -6,10 +6,11 @@ mod common;
 use std::collections::BTreeMap;
 
 use common::{claim, claim_of, clock, declare, draw, for_seeds, release, withdraw};
-use reference::generate::{self, Shape};
+use reference::generate::{self, Shape, SHAPES};
 use reference::listing::listing;
 use reference::monitor::{judge, judge_promises, run, Asked, ClaimsTable, Rule, RunCall};
 use reference::monitor::{Start, Step, Summary, Violation};
+use reference::refusal::Refusal;
 use reference::table::{Answer, Common, Declaration, Lookup, Table, TimedCall};
 use reference::table::{MAX_CLOCK, MAX_LENGTH, ONLY_CLIENT};
 
@@ -370,10 +371,26 @@ enum Flaw {
     RefusedGraceCounts,
     /// A refused grace takes the one before away.
     RefusedGraceClears,
+    /// The link of a chain is the highest ticket.
+    ChainsByHighest,
+    /// A link of a chain need share nothing.
+    ChainsToStrangers,
+    /// A chain stops at its first link.
+    ChainsCutShort,
+    /// A link of a chain has to share a group.
+    ChainsWithoutPool,
+    /// Chains go by promised ends, also of overruns.
+    ChainsByPromisedEnd,
+    /// A chain begins with the first link.
+    ChainsWithoutAsked,
+    /// A claim that is on has itself for a chain.
+    ChainOfHolder,
+    /// A ticket that is not pending is said to be on.
+    ChainOfUnknown,
 }
 
 /// Every flaw.
-const FLAWS: [Flaw; 73] = [
+const FLAWS: [Flaw; 81] = [
     Flaw::GrantsConflicting,
     Flaw::PlacesAtClock,
     Flaw::PlacesBehindLast,
@@ -447,6 +464,14 @@ const FLAWS: [Flaw; 73] = [
     Flaw::FirstGraceCounts,
     Flaw::RefusedGraceCounts,
     Flaw::RefusedGraceClears,
+    Flaw::ChainsByHighest,
+    Flaw::ChainsToStrangers,
+    Flaw::ChainsCutShort,
+    Flaw::ChainsWithoutPool,
+    Flaw::ChainsByPromisedEnd,
+    Flaw::ChainsWithoutAsked,
+    Flaw::ChainOfHolder,
+    Flaw::ChainOfUnknown,
 ];
 
 /// The flaws from this one up to that one, both included.
@@ -788,6 +813,29 @@ impl Double {
         self.pending(client) >= limit + more
     }
 
+    /// What a waiting entry is said to wait for.
+    fn link(&self, entry: &Entry) -> Option<&Entry> {
+        let meets = |other: &Entry| {
+            let group = other.groups & entry.groups != 0;
+            let pool = other.units > 0 && entry.units > 0;
+            match self.flaw {
+                Flaw::ChainsToStrangers => true,
+                Flaw::ChainsWithoutPool => group,
+                _ => group || pool,
+            }
+        };
+        let end = |other: &Entry| match other.grant {
+            Some(grant) if self.flaw == Flaw::ChainsByPromisedEnd => grant + other.length,
+            _ => self.end(other),
+        };
+        let entries = self.entries.iter();
+        let links = entries.filter(|other| meets(other) && end(other) == entry.start);
+        match self.flaw {
+            Flaw::ChainsByHighest => links.max_by_key(|link| link.ticket),
+            _ => links.min_by_key(|link| link.ticket),
+        }
+    }
+
     fn refusal(&self, call: TimedCall) -> u8 {
         let found = |ticket| self.entries.iter().find(|entry| entry.ticket == ticket);
         if self.flaw == Flaw::TestsGroupsFirst {
@@ -1038,6 +1086,30 @@ impl ClaimsTable for Double {
 
     fn free(&self) -> u16 {
         self.counted as u16
+    }
+
+    fn why(&self, ticket: u16) -> Result<Vec<u16>, Refusal> {
+        let entry = self.entries.iter().find(|entry| entry.ticket == ticket);
+        let Some(mut entry) = entry else {
+            return Err(match self.flaw {
+                Flaw::ChainOfUnknown => Refusal::AlreadyOn,
+                _ => Refusal::Unknown,
+            });
+        };
+        if entry.grant.is_some() && self.flaw != Flaw::ChainOfHolder {
+            return Err(Refusal::AlreadyOn);
+        }
+        let mut chain = vec![ticket];
+        while entry.grant.is_none() && !(self.flaw == Flaw::ChainsCutShort && chain.len() == 2) {
+            // Other flaws leave claims without a link.
+            let Some(link) = self.link(entry) else { break };
+            entry = link;
+            chain.push(link.ticket);
+        }
+        if self.flaw == Flaw::ChainsWithoutAsked {
+            chain.remove(0);
+        }
+        Ok(chain)
     }
 }
 
@@ -1624,6 +1696,185 @@ fn answers_tell_what_the_monitor_passes() {
             .position(|(one, other)| one != other);
         let expected = (flaw != Flaw::Nothing).then_some(at);
         assert_eq!(differs, expected, "{flaw:?}");
+        // Only the last leaves a claim that nobody's end explains.
+        let calls = [&calls[..], &[RunCall::Why(3)]].concat();
+        let expected = (flaw == Flaw::GraceWithoutUnits).then_some(Rule::Held);
+        assert_eq!(rule_from(flaw, start, &calls), expected, "{flaw:?}");
+    }
+}
+
+/// Calls, and then the chain of a ticket.
+fn why(calls: &[TimedCall], ticket: u16) -> Vec<RunCall> {
+    let calls = calls.iter().map(|&call| call.into());
+    calls.chain([RunCall::Why(ticket)]).collect()
+}
+
+/// What chains promise, each part with a table that breaks it; with numbers
+/// looked at and without.
+#[test]
+fn broken_chains_are_caught() {
+    let s = [claim(0, 0x8, 10), claim(0, 0xC, 10), claim(0, 0x6, 11)];
+    // Ticket 3 starts at 20, where 2 ends, and 4.
+    let tied = [&s[..], &[claim(0, 0x3, 20)]].concat();
+    // Ticket 3 starts at 10, where 2 ends, and 1, with which it shares nothing.
+    let strange = [claim(0, 1, 10), claim(0, 2, 10), claim(0, 2, 5)];
+    let drawn = [draw(0, 1, 10, 2), draw(0, 2, 10, 2), draw(0, 4, 10, 1)];
+    let late = [&s[..], &[clock(12)]].concat();
+    for (flaw, rule, calls, caught) in [
+        (Flaw::ChainsByHighest, Rule::Lowest, &tied[..], &[3][..]),
+        (Flaw::ChainsToStrangers, Rule::Link, &strange, &[3]),
+        (Flaw::ChainsCutShort, Rule::Held, &s, &[3]),
+        (Flaw::ChainsCutShort, Rule::Held, &drawn, &[3]),
+        (Flaw::ChainsWithoutPool, Rule::Held, &drawn, &[2, 3]),
+        (Flaw::ChainsByPromisedEnd, Rule::Held, &late, &[2, 3]),
+        (Flaw::ChainsWithoutAsked, Rule::Chain, &s, &[2, 3]),
+        (Flaw::ChainOfHolder, Rule::Lookup, &tied, &[1, 4]),
+        (Flaw::ChainOfUnknown, Rule::Lookup, &s, &[0, 4, 5, 65_535]),
+        (Flaw::ChainsByHighest, Rule::Lowest, &s, &[]),
+        (Flaw::ChainsToStrangers, Rule::Link, &s, &[]),
+        (Flaw::ChainsWithoutPool, Rule::Held, &late, &[]),
+        (Flaw::ChainsByPromisedEnd, Rule::Held, &tied, &[]),
+    ] {
+        let start = older(0xF, 2);
+        for ticket in [0, 1, 2, 3, 4, 5, 65_535] {
+            let calls = why(calls, ticket);
+            let expected = caught.contains(&ticket).then_some(rule);
+            let told = rule_from(flaw, start, &calls);
+            assert_eq!(told, expected, "{flaw:?}, ticket {ticket}");
+            assert_eq!(promise_rule(flaw, start, &calls), expected, "{flaw:?}");
+        }
+    }
+}
+
+/// Of all that could be told of a ticket the monitor passes one.
+#[test]
+fn one_chain_is_passed() {
+    let tied = [
+        claim(0, 0x8, 10),
+        claim(0, 0xC, 10),
+        claim(0, 0x6, 11),
+        claim(0, 0x3, 20),
+    ];
+    let pool = [
+        draw(0, 1, 10, 1),
+        draw(0, 2, 10, 1),
+        draw(0, 2, 5, 1),
+        draw(0, 8, 5, 2),
+    ];
+    let late = [&tied[..], &[clock(25)]].concat();
+    let released = [&tied[..], &[release(4, 1)]].concat();
+    let (unknown, on) = (Err(Refusal::Unknown), Err(Refusal::AlreadyOn));
+    for (start, calls, told) in [
+        (
+            older(0xF, 0),
+            &tied[..],
+            [&on, &Ok(vec![2, 1]), &Ok(vec![3, 2, 1]), &on],
+        ),
+        // Packed behind the overruns 1 and 4, which end at 25.
+        (
+            older(0xF, 0),
+            &late,
+            [&on, &Ok(vec![2, 1]), &Ok(vec![3, 2, 1]), &on],
+        ),
+        (
+            older(0xF, 0),
+            &released,
+            [&unknown, &on, &Ok(vec![3, 4]), &on],
+        ),
+        (
+            older(0xF, 2),
+            &pool,
+            [&on, &on, &Ok(vec![3, 1]), &Ok(vec![4, 3, 1])],
+        ),
+    ] {
+        let steps = run(&mut new_table(start), calls);
+        let last = &steps[steps.len() - 1];
+        let mut sayings = vec![unknown.clone(), on.clone(), Err(Refusal::NotYetOn)];
+        let mut chains = vec![Vec::new()];
+        for _ in 0..4 {
+            let longer = chains
+                .iter()
+                .flat_map(|chain| (0..=5).map(move |ticket| [&chain[..], &[ticket]].concat()));
+            chains = longer.collect();
+            sayings.extend(chains.iter().cloned().map(Ok));
+        }
+        sayings.push(Ok(Vec::new()));
+        for ticket in 0..=5 {
+            let right = match ticket {
+                1..=4 => told[usize::from(ticket) - 1],
+                _ => &unknown,
+            };
+            for said in &sayings {
+                let mut steps = steps.clone();
+                steps.push(Step {
+                    asked: Asked::Why(ticket, said.clone()),
+                    ..last.clone()
+                });
+                let passed = judge(start, &steps).is_ok();
+                assert_eq!(passed, said == right, "{ticket}: {said:?}");
+            }
+        }
+    }
+}
+
+/// The chain of every pending ticket after every call of runs of every shape.
+#[test]
+fn every_waiting_claim_has_a_chain() {
+    for shape in SHAPES {
+        let mut all = Summary::default();
+        for_seeds(0..60, |seed| {
+            let mut made = generate::run_of(shape, seed);
+            made.calls.truncate(50);
+            let mut table = made.table();
+            let mut calls: Vec<RunCall> = Vec::new();
+            for &call in &made.calls {
+                calls.push(call.into());
+                table.call(call);
+                let pending = table.claims().iter();
+                calls.extend(pending.map(|claim| RunCall::Why(claim.ticket)));
+            }
+            let summary = judge_table(made.start(), &calls).unwrap();
+            all.chains += summary.chains;
+            all.long_chains += summary.long_chains;
+            all.pool_links += summary.pool_links;
+            all.tied_links += summary.tied_links;
+        });
+        match shape {
+            // Few calls, or few that are accepted.
+            Shape::Short | Shape::Noise => assert!(all.chains > 40, "{shape:?}: {all:?}"),
+            _ => {
+                assert!(all.chains > 2_000, "{shape:?}: {all:?}");
+                assert!(all.long_chains > 1_000, "{shape:?}: {all:?}");
+                assert!(all.pool_links > 250, "{shape:?}: {all:?}");
+                assert!(all.tied_links > 250, "{shape:?}: {all:?}");
+            }
+        }
+    }
+}
+
+#[test]
+fn flaws_of_chains_are_caught_in_generated_runs() {
+    for (flaw, shape) in [
+        (Flaw::ChainsByHighest, Shape::Ties),
+        (Flaw::ChainsByHighest, Shape::Pool),
+        (Flaw::ChainsToStrangers, Shape::Ties),
+        (Flaw::ChainsToStrangers, Shape::InTime),
+        (Flaw::ChainsCutShort, Shape::InTime),
+        (Flaw::ChainsCutShort, Shape::Full),
+        (Flaw::ChainsWithoutPool, Shape::PoolInTime),
+        (Flaw::ChainsByPromisedEnd, Shape::Overrun),
+        (Flaw::ChainsByPromisedEnd, Shape::Grace),
+        (Flaw::ChainsWithoutAsked, Shape::InTime),
+        (Flaw::ChainOfHolder, Shape::InTime),
+        (Flaw::ChainOfUnknown, Shape::InTime),
+    ] {
+        let caught = (0..60)
+            .filter(|&seed| {
+                let (start, calls) = list(generate::run_of(shape, seed), seed, 200);
+                judge_double(flaw, start, &calls).is_err()
+            })
+            .count();
+        assert!(caught >= 10, "{flaw:?}: {caught} of 60");
     }
 }
 
@@ -1644,7 +1895,8 @@ fn flaws_with_graces_are_caught_in_generated_runs() {
     for (index, flaw) in flaws.iter().enumerate() {
         let (caught, broken) = (caught[index], promises[index]);
         match flaw {
-            Flaw::PlacesWithoutGrace | Flaw::BoundWithoutGrace | Flaw::GraceWithoutUnits => {
+            // Without its units an overrun leaves claims without a chain.
+            Flaw::PlacesWithoutGrace | Flaw::BoundWithoutGrace => {
                 assert_eq!((caught, broken), (0, 0), "{flaw:?}");
             }
             Flaw::GraceAfterAllLeft

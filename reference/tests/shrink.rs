@@ -306,6 +306,7 @@ fn questions_shrink_with_their_loads() {
         ("common 12 19", "share group", 2, "common 1 1"),
         ("common 22 30", "share no", 3, "common 1 2"),
         (" lookup\t0038", "waits", 3, "lookup 2"),
+        ("why 39 ", "is on until", 3, "why 2"),
     ] {
         let differs = |load: &[u8], question: &[u8]| says(load, question, words);
         assert!(differs(&load, question.as_bytes()));

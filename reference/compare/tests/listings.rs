@@ -402,7 +402,7 @@ fn the_program_prints_the_same() {
     }
 }
 
-/// Contention, start bound, units free and lookups are in no listing: the program `try_answers` prints them.
+/// Contention, start bound, units free, lookups and chains are in no listing: the program `try_answers` prints them.
 fn answers_differ(load: &[u8]) -> bool {
     output_of("try_answers", load) != reference::answers::answers(load)
 }
@@ -418,7 +418,7 @@ fn whole_answers() {
     }
 }
 
-/// Behind a grace: a start bound counts it, a lookup gives what was promised.
+/// Behind a grace: a start bound counts it, a lookup gives what was promised, a chain goes by it.
 #[test]
 fn whole_answers_behind_graces() {
     for seed in 1..=240 {
@@ -446,6 +446,11 @@ fn whole_answers_behind_graces() {
             "waits 2 10",
             "waits 3 20",
             "waits 4 20",
+            "why 1 10 0",
+            "why 2 0 2 2 1",
+            "why 3 0 3 3 2 1",
+            "why 4 0 3 4 2 1",
+            "why 0 8 0",
         ][..],
         &[
             "9 0 0 12 0 0",
@@ -453,6 +458,11 @@ fn whole_answers_behind_graces() {
             "waits 2 17",
             "waits 3 27",
             "waits 4 27",
+            "why 1 10 0",
+            "why 2 0 2 2 1",
+            "why 3 0 3 3 2 1",
+            "why 4 0 3 4 2 1",
+            "why 0 8 0",
         ],
         &[
             "10 0 5 28 3 28",
@@ -461,6 +471,12 @@ fn whole_answers_behind_graces() {
             "waits 3 27",
             "waits 4 27",
             "waits 5 28",
+            "why 1 10 0",
+            "why 2 0 2 2 1",
+            "why 3 0 3 3 2 1",
+            "why 4 0 3 4 2 1",
+            "why 5 0 4 5 4 2 1",
+            "why 0 8 0",
         ],
         &[
             "11 0 1 13 0 0",
@@ -468,6 +484,11 @@ fn whole_answers_behind_graces() {
             "waits 3 23",
             "waits 4 23",
             "waits 5 24",
+            "why 2 10 0",
+            "why 3 0 2 3 2",
+            "why 4 0 2 4 2",
+            "why 5 0 3 5 4 2",
+            "why 0 8 0",
         ],
         &[
             "12 21 0 0 0 0",
@@ -482,6 +503,54 @@ fn whole_answers_behind_graces() {
             windows.any(|lines| lines == expected),
             "{expected:?} in\n{answers}"
         );
+    }
+}
+
+/// Chains, by the text of the load and the last lines of its answers.
+#[test]
+fn chains_by_hand() {
+    let all: Vec<String> = (1..=64).rev().map(|ticket| ticket.to_string()).collect();
+    let longest = format!("why 64 0 64 {}\nwhy 0 8 0\n", all.join(" "));
+    for (calls, last) in [
+        (
+            format!("rig F\n{S}"),
+            "why 1 10 0\nwhy 2 0 2 2 1\nwhy 3 0 3 3 2 1\nwhy 0 8 0\n",
+        ),
+        (
+            format!("rig F\n{S}clock 12\n"),
+            "why 1 10 0\nwhy 2 0 2 2 1\nwhy 3 0 3 3 2 1\nwhy 0 8 0\n",
+        ),
+        // Tickets 2 and 4 end where 3 starts; then 4 alone.
+        (
+            format!("rig F\n{S}claim 0 3 20\n"),
+            "why 1 10 0\nwhy 2 0 2 2 1\nwhy 3 0 3 3 2 1\nwhy 4 10 0\nwhy 0 8 0\n",
+        ),
+        (
+            format!("rig F\n{S}claim 0 3 20\nrelease 4 1\n"),
+            "why 2 10 0\nwhy 3 0 2 3 4\nwhy 4 10 0\nwhy 0 8 0\n",
+        ),
+        // Ticket 1 ends there, too, and shares nothing.
+        (
+            "rig F\nclaim 0 1 10\nclaim 0 2 10\nclaim 0 2 5\n".to_string(),
+            "why 1 10 0\nwhy 2 10 0\nwhy 3 0 2 3 2\nwhy 0 8 0\n",
+        ),
+        // By the pool; and by the pool to the lower ticket, where only the higher is in the way.
+        (
+            "edition 2\nrig F 3\nclaim 0 1 10 2\nclaim 0 2 10 2\nclaim 0 0 5 3\n".to_string(),
+            "why 1 10 0\nwhy 2 0 2 2 1\nwhy 3 0 3 3 2 1\nwhy 0 8 0\n",
+        ),
+        (
+            "edition 2\nrig F 9\nclaim 0 1 10 1\nclaim 0 2 10 0\nclaim 0 2 5 1\n".to_string(),
+            "why 1 10 0\nwhy 2 10 0\nwhy 3 0 2 3 1\nwhy 0 8 0\n",
+        ),
+        (format!("rig 1\n{}", "claim 0 1 5\n".repeat(64)), &longest),
+    ] {
+        let load = text::make(calls.as_bytes()).expect("a load's text");
+        let answers = String::from_utf8(reference::answers::answers(&load)).expect("plain text");
+        assert!(answers.ends_with(last), "{calls}\n{answers}");
+        if answers_differ(&load) {
+            report(0, &load, answers_differ);
+        }
     }
 }
 

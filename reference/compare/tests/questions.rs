@@ -47,9 +47,13 @@ const GRACES: &str =
     "edition 3\nrig F 0\ngrace 60001\ngrace 5\ndesk 1 9 9\nclaim 0 8 10 0 1\nclaim 0 C 10 0 1\n\
     claim 0 6 11 0 1\ngrace 7\nclock 12\n";
 
+/// A holder that waited itself, with one behind it and another behind that.
+const WAITED: &str =
+    "rig F\nclaim 0 8 10\nclaim 0 8 10\nclaim 0 A 11\nclaim 0 1 20\nclaim 0 2 21\nrelease 10 1\n";
+
 #[test]
 fn generated_questions() {
-    for seed in seeds("COMPARE_QUESTIONS", 2_000) {
+    for seed in seeds("COMPARE_QUESTIONS", 3_000) {
         let load = asked_load(seed);
         let question = question(&load, seed);
         let differ = if seed.is_multiple_of(4) {
@@ -78,6 +82,37 @@ fn the_answers() {
         (&plot, "common 3 9", "ticket 9 is not pending\n"),
         (cut, "lookup 2", "stop 12 4\nticket 2 waits, start 10\n"),
         (cut, "lookup 3", "stop 12 4\nticket 3 is not pending\n"),
+        (
+            &plot,
+            "why 3",
+            "ticket 3 waits for 2 until 20, 2 waits for 1 until 10, 1 is on until 10\n",
+        ),
+        (
+            &released,
+            "why 3",
+            "ticket 3 waits for 2 until 14, 2 is on until 14\n",
+        ),
+        (&released, "why 2", "ticket 2 is on\n"),
+        (&released, "why 1", "ticket 1 is not pending\n"),
+        (&plot, "why 0", "ticket 0 is not pending\n"),
+        (&plot, "why 65535", "ticket 65535 is not pending\n"),
+        (
+            cut,
+            "why 2",
+            "stop 12 4\nticket 2 waits for 1 until 10, 1 is on until 10\n",
+        ),
+        (cut, "why 1", "stop 12 4\nticket 1 is on\n"),
+        (cut, "why 3", "stop 12 4\nticket 3 is not pending\n"),
+        (
+            &made(UNITS),
+            "why 3",
+            "ticket 3 waits for 1 until 10, 1 is on until 10\n",
+        ),
+        (
+            &made(WAITED),
+            "why 5",
+            "ticket 5 waits for 3 until 31, 3 waits for 2 until 20, 2 is on until 20\n",
+        ),
     ] {
         let expected = (said.as_bytes().to_vec(), Vec::new());
         assert_eq!(agreed(load, question.as_bytes()), expected, "{question}");
@@ -122,6 +157,11 @@ fn the_answers() {
         ("lookup 3", "ticket 3 waits, start 27\n"),
         ("common 2 3", "tickets 2 and 3 share group 2\n"),
         ("free", "0 of 0 units free\n"),
+        (
+            "why 3",
+            "ticket 3 waits for 2 until 27, 2 waits for 1 until 17, 1 is on until 17\n",
+        ),
+        ("why 1", "ticket 1 is on\n"),
     ] {
         let expected = (said.as_bytes().to_vec(), Vec::new());
         assert_eq!(agreed(&graces, question.as_bytes()), expected, "{question}");
@@ -136,6 +176,12 @@ fn the_answers() {
         "free free",
         "frees",
         "Free",
+        "why",
+        "why 1 2",
+        "why 65536",
+        "why why",
+        "whys 1",
+        "Why 1",
     ] {
         let expected = (Vec::new(), WRONG.into());
         assert_eq!(agreed(&plot, question.as_bytes()), expected, "{question}");
@@ -152,6 +198,7 @@ fn every_pair() {
     agreed(&load, b"free");
     for first in 0..=8 {
         agreed(&load, format!("lookup {first}").as_bytes());
+        agreed(&load, format!("why {first}").as_bytes());
         for second in 0..=8 {
             agreed(&load, format!("common {first} {second}").as_bytes());
         }
@@ -170,7 +217,40 @@ fn units_free_at_every_stage() {
     }
 }
 
-/// Pairs of a table that is full or nearly so, on all groups.
+/// Why a ticket waits after each call of runs with ties, pools and graces.
+#[test]
+fn chains_at_every_stage() {
+    for shape in [Shape::Ties, Shape::Pool, Shape::Grace, Shape::Chain] {
+        for seed in 1..=12 {
+            let mut run = generate::run_of(shape, seed);
+            run.calls.truncate(40);
+            let mut prng = Prng::new(seed);
+            while run.calls.pop().is_some() {
+                let load = run.load();
+                let ticket = generate::lookup_ticket(&mut prng, &left(&load).0);
+                agreed(&load, format!("why {ticket}").as_bytes());
+            }
+        }
+    }
+}
+
+/// A chain of all that can be pending, at the greatest clock.
+#[test]
+fn a_chain_of_64() {
+    let claims = "claim 1000000000000 1 3600000\n".repeat(64);
+    let load = made(&format!("rig 1\n{claims}"));
+    for ticket in 0..=65 {
+        let (answer, _) = agreed(&load, format!("why {ticket}").as_bytes());
+        let links = answer.windows(11).filter(|words| words == b" waits for ");
+        let expected = match ticket {
+            1..=64 => ticket - 1,
+            _ => 0,
+        };
+        assert_eq!(links.count(), expected);
+    }
+}
+
+/// Pairs and chains of a table that is full or nearly so, on all groups.
 #[test]
 fn full_tables() {
     for seed in 1..=20 {
@@ -182,6 +262,7 @@ fn full_tables() {
             let first = prng.range(0, 66);
             let second = prng.range(0, 66);
             agreed(&load, format!("common {first} {second}").as_bytes());
+            agreed(&load, format!("why {first}").as_bytes());
         }
     }
 }
@@ -202,6 +283,11 @@ fn every_byte_in_every_place() {
             b"fr?ee",
             b"free?",
             b"free?1",
+            b"?why 3",
+            b"wh?y 3",
+            b"why?3",
+            b"why ?3",
+            b"why 3?",
         ] {
             let line: Vec<u8> = line
                 .iter()
@@ -218,8 +304,12 @@ fn questions_of_the_greatest_length() {
     let load = made(S);
     for size in [MAX_QUESTION - 1, MAX_QUESTION, MAX_QUESTION + 1, 20_000] {
         let number = size - "common 2 ".len();
+        let digits = size - "why ".len();
         for line in [
             format!("common 2 {:0number$}", 3),
+            format!("why {:0digits$}", 3),
+            format!("{:size$}", "why 3"),
+            format!("{:>size$}", "why 3"),
             format!("{:size$}", "common 2 3"),
             format!("{:>size$}", "common 2 3"),
             format!("{:size$}", "free"),
@@ -233,6 +323,7 @@ fn questions_of_the_greatest_length() {
             }
         }
         agreed(&load, format!("common 2 {:0number$}", 3).as_bytes());
+        agreed(&load, format!("why {:0digits$}", 3).as_bytes());
     }
 }
 
@@ -245,6 +336,7 @@ fn loads_of_the_greatest_length() {
             for ticket in [0, 1, issued, issued.wrapping_add(1)] {
                 agreed(&load, format!("lookup {ticket}").as_bytes());
                 agreed(&load, format!("common {issued} {ticket}").as_bytes());
+                agreed(&load, format!("why {ticket}").as_bytes());
             }
             agreed(&load, b"free");
         }
@@ -267,6 +359,7 @@ fn loads_that_end_early() {
     ] {
         agreed(load, b"lookup 1");
         agreed(load, b"free");
+        agreed(load, b"why 1");
     }
     agreed(&made("rig 0\nclaim 0 8 10\n"), b"common 1 1");
     let plot = made(&format!("{S}release 4 1\nrelease 4 1\nclock 3\n"));
@@ -274,6 +367,7 @@ fn loads_that_end_early() {
     for end in 0..=twice.len() {
         agreed(&twice[..end], b"lookup 2");
         agreed(&twice[..end], b"common 2 3");
+        agreed(&twice[..end], b"why 3");
     }
     let units = made(&format!("{UNITS}release 4 1\nrelease 4 2\nclock 3\n"));
     let twice = [&units[..], &units[1..]].concat();
@@ -287,5 +381,6 @@ fn loads_that_end_early() {
     let graces = made(GRACES);
     for end in 0..=graces.len() {
         agreed(&graces[..end], b"lookup 2");
+        agreed(&graces[..end], b"why 3");
     }
 }
