@@ -11,12 +11,12 @@ use Rattle.rules.specs.Pool.{freeUnits}
 use Rattle.rules.specs.Calls as rules
 use Rattle.rules.specs.Calls.{Model, settingOf, withGrace, declared, Look, Call, claim, isTimed, Step, unchanged, advance, plain, finish, admit, step}
 use Rattle.rules.proofs.Bools.{clash}
-use Rattle.rules.proofs.Calls.{Leaves, by-release, by-withdraw, by-clock, Settable, step-cases, unissued-none}
+use Rattle.rules.proofs.Calls.{Leaves, by-release, by-withdraw, by-clock, step-cases, unissued-none}
 use Rattle.rules.proofs.Chains.{chain-none}
 use Rattle.promises.specs.Ledger.{tableAfter, Ledger}
 use Rattle.promises.specs.Runs.{tellsOf, tells, Start, Begins}
 use Rattle.promises.specs.Replies.{Replied, Replies}
-use Rattle.promises.proofs.Demand3.{Story, idle-refused, after-calls}
+use Rattle.promises.proofs.Demand3.{idle-refused, after-calls}
 
 abbrev Reply : Ledger → Model → Call → Step → Type 0
 Reply l m c s = Replied l (record { call = c; answer = s .answer }) (tells m) (tells (s .model))
