@@ -24,6 +24,7 @@ use Rattle.promises.specs.Demand3.{Now}
 use Rattle.promises.specs.ChainsTold.{countsAs, LinkTold, Followed, addsAs, addsTold, chainOfEntries, ChainTold, Chains, ChainsTold}
 use Rattle.promises.proofs.Matching.{Match, m-nil, m-cons, match-sum, partner, partner-of}
 use Rattle.promises.proofs.Demand3.{Tracks, Story, after-calls, demand-3}
+use Rattle.promises.proofs.WaitsExplained.{common-is}
 use Rattle.promises.proofs.Plan.{waits-once, waits-not-on, standing-on, standing-wait, told-is, waits-at, end-as, end-is}
 
 -- ── the table's chains are the ledger's ──
@@ -37,20 +38,20 @@ once-is (m-cons r m) d = (λ e i q. (let p = partner m i in d .0 (p .0) (p .1) (
 
 module _ (P : Type 0) (l : Ledger) (m : Model) (st : Story P l m) where
   -- What two claims have in common, one of them looking for its link.
-  common-is : (c w : Claim) (e f : Entry) → Tracks P c e → Tracks P w f → meets c (claimCountsAs (m .pending) w) ≡ inCommon e (countsAs (l .claims) f)
+  link-common : (c w : Claim) (e f : Entry) → Tracks P c e → Tracks P w f → meets c (claimCountsAs (m .pending) w) ≡ inCommon e (countsAs (l .claims) f)
   unfolding claimCountsAs
-  common-is c w e f r t = cc (r .groups, r .units, t .groups, t .units)
+  link-common c w e f r t = common-is P c w e f r t
 
   link-is : (c w : Claim) (e f : Entry) → c ∈ m .pending → Tracks P c e → e ∈ l .claims → Tracks P w f → TrueLink (settingOf m) (m .pending) c w → LinkTold l (tells m) f (at w) e
   link-is c w e f ci r ei t h = record {
     pending = ei;
-    common = sym (common-is c w e f r t) ∙ h .common;
+    common = sym (link-common c w e f r t) ∙ h .common;
     ends = end-is P l m st c e ci r ∙ h .ends;
     lowest = λ d di less shared ends.
         let p = partner (st .match) di in
         omega (
           arith,
-          h .lowest (p .0) (p .1) (sym (end-is P l m st (p .0) d (p .1) (p .2)) ∙ ends) (common-is (p .0) w d f (p .2) t ∙ shared),
+          h .lowest (p .0) (p .1) (sym (end-is P l m st (p .0) d (p .1) (p .2)) ∙ ends) (link-common (p .0) w d f (p .2) t ∙ shared),
           p .2 .ticket,
           r .ticket,
           less,
