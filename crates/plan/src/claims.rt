@@ -71,7 +71,7 @@ pub(crate) fn on_since(c: Claim, grant: u64) -> Claim
 }
 
 // The end of a claim.
-pub(crate) fn end_of(v: Setting, c: Claim) -> u64
+pub fn end_of(v: Setting, c: Claim) -> u64
     requires { ⌜ (at c ≤ mostAt) × (v .clock ≤ mostClock) ⌝ }
     ensures { λ r. ⌜ r ≡ endOf v c ⌝ }
 {

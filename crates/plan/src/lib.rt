@@ -9,6 +9,7 @@ mod packing;
 mod placing;
 mod pool;
 
+pub use claims::end_of;
 pub use claims::is_on;
 pub use claims::start_or_grant;
 pub use claims::wide;

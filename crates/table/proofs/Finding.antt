@@ -1,17 +1,20 @@
--- Finding the claim of a ticket.
+-- Finding the claim of a ticket, and what is told of the claim that is found.
 use mathlib.Core.Path.{_≡_, refl, sym, ap, _∙_}
+use mathlib.Core.Bool.{true, false}
 use mathlib.Core.List.{List, [], _∷_}
 use Prim.Native.Nat.{ℕ, _<_}
 use native.Mathlib.Omega.{arith}
 use lib.ListN.{getD}
+use Rattle.numbers.specs.Numbers.{unknownNumber, alreadyOnNumber}
 use Rattle.groups.specs.declared.MaybeGroup.{MaybeGroup}
 use Rattle.rules.specs.declared.Claim.{Claim}
 use Rattle.rules.specs.declared.Common.the-variants.{Unknown}
 use Rattle.rules.specs.declared.Table.{Table}
 use Rattle.rules.specs.Lists.{keep}
 use Rattle.rules.specs.Tests.{named}
-use Rattle.rules.specs.Claims.{conflicts}
-use Rattle.rules.specs.Calls.{shared, between, commonOf}
+use Rattle.rules.specs.Claims.{conflicts, on}
+use Rattle.rules.specs.Calls.{shared, between, commonOf, settingOf}
+use Rattle.rules.specs.Chains.{chain, chainRefused, chainTickets, chainOf}
 use Rattle.rules.specs.Tables.{vacant, model}
 use Rattle.rules.proofs.Lookup.{one-named}
 use Rattle.table.specs.Valid.{Formed}
@@ -53,3 +56,18 @@ module _ (t : Table) (j k x y : ℕ) (p : Found t j x) (q : Found t k y) where
       → shared g ≡ commonOf j k (model t .pending)
   unfolding commonOf
   both-found d e g h = rw (p .here (omega (arith, d, p .within)), q .here (omega (arith, e, q .within))) (ap shared h)
+
+-- The chain of a ticket, by what was found of it.
+module _ (t : Table) (k x : ℕ) (p : Found t k x) where
+  pub no-chain : x ≡ t .count → chainOf (settingOf (model t)) k (model t .pending) ≡ chainRefused unknownNumber
+  unfolding chainOf
+  no-chain e = rw (p .none e) refl
+
+  pub held-chain : (x ≡ t .count → ⊥) → on (getD (t .claims) x vacant) ≡ true → chainOf (settingOf (model t)) k (model t .pending) ≡ chainRefused alreadyOnNumber
+  unfolding chainOf
+  held-chain d o = rw (p .here (omega (arith, d, p .within)), o) refl
+
+  pub waiting-chain : (x ≡ t .count → ⊥) → on (getD (t .claims) x vacant) ≡ false
+      → chainOf (settingOf (model t)) k (model t .pending) ≡ chainTickets (chain (settingOf (model t)) (model t .pending) (getD (t .claims) x vacant))
+  unfolding chainOf
+  waiting-chain d o = rw (p .here (omega (arith, d, p .within)), o) refl

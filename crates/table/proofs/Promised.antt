@@ -5,16 +5,19 @@ use mathlib.Core.Bool.{Bool}
 use Prim.Native.Nat.{ℕ, _+_, _-_, _≤_}
 use native.Mathlib.Omega.{arith}
 use lib.ListN.{length, take}
+use Rattle.rules.specs.declared.Blocking.{Blocking}
 use Rattle.rules.specs.declared.Table.{Table}
-use Rattle.rules.specs.Calls.{Model, Call, Step, step, blank, new}
+use Rattle.rules.specs.Calls.{Model, settingOf, Call, Step, step, blank, new}
+use Rattle.rules.specs.Chains.{ChainValues, chainOf}
 use Rattle.rules.specs.Plans.{Ascending}
 use Rattle.rules.specs.Tables.{encode, model}
 use Rattle.rules.proofs.Calls.{new-cases}
+use Rattle.rules.proofs.Chains.{told-length}
 pub use Rattle.rules.proofs.GrantCounts.{waiting}
 use Rattle.rules.proofs.GrantCounts.{waiting-none, Counted, step-counted, new-counted}
 use Rattle.table.specs.declared.Outcome.{Outcome}
 use Rattle.table.specs.Valid.{Valid}
-use Rattle.table.specs.Outcomes.{outcome}
+use Rattle.table.specs.Outcomes.{outcome, blocking}
 use Rattle.rules.proofs.Places.{pad-take}
 use Rattle.table.proofs.Formed.{model-is, formed-few, formed-length}
 
@@ -27,6 +30,15 @@ module _ (o : Outcome) (s : Step) (p : o ≡ outcome s) where
   -- Its first `granted` grants are the tickets that the answer names.
   pub outcome-grants : take (o .granted) (o .grants) ≡ s .answer .grants
   outcome-grants = ap (λ (x : Outcome). take (x .granted) (x .grants)) p ∙ pad-take 0 (s .answer .grants)
+
+-- ── what a lookup of a blocking chain tells ──
+-- The first `count` tickets are those of the chain.
+pub blocking-tickets : (r : Blocking) (s : ChainValues) → r ≡ blocking s → take (r .count) (r .tickets) ≡ s .tickets
+blocking-tickets r s p = ap (λ (x : Blocking). take (x .count) (x .tickets)) p ∙ pad-take 0 (s .tickets)
+
+-- A chain is no longer than there are places.
+pub chain-few : (t : Table) (k : ℕ) → Valid t → length (chainOf (settingOf (model t)) k (model t .pending) .tickets) ≤ 64
+chain-few t k v = omega (arith, told-length (t .issued) (settingOf (model t)) (model t .pending) (v .settled) k, v .formed .ranged .ranges .few)
 
 -- ── how claims lie in a table ──
 -- In the first `count` of 64 places, by ascending ticket; and those are the claims that the table means. Whoever goes over the claims of a

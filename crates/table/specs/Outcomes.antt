@@ -15,6 +15,7 @@ use Rattle.rules.specs.Calls.{Model, fullTo, overOf, Call, release, withdraw, S
 use Rattle.rules.specs.Lists.{any, keep}
 use Rattle.rules.specs.Claims.{on, at}
 use Rattle.rules.specs.Tables.{vacant, encode, model, pad}
+pub use Rattle.chains.specs.Blocking.{blocking}
 use Rattle.table.specs.declared.Outcome.{Outcome}
 use Rattle.table.specs.Counts.{contested}
 

@@ -1,7 +1,7 @@
-// The claims table: new, declare, set_grace, claim, release, withdraw, clock, lookup, common, free. Each call takes a table by value and
+// The claims table: new, declare, set_grace, claim, release, withdraw, clock, lookup, common, free, why. Each call takes a table by value and
 // hands one back with its answer. A claim and a clock call pack only where the clock moves and a holder overruns; a release and a
 // withdrawal only where somebody waits, and once more where a pending claim draws units, the clock moves and a holder overruns.
-// What packing and placing cost is told in `plan`; everything else is a few passes.
+// What packing and placing cost is told in `plan`, what a chain costs in `chains`; everything else is a few passes.
 ghost use mathlib.Core.Path.{_≡_};
 ghost use mathlib.Core.Bool.{true};
 ghost use Prim.Native.Nat.{_+_, _≤_, _<_};
@@ -9,16 +9,18 @@ ghost use Rattle.numbers.specs.Numbers.{mostClock, mostLength, mostPending, mos
 ghost use Rattle.rules.specs.Claims.{at};
 ghost use Rattle.rules.specs.Shares.{shareOf};
 ghost use Rattle.rules.specs.Tests.{firstOf};
-ghost use Rattle.rules.specs.Calls.{claims, releases, withdraws, movesClock, atPool, declares, setsGrace, timed, looks, setsUp, tests, advance, finish, remove, admit, step, new, standingValues, standing, standingOf, lookupGives, commonValues, commonOf, commonGives, freeOf};
+ghost use Rattle.rules.specs.Calls.{claims, releases, withdraws, movesClock, atPool, declares, setsGrace, timed, looks, setsUp, tests, advance, finish, remove, admit, step, new, standingValues, standing, standingOf, lookupGives, commonValues, commonOf, commonGives, freeOf, settingOf};
+ghost use Rattle.rules.specs.Chains.{chainRefused, chainOf};
 ghost use Rattle.rules.specs.Tables.{encode, model};
 ghost use Rattle.rules.specs.Invariants.{Still};
 ghost use Rattle.table.specs.Valid.{Formed, Valid};
-ghost use Rattle.table.specs.Outcomes.{outcome, answeringIn, Found, timeNumber, shareNumber, countedNumber, pastEnd, departed, phaseNumber, leaving};
+ghost use Rattle.table.specs.Outcomes.{outcome, answeringIn, Found, timeNumber, shareNumber, countedNumber, pastEnd, departed, phaseNumber, leaving, blocking};
 ghost use Rattle.plan.specs.Bounds.{mostAt};
 
 mod shares;
 
 use groups::MaybeGroup;
+use rules::Blocking;
 use rules::Claim;
 use rules::Common;
 use rules::Phase;
@@ -186,6 +188,33 @@ pub fn free(t: Table) -> u16
         i += 1;
     }
     n
+}
+
+fn unexplained(number: u8) -> Blocking
+    ensures { λ r. ⌜ r ≡ blocking (chainRefused number) ⌝ }
+{
+    Blocking {
+        number: number,
+        count: 0,
+        tickets: [0u16; 64],
+    }
+}
+
+// The blocking chain of a ticket that waits: 8 if it is not pending, 10 if it is on. Cost: one pass at most to find it, one to gather what
+// is compared, and one at most for each waiting claim of the chain.
+pub fn why(t: Table, ticket: u16) -> Blocking
+    requires { ⌜ Valid t ⌝ }
+    ensures { λ r. ⌜ (r ≡ blocking (chainOf (settingOf (model t)) ticket (model t .pending))) × (r .count ≤ 64) ⌝ }
+{
+    let i = find(t, ticket);
+    if i == t.count {
+        return unexplained(numbers::UNKNOWN);
+    }
+    let c = t.claims[i];
+    if plan::is_on(c) {
+        return unexplained(numbers::ALREADY_ON);
+    }
+    chains::chain(t, i)
 }
 
 // ── the parts of a call ──
