@@ -10,6 +10,7 @@ pub mod PackedInTurn
 pub mod LeastStart
 pub mod PlansApart
 pub mod WaitsExplained
+pub mod ChainsTold
 pub mod GrantsDue
 pub mod NeverOvertaken
 pub mod StartsHold

@@ -37,7 +37,9 @@ module _ (P : Type 0) (l : Ledger) (m : Model) (s : Story P l m) where
   tests-are (timed t (releases k)) = rw (s .clock, known-is k, waits-is k)
   tests-are (timed t (withdraws k)) = rw (s .clock, known-is k, holds-is k)
   tests-are (timed t movesClock) = rw (s .clock)
-  tests-are (looks q) = ap (λ (f : ℕ → Bool). lookTests f q) (λ i k. known-is k i)
+  tests-are (looks q) =
+      ap (λ (f : ℕ → Bool). lookTests f (λ k. any (λ c. named k c && on c) (m .pending)) q) (λ i k. known-is k i)
+      ∙ ap (λ (f : ℕ → Bool). lookTests (λ k. any (hasTicket k) (l .claims)) f q) (λ i k. holds-is k i)
   tests-are (setsUp p) = rw (s .issued, s .shares)
 
 pub numbers-tested : (s : Start) → Begins s → (calls : List Call) → NumbersTested s calls

@@ -27,7 +27,14 @@ use Rattle.promises.specs.Plan.{endAs, endTold, Precedes, beginsAs, cove
 use Rattle.promises.proofs.Matching.{Match, match-keep, match-sum}
 use Rattle.promises.proofs.Demand3.{Tracks, Story, ruled-is}
 
-standing-on : (c : Claim) → on c ≡ true → standing c ≡ Holds (at c + c .length)
+-- What a lookup told is one thing.
+pub waits-once : (a b : ℕ) → Waits a ≡ Waits b → a ≡ b
+waits-once a b e = cc
+
+pub waits-not-on : (a b : ℕ) → Waits a ≡ Holds b → ⊥
+waits-not-on a b e = let z : _≡_ {A = ℕ} 0 1 = cc in omega arith
+
+pub standing-on : (c : Claim) → on c ≡ true → standing c ≡ Holds (at c + c .length)
 standing-on c o = ap (λ (b : Bool). cond b (Holds (at c + c .length)) (Waits (at c))) o
 
 pub standing-wait : (c : Claim) → on c ≡ false → standing c ≡ Waits (at c)

@@ -11,6 +11,7 @@ use Rattle.promises.proofs.StartsPacked.{starts-packed}
 use Rattle.promises.proofs.PackedInTurn.{packed-in-turn}
 use Rattle.promises.proofs.PlansApart.{plans-apart}
 use Rattle.promises.proofs.WaitsExplained.{waits-explained}
+use Rattle.promises.proofs.ChainsTold.{chains-told}
 use Rattle.promises.proofs.NeverOvertaken.{never-overtaken}
 use Rattle.promises.proofs.StartsHold.{starts-hold}
 use Rattle.promises.proofs.GrantsDue.{grants-due}
@@ -28,6 +29,7 @@ promises s b calls = record {
   packed-in-turn = packed-in-turn s b calls;
   plans-apart = plans-apart s b calls;
   waits-explained = waits-explained s b calls;
+  chains-told = chains-told s b calls;
   never-overtaken = never-overtaken s b calls;
   grants-due = grants-due s b calls;
   starts-hold = starts-hold s b calls;

@@ -2,7 +2,7 @@
 -- each asked of what the calls so far and their answers tell; 0 where none does. Beside demand 3, by the same ledger. proofs/NumbersTested
 -- has the theorem.
 use mathlib.Core.Path.{_≡_}
-use mathlib.Core.Bool.{Bool}
+use mathlib.Core.Bool.{Bool, _&&_}
 use mathlib.Core.List.{List, [], _∷_}
 use Prim.Native.Nat.{ℕ}
 use lib.ListN.{length}
@@ -28,7 +28,7 @@ actionTestsBy l movesClock = []
 
 unfoldable pub testsBy : Ledger → Call → List Test
 testsBy l (timed t x) = late t ∷ backward (l .clock) t ∷ actionTestsBy l x
-testsBy l (looks q) = lookTests (λ k. any (hasTicket k) (l .claims)) q
+testsBy l (looks q) = lookTests (λ k. any (hasTicket k) (l .claims)) (λ k. any (λ e. hasTicket k e && e .held) (l .claims)) q
 testsBy l (setsUp p) = setupTests (l .issued) (l .shares) p
 
 abbrev pub NumberTested : Ledger → Turn → Told → Told → Type 0

@@ -11,6 +11,7 @@ use Rattle.promises.specs.StartsPacked.{StartsPacked}
 use Rattle.promises.specs.PackedInTurn.{PackedInTurn}
 use Rattle.promises.specs.PlansApart.{PlansApart}
 use Rattle.promises.specs.WaitsExplained.{WaitsExplained}
+use Rattle.promises.specs.ChainsTold.{ChainsTold}
 use Rattle.promises.specs.NeverOvertaken.{NeverOvertaken}
 use Rattle.promises.specs.StartsHold.{StartsHold}
 use Rattle.promises.specs.GrantsDue.{GrantsDue}
@@ -29,6 +30,7 @@ pub record Promises (s : Start) (calls : List Call) : Type 0 where
   pub packed-in-turn : PackedInTurn s calls
   pub plans-apart : PlansApart s calls
   pub waits-explained : WaitsExplained s calls
+  pub chains-told : ChainsTold s calls
   pub never-overtaken : NeverOvertaken s calls
   pub grants-due : GrantsDue s calls
   pub starts-hold : StartsHold s calls

@@ -5,9 +5,11 @@ use mathlib.Core.List.{List, _∷_, _++_}
 use Prim.Native.Nat.{ℕ}
 use Rattle.rules.specs.declared.Claim.{Claim}
 use Rattle.rules.specs.declared.Common.{Common}
+use Rattle.rules.specs.declared.Setting.{Setting}
 use Rattle.rules.specs.declared.Standing.{Standing}
 use Rattle.rules.specs.Pool.{freeUnits}
-use Rattle.rules.specs.Calls.{Model, Look, atTicket, atTwo, atPool, Call, Step, new, standingOf, commonOf}
+use Rattle.rules.specs.Calls.{Model, settingOf, Look, atTicket, atTwo, atPool, atChain, Call, Step, new, standingOf, commonOf}
+use Rattle.rules.specs.Chains.{ChainValues, chainOf}
 use Rattle.promises.specs.Ledger.{Turn, Steps, turns, tableAfter, Ledger, opening, notedAll, NoOverruns}
 
 -- What a lookup tells, and what all of them tell.
@@ -15,18 +17,20 @@ abbrev pub Telling : Look → Type 0
 Telling (atTicket k) = Standing
 Telling (atTwo j k) = Common
 Telling atPool = ℕ
+Telling (atChain k) = ChainValues
 
 abbrev pub Told : Type 0
 Told = (q : Look) → Telling q
 
--- What they tell of a table: of its pool and its pending claims.
-abbrev pub tellsOf : ℕ → List Claim → (q : Look) → Telling q
-tellsOf pool ps (atTicket k) = standingOf k ps
-tellsOf pool ps (atTwo j k) = commonOf j k ps
-tellsOf pool ps atPool = freeUnits pool ps
+-- What they tell of a table: of its clock, its pool and its grace, and of its pending claims.
+abbrev pub tellsOf : Setting → List Claim → (q : Look) → Telling q
+tellsOf v ps (atTicket k) = standingOf k ps
+tellsOf v ps (atTwo j k) = commonOf j k ps
+tellsOf v ps atPool = freeUnits (v .pool) ps
+tellsOf v ps (atChain k) = chainOf v k ps
 
 abbrev pub tells : Model → (q : Look) → Telling q
-tells m q = tellsOf (m .pool) (m .pending) q
+tells m q = tellsOf (settingOf m) (m .pending) q
 
 -- What a run begins with: a table, and what the call that gave it tells.
 pub record Start : Type 0 where

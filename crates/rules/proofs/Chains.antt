@@ -18,13 +18,13 @@ use Rattle.rules.specs.Order.{meets}
 use Rattle.rules.specs.Plans.{Ascending, HeldUp}
 use Rattle.rules.specs.Invariants.{Settled, Invariant}
 use Rattle.rules.specs.Tests.{firstOf, named, unknown, alreadyOn}
-use Rattle.rules.specs.Calls.{Model, settingOf}
+use Rattle.rules.specs.Calls.{Model, settingOf, atChain, looks, tests, step}
 use Rattle.rules.specs.Chains.{countsAs, links, link, chainWithin, chain, ChainValues, chainRefused, chainTickets, chainOf, TrueLink, TrueChain, adds, Explains, Chained}
 use Rattle.rules.proofs.Bools.{and-l, and-r, and-i, clash, by-test}
 use Rattle.rules.proofs.Lists.{Each, none, any-i, any-none, any-false, any-some, first-e, ascends-first, keep-lt, keep-length}
 use Rattle.rules.proofs.Claims.{end-wait, end-ge}
 use Rattle.rules.proofs.Order.{ascending-same}
-use Rattle.rules.proofs.Lookup.{none-named, one-named}
+use Rattle.rules.proofs.Lookup.{none-named, one-named, look-number}
 
 -- ── links ──
 pub links-e : (v : Setting) (ps : List Claim) (c w : Claim) → links v ps c w ≡ true → (endOf v c ≡ at w) × (meets c (countsAs ps w) ≡ true)
@@ -93,6 +93,15 @@ chain-number v k ps a =
         by-test (named k d)
         (λ n. rw n (ap on (ascending-same ps a d w i m (eqb-true (d .ticket) k n ∙ sym e)) ∙ o))
         (λ n. rw n refl)
+
+-- So it is the number that this lookup answers as a call of a run.
+pub chain-answer : (m : Model) (k : ℕ) → Ascending (m .pending) → chainOf (settingOf m) k (m .pending) .number ≡ step m (looks (atChain k)) .answer .number
+unfolding tests
+chain-answer m k a = chain-number (settingOf m) k (m .pending) a ∙ sym (look-number m (atChain k))
+
+-- With nothing pending every ticket is told 8.
+pub chain-none : (v : Setting) (k : ℕ) → chainOf v k [] ≡ chainRefused unknownNumber
+chain-none v k = chain-absent v k [] (λ c i. none i)
 
 -- ── in a settled table ──
 module _ (k : ℕ) (v : Setting) (ps : List Claim) (settled : Settled k v ps) where

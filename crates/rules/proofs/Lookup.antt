@@ -121,6 +121,9 @@ look-step m q = idle (firstOf (tests m (looks q)))
 pub look-idle : (m : Model) (q : Look) → step m (looks q) .model ≡ m
 look-idle m q = ap (λ (s : Step). s .model) (look-step m q)
 
+pub look-number : (m : Model) (q : Look) → step m (looks q) .answer .number ≡ firstOf (tests m (looks q))
+look-number m q = ap (λ (s : Step). s .answer .number) (look-step m q)
+
 pub look-answer : (m : Model) (q : Look) → unchanged m (step m (looks q) .answer .number) .answer ≡ step m (looks q) .answer
 look-answer m q = rw (look-step m q)
 
@@ -135,7 +138,7 @@ values-first k (c ∷ ps) = by-test (named k c) (λ e. rw e (by-test (on c) (λ 
 
 pub lookup-told : (m : Model) (k : ℕ) (s : Standing) → s ≡ standingOf k (m .pending) → (s ≡ standingOf k (m .pending)) × (standingValues s ≡ lookupGives m k)
 unfolding tests firstOf
-lookup-told m k s e = (e, ap standingValues e ∙ values-first k (m .pending) ∙ ap (λ (n : ℕ). valuesFirst n k (m .pending)) (sym (ap (λ (x : Step). x .answer .number) (look-step m (atTicket k)))))
+lookup-told m k s e = (e, ap standingValues e ∙ values-first k (m .pending) ∙ ap (λ (n : ℕ). valuesFirst n k (m .pending)) (sym (look-number m (atTicket k))))
 
 -- A ticket is pending exactly where a claim has it.
 some : List Claim → Bool
@@ -166,10 +169,10 @@ unfolding tests firstOf commonOf
 common-told m j k s e =
     let cs = keep (named j) (m .pending) in
     let ds = keep (named k) (m .pending) in
-    let t = ap (λ (x : Step). x .answer .number) (look-step m (atTwo j k)) in
+    let t = look-number m (atTwo j k) in
     (e, ap commonValues e ∙ between-values cs ds ∙ ap (λ (n : ℕ). record { number = n; groups = groupsBetween cs ds }) (sym (t ∙ rw (any-keep j (m .pending), any-keep k (m .pending)))))
 
 -- A lookup without tests is never refused.
-pub unrefused : (m : Model) (q : Look) → ((known : ℕ → Bool) → lookTests known q ≡ []) → 0 ≡ step m (looks q) .answer .number
+pub unrefused : (m : Model) (q : Look) → ((known held : ℕ → Bool) → lookTests known held q ≡ []) → 0 ≡ step m (looks q) .answer .number
 unfolding tests firstOf
-unrefused m q e = sym (ap (λ (x : Step). x .answer .number) (look-step m q) ∙ ap firstOf (e _))
+unrefused m q e = sym (look-number m q ∙ ap firstOf (e _ _))

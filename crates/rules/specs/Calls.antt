@@ -1,9 +1,9 @@
 -- The calls: in which order each is tested, and what it does. Everything here computes on numerals.
-use mathlib.Core.Bool.{Bool, true, false, not, cond}
+use mathlib.Core.Bool.{Bool, true, false, not, _&&_, cond}
 use mathlib.Core.List.{List, [], _∷_, _++_, map}
 use Prim.Native.Nat.{ℕ, zero, suc, _+_}
 use lib.ListN.{length}
-use Rattle.numbers.specs.Numbers.{darkNumber, unknownNumber}
+use Rattle.numbers.specs.Numbers.{darkNumber, unknownNumber, alreadyOnNumber}
 use Rattle.groups.specs.declared.MaybeGroup.{MaybeGroup}
 use Rattle.groups.specs.declared.MaybeGroup.the-variants.{Group, NoGroup}
 use Rattle.groups.specs.Groups.{empty}
@@ -74,11 +74,12 @@ pub data Action : Type 0 where
   withdraws : ℕ → Action
   movesClock : Action
 
--- What a lookup asks: how a ticket stands, which group two tickets share, the units free. (Document 01: look is our lookup.)
+-- What a lookup asks: how a ticket stands, which group two tickets share, the units free, why a ticket waits. (Document 01: look is our lookup.)
 pub data Look : Type 0 where
   atTicket : ℕ → Look
   atTwo : ℕ → ℕ → Look
   atPool : Look
+  atChain : ℕ → Look
 
 -- What is set before the first claim: a client with its guarantee and its limit; a grace.
 pub data Setup : Type 0 where
@@ -91,8 +92,8 @@ pub data Call : Type 0 where
   looks : Look → Call
   setsUp : Setup → Call
 
--- Each by its name: clock and what is asked for, clock and ticket, clock; ticket, two tickets, nothing; a client with its guarantee and its
--- limit; a grace.
+-- Each by its name: clock and what is asked for, clock and ticket, clock; ticket, two tickets, nothing, ticket; a client with its guarantee and
+-- its limit; a grace.
 abbrev pub claim : ℕ → Request → Call
 claim t ask = timed t (claims ask)
 
@@ -113,6 +114,9 @@ common j k = looks (atTwo j k)
 
 abbrev pub free : Call
 free = looks atPool
+
+abbrev pub why : ℕ → Call
+why k = looks (atChain k)
 
 abbrev pub declare : ℕ → ℕ → ℕ → Call
 declare c r l = setsUp (declares c r l)
@@ -173,11 +177,13 @@ actionTests m (releases k) = unknown (named k) (m .pending) ∷ notYetOn (named 
 actionTests m (withdraws k) = unknown (named k) (m .pending) ∷ alreadyOn (named k) on (m .pending) ∷ []
 actionTests m movesClock = []
 
--- "a ticket that isn't pending answers 8" (document 02, P1; document 01: "gives 8"): whether a ticket is pending is `known`.
-abbrev pub lookTests : (ℕ → Bool) → Look → List Test
-lookTests known (atTicket k) = test (not (known k)) unknownNumber ∷ []
-lookTests known (atTwo j k) = test (not (known j)) unknownNumber ∷ test (not (known k)) unknownNumber ∷ []
-lookTests known atPool = []
+-- "a ticket that isn't pending answers 8" (document 02, P1; document 01: "gives 8"); "Tickets that aren't pending answer 8, those on 10" (P7):
+-- whether a ticket is pending is `known`, whether it is on `held`.
+abbrev pub lookTests : (ℕ → Bool) → (ℕ → Bool) → Look → List Test
+lookTests known held (atTicket k) = test (not (known k)) unknownNumber ∷ []
+lookTests known held (atTwo j k) = test (not (known j)) unknownNumber ∷ test (not (known k)) unknownNumber ∷ []
+lookTests known held atPool = []
+lookTests known held (atChain k) = test (not (known k)) unknownNumber ∷ test (held k) alreadyOnNumber ∷ []
 
 -- A declaration is answered 13 "before 17", and 19 "after 17" (document 02, P4); a grace 21 (P6).
 abbrev pub setupTests : ℕ → List Share → Setup → List Test
@@ -186,7 +192,7 @@ setupTests issued ss (setsGrace n) = badGrace issued n ∷ []
 
 unfoldable pub tests : Model → Call → List Test
 tests m (timed t x) = late t ∷ backward (m .clock) t ∷ actionTests m x
-tests m (looks q) = lookTests (λ k. any (named k) (m .pending)) q
+tests m (looks q) = lookTests (λ k. any (named k) (m .pending)) (λ k. any (λ c. named k c && on c) (m .pending)) q
 tests m (setsUp p) = setupTests (m .issued) (m .shares) p
 
 -- "A call turned down answers its number, with ticket, start, crowd and ceiling 0 and no grants; the table is the one handed in"

@@ -2,11 +2,14 @@
 use mathlib.Core.Path.{_≡_, refl, sym, _∙_, ap, subst}
 use mathlib.Core.List.{List, _∷_}
 use Prim.Native.Nat.{ℕ}
+use Rattle.rules.specs.declared.Blocking.{Blocking}
 use Rattle.rules.specs.declared.Table.{Table}
-use Rattle.rules.specs.Calls.{Model, Look, claims, releases, withdraws, movesClock, declares, setsGrace, Call, timed, looks, setsUp, Answer, Step, step, new, StandingValues, CommonValues}
+use Rattle.rules.specs.Calls.{Model, settingOf, Look, claims, releases, withdraws, movesClock, declares, setsGrace, Call, timed, looks, setsUp, Answer, Step, step, new, StandingValues, CommonValues}
 use Rattle.rules.specs.Calls as rules
+use Rattle.rules.specs.Chains.{ChainValues, chainOf}
 use Rattle.rules.specs.Tables.{model}
 use Rattle.rules.proofs.Lookup.{look-answer, look-idle}
+use Rattle.rules.proofs.Chains.{chain-answer}
 use Rattle.promises.specs.Ledger.{Turn, Ledger, opening, turns, tableAfter}
 use Rattle.promises.specs.Runs.{Telling, Told, tells, Start, Begins, by-new as begins-new, AtAnyTime, WhileNobodyOverruns, AtAnyLater, AtAnyCall}
 use Rattle.promises.specs.Demand3.{Now, NoWaitPast, Next}
@@ -17,6 +20,7 @@ use Rattle.promises.specs.StartsPacked.{AllPacked}
 use Rattle.promises.specs.PackedInTurn.{InTurn}
 use Rattle.promises.specs.PlansApart.{Apart}
 use Rattle.promises.specs.WaitsExplained.{Explained}
+use Rattle.promises.specs.ChainsTold.{Chains, OnlyChains}
 use Rattle.promises.specs.NeverOvertaken.{NotOvertaken}
 use Rattle.promises.specs.GrantsDue.{Due}
 use Rattle.promises.specs.PoolKept.{Kept}
@@ -30,6 +34,7 @@ use Rattle.promises.proofs.StartsPacked.{starts-packed}
 use Rattle.promises.proofs.PackedInTurn.{packed-in-turn}
 use Rattle.promises.proofs.PlansApart.{plans-apart}
 use Rattle.promises.proofs.WaitsExplained.{waits-explained}
+use Rattle.promises.proofs.ChainsTold.{chains-told}
 use Rattle.promises.proofs.NeverOvertaken.{never-overtaken}
 use Rattle.promises.proofs.StartsHold.{starts-hold}
 use Rattle.promises.proofs.GrantsDue.{grants-due}
@@ -37,10 +42,10 @@ use Rattle.promises.proofs.PoolKept.{pool-kept}
 use Rattle.promises.proofs.SharesKept.{shares-kept}
 use Rattle.promises.proofs.TableKept.{table-kept}
 use Rattle.table.specs.declared.Outcome.{Outcome}
-use Rattle.table.specs.Outcomes.{outcome}
+use Rattle.table.specs.Outcomes.{outcome, blocking}
 use Rattle.table.specs.Valid.{Valid}
-use Rattle.table_runs.specs.Runs.{answered, looked, lookNumber, Promised, Shows, Made, by-call, by-look, Run, done, then, Looks, BeganAs, by-new, CodeAtAnyTime, CodeWhileNobodyOverruns, CodeAtAnyLater, CodeAtAnyCall, CodeDemand3, CodeNumbersTested, CodeNewTested, CodeReplies, CodeLeastStart, CodeStartsPacked, CodePackedInTurn, CodePlansApart, CodeWaitsExplained, CodeNeverOvertaken, CodeStartsHold, CodeGrantsDue, CodePoolKept, CodeSharesKept, CodeTables}
-use Rattle.table.proofs.Promised.{outcome-model, outcome-grants}
+use Rattle.table_runs.specs.Runs.{answered, looked, chainShown, lookNumber, Promised, Shows, Made, by-call, by-look, Run, done, then, Looks, BeganAs, by-new, CodeAtAnyTime, CodeWhileNobodyOverruns, CodeAtAnyLater, CodeAtAnyCall, CodeDemand3, CodeNumbersTested, CodeNewTested, CodeReplies, CodeLeastStart, CodeStartsPacked, CodePackedInTurn, CodePlansApart, CodeWaitsExplained, CodeChainsTold, CodeNeverOvertaken, CodeStartsHold, CodeGrantsDue, CodePoolKept, CodeSharesKept, CodeTables}
+use Rattle.table.proofs.Promised.{outcome-model, outcome-grants, blocking-tickets}
 
 -- ── what the contracts say ──
 promised-is : {t : Table} → Valid t → (c : Call) (r : Outcome) → Promised t c r → (r ≡ outcome (step (model t) c)) × Valid (r .table)
@@ -52,10 +57,17 @@ promised-is v (looks q) r p = absurd p
 promised-is v (setsUp (declares c g n)) r p = p v
 promised-is v (setsUp (setsGrace n)) r p = p v
 
+shown-is : (r : Blocking) (c : ChainValues) → r ≡ blocking c → chainShown r ≡ c
+shown-is r c e = ap chainShown e ∙ ap (λ (ks : List ℕ). record { number = c .number; tickets = ks }) (blocking-tickets (blocking c) c refl)
+
 shows-is : {t : Table} → Valid t → (q : Look) (r : Telling q) → Shows t q r → (r ≡ tells (model t) q) × (lookNumber q r ≡ step (model t) (looks q) .answer .number)
 shows-is v (rules.atTicket k) r p = let e = p v in (e .0, ap (λ (x : StandingValues). x .number) (e .1))
 shows-is v (rules.atTwo j k) r p = let e = p v in (e .0, ap (λ (x : CommonValues). x .number) (e .1))
 shows-is v rules.atPool r p = p v
+shows-is {t} v (rules.atChain k) r p =
+    let c : ChainValues = chainOf (settingOf (model t)) k (model t .pending) in
+    let e : r ≡ c = p .1 ∙ shown-is (p .0) c (p .2 v .0) in
+    (e, ap (λ (x : ChainValues). x .number) e ∙ chain-answer (model t) k (v .settled .spaced .ascending))
 
 -- ── one answer ──
 answer-of : (r : Outcome) (s : Step) → r ≡ outcome s → answered r ≡ s .answer
@@ -171,6 +183,12 @@ code-plans-apart calls = any-time-of-code calls Apart (λ s b. plans-apart s b c
 
 pub code-waits-explained : (calls : List Call) → CodeWaitsExplained calls
 code-waits-explained calls = any-time-of-code calls Explained (λ s b. waits-explained s b calls)
+
+pub code-chains-told : (calls : List Call) → CodeChainsTold calls
+code-chains-told calls = record {
+  at-any-time = any-time-of-code calls Chains (λ s b. chains-told s b calls .at-any-time);
+  no-other = any-time-of-code calls OnlyChains (λ s b. chains-told s b calls .no-other);
+}
 
 pub code-never-overtaken : (calls : List Call) → CodeNeverOvertaken calls
 code-never-overtaken calls = any-later-of-code calls NotOvertaken (λ s b. never-overtaken s b calls)

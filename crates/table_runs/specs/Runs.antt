@@ -6,8 +6,10 @@ use mathlib.Core.Bool.{Bool}
 use mathlib.Core.List.{List, [], _∷_, _++_}
 use Prim.Native.Nat.{ℕ}
 use lib.ListN.{take}
+use Rattle.rules.specs.declared.Blocking.{Blocking}
 use Rattle.rules.specs.declared.Table.{Table}
-use Rattle.rules.specs.Calls.{Look, atTicket, atTwo, atPool, claims, releases, withdraws, movesClock, declares, setsGrace, Call, timed, looks, setsUp, Answer, step, new, standingValues, commonValues}
+use Rattle.rules.specs.Calls.{Look, atTicket, atTwo, atPool, atChain, claims, releases, withdraws, movesClock, declares, setsGrace, Call, timed, looks, setsUp, Answer, step, new, standingValues, commonValues}
+use Rattle.rules.specs.Chains.{ChainValues}
 use Rattle.rules.specs.Tables.{model}
 use Rattle.rules.specs.Tests.{firstOf, dark}
 use Rattle.promises.specs.Ledger.{Turn, Ledger, opening, notedAll, NoOverruns}
@@ -20,6 +22,7 @@ use Rattle.promises.specs.StartsPacked.{AllPacked}
 use Rattle.promises.specs.PackedInTurn.{InTurn}
 use Rattle.promises.specs.PlansApart.{Apart}
 use Rattle.promises.specs.WaitsExplained.{Explained}
+use Rattle.promises.specs.ChainsTold.{Chains, OnlyChains}
 use Rattle.promises.specs.NeverOvertaken.{NotOvertaken}
 use Rattle.promises.specs.StartsHold.{Holds}
 use Rattle.promises.specs.GrantsDue.{Due}
@@ -37,6 +40,7 @@ use Rattle.table.proofs.clock.Reads as clock-contract
 use Rattle.table.proofs.lookup.Reads as lookup-contract
 use Rattle.table.proofs.common.Reads as common-contract
 use Rattle.table.proofs.free.Reads as free-contract
+use Rattle.table.proofs.why.Reads as why-contract
 use Rattle.table.proofs.declare.Reads as declare-contract
 use Rattle.table.proofs.set_grace.Reads as grace-contract
 
@@ -56,11 +60,16 @@ answered r =
 abbrev pub looked : ℕ → Answer
 looked n = record { number = n; ticket = 0; start = 0; contention = 0; bound = 0; grants = [] }
 
+-- What a lookup of a chain handed back: its tickets stand in the first places.
+abbrev pub chainShown : Blocking → ChainValues
+chainShown r = record { number = r .number; tickets = take (r .count) (r .tickets) }
+
 -- The number of what a lookup tells.
 abbrev pub lookNumber : (q : Look) → Telling q → ℕ
 lookNumber (atTicket k) s = standingValues s .number
 lookNumber (atTwo j k) s = commonValues s .number
 lookNumber atPool n = 0
+lookNumber (atChain k) r = r .number
 
 -- ── by its contract ──
 -- What a call of the code handed back, made of table t. (The arguments stand as the contract takes them, and at exit are as they were.)
@@ -78,6 +87,7 @@ abbrev pub Shows : Table → (q : Look) → Telling q → Type 0
 Shows t (atTicket k) r = lookup-contract.Asked tt (t, (k, tt)) → lookup-contract.Learnt tt (t, (k, tt)) r (t, (k, tt))
 Shows t (atTwo j k) r = common-contract.Asked tt (t, (j, (k, tt))) → common-contract.Learnt tt (t, (j, (k, tt))) r (t, (j, (k, tt)))
 Shows t atPool r = free-contract.Asked tt (t, tt) → free-contract.Learnt tt (t, tt) r (t, tt)
+Shows t (atChain k) r = (b : Blocking) × (r ≡ chainShown b) × (why-contract.Asked tt (t, (k, tt)) → why-contract.Learnt tt (t, (k, tt)) b (t, (k, tt)))
 
 -- ── a run ──
 -- A call made of table t, its answer, and the table it leaves.
@@ -165,6 +175,10 @@ CodePlansApart calls = CodeAtAnyTime calls Apart
 
 abbrev pub CodeWaitsExplained : List Call → Type 0
 CodeWaitsExplained calls = CodeAtAnyTime calls Explained
+
+pub record CodeChainsTold (calls : List Call) : Type 0 where
+  pub at-any-time : CodeAtAnyTime calls Chains
+  pub no-other : CodeAtAnyTime calls OnlyChains
 
 abbrev pub CodeNeverOvertaken : List Call → Type 0
 CodeNeverOvertaken calls = CodeAtAnyLater calls NotOvertaken

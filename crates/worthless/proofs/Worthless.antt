@@ -1,16 +1,17 @@
 -- The theorems refuse the wrong tables, by computation on a few calls.
-use mathlib.Core.Path.{_≡_, refl, sym, ap, subst}
+use mathlib.Core.Path.{_≡_, refl, sym, _∙_, ap, subst}
 use mathlib.Core.Logic.{_⊎_, inl, inr, ⊎-elim}
 use mathlib.Core.Bool.{Bool, true, false, _&&_, cond}
-use mathlib.Core.List.{List, [], _∷_, List·Memᴰ·eq-of-singleton, List·Memᴰ·cases-cons}
+use mathlib.Core.List.{List, [], _∷_, map, List·Memᴰ·eq-of-singleton, List·Memᴰ·cases-cons}
 use Prim.Native.Nat.{ℕ, _+_, _≤_, _<_}
 use native.Mathlib.Omega.{arith}
 use lib.Dec.{leb, ltb}
+use lib.ListN.{length}
 use borrow.Author.Tests.{le-ltb}
 use Rattle.groups.specs.Groups.{someFrom, lowestFrom, common, shares, empty, within}
 use Rattle.rules.specs.declared.Claim.{Claim}
 use Rattle.rules.specs.declared.Phase.{Phase}
-use Rattle.rules.specs.Lists.{_∈_, greatest, least, sum, all, any, keep}
+use Rattle.rules.specs.Lists.{_∈_, greatest, least, sum, all, any, keep, firstWith}
 use Rattle.rules.specs.Shares.{shareOf, withShare, pendingOf, unfilled, unfilledByOthers, reservedInAll}
 use Rattle.rules.specs.Claims.{on, at, heldUntil, endOf, remaining}
 use Rattle.rules.specs.Order.{precedes, before}
@@ -24,18 +25,20 @@ use Rattle.rules.specs.declared.Phase.the-variants.{Waiting, On}
 use Rattle.rules.specs.declared.Common.the-variants.{Shared, Apart}
 use Rattle.rules.specs.declared.Standing.the-variants.{NotPending, Waits, Holds}
 use Rattle.rules.specs.Tests.{firstOf}
-use Rattle.rules.specs.Calls.{Model, asking, releases, atTicket, Call, release, declare, clock, setGrace, lookup, tests, advance, finish, join, remove, admit, act, step, new, standingOf, commonOf, valueAt}
+use Rattle.rules.specs.Chains.{countsAs, links, link, chainWithin, chain, ChainValues, chainOf}
+use Rattle.rules.specs.Calls.{Model, asking, releases, atTicket, atChain, Call, release, declare, clock, setGrace, lookup, tests, advance, finish, join, remove, admit, act, step, new, standingOf, commonOf, valueAt}
 use Rattle.rules.proofs.Bools.{clash, by-test}
 use Rattle.rules.proofs.Lists.{here, there, none}
-use Rattle.promises.specs.Ledger.{Entry, promised, turns, tableAfter, issues, stay, sharesBy, graceBy, marked, notedAll, boundOn}
-use Rattle.promises.specs.Runs.{tells, Start, newly, ledgerAfter, toldAfter}
+use Rattle.promises.specs.Ledger.{Ledger, Entry, promised, turns, tableAfter, issues, stay, sharesBy, graceBy, marked, notedAll, boundOn}
+use Rattle.promises.specs.Runs.{Told, tells, Start, newly, ledgerAfter, toldAfter}
 use Rattle.promises.specs.Plan.{endTold, Precedes}
 use Rattle.promises.specs.NumbersTested.{testsBy}
 use Rattle.promises.specs.WaitsExplained.{inCommon}
+use Rattle.promises.specs.ChainsTold.{LinkTold, Followed, ChainTold}
 use Rattle.promises.specs.TableKept.{Has}
 use Rattle.promises.specs.WholeCalls.{Stays}
-use Rattle.promises.proofs.Plan.{precedes-of}
-use Rattle.worthless.specs.Worthless.{claim, drawing, turnsDown, fixedStart, untouched, echoes, inventsContention, inventsBound, criesFull, neverGrants, tellsLate, renews, namesBackward, stopsGranting, fidgets, mumbles, blurts, noRig, ignoresGaps, skipsPacking, oneDrawer, crowds, showsNow, leavesGaps, leavesDrawers, reverses, changesTurns, overdraws, keepsUnitsBack, lastFirst, losesUnits, grantsAll, putsBack, forgetsGroups, pushesIn, hidesUnits, ignoresLimits, AllRefused}
+use Rattle.promises.proofs.Plan.{waits-once, waits-not-on, precedes-of}
+use Rattle.worthless.specs.Worthless.{claim, drawing, turnsDown, fixedStart, untouched, echoes, inventsContention, inventsBound, criesFull, neverGrants, tellsLate, renews, namesBackward, stopsGranting, fidgets, mumbles, blurts, noRig, ignoresGaps, skipsPacking, oneDrawer, crowds, showsNow, leavesGaps, leavesDrawers, reverses, changesTurns, overdraws, keepsUnitsBack, lastFirst, losesUnits, grantsAll, putsBack, forgetsGroups, pushesIn, hidesUnits, ignoresLimits, backward, stopsShort, linksHighest, linksAnybody, disownsHolders, AllRefused}
 
 -- Of what holds of each, in a list of two and of three.
 module _ {A : Type 0} (P : A → Type 0) where
@@ -46,12 +49,6 @@ module _ {A : Type 0} (P : A → Type 0) where
   of-three w x y z o p q i = ⊎-elim (λ e. subst P (sym e) o) (of-two x y z p q) (List·Memᴰ·cases-cons i)
 
 -- What a lookup told is one thing.
-waits-once : (a b : ℕ) → Waits a ≡ Waits b → a ≡ b
-waits-once a b e = cc
-
-waits-not-on : (a b : ℕ) → Waits a ≡ Holds b → ⊥
-waits-not-on a b e = let z : _≡_ {A = ℕ} 0 1 = cc in omega arith
-
 waits-pending : (a : ℕ) → Waits a ≡ NotPending → ⊥
 waits-pending a e = let z : _≡_ {A = ℕ} 0 1 = cc in omega arith
 
@@ -95,8 +92,28 @@ alone-first m a b e l p q j h =
     (λ _ z. of-two (λ (y : Claim). precedes y b ≡ true → ⊥) a b (x .one) (λ w. clash w p) (λ w. clash w q) (inside (x .one) (x .one-in)) z)
     (inside (x .other) (x .other-in)) (x .other-is) (x .before)
 
+-- A chain told of two tickets: the second is that of a claim that is on, and the link to it is true.
+record OfTwo (l : Ledger) (told : Told) (f : Entry) (k : ℕ) : Type 0 where
+  start : ℕ
+  waits : told (atTicket (f .ticket)) ≡ Waits start
+  next : Entry
+  next-is : next .ticket ≡ k
+  linked : LinkTold l told f start next
+  end : ℕ
+  holds : told (atTicket k) ≡ Holds end
+
+two-told : (l : Ledger) (told : Told) (f : Entry) (s k : ℕ) → told (atChain (f .ticket)) ≡ record { number = 0; tickets = f .ticket ∷ k ∷ [] } → ChainTold l told f s → OfTwo l told f k
+two-told l told f s k q c = go (c .behind) (ap (λ (r : ChainValues). r .tickets) (sym (c .itself-first) ∙ q)) (c .followed)
+  where
+    go : (es : List Entry) → f .ticket ∷ map (λ (e : Entry). e .ticket) es ≡ f .ticket ∷ k ∷ [] → Followed l told f es → OfTwo l told f k
+    go [] e h = absurd (omega (arith, ap length e))
+    go (x ∷ []) e h =
+        let t : x .ticket ≡ k = cc in
+        record { start = h .0; waits = h .1; next = x; next-is = t; linked = h .2; end = h .3 .0; holds = subst (λ (j : ℕ). told (atTicket j) ≡ Holds (h .3 .0)) t (h .3 .1) }
+    go (x ∷ (y ∷ es)) e h = absurd (omega (arith, ap length e))
+
 pub all-refused : AllRefused
-unfolding someFrom lowestFrom common shares empty within greatest least sum all any keep heldUntil endOf remaining precedes before covers unitsAt used enough spare heldUnits ready startFor moved ahead startWithin packedStart pack clear fits seek place contention startBound takenBefore trulyFree goesWithin goes granted grant grants shareOf pendingOf unfilled unfilledByOthers firstOf tests advance finish join remove admit act step new standingOf commonOf turns tableAfter issues stay sharesBy graceBy marked notedAll boundOn testsBy freeUnits valueAt turnsDown fixedStart untouched echoes inventsContention inventsBound criesFull neverGrants tellsLate renews namesBackward stopsGranting fidgets mumbles blurts noRig ignoresGaps skipsPacking oneDrawer crowds showsNow leavesGaps leavesDrawers reverses changesTurns overdraws keepsUnitsBack lastFirst losesUnits grantsAll putsBack forgetsGroups pushesIn hidesUnits ignoresLimits withShare reservedInAll
+unfolding someFrom lowestFrom common shares empty within greatest least sum all any keep heldUntil endOf remaining precedes before covers unitsAt used enough spare heldUnits ready startFor moved ahead startWithin packedStart pack clear fits seek place contention startBound takenBefore trulyFree goesWithin goes granted grant grants shareOf pendingOf unfilled unfilledByOthers firstOf tests advance finish join remove admit act step new standingOf commonOf turns tableAfter issues stay sharesBy graceBy marked notedAll boundOn testsBy freeUnits valueAt turnsDown fixedStart untouched echoes inventsContention inventsBound criesFull neverGrants tellsLate renews namesBackward stopsGranting fidgets mumbles blurts noRig ignoresGaps skipsPacking oneDrawer crowds showsNow leavesGaps leavesDrawers reverses changesTurns overdraws keepsUnitsBack lastFirst losesUnits grantsAll putsBack forgetsGroups pushesIn hidesUnits ignoresLimits withShare reservedInAll backward countsAs links link chainWithin chain chainOf firstWith stopsShort linksHighest linksAnybody disownsHolders
 all-refused = record {
   turns-down = λ d.
       let z : _≡_ {A = ℕ} 3 0 = d [] (claim 0 0x1 10) [] refl in
@@ -273,4 +290,23 @@ all-refused = record {
       let r = d .every-entry (drawerEntry 2 10 10 false) (there {y = drawerEntry 1 10 0 true} here) in
       of-two (λ (x : Claim). Has x (drawerEntry 2 10 10 false) → ⊥) (drawer 1 (On 0) 10 1) (drawer 2 (Waiting 10) 10 0) (r .0)
       (λ h. (let z : _≡_ {A = ℕ} 1 2 = h .ticket in omega arith)) (λ h. (let z : _≡_ {A = ℕ} 0 1 = h .units in omega arith)) (r .1) (r .2);
+  holders-disowned = λ d.
+      let z : _≡_ {A = ℕ} 8 10 = ap (λ (r : ChainValues). r .number) (d (claim 0 0x1 10 ∷ []) [] refl .held (entry 1 0x1 10 0 true) here 10 refl) in
+      omega arith;
+  stopped-short = λ d.
+      let calls : List Call = claim 0 0x8 10 ∷ claim 0 0xC 10 ∷ claim 0 0x6 11 ∷ [] in
+      let f : Entry = entry 3 0x6 11 20 false in
+      let r = two-told (ledgerAfter step (newly 0xF 0 true) calls) (stopsShort (tableAfter step (newly 0xF 0 true .table) calls)) f 20 2 refl (d calls [] refl .waiting f (there {y = entry 1 0x8 10 0 true} (there {y = entry 2 0xC 10 10 false} here)) 20 refl) in
+      waits-not-on 10 (r .end) (r .holds);
+  highest-linked = λ d.
+      let calls : List Call = claim 0 0x1 10 ∷ claim 0 0x2 10 ∷ claim 0 0x3 10 ∷ [] in
+      let f : Entry = entry 3 0x3 10 10 false in
+      let r = two-told (ledgerAfter step (newly 0x3 0 true) calls) (linksHighest (tableAfter step (newly 0x3 0 true .table) calls)) f 10 2 refl (d calls [] refl .waiting f (there {y = entry 1 0x1 10 0 true} (there {y = entry 2 0x2 10 0 true} here)) 10 refl) in
+      r .linked .lowest (entry 1 0x1 10 0 true) (here {l = entry 2 0x2 10 0 true ∷ f ∷ []}) (omega (arith, r .next-is)) refl (waits-once 10 (r .start) (r .waits));
+  anybody-linked = λ d.
+      let calls : List Call = claim 0 0x1 10 ∷ claim 0 0x2 10 ∷ claim 0 0x2 10 ∷ [] in
+      let f : Entry = entry 3 0x2 10 10 false in
+      let r = two-told (ledgerAfter step (newly 0x3 0 true) calls) (linksAnybody (tableAfter step (newly 0x3 0 true .table) calls)) f 10 1 refl (d calls [] refl .waiting f (there {y = entry 1 0x1 10 0 true} (there {y = entry 2 0x2 10 0 true} here)) 10 refl) in
+      of-three (λ (x : Entry). x .ticket ≡ 1 → inCommon x f ≡ true → ⊥) (entry 1 0x1 10 0 true) (entry 2 0x2 10 0 true) f (r .next)
+      (λ _ h. clash h refl) (λ (e : _≡_ {A = ℕ} 2 1) _. omega arith) (λ (e : _≡_ {A = ℕ} 3 1) _. omega arith) (r .linked .pending) (r .next-is) (r .linked .common);
 }

@@ -1,11 +1,12 @@
 -- Wrong tables, as steps run in place of the rules', each with a short list of calls at which a theorem is false of it: document 01's "Worthless
--- versions and their undoing", and tables that keep some of the promises and break another. proofs/Worthless has the proofs; each goes by the
--- clause that is named here.
+-- versions and their undoing", and tables that keep some of the promises and break another; last, wrong lookups in the rules' own run.
+-- proofs/Worthless has the proofs; each goes by the clause that is named here.
+use mathlib.Core.Path.{_≡_}
 use mathlib.Core.Bool.{Bool, true, false, not, _&&_, cond}
 use mathlib.Core.List.{List, [], _∷_, _++_, map}
 use Prim.Native.Nat.{ℕ, _+_, _-_}
 use lib.Dec.{eqb, ltb}
-use lib.ListN.{length}
+use lib.ListN.{length, take}
 use Rattle.numbers.specs.Numbers.{darkNumber, lengthNumber, fullNumber}
 use Rattle.rules.specs.declared.Claim.{Claim}
 use Rattle.rules.specs.declared.Reply.{Reply}
@@ -19,9 +20,10 @@ use Rattle.rules.specs.Placing.{place}
 use Rattle.rules.specs.Shares.{firstShares}
 use Rattle.rules.specs.Tests.{firstOf}
 use Rattle.rules.specs.NoUnits.{withPool}
-use Rattle.rules.specs.Calls.{Model, withClock, withPending, withGrace, withShares, settingOf, asking, Action, claims, releases, withdraws, movesClock, Call, timed, looks, setsUp, release, clock, lookup, declare, setGrace, isTimed, isLook, Answer, Step, tests, unchanged, unless, advance, plain, finish, join, remove, fresh, placing, admit, step, blank, valueAt, freeOf}
+use Rattle.rules.specs.Calls.{Model, withClock, withPending, withGrace, withShares, settingOf, asking, Action, claims, releases, withdraws, movesClock, Look, atTicket, atTwo, atPool, atChain, Call, timed, looks, setsUp, release, clock, lookup, declare, setGrace, isTimed, isLook, Answer, Step, tests, unchanged, unless, advance, plain, finish, join, remove, fresh, placing, admit, step, blank, valueAt, freeOf}
+use Rattle.rules.specs.Chains.{ChainValues, chainOf}
 use Rattle.promises.specs.Ledger.{Steps, tableAfter}
-use Rattle.promises.specs.Runs.{newly}
+use Rattle.promises.specs.Runs.{Telling, Told, tells, Start, newly, ledgerAfter}
 use Rattle.promises.specs.Demand3.{Demand3Of}
 use Rattle.promises.specs.NumbersTested.{NumbersTestedOf, NewTestedOf}
 use Rattle.promises.specs.Replies.{isClaim, RepliesOf}
@@ -30,6 +32,7 @@ use Rattle.promises.specs.StartsPacked.{StartsPackedOf}
 use Rattle.promises.specs.PackedInTurn.{PackedInTurnOf}
 use Rattle.promises.specs.PlansApart.{PlansApartOf}
 use Rattle.promises.specs.WaitsExplained.{WaitsExplainedOf}
+use Rattle.promises.specs.ChainsTold.{Chains}
 use Rattle.promises.specs.NeverOvertaken.{NeverOvertakenOf}
 use Rattle.promises.specs.PoolKept.{PoolKeptOf}
 use Rattle.promises.specs.SharesKept.{SharesKeptOf}
@@ -86,6 +89,11 @@ isNamed ks d = any (λ k. eqb k (d .ticket)) ks
 -- A claim that waits on where it would have gone on.
 abbrev pub waitsOn : Claim → Claim
 waitsOn d = withPhase d (Waiting (at d))
+
+-- A list from its end.
+unfoldable pub backward : {A : Type 0} → List A → List A
+backward [] = []
+backward (x ∷ l) = backward l ++ (x ∷ [])
 
 -- Somebody is on past the promised end.
 abbrev pub overrun : Model → Bool
@@ -162,10 +170,6 @@ forgetsGroups m c =
 -- "Naming grants in the order that their planned starts had, and not by ticket", or in any other.
 unfoldable pub namesBackward : Steps
 namesBackward m c = let s : Step = step m c in record { model = s .model; answer = naming (s .answer) (backward (s .answer .grants)) }
-  where
-    backward : List ℕ → List ℕ
-    backward [] = []
-    backward (k ∷ ks) = backward ks ++ (k ∷ [])
 
 -- While somebody overruns, nobody goes on.
 unfoldable pub stopsGranting : Steps
@@ -296,6 +300,36 @@ losesUnits m c =
     let s : Step = step m c in
     record { model = claimsAs (λ d. cond (on d) d (record { groups = d .groups; phase = d .phase; length = d .length; ticket = d .ticket; units = 0; client = d .client })) (s .model); answer = s .answer }
 
+-- ── chains ──
+-- A table that tells chains so, and all else as it is.
+abbrev pub tellsChains : (Model → ℕ → ChainValues) → Model → (q : Look) → Telling q
+tellsChains f m (atTicket k) = tells m (atTicket k)
+tellsChains f m (atTwo j k) = tells m (atTwo j k)
+tellsChains f m atPool = tells m atPool
+tellsChains f m (atChain k) = f m k
+
+-- What is said of chains, of the rules' own run and of what is told of its tables.
+abbrev pub ChainsBy : (Model → Told) → Start → List Call → Type 0
+ChainsBy tells s calls = (before rest : List Call) → before ++ rest ≡ calls → Chains (ledgerAfter step s before) (tells (tableAfter step (s .table) before))
+
+-- A chain that stops at the first link.
+unfoldable pub stopsShort : Model → Told
+stopsShort = tellsChains (λ m k. let r : ChainValues = chainOf (settingOf m) k (m .pending) in record { number = r .number; tickets = take 2 (r .tickets) })
+
+-- Links to the highest ticket.
+unfoldable pub linksHighest : Model → Told
+linksHighest = tellsChains (λ m k. chainOf (settingOf m) k (backward (m .pending)))
+
+-- Links to whoever ends as a claim starts: as if all drew on the pool.
+unfoldable pub linksAnybody : Model → Told
+linksAnybody =
+    tellsChains (λ m k.
+    chainOf (settingOf m) k (map (λ d. record { groups = d .groups; phase = d .phase; length = d .length; ticket = d .ticket; units = 1; client = d .client }) (m .pending)))
+
+-- A ticket that is on is told 8.
+unfoldable pub disownsHolders : Model → Told
+disownsHolders = tellsChains (λ m k. chainOf (settingOf m) k (keep (λ d. not (on d && eqb (d .ticket) k)) (m .pending)))
+
 -- ── each is refused ──
 pub record AllRefused : Type 0 where
   -- By `NumberTested`: 3, and the length is 10.
@@ -374,3 +408,11 @@ pub record AllRefused : Type 0 where
   pub last-packed : WholeCallsOf lastFirst (tableAfter step (newly 0x1 2 true .table) (drawing 0 20 1 ∷ drawing 0 20 1 ∷ drawing 0 10 1 ∷ drawing 0 10 1 ∷ [])) → ⊥
   -- By `units` of what the table has: ticket 2 asked for one.
   pub units-lost : TableKeptOf losesUnits (newly 0x1 1 true) (drawing 0 10 1 ∷ drawing 0 10 1 ∷ []) → ⊥
+  -- By `followed`: document 01's case 3; the chain told is 3, 2, and ticket 2 waits.
+  pub stopped-short : ChainsBy stopsShort (newly 0xF 0 true) (claim 0 0x8 10 ∷ claim 0 0xC 10 ∷ claim 0 0x6 11 ∷ []) → ⊥
+  -- By `lowest`: ticket 3 waits for 1 and 2, which both end at 10; the chain told is 3, 2.
+  pub highest-linked : ChainsBy linksHighest (newly 0x3 0 true) (claim 0 0x1 10 ∷ claim 0 0x2 10 ∷ claim 0 0x3 10 ∷ []) → ⊥
+  -- By `common`: the chain told of ticket 3 is 3, 1, and they share nothing.
+  pub anybody-linked : ChainsBy linksAnybody (newly 0x3 0 true) (claim 0 0x1 10 ∷ claim 0 0x2 10 ∷ claim 0 0x2 10 ∷ []) → ⊥
+  -- By `held`.
+  pub holders-disowned : ChainsBy disownsHolders (newly 0x1 0 true) (claim 0 0x1 10 ∷ []) → ⊥

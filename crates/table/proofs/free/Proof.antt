@@ -34,7 +34,7 @@ returns : tie.Need-returns Inv-loop μ-loop
 unfolding freeUnits
 returns c =
     let z = c .before in
-    (omega (arith, freeing-end (left-end (z .loop .inv) (c .loop-test .left))), unrefused (model (z .before .args .t1)) atPool (λ k. refl))
+    (omega (arith, freeing-end (left-end (z .loop .inv) (c .loop-test .left))), unrefused (model (z .before .args .t1)) atPool (λ k o. refl))
 
 pub free-spec : {M : Type 1} → statement M
 free-spec =
