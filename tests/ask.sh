@@ -39,7 +39,7 @@ answers() {
 wrong() {
     local name=$1
     shift
-    says '' 'usage: ask lookup TICKET < LOAD\n       ask common TICKET TICKET < LOAD\n       ask free < LOAD\n' "$name" plot "$@"
+    says '' 'usage: ask lookup TICKET < LOAD\n       ask common TICKET TICKET < LOAD\n       ask free < LOAD\n       ask why TICKET < LOAD\n' "$name" plot "$@"
 }
 
 plot='rig F\nclaim 0 8 10\nclaim 0 C 10\nclaim 0 6 11\n'
@@ -55,6 +55,12 @@ load overrun 'edition 2\nrig F 3\nclaim 0 1 10 3\nclaim 0 2 5 1\nclock 12\n'
 load dark_pool 'edition 2\nrig 0 3\n'
 load desks 'edition 3\nrig F 9\ndesk 2 1 5\ndesk 9 0 0\nclaim 0 1 10 7 2\nclaim 0 1 10 0 1\ndesk 3 0 5\nclaim 0 2 10 0 2\n'
 load overdue 'edition 3\nrig F 0\ngrace 5\ndesk 1 64 64\nclaim 0 8 10 0 1\nclaim 0 C 10 0 1\nclaim 0 6 11 0 1\nclock 12\ngrace 9\n'
+load ties 'rig F\nclaim 0 1 10\nclaim 0 2 10\nclaim 0 3 5\n'
+load shared 'edition 2\nrig F 3\nclaim 0 1 10 1\nclaim 0 2 10 2\nclaim 0 2 5 1\n'
+load apart 'edition 2\nrig F 3\nclaim 0 1 10 0\nclaim 0 2 10 2\nclaim 0 4 5 2\n'
+load late 'edition 3\nrig F 0\ndesk 1 64 64\nclaim 0 8 10 0 1\nclaim 0 C 10 0 1\nclaim 0 6 11 0 1\nclock 12\n'
+load end 'edition 3\nrig F 0\ngrace 5\ndesk 1 64 64\nclaim 0 8 10 0 1\nclaim 0 C 10 0 1\nclock 10\n'
+{ echo 'rig F' && for _ in {1..64}; do echo 'claim 1000000000000 1 3600000'; done; } | "$bin/load_write" >"$tmp/full" || fail "the load full"
 : >"$tmp/empty"
 printf '\377' >"$tmp/edition"
 head -c 65537 /dev/zero >"$tmp/overlong"
@@ -93,6 +99,35 @@ answers 'ticket 2 waits, start 12\n' "and who waits for them" overrun lookup 2
 answers '0 of 0 units free\n' "a rig without a pool" plot free
 answers 'stop 1 1\n0 of 0 units free\n' "a dark rig with a pool" dark_pool free
 
+# why
+answers 'ticket 3 waits for 2 until 20, 2 waits for 1 until 10, 1 is on until 10\n' "a chain of three" plot why 3
+answers 'ticket 2 waits for 1 until 10, 1 is on until 10\n' "a chain of two" plot why 2
+answers 'ticket 3 waits for 2 until 14, 2 is on until 14\n' "a chain that a release cut short" released why 3
+answers 'ticket 1 is on\n' "why a ticket waits that is on" plot why 1
+answers 'ticket 2 is on\n' "one that was granted by a release" released why 2
+answers 'ticket 1 is not pending\n' "one that was released" released why 1
+answers 'ticket 9 is not pending\n' "one that was not issued" plot why 9
+answers 'ticket 0 is not pending\n' "why ticket 0 waits" plot why 0
+answers 'ticket 65535 is not pending\n' "why the greatest ticket waits" plot why 65535
+answers 'ticket 2 waits for 1 until 10, 1 is on until 10\n' "why, with zeros in front" plot why 0002
+answers 'ticket 2 waits for 1 until 10, 1 is on until 10\n' "why, in one argument" plot ' why  2 '
+answers 'ticket 3 waits for 1 until 10, 1 is on until 10\n' "a link through the pool" pooled why 3
+answers 'ticket 3 waits for 1 until 10, 1 is on until 10\n' "the lower of two that end together" ties why 3
+answers 'ticket 3 waits for 1 until 10, 1 is on until 10\n' "the lower, though the higher alone bars it" shared why 3
+answers 'ticket 3 waits for 2 until 10, 2 is on until 10\n' "not the lower, which shares neither group nor pool" apart why 3
+answers 'ticket 2 waits for 1 until 12, 1 is on until 12\n' "units of a claim that overruns, without a grace" overrun why 2
+answers 'ticket 3 waits for 2 until 22, 2 waits for 1 until 12, 1 is on until 12\n' "behind an overrun without a grace" late why 3
+answers 'ticket 3 waits for 2 until 27, 2 waits for 1 until 17, 1 is on until 17\n' "behind an overrun with a grace" overdue why 3
+answers 'ticket 2 waits for 1 until 10, 1 is on until 10\n' "at the promised end a grace does not count" end why 2
+answers 'stop 12 4\nticket 2 waits for 1 until 10, 1 is on until 10\n' "why, of a load that is cut off" cut why 2
+answers 'stop 13 5\nticket 1 is on\n' "why, before a second rig" twice why 1
+answers 'stop 12 0\nticket 1 is not pending\n' "why, of an empty load" empty why 1
+chain='ticket '
+for ((k = 64; k > 1; k--)); do
+    chain+="$k waits for $((k - 1)) until $((1000000000000 + 3600000 * (k - 1))), "
+done
+answers "${chain}1 is on until 1000003600000\n" "a chain of 64" full why 64
+
 # loads that end early, and one that does not
 answers 'stop 12 0\nticket 1 is not pending\n' "an empty load" empty lookup 1
 answers 'stop 11 0\nticket 1 is not pending\n' "an unknown edition" edition lookup 1
@@ -120,6 +155,11 @@ wrong "three tickets of two" common 1 2 3
 wrong "four tickets of two" common 1 2 3 4
 wrong "the second ticket is too large" common 2 65536
 wrong "units of a ticket" free 3
+wrong "why, of no ticket" why
+wrong "why, of two tickets" why 3 2
+wrong "why, of a ticket that is no number" why three
+wrong "why, of a ticket of 65,536" why 65536
+wrong "why in upper case" WHY 3
 wrong "a line of over 4,096 bytes" lookup "$(printf '%04097d' 3)"
 { "$bin/ask" look 3 2>"$tmp/err"; cat; } <"$tmp/plot" >"$tmp/out"
 try "a wrong question leaves the load unread" cmp "$tmp/out" "$tmp/plot"

@@ -77,7 +77,7 @@ on_stack() {
 }
 
 reads 'cue < LOAD' examples/overture.load cue
-reads 'ask lookup TICKET < LOAD\n       ask common TICKET TICKET < LOAD\n       ask free < LOAD' examples/overture.load ask free
+reads 'ask lookup TICKET < LOAD\n       ask common TICKET TICKET < LOAD\n       ask free < LOAD\n       ask why TICKET < LOAD' examples/overture.load ask free
 reads 'load_write < SHOW > LOAD' examples/overture.show load_write
 reads 'load_show < LOAD' examples/overture.load load_show
 reads 'beat < SHOW' examples/duet.show beat

@@ -36,13 +36,13 @@ fn joined(line: &mut [u8]) -> usize
 
 fn tell_usage() {
     streams::tell_usage(
-        b"ask lookup TICKET < LOAD\n       ask common TICKET TICKET < LOAD\n       ask free < LOAD",
+        b"ask lookup TICKET < LOAD\n       ask common TICKET TICKET < LOAD\n       ask free < LOAD\n       ask why TICKET < LOAD",
     );
 }
 
-// `text` is for any answer.
+// `text` is for any answer: the longest, a blocking chain of 64, is within 5,175 bytes.
 fn print(load: &[u8], line: &[u8]) {
-    let mut text = [0u8; 256];
+    let mut text = [0u8; 5175];
     match question::answer(load, line, &mut text) {
         Asked::Written(n) => {
             streams::write_output(b"ask", &text[..n]);

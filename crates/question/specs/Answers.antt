@@ -14,11 +14,16 @@ use Rattle.rules.specs.declared.Standing.{Standing}
 use Rattle.rules.specs.declared.Standing.the-variants.{NotPending, Waits, Holds}
 use Rattle.rules.specs.declared.Common.{Common}
 use Rattle.rules.specs.declared.Common.the-variants.{Unknown, Shared, Apart}
-use Rattle.rules.specs.Calls.{Model, standingOf, commonOf, freeOf}
+use Rattle.rules.specs.declared.Setting.{Setting}
+use Rattle.rules.specs.Lists.{keep}
+use Rattle.rules.specs.Claims.{on, at, endOf}
+use Rattle.rules.specs.Tests.{named}
+use Rattle.rules.specs.Calls.{Model, settingOf, standingOf, commonOf, freeOf}
+use Rattle.rules.specs.Chains.{chain}
 use Rattle.replay.specs.StopLine.{stopOr}
 use Rattle.replay.specs.Replay.{replayOf}
 use Rattle.question.specs.declared.questions.Question.{Question}
-use Rattle.question.specs.declared.questions.Question.the-variants.{Lookup, Free, NoQuestion}
+use Rattle.question.specs.declared.questions.Question.the-variants.{Lookup, Why, Free, NoQuestion}
 use Rattle.question.specs.declared.questions.Question.the-variants as question
 use Rattle.question.specs.declared.Asked.{Asked}
 use Rattle.question.specs.declared.Asked.the-variants.{Written, NoSuch, NoRoom}
@@ -37,6 +42,31 @@ standingText (Holds e) = worded (bytes " is on, promised end ") e
 
 unfoldable pub lookupText : ℕ → Standing → List ℕ
 lookupText k s = worded (bytes "ticket ") k ++ standingText s
+
+-- ── why ──
+-- "K waits for J until S, " of a waiting claim, the next of its chain and its start; "K is on until E" of the last and its end
+unfoldable pub waitsText : ℕ → ℕ → ℕ → List ℕ
+waitsText k j s = ((decimalOf k ++ worded (bytes " waits for ") j) ++ worded (bytes " until ") s) ++ bytes ", "
+
+unfoldable pub holdsText : ℕ → ℕ → List ℕ
+holdsText k e = decimalOf k ++ worded (bytes " is on until ") e
+
+abbrev pub chainText : Setting → List Claim → List ℕ
+chainText v [] = []
+chainText v (c ∷ []) = holdsText (c .ticket) (endOf v c)
+chainText v (w ∷ (c ∷ l)) = waitsText (w .ticket) (c .ticket) (at w) ++ chainText v (c ∷ l)
+
+-- "ticket K is on"
+unfoldable pub isOnText : ℕ → List ℕ
+isOnText k = worded (bytes "ticket ") k ++ bytes " is on"
+
+-- Of the claims of ticket k, one or none: it is not pending (8), it is on (10), or "ticket " and its blocking chain.
+abbrev pub whyFrom : Setting → List Claim → ℕ → List Claim → List ℕ
+whyFrom v ps k [] = lookupText k NotPending
+whyFrom v ps k (c ∷ cs) = cond (on c) (isOnText k) (bytes "ticket " ++ chainText v (chain v ps c))
+
+unfoldable pub whyText : Setting → List Claim → ℕ → List ℕ
+whyText v ps k = whyFrom v ps k (keep (named k) ps)
 
 -- ── common ──
 -- The first of two tickets that is not pending, by how the first stands, where one of them is not.
@@ -66,6 +96,7 @@ freeText n k = (decimalOf n ++ worded (bytes " of ") k) ++ bytes " units free"
 -- ── the answers ──
 abbrev pub sentenceOf : Model → Question → List ℕ
 sentenceOf m (Lookup k) = lookupText k (standingOf k (m .pending))
+sentenceOf m (Why k) = whyText (settingOf m) (m .pending) k
 sentenceOf m (question.Common j k) = commonText j k (standingOf j (m .pending)) (commonOf j k (m .pending))
 sentenceOf m Free = freeText (freeOf m) (m .pool)
 sentenceOf m NoQuestion = []

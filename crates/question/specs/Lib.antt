@@ -1,3 +1,4 @@
 pub mod Questions
 pub mod Answers
+pub mod Told
 pub mod Samples

@@ -12,7 +12,7 @@ use Rattle.words.specs.declared.Field.the-variants.{Value, Wrong}
 use Rattle.question.specs.declared.questions.Numbers.{Numbers}
 use Rattle.question.specs.declared.questions.Numbers.the-variants.{Empty, One, Two, Bad}
 use Rattle.question.specs.declared.questions.Question.{Question}
-use Rattle.question.specs.declared.questions.Question.the-variants.{Lookup, Common, Free, NoQuestion}
+use Rattle.question.specs.declared.questions.Question.the-variants.{Lookup, Why, Common, Free, NoQuestion}
 
 -- ── the numbers of a question ──
 -- What a word says as a ticket. (Why it says none is not told.)
@@ -36,15 +36,15 @@ numbersIn p [] = p
 numbersIn p (w ∷ ws) = numbersIn (andNumber p (ticketIn w)) ws
 
 -- ── the questions by name ──
--- A question, where a word is its name.
-unfoldable pub ifNamed : List ℕ → List ℕ → Question → Question
-ifNamed w name q = cond (isWord w name) q NoQuestion
+-- A question where a word is its name, else another.
+unfoldable pub ifNamed : List ℕ → List ℕ → Question → Question → Question
+ifNamed w name q r = cond (isWord w name) q r
 
 -- By how many numbers stand behind the name.
 abbrev pub questionNamed : List ℕ → Numbers → Question
-questionNamed w Empty = ifNamed w (bytes "free") Free
-questionNamed w (One k) = ifNamed w (bytes "lookup") (Lookup k)
-questionNamed w (Two j k) = ifNamed w (bytes "common") (Common j k)
+questionNamed w Empty = ifNamed w (bytes "free") Free NoQuestion
+questionNamed w (One k) = ifNamed w (bytes "lookup") (Lookup k) (ifNamed w (bytes "why") (Why k) NoQuestion)
+questionNamed w (Two j k) = ifNamed w (bytes "common") (Common j k) NoQuestion
 questionNamed w Bad = NoQuestion
 
 -- ── a line ──
@@ -58,6 +58,7 @@ questionOf line = questionIn (wordsIn line)
 -- Whether it is one.
 abbrev pub isQuestion : Question → Bool
 isQuestion (Lookup k) = true
+isQuestion (Why k) = true
 isQuestion (Common j k) = true
 isQuestion Free = true
 isQuestion NoQuestion = false

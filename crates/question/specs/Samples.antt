@@ -3,7 +3,7 @@
 use mathlib.Core.List.{List, [], _∷_}
 use Prim.Native.Nat.{ℕ}
 use Rattle.numerals.specs.Texts.{bytes}
-use Rattle.format.specs.Calls.{rig, rigWith, claim, claimWith, release}
+use Rattle.format.specs.Calls.{rig, rigWith, claim, claimWith, release, clock, declaration, grace, claimFrom}
 use Rattle.load.specs.Bytes.{loadOf}
 use Rattle.question.specs.Questions.{questionOf}
 use Rattle.question.specs.Answers.{textOf}
@@ -27,11 +27,23 @@ released = loadOf 1 (rig 0xF ∷ claim 0 0x8 10 ∷ claim 0 0xC 10 ∷ claim 0 0
 abbrev pub pooled : List ℕ
 pooled = loadOf 2 (rigWith 0xF 3 ∷ claimWith 0 0x1 10 2 ∷ claimWith 0 0x2 10 2 ∷ claimWith 0 0x4 10 0 ∷ [])
 
+-- Plot S with a grace of 5, or of 0, at clock 12: ticket 1 overruns.
+abbrev pub overrun : ℕ → List ℕ
+overrun n =
+    loadOf 3 (rigWith 0xF 0 ∷ grace n ∷ declaration 1 64 64 ∷ claimFrom 0 0x8 10 0 1 ∷ claimFrom 0 0xC 10 0 1 ∷ claimFrom 0 0x6 11 0 1 ∷ clock 12 ∷ [])
+
 unfoldable pub samples : List Sample
 samples =
     sample plot (bytes "lookup 3") (bytes "ticket 3 waits, start 20\n")
     ∷ sample released (bytes "lookup 2") (bytes "ticket 2 is on, promised end 14\n")
     ∷ sample released (bytes "lookup 1") (bytes "ticket 1 is not pending\n")
+    ∷ sample plot (bytes "why 3") (bytes "ticket 3 waits for 2 until 20, 2 waits for 1 until 10, 1 is on until 10\n")
+    ∷ sample plot (bytes "why 1") (bytes "ticket 1 is on\n")
+    ∷ sample released (bytes "why 1") (bytes "ticket 1 is not pending\n")
+    -- through the pool
+    ∷ sample pooled (bytes "why 2") (bytes "ticket 2 waits for 1 until 10, 1 is on until 10\n")
+    ∷ sample (overrun 5) (bytes "why 3") (bytes "ticket 3 waits for 2 until 27, 2 waits for 1 until 17, 1 is on until 17\n")
+    ∷ sample (overrun 0) (bytes "why 2") (bytes "ticket 2 waits for 1 until 12, 1 is on until 12\n")
     ∷ sample plot (bytes "common 2 3") (bytes "tickets 2 and 3 share group 2\n")
     ∷ sample plot (bytes "common 1 3") (bytes "tickets 1 and 3 share no group\n")
     ∷ sample plot (bytes "common 9 8") (bytes "ticket 9 is not pending\n")
@@ -59,6 +71,8 @@ wrongLines =
     ∷ bytes "lookup 3 2"
     ∷ bytes "lookup x"
     ∷ bytes "lookup 65536"
+    ∷ bytes "why"
+    ∷ bytes "why 3 2"
     ∷ bytes "common 2"
     ∷ bytes "common 1 2 3"
     ∷ bytes "look 3"

@@ -17,8 +17,9 @@ pub enum Asked {
     NoRoom,
 }
 
-// The answer to a line about the table that a load leaves, at the start of a lent buffer: at most 134 bytes.
-// Cost: one call of the table for each record, and the answer is counted first.
+// The answer to a line about the table that a load leaves, at the start of a lent buffer: at most 5,175 bytes.
+// Cost: one call of the table for each record. The answer is counted first, so what it takes to tell is taken twice: at most a chain and a
+// lookup for each of its tickets.
 pub fn answer(load: &[u8], line: &[u8], out: &mut [u8]) -> Asked
     ensures answer { λ r. ⌜ r ≡ askedOf (now (load .entry)) (now (line .entry)) (now (out .entry)) ⌝ }
     ensures buffer { λ _. ⌜ now (out .exit) ≡ askedOut (now (load .entry)) (now (line .entry)) (now (out .entry)) ⌝ }

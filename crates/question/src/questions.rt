@@ -6,9 +6,10 @@ ghost use Rattle.question.specs.declared.questions.Numbers.the-variants.
 ghost use Rattle.question.specs.Questions.{andNumber, andValue, ifNamed, isQuestion, ticketIn, numbersIn, questionNamed, questionOf};
 use words::Field;
 
-// A question: how a ticket stands, which group two tickets share, how many units are free, or none that there is.
+// A question: how a ticket stands, why it waits, which group two tickets share, how many units are free, or none that there is.
 pub enum Question {
     Lookup(u16),
+    Why(u16),
     Common(u16, u16),
     Free,
     NoQuestion,
@@ -63,14 +64,14 @@ fn numbers_at(line: &[u8], from: usize) -> Numbers
 }
 
 // ---- the questions by name
-// A question, where a word is its name.
-fn if_named(word: &[u8], name: &[u8], q: Question) -> Question
-    ensures { λ r. ⌜ r ≡ ifNamed (now (word .entry)) (now (name .entry)) q ⌝ }
+// A question where a word is its name, else another.
+fn if_named(word: &[u8], name: &[u8], q: Question, other: Question) -> Question
+    ensures { λ r. ⌜ r ≡ ifNamed (now (word .entry)) (now (name .entry)) q other ⌝ }
 {
     if check::same(word, name) {
         return q;
     }
-    Question::NoQuestion
+    other
 }
 
 // By how many numbers stand behind the name.
@@ -78,9 +79,17 @@ fn named(word: &[u8], p: Numbers) -> Question
     ensures { λ r. ⌜ r ≡ questionNamed (now (word .entry)) p ⌝ }
 {
     match p {
-        Numbers::Empty => if_named(word, b"free", Question::Free),
-        Numbers::One(k) => if_named(word, b"lookup", Question::Lookup(k)),
-        Numbers::Two(j, k) => if_named(word, b"common", Question::Common(j, k)),
+        Numbers::Empty => if_named(word, b"free", Question::Free, Question::NoQuestion),
+        Numbers::One(k) => {
+            let why = if_named(word, b"why", Question::Why(k), Question::NoQuestion);
+            if_named(word, b"lookup", Question::Lookup(k), why)
+        }
+        Numbers::Two(j, k) => if_named(
+            word,
+            b"common",
+            Question::Common(j, k),
+            Question::NoQuestion,
+        ),
         Numbers::Bad => Question::NoQuestion,
     }
 }
@@ -105,6 +114,7 @@ pub fn is_question(q: Question) -> bool
 {
     match q {
         Question::Lookup(_k) => true,
+        Question::Why(_k) => true,
         Question::Common(_j, _k) => true,
         Question::Free => true,
         Question::NoQuestion => false,

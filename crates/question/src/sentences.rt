@@ -2,13 +2,18 @@
 // specs/Answers.antt.
 ghost use mathlib.Core.Path.{_≡_};
 ghost use mathlib.Core.List.{[], _++_};
+ghost use Prim.Native.Nat.{_≤_, _<_};
+ghost use lib.ListN.{take};
 ghost use Rattle.numerals.specs.Laid.{Put};
+ghost use Rattle.rules.specs.Calls.{standingValues};
 ghost use Rattle.rules.specs.Tables.{model};
 ghost use Rattle.table.specs.Valid.{Valid};
 ghost use Rattle.replay.specs.StopLine.{stopOr};
-ghost use Rattle.question.specs.Answers.{absentOf, answerText, commonText, freeText, lookupText, sentenceOf, standingText, ticketsText, worded};
+ghost use Rattle.question.specs.Answers.{absentOf, answerText, commonText, freeText, holdsText, isOnText, lookupText, sentenceOf, standingText, ticketsText, waitsText, worded};
+ghost use Rattle.question.specs.Told.{startTold, ticketsTold, whyTold};
 use crate::questions::Question;
 use replay::Replayed;
+use rules::Blocking;
 use rules::Common;
 use rules::Standing;
 use rules::Table;
@@ -36,6 +41,75 @@ fn put_lookup(out: &mut [u8], at: usize, ticket: u16, s: Standing) -> usize
 {
     let m = put_number(out, at, b"ticket ", ticket as u64);
     put_standing(out, m, s)
+}
+
+// ---- why
+fn put_waits(out: &mut [u8], at: usize, ticket: u16, link: u16, start: u64) -> usize
+    ensures { λ r. ⌜ Put (now (out .entry)) at (waitsText ticket link start) r (now (out .exit)) ⌝ }
+{
+    let a = numerals::put_decimal(out, at, ticket as u64);
+    let b = put_number(out, a, b" waits for ", link as u64);
+    let c = put_number(out, b, b" until ", start);
+    numerals::put_bytes(out, c, b", ")
+}
+
+fn put_holds(out: &mut [u8], at: usize, ticket: u16, end: u64) -> usize
+    ensures { λ r. ⌜ Put (now (out .entry)) at (holdsText ticket end) r (now (out .exit)) ⌝ }
+{
+    let m = numerals::put_decimal(out, at, ticket as u64);
+    put_number(out, m, b" is on until ", end)
+}
+
+fn put_is_on(out: &mut [u8], at: usize, ticket: u16) -> usize
+    ensures { λ r. ⌜ Put (now (out .entry)) at (isOnText ticket) r (now (out .exit)) ⌝ }
+{
+    let m = put_number(out, at, b"ticket ", ticket as u64);
+    numerals::put_bytes(out, m, b" is on")
+}
+
+// The planned start of a claim that waits; 0 of any other.
+fn start_of(s: Standing) -> u64
+    ensures { λ r. ⌜ r ≡ standingValues s .start ⌝ }
+{
+    match s {
+        Standing::NotPending => 0,
+        Standing::Waits(start) => start,
+        Standing::Holds(_e) => 0,
+    }
+}
+
+// The tickets of a chain, each with its start, and the last with its end, the start before it. Cost: one lookup for each that waits.
+fn put_chain(out: &mut [u8], at: usize, t: Table, tickets: [u16; 64], count: usize) -> usize
+    requires { ⌜ Valid t × (0 < count) × (count ≤ 64) ⌝ }
+    ensures { λ r. ⌜ Put (now (out .entry)) at (ticketsTold (startTold (model t .pending)) 0 (take count tickets)) r (now (out .exit)) ⌝ }
+{
+    let last = count - 1;
+    let mut n = at;
+    let mut end: u64 = 0;
+    let mut i: usize = 0;
+    while i < last {
+        let k = tickets[i];
+        let s = table::lookup(t, k);
+        end = start_of(s);
+        n = put_waits(out, n, k, tickets[i + 1], end);
+        i += 1;
+    }
+    put_holds(out, n, tickets[i], end)
+}
+
+fn put_why(out: &mut [u8], at: usize, t: Table, ticket: u16, b: Blocking) -> usize
+    requires { ⌜ Valid t × (b .number ≡ 0 → 0 < b .count) × (b .count ≤ 64) ⌝ }
+    ensures { λ r. ⌜ Put (now (out .entry)) at (whyTold (model t .pending) ticket (b .number) (take (b .count) (b .tickets))) r (now (out .exit)) ⌝ }
+{
+    if b.number == 0 {
+        let m = numerals::put_bytes(out, at, b"ticket ");
+        let tickets = b.tickets;
+        return put_chain(out, m, t, tickets, b.count);
+    }
+    if b.number == numbers::UNKNOWN {
+        return put_lookup(out, at, ticket, Standing::NotPending);
+    }
+    put_is_on(out, at, ticket)
 }
 
 // ---- common
@@ -94,6 +168,10 @@ fn put_sentence(out: &mut [u8], at: usize, t: Table, q: Question) -> usize
         Question::Lookup(ticket) => {
             let s = table::lookup(t, ticket);
             put_lookup(out, at, ticket, s)
+        }
+        Question::Why(ticket) => {
+            let b = table::why(t, ticket);
+            put_why(out, at, t, ticket, b)
         }
         Question::Common(first, second) => {
             let s = table::lookup(t, first);

@@ -1,8 +1,10 @@
 // Prints whole answers, for comparison with the second program: for each record of a load on standard input its number, ticket, start,
-// contention and start bound, then the units free, how each pending ticket stands, and which group two of them share. A listing prints less.
-ghost use Prim.Native.Nat.{_<_};
+// contention and start bound, then the units free, how each pending ticket stands, which group two of them share, and why each waits. A
+// listing prints less.
+ghost use Prim.Native.Nat.{_≤_, _<_};
 ghost use Rattle.table.specs.Valid.{Valid};
 use load::Item;
+use rules::Blocking;
 use rules::Common;
 use rules::Standing;
 use rules::Table;
@@ -139,6 +141,74 @@ fn print_pairs(t: Table, mut room: [u8; 8192])
     }
 }
 
+// A space before each.
+fn put_tickets(out: &mut [u8], at: usize, tickets: [u16; 64], count: usize) -> usize
+    requires { ⌜ count ≤ 64 ⌝ }
+{
+    let mut n = at;
+    let mut i: usize = 0;
+    while i < count {
+        let k = tickets[i];
+        let m = numerals::put_byte(out, n, b' ');
+        n = numerals::put_decimal(out, m, k as u64);
+        i += 1;
+    }
+    n
+}
+
+// A ticket's chain: its number, how many tickets are in it, and these.
+fn put_chain(out: &mut [u8], at: usize, ticket: u16, b: Blocking) -> usize
+    requires { ⌜ b .count ≤ 64 ⌝ }
+{
+    let a = numerals::put_bytes(out, at, b"why ");
+    let m = numerals::put_pair(out, a, ticket as u64, b.number as u64, 32);
+    let n = numerals::put_decimal(out, m, b.count as u64);
+    let tickets = b.tickets;
+    let end = put_tickets(out, n, tickets, b.count);
+    numerals::put_byte(out, end, b'\n')
+}
+
+fn put_why(out: &mut [u8], at: usize, t: Table, ticket: u16) -> usize
+    requires { ⌜ Valid t ⌝ }
+{
+    let b = table::why(t, ticket);
+    put_chain(out, at, ticket, b)
+}
+
+// The claim at place i, where it is pending.
+fn put_place(out: &mut [u8], at: usize, t: Table, i: usize) -> usize
+    requires { ⌜ Valid t × (i < 64) ⌝ }
+{
+    if t.count <= i {
+        return at;
+    }
+    let c = t.claims[i];
+    put_why(out, at, t, c.ticket)
+}
+
+// Every claim; then a ticket that is never pending.
+fn put_chains(out: &mut [u8], t: Table) -> usize
+    requires { ⌜ Valid t ⌝ }
+{
+    let mut n: usize = 0;
+    let mut i: usize = 0;
+    while i < 64 {
+        n = put_place(out, n, t, i);
+        i += 1;
+    }
+    put_why(out, n, t, 0)
+}
+
+// At most 65 chains, a line of 399 bytes for each, go into this room.
+fn print_chains(t: Table, mut room: [u8; 32768])
+    requires { ⌜ Valid t ⌝ }
+{
+    let n = put_chains(&mut room, t);
+    if n <= 32768 {
+        io::write_all(1, &room[..n]);
+    }
+}
+
 // A record's lines: at most 64 tickets are pending, so they go into this room.
 fn print(k: u64, o: Outcome, mut room: [u8; 4096])
     requires { ⌜ Valid (o .table) ⌝ }
@@ -167,6 +237,7 @@ fn records(load: &[u8]) {
                 let o = replay::act(t, alone, call);
                 print(k, o, [0; 4096]);
                 print_pairs(o.table, [0; 8192]);
+                print_chains(o.table, [0; 32768]);
                 if k == 1 && o.number != 0 {
                     return;
                 }

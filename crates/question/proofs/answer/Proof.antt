@@ -16,7 +16,7 @@ returns-2 c =
     let p = c .before .before in
     let l = p .before .before in
     let i = l .before .before in
-    asked-short _ _ _ _ (i .before .question-of .ensures) (sym (i .is-question .ensures) ∙ not-false _ (l .before .if1 .left)) _ (l .replay .ensures .0) _ _ _ (p .put-text .ensures) (c .if2 .taken)
+    asked-short _ _ _ _ (i .before .question-of .ensures) (sym (i .is-question .ensures) ∙ not-false _ (l .before .if1 .left)) _ (l .replay .ensures) _ _ _ (p .put-text .ensures) (c .if2 .taken)
 
 returns-3 : tie.Need-returns-3
 returns-3 c =
@@ -25,7 +25,7 @@ returns-3 c =
     let p = s .before .before in
     let l = p .before .before in
     let i = l .before .before in
-    asked-all _ _ _ _ (i .before .question-of .ensures) (sym (i .is-question .ensures) ∙ not-false _ (l .before .if1 .left)) _ (l .replay .ensures .0) _ _ _ (p .put-text .ensures) (s .if2 .left) _ _ (w .put-text2 .ensures)
+    asked-all _ _ _ _ (i .before .question-of .ensures) (sym (i .is-question .ensures) ∙ not-false _ (l .before .if1 .left)) _ (l .replay .ensures) _ _ _ (p .put-text .ensures) (s .if2 .left) _ _ (w .put-text2 .ensures)
 
 pub answer-spec : {M : Type 1} → statement M
 answer-spec =

@@ -25,10 +25,11 @@ records-spec =
     (λ c κs. search needs)
     (λ c κs. search needs)
     loop-holds
-    -- add-k, record-at-requires, enum-known-call, act-requires, print-requires, print-pairs-requires
+    -- add-k, record-at-requires, enum-known-call, act-requires, print-requires, print-pairs-requires, print-chains-requires
     (λ c. search needs)
     (λ c κs. search needs)
     (λ c. search needs)
+    (λ c κs. search needs)
     (λ c κs. search needs)
     (λ c κs. search needs)
     (λ c κs. search needs)
