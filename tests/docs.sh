@@ -61,7 +61,7 @@ duet() {
     sed 's/ *#.*//' examples/duet.show | grep -v '^$' | cmp - "$tmp/left" && cmp "$tmp/right" examples/duet.listing
 }
 
-# The commands of docs/SHOWS.md, each as it is written there; where a comment says what is printed, that is what is printed.
+# The commands of README and docs/SHOWS.md, each as it is written there; where a comment says what is printed, that is what is printed.
 commands() {
     local line command said n=0
     while IFS= read -r line; do
@@ -75,7 +75,7 @@ commands() {
             ;;
         esac
         n=$((n + 1))
-    done < <(sed -nE 's/^    ((head .*\| )?target\/bin\/.*)/\1/p' docs/SHOWS.md | grep -v 'x\.show')
+    done < <(sed -nE 's/^    ((head .*\| )?target\/bin\/.*)/\1/p' README.md docs/SHOWS.md | grep -v 'x\.show')
     [ "$n" -gt 8 ]
 }
 
@@ -98,7 +98,7 @@ done
 try "README has at most 120 lines" test "$(wc -l <README.md)" -le 120
 try "README's show and its listing" first_screen
 mkdir -p "$tmp/root/target" && ln -s "$PWD/examples" "$tmp/root/examples" && ln -s "$PWD/$bin" "$tmp/root/target/bin"
-try "the commands of SHOWS" commands
+try "the commands of README and SHOWS" commands
 try "the duet of FORMAT" duet
 try "README's statements" statements
 
