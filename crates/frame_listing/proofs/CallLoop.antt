@@ -32,13 +32,13 @@ use Rattle.frame_listing.specs.declared.Listed.{Listed}
 use Rattle.frame_listing.specs.declared.Listed.the-variants.{Length, Mistake}
 use Rattle.frame_listing.specs.Lines.{lineOf, onLines, stopLine}
 use Rattle.frame_listing.specs.Text.{stepOf, stops, entryOf, textOf, mistakeOr, lengthOr, listedOf, listedValues, listingValues, listedOut}
-use Rattle.frame_listing.specs.InParts.{Standing, called, heard, entryRoom, Reached}
+use Rattle.frame_listing.specs.InParts.{Progress, called, heard, entryRoom, Reached}
 use Rattle.frame_listing.proofs.Calls.{promised}
 use Rattle.frame_listing.proofs.Lines.{line-length, ons-length}
 use Rattle.frame_listing.proofs.InParts.{from, on-ended, on-full, on-turn}
 
 -- At a place of the text, before call k, with a table.
-abbrev pub stand : List ℕ → Table → ℕ → ℕ → Standing
+abbrev pub stand : List ℕ → Table → ℕ → ℕ → Progress
 stand xs t at k = record { laid = xs; at = at; call = k; table = model t }
 
 -- ── what an outcome prints ──

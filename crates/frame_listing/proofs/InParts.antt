@@ -26,11 +26,11 @@ use Rattle.dance_text.proofs.Shows.{saidFrom, calls-cut, calls-end}
 use Rattle.frame_listing.specs.declared.Part.{Part}
 use Rattle.frame_listing.specs.Lines.{header, stopLine}
 use Rattle.frame_listing.specs.Text.{stepOf, stops, entryOf, linesOf, textOf}
-use Rattle.frame_listing.specs.InParts.{Standing, called, heard, upTo, entryRoom, partRoom, standing, partAs, partOf, partOut, partBehind, start, firstPart, nextPart, Ready, Reached, left, joined, PartsMakeTheListing}
+use Rattle.frame_listing.specs.InParts.{Progress, called, heard, upTo, entryRoom, partRoom, progress, partAs, partOf, partOut, partBehind, start, firstPart, nextPart, Ready, Reached, left, joined, PartsMakeTheListing}
 
 -- ── a turn ──
 -- A line takes the place on, or to the text's end.
-heard-at : (size : ℕ) (s : Standing) (l : Line) → (heard size s l .at ≡ s .at) ⊎ (heard size s l .at ≡ size)
+heard-at : (size : ℕ) (s : Progress) (l : Line) → (heard size s l .at ≡ s .at) ⊎ (heard size s l .at ≡ size)
 unfolding called
 heard-at size s Silent = inl refl
 heard-at size s (Said c) =
@@ -38,37 +38,37 @@ heard-at size s (Said c) =
 heard-at size s (Wrong n) = inl refl
 
 -- Behind the line that ends at place j, before it is heard, and then.
-abbrev behindLine : Standing → ℕ → Standing
+abbrev behindLine : Progress → ℕ → Progress
 behindLine s j = record { laid = s .laid; at = j + 1; call = s .call; table = s .table }
 
-abbrev turned : List ℕ → Standing → ℕ → Standing
+abbrev turned : List ℕ → Progress → ℕ → Progress
 turned text s j = heard (length text) (behindLine s j) (lineSays (take (j - s .at) (drop (s .at) text)))
 
 module _ (text : List ℕ) (limit : ℕ) where
   -- The listing from there on.
-  abbrev pub from : Standing → Standing
+  abbrev pub from : Progress → Progress
   from s = upTo (length text) limit s (linesIn (drop (s .at) text))
 
   -- It ends with the text,
-  ended : (s : Standing) (ls : List (List ℕ)) → length text ≤ s .at → upTo (length text) limit s ls ≡ s
+  ended : (s : Progress) (ls : List (List ℕ)) → length text ≤ s .at → upTo (length text) limit s ls ≡ s
   unfolding upTo
   ended s [] h = refl
   ended s (l ∷ ls) h = rw (le-ltb (s .at) (length text) h) refl
 
-  pub on-ended : (s : Standing) → length text ≤ s .at → from s ≡ s
+  pub on-ended : (s : Progress) → length text ≤ s .at → from s ≡ s
   on-ended s h = ended s (linesIn (drop (s .at) text)) h
 
   -- and where more is laid than the limit.
-  full : (s : Standing) (ls : List (List ℕ)) → limit < behind 0 (length (s .laid)) → upTo (length text) limit s ls ≡ s
+  full : (s : Progress) (ls : List (List ℕ)) → limit < behind 0 (length (s .laid)) → upTo (length text) limit s ls ≡ s
   unfolding upTo
   full s [] h = refl
   full s (l ∷ ls) h = either (ltb (s .at) (length text)) (λ e. rw (e, lt-leb (behind 0 (length (s .laid))) limit h) refl) (λ e. rw e refl)
 
-  pub on-full : (s : Standing) → limit < behind 0 (length (s .laid)) → from s ≡ s
+  pub on-full : (s : Progress) → limit < behind 0 (length (s .laid)) → from s ≡ s
   on-full s h = full s (linesIn (drop (s .at) text)) h
 
   -- A line: j is where it ends.
-  module _ (s : Standing) (h : s .at < length text) (j : ℕ) (f : j ≡ placeOf isFeed text (s .at)) where
+  module _ (s : Progress) (h : s .at < length text) (j : ℕ) (f : j ≡ placeOf isFeed text (s .at)) where
     -- The place behind it, by its length.
     past : s .at + length (take (j - s .at) (drop (s .at) text)) + 1 ≡ j + 1
     past = simp (length-take, length-drop) (omega (arith, f, place-low isFeed text (s .at), place-high isFeed text (s .at)))
@@ -108,8 +108,8 @@ module _ (text : List ℕ) (limit : ℕ) where
         go (Wrong n) = refl
 
   -- What every line keeps holds at the end, where the text has ended or more is laid than the limit.
-  module _ (P : Standing → Type 0) (step : (s : Standing) (h : s .at < length text) → P s → P (turned text s (placeOf isFeed text (s .at)))) where
-    from-keeps : (n : ℕ) (s : Standing) → length text - s .at < n → P s → P (from s) × ((length text ≤ from s .at) ⊎ (limit < behind 0 (length (from s .laid))))
+  module _ (P : Progress → Type 0) (step : (s : Progress) (h : s .at < length text) → P s → P (turned text s (placeOf isFeed text (s .at)))) where
+    from-keeps : (n : ℕ) (s : Progress) → length text - s .at < n → P s → P (from s) × ((length text ≤ from s .at) ⊎ (limit < behind 0 (length (from s .laid))))
     from-keeps zero s d p = absurd (omega arith)
     from-keeps (suc n) s d p =
         below (s .at) (length text)
@@ -122,12 +122,12 @@ module _ (text : List ℕ) (limit : ℕ) where
 
 -- ── the whole listing ──
 -- Behind the text's end nothing is left.
-left-none : (text : List ℕ) (s : Standing) → length text ≤ s .at → left text s ≡ []
+left-none : (text : List ℕ) (s : Progress) → length text ≤ s .at → left text s ≡ []
 unfolding saidIn linesOf
 left-none text s h = rw (calls-end text (s .at) h) refl
 
 -- What is laid and what is left are the same as before;
-from-left : (text : List ℕ) (limit : ℕ) (s : Standing)
+from-left : (text : List ℕ) (limit : ℕ) (s : Progress)
     → (from text limit s .laid ++ left text (from text limit s) ≡ s .laid ++ left text s)
     × ((length text ≤ from text limit s .at) ⊎ (limit < behind 0 (length (from text limit s .laid))))
 from-left text limit s =
@@ -136,10 +136,10 @@ from-left text limit s =
     (suc (length text - s .at)) s (omega arith) refl
 
 -- without a limit nothing is left.
-whole-laid : (text : List ℕ) → from text 18446744073709551615 (standing header start) .laid ≡ textOf text
+whole-laid : (text : List ℕ) → from text 18446744073709551615 (progress header start) .laid ≡ textOf text
 unfolding textOf
 whole-laid text =
-    let s = standing header start in
+    let s = progress header start in
     let w = from-left text 18446744073709551615 s in
     let v = from text 18446744073709551615 s in
     ⊎-elim
@@ -151,7 +151,7 @@ whole-laid text =
 pub whole-put : (text o : List ℕ) (p : Part) (r : Part) (q : List ℕ) → p ≡ start → Reached text o header p 18446744073709551615 r q → Put o 0 (textOf text) (r .length) q
 whole-put text o p r q e w =
     let i : w .reached .laid ≡ textOf text =
-    ap (λ (s : Standing). s .laid) (w .is) ∙ ap (λ (x : Part). from text 18446744073709551615 (standing header x) .laid) e ∙ whole-laid text in
+    ap (λ (s : Progress). s .laid) (w .is) ∙ ap (λ (x : Part). from text 18446744073709551615 (progress header x) .laid) e ∙ whole-laid text in
     put-as (w .reached .laid) (textOf text) i (w .put)
 
 -- ── parts ──
@@ -161,18 +161,18 @@ model-encode m = let s : Step = record { model = m; answer = new 0 .answer } in 
 
 module _ (text : List ℕ) (room : ℕ) (h : partRoom ≤ room) where
   -- A part is a listing up to its limit.
-  part-is : (xs : List ℕ) (p : Part) → partBehind text xs p room ≡ from text (room - entryRoom) (standing xs p)
+  part-is : (xs : List ℕ) (p : Part) → partBehind text xs p room ≡ from text (room - entryRoom) (progress xs p)
   unfolding partBehind
   part-is xs p = rw (le-ltb room partRoom h) refl
 
   -- With what is left behind it, it is what was left.
-  part-left : (xs : List ℕ) (p : Part) → partBehind text xs p room .laid ++ left text (partBehind text xs p room) ≡ xs ++ left text (standing xs p)
-  part-left xs p = rw (part-is xs p) (from-left text (room - entryRoom) (standing xs p) .0)
+  part-left : (xs : List ℕ) (p : Part) → partBehind text xs p room .laid ++ left text (partBehind text xs p room) ≡ xs ++ left text (progress xs p)
+  part-left xs p = rw (part-is xs p) (from-left text (room - entryRoom) (progress xs p) .0)
 
   -- A line is listed in any case.
   part-grows : (p : Part) → p .at < length text → p .at < nextPart text p room .at
   part-grows p l =
-      let s = standing [] p in
+      let s = progress [] p in
       let j = placeOf isFeed text (p .at) in
       let e = part-is [] p ∙ on-turn text (room - entryRoom) s l j refl (omega (arith, behind-none 0 (omega arith))) in
       rw e
@@ -181,16 +181,16 @@ module _ (text : List ℕ) (room : ℕ) (h : partRoom ≤ room) where
       (suc (length text - turned text s j .at)) (turned text s j) (omega arith) (turned-grows text (room - entryRoom) s l j refl) .0)
 
   -- The n parts behind a part are what is left, where no more than n bytes of the text are.
-  parts-left : (n : ℕ) (s : Standing) → length text - s .at ≤ n → joined n text room s ≡ s .laid ++ left text s
+  parts-left : (n : ℕ) (s : Progress) → length text - s .at ≤ n → joined n text room s ≡ s .laid ++ left text s
   unfolding joined
   parts-left zero s d = sym (append-nil (s .laid)) ∙ ap (λ (xs : List ℕ). s .laid ++ xs) (sym (left-none text s (omega arith)))
   parts-left (suc n) s d =
       let p = partOf s in
-      let e : standing [] p ≡ record { laid = []; at = s .at; call = s .call; table = s .table } =
+      let e : progress [] p ≡ record { laid = []; at = s .at; call = s .call; table = s .table } =
       ap (λ (m : Model). record { laid = []; at = s .at; call = s .call; table = m }) (model-encode (s .table)) in
       let f : length text - nextPart text p room .at ≤ n =
       below (s .at) (length text) (λ l. omega (arith, part-grows p l))
-      (λ l. omega (arith, l, ap (λ (v : Standing). v .at) (part-is [] p ∙ on-ended text (room - entryRoom) (standing [] p) l))) in
+      (λ l. omega (arith, l, ap (λ (v : Progress). v .at) (part-is [] p ∙ on-ended text (room - entryRoom) (progress [] p) l))) in
       ap (λ (xs : List ℕ). s .laid ++ xs) (parts-left n (nextPart text p room) f ∙ part-left [] p ∙ ap (left text) e)
 
 -- ── what is answered ──
@@ -199,7 +199,7 @@ pub next-grows : (text out : List ℕ) (p r : Part) → partRoom ≤ length out 
 next-grows text out p r h l e = rw e (part-grows text (length out) h p l)
 
 -- The answer with a part, and what the lent buffer becomes.
-abbrev Lays : Standing → List ℕ → Part → List ℕ → Type 0
+abbrev Lays : Progress → List ℕ → Part → List ℕ → Type 0
 Lays s out r q = (r ≡ partOf s) × ((q ≡ partOut s out) × (Ready r × (r .length ≤ length out)))
 
 -- A buffer that is too short,

@@ -1,5 +1,5 @@
-// Questions about the table that a load leaves: `answer` has the text for a load and a line that asks. No public function
-// asks anything of its slices. What a line asks is defined in specs/Questions.antt, what is answered in specs/Answers.antt.
+// Questions about the table that a load leaves: `answer` has the text for a load and a line that asks. No public function asks anything
+// of its slices. What a line asks is defined in specs/Questions.antt, what is answered in specs/Answers.antt.
 ghost use mathlib.Core.Path.{_≡_};
 ghost use Rattle.question.specs.Answers.{answerValues, askedOf, askedOut, askedValues};
 

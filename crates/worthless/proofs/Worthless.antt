@@ -38,7 +38,7 @@ use Rattle.promises.specs.ChainsTold.{LinkTold, Followed, ChainTold}
 use Rattle.promises.specs.TableKept.{Has}
 use Rattle.promises.specs.WholeCalls.{Stays}
 use Rattle.promises.proofs.Plan.{waits-once, waits-not-on, precedes-of}
-use Rattle.worthless.specs.Worthless.{claim, drawing, turnsDown, fixedStart, untouched, echoes, inventsContention, inventsBound, criesFull, neverGrants, tellsLate, renews, namesBackward, stopsGranting, fidgets, mumbles, blurts, noRig, ignoresGaps, skipsPacking, oneDrawer, crowds, showsNow, leavesGaps, leavesDrawers, reverses, changesTurns, overdraws, keepsUnitsBack, lastFirst, losesUnits, grantsAll, putsBack, forgetsGroups, pushesIn, hidesUnits, ignoresLimits, backward, stopsShort, linksHighest, linksAnybody, disownsHolders, AllRefused}
+use Rattle.worthless.specs.Worthless.{claim, drawing, turnsDown, fixedStart, untouched, echoes, inventsContention, inventsBound, criesFull, neverGrants, tellsLate, renews, namesBackward, stopsGranting, fidgets, mumbles, blurts, noRig, ignoresGaps, skipsPacking, oneDrawer, crowds, showsNow, leavesGaps, leavesDrawers, reverses, changesTurns, overdraws, keepsUnitsBack, lastFirst, losesUnits, grantsAll, putsBack, forgetsGroups, pushesIn, hidesUnits, ignoresLimits, stopsShort, linksHighest, linksAnybody, disownsHolders, AllRefused}
 
 -- Of what holds of each, in a list of two and of three.
 module _ {A : Type 0} (P : A → Type 0) where
@@ -113,7 +113,7 @@ two-told l told f s k q c = go (c .behind) (ap (λ (r : ChainValues). r .tickets
     go (x ∷ (y ∷ es)) e h = absurd (omega (arith, ap length e))
 
 pub all-refused : AllRefused
-unfolding someFrom lowestFrom common shares empty within greatest least sum all any keep heldUntil endOf remaining precedes before covers unitsAt used enough spare heldUnits ready startFor moved ahead startWithin packedStart pack clear fits seek place contention startBound takenBefore trulyFree goesWithin goes granted grant grants shareOf pendingOf unfilled unfilledByOthers firstOf tests advance finish join remove admit act step new standingOf commonOf turns tableAfter issues stay sharesBy graceBy marked notedAll boundOn testsBy freeUnits valueAt turnsDown fixedStart untouched echoes inventsContention inventsBound criesFull neverGrants tellsLate renews namesBackward stopsGranting fidgets mumbles blurts noRig ignoresGaps skipsPacking oneDrawer crowds showsNow leavesGaps leavesDrawers reverses changesTurns overdraws keepsUnitsBack lastFirst losesUnits grantsAll putsBack forgetsGroups pushesIn hidesUnits ignoresLimits withShare reservedInAll backward countsAs links link chainWithin chain chainOf firstWith stopsShort linksHighest linksAnybody disownsHolders
+unfolding someFrom lowestFrom common shares empty within greatest least sum all any keep heldUntil endOf remaining precedes before covers unitsAt used enough spare heldUnits ready startFor moved ahead startWithin packedStart pack clear fits seek place contention startBound takenBefore trulyFree goesWithin goes granted grant grants shareOf pendingOf unfilled unfilledByOthers firstOf tests advance finish join remove admit act step new standingOf commonOf turns tableAfter issues stay sharesBy graceBy marked notedAll boundOn testsBy freeUnits valueAt turnsDown fixedStart untouched echoes inventsContention inventsBound criesFull neverGrants tellsLate renews namesBackward stopsGranting fidgets mumbles blurts noRig ignoresGaps skipsPacking oneDrawer crowds showsNow leavesGaps leavesDrawers reverses changesTurns overdraws keepsUnitsBack lastFirst losesUnits grantsAll putsBack forgetsGroups pushesIn hidesUnits ignoresLimits withShare reservedInAll countsAs links link chainWithin chain chainOf firstWith stopsShort linksHighest linksAnybody disownsHolders
 all-refused = record {
   turns-down = λ d.
       let z : _≡_ {A = ℕ} 3 0 = d [] (claim 0 0x1 10) [] refl in

@@ -3,7 +3,7 @@
 -- proofs/Worthless has the proofs; each goes by the clause that is named here.
 use mathlib.Core.Path.{_≡_}
 use mathlib.Core.Bool.{Bool, true, false, not, _&&_, cond}
-use mathlib.Core.List.{List, [], _∷_, _++_, map}
+use mathlib.Core.List.{List, [], _∷_, _++_, map, reverse}
 use Prim.Native.Nat.{ℕ, _+_, _-_}
 use lib.Dec.{eqb, ltb}
 use lib.ListN.{length, take}
@@ -90,11 +90,6 @@ isNamed ks d = any (λ k. eqb k (d .ticket)) ks
 abbrev pub waitsOn : Claim → Claim
 waitsOn d = withPhase d (Waiting (at d))
 
--- A list from its end.
-unfoldable pub backward : {A : Type 0} → List A → List A
-backward [] = []
-backward (x ∷ l) = backward l ++ (x ∷ [])
-
 -- Somebody is on past the promised end.
 abbrev pub overrun : Model → Bool
 overrun m = any (λ d. on d && ltb (at d + d .length) (m .clock)) (m .pending)
@@ -169,7 +164,7 @@ forgetsGroups m c =
 
 -- "Naming grants in the order that their planned starts had, and not by ticket", or in any other.
 unfoldable pub namesBackward : Steps
-namesBackward m c = let s : Step = step m c in record { model = s .model; answer = naming (s .answer) (backward (s .answer .grants)) }
+namesBackward m c = let s : Step = step m c in record { model = s .model; answer = naming (s .answer) (reverse (s .answer .grants)) }
 
 -- While somebody overruns, nobody goes on.
 unfoldable pub stopsGranting : Steps
@@ -318,7 +313,7 @@ stopsShort = tellsChains (λ m k. let r : ChainValues = chainOf (settingOf m) k 
 
 -- Links to the highest ticket.
 unfoldable pub linksHighest : Model → Told
-linksHighest = tellsChains (λ m k. chainOf (settingOf m) k (backward (m .pending)))
+linksHighest = tellsChains (λ m k. chainOf (settingOf m) k (reverse (m .pending)))
 
 -- Links to whoever ends as a claim starts: as if all drew on the pool.
 unfoldable pub linksAnybody : Model → Told
