@@ -1,6 +1,7 @@
 /*
  * What the calls for C need of stack: each runs on a stack of its own that was filled with one byte before, and the bytes from the lowest
- * that differs on are counted. Prints a line for each call; exit status 1 where one needs more than include/belgwyth.h says.
+ * that differs on are counted. Prints a line for each call; exit status 1 where one needs more than include/belgwyth.h says, or was not
+ * tried.
  *
  * usage: stack LOAD.. -- SHOW..
  */
@@ -62,7 +63,7 @@ static void take(const char *name)
 static int told(const char *name, size_t most, size_t said)
 {
     printf("%s: %zu bytes of stack, %zu said\n", name, most, said);
-    return said < most;
+    return most == 0 || said < most;
 }
 
 int main(int argc, char **argv)
