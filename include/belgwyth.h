@@ -24,7 +24,7 @@ extern "C" {
 
 /* The numbers of refusals, as they stand in a listing and are answered. docs/FORMAT.md says when each is given. */
 enum belgwyth_number {
-    BELGWYTH_DARK = 1,         /* neither group nor unit in the claim; no group in a member of a set, or in a new rig */
+    BELGWYTH_DARK = 1,         /* neither group nor unit in the claim; no group in a new rig */
     BELGWYTH_OFF_RIG = 2,      /* a group outside the rig */
     BELGWYTH_LENGTH = 3,       /* length 0 or over 3,600,000 */
     BELGWYTH_BACKWARD = 4,     /* clock below the table's clock */
@@ -44,21 +44,19 @@ enum belgwyth_number {
     BELGWYTH_OVER = 18,        /* the desk has as many claims pending as its limit */
     BELGWYTH_OVERBOOKED = 19,  /* a declaration that asks for too much, or of a desk that is declared */
     BELGWYTH_COUNT = 20,       /* a workload of no claims, or of over 1,000 */
-    BELGWYTH_GRACE = 21,       /* a grace over 60,000, or set after an accepted claim */
-    BELGWYTH_CAST = 22,        /* a set of fewer than two members, or of over eight */
-    BELGWYTH_CLASH = 23        /* two members of a set share a group */
+    BELGWYTH_GRACE = 21        /* a grace over 60,000, or set after an accepted claim */
 };
 
 /* Bytes of stack that suffice for each call: measured (tests/stack.c), not proved. */
-#define BELGWYTH_LISTING_STACK 36864
+#define BELGWYTH_LISTING_STACK 28672
 #define BELGWYTH_BEAT_STACK 8192
 #define BELGWYTH_WORKLOAD_STACK 36864
 
 /*
  * A load's first byte is its edition: 1; 2, with a pool of followspots in its rig and units of them in its claims; or 3, with a desk in
- * its claims too, records that declare a desk, records that claim a set of cues that start together (kind 7, with the groups and the length
- * of each cue), and records that set the grace, the time that a cue past its promised end is expected to need from the clock on. One of any
- * other edition is listed as `stop 11 0`. A load is at most this long; a longer one is listed as `stop 14 0`.
+ * its claims too, records that declare a desk, and records that set the grace, the time that a cue past its promised end is expected to
+ * need from the clock on. One of any other edition is listed as `stop 11 0`. A load is at most this long; a longer one is listed as
+ * `stop 14 0`.
  */
 #define BELGWYTH_LOAD_MAX 65536
 
@@ -70,10 +68,9 @@ enum belgwyth_number {
  * bytes. Every input is taken: what is wrong with a load is told in its listing. Reads `load[0 .. load_length]` and writes
  * `out[0 .. out_length]`, nothing else. Neither pointer may be null, not even where its length is 0, and the two ranges must not overlap.
  *
- * A record has one line, a set too, with its first cue's ticket; behind it stands an `on` line for each cue that went on, and those of a
- * set go on together. A refused record has its number, 1 to 10, 16 to 19 or 21 to 23, in its line, and the listing goes on; a load that is
- * refused (11 to 14), a rig that is (1) and a desk that is declared after an accepted claim (13) end it with `stop NUMBER RECORD`. A load
- * of n bytes, up to BELGWYTH_LOAD_MAX, has a listing of at most 71 + 129 * (n / 6) bytes, any load one of at most 1,409,009.
+ * A refused record has its number, 1 to 10, 16 to 19 or 21, in its line, and the listing goes on; a load that is refused (11 to 14), a
+ * rig that is (1) and a desk that is declared after an accepted claim (13) end it with `stop NUMBER RECORD`. A load of n bytes, up to
+ * BELGWYTH_LOAD_MAX, has a listing of at most 71 + 129 * (n / 6) bytes, any load one of at most 1,409,009.
  */
 size_t belgwyth_listing(const uint8_t *load, size_t load_length, uint8_t *out, size_t out_length);
 

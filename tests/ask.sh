@@ -60,9 +60,6 @@ load shared 'edition 2\nrig F 3\nclaim 0 1 10 1\nclaim 0 2 10 2\nclaim 0 2 5 1\n
 load apart 'edition 2\nrig F 3\nclaim 0 1 10 0\nclaim 0 2 10 2\nclaim 0 4 5 2\n'
 load late 'edition 3\nrig F 0\ndesk 1 64 64\nclaim 0 8 10 0 1\nclaim 0 C 10 0 1\nclaim 0 6 11 0 1\nclock 12\n'
 load end 'edition 3\nrig F 0\ngrace 5\ndesk 1 64 64\nclaim 0 8 10 0 1\nclaim 0 C 10 0 1\nclock 10\n'
-load set 'edition 3\nrig F 0\ndesk 1 64 64\nclaim 0 1 10 0 1\nclaim 0 2 20 0 1\nset 0 1 1:5 2:7\nclaim 0 4 30 0 1\nclaim 0 1 30 0 1\n'
-load granted 'edition 3\nrig F 0\ndesk 1 64 64\nset 0 1 1:5 2:7\nrelease 3 1\n'
-load withdrawn 'edition 3\nrig F 0\ndesk 1 64 64\nclaim 0 1 10 0 1\nset 0 1 1:5 2:7\nwithdraw 4 3\n'
 { echo 'rig F' && for _ in {1..64}; do echo 'claim 1000000000000 1 3600000'; done; } | "$bin/load_write" >"$tmp/full" || fail "the load full"
 : >"$tmp/empty"
 printf '\377' >"$tmp/edition"
@@ -83,12 +80,6 @@ answers 'ticket 65535 is not pending\n' "the greatest ticket" plot lookup 65535
 answers 'ticket 3 waits, start 20\n' "zeros in front" plot lookup 0003
 answers 'ticket 3 waits, start 20\n' "a question in one argument" plot ' lookup  3 '
 answers 'ticket 3 waits, start 20\n' "an empty argument" plot '' lookup '' 3
-answers 'ticket 3 waits, start 20\n' "the first member of a set" set lookup 3
-answers 'ticket 4 waits, start 20\n' "and the second" set lookup 4
-answers 'ticket 1 is not pending\n' "a member that was released" granted lookup 1
-answers 'ticket 2 is on, promised end 7\n' "its mate" granted lookup 2
-answers 'ticket 2 is not pending\n' "a mate of a member that was withdrawn" withdrawn lookup 2
-answers 'ticket 3 is not pending\n' "a member that was withdrawn" withdrawn lookup 3
 
 # common
 answers 'tickets 2 and 3 share group 2\n' "a common group" plot common 2 3
@@ -131,10 +122,6 @@ answers 'ticket 2 waits for 1 until 10, 1 is on until 10\n' "at the promised end
 answers 'stop 12 4\nticket 2 waits for 1 until 10, 1 is on until 10\n' "why, of a load that is cut off" cut why 2
 answers 'stop 13 5\nticket 1 is on\n' "why, before a second rig" twice why 1
 answers 'stop 12 0\nticket 1 is not pending\n' "why, of an empty load" empty why 1
-answers 'ticket 3 waits for 2 until 20, 2 is on until 20\n' "a member waits for what its mate waits for" set why 3
-answers 'ticket 4 waits for 2 until 20, 2 is on until 20\n' "a member waits for its own holder" set why 4
-answers 'ticket 6 waits for 3 until 25, 3 waits for 2 until 20, 2 is on until 20\n' "a chain through a member" set why 6
-answers 'ticket 2 is on\n' "a member that is on" granted why 2
 chain='ticket '
 for ((k = 64; k > 1; k--)); do
     chain+="$k waits for $((k - 1)) until $((1000000000000 + 3600000 * (k - 1))), "

@@ -1,6 +1,6 @@
 #!/usr/bin/env bash
 # Holds the documents against the tree and the programs (built by `rt check`): links, README's length, its show and its listing, the samples
-# of docs/SHOWS.md with their answers, the reveal there, the duet of docs/FORMAT.md, statements by name. The last line is 'N passed, M failed'.
+# of docs/SHOWS.md with their answers, the duet of docs/FORMAT.md, statements by name. The last line is 'N passed, M failed'.
 set -u -o pipefail
 cd "$(dirname "$0")/.." || exit 2
 . tests/lib.sh || exit 2
@@ -61,14 +61,6 @@ duet() {
     sed 's/ *#.*//' examples/duet.show | grep -v '^$' | cmp - "$tmp/left" && cmp "$tmp/right" examples/duet.listing
 }
 
-# The reveal of docs/SHOWS.md: the same.
-reveal() {
-    sed -n '/^    edition 3 *rec answer ticket start$/,/^$/p' docs/SHOWS.md | grep -v '^$' | sed 's/^    //; s/ *#.*//' >"$tmp/block"
-    cut -c1-28 "$tmp/block" | sed 's/ *$//' | grep -v '^$' >"$tmp/left"
-    cut -c30- "$tmp/block" | sed 's/ *$//' >"$tmp/right"
-    sed 's/ *#.*//' examples/reveal.show | grep -v '^$' | cmp - "$tmp/left" && cmp "$tmp/right" examples/reveal.listing
-}
-
 # The commands of README and docs/SHOWS.md, each as it is written there; where a comment says what is printed, that is what is printed.
 commands() {
     local line command said n=0
@@ -108,7 +100,6 @@ try "README's show and its listing" first_screen
 mkdir -p "$tmp/root/target" && ln -s "$PWD/examples" "$tmp/root/examples" && ln -s "$PWD/$bin" "$tmp/root/target/bin"
 try "the commands of README and SHOWS" commands
 try "the duet of FORMAT" duet
-try "the reveal of SHOWS" reveal
 try "README's statements" statements
 
 total

@@ -58,7 +58,6 @@ rig=000901000000000000000f
 rig2=000b01000000000000000f0003 # of editions 2 and 3: a pool of 3
 desk=000406020a40 # desk 2, guarantee 10, limit 64
 grace=0005080000ea60 # 60,000 ticks
-set=0023070000000000000007020200000000000000080000000a000000000000000600000014 # clock 7, desk 2: 8 for 10 ticks and 6 for 20
 header='# edition 1\n'
 
 # the sample, there and back
@@ -102,14 +101,6 @@ shown "edition 3 with all of its calls" \
 shown "edition 3 with a rig of edition 1" "03$rig" 'edition 3\n# stop 13 1\n'
 shown "edition 3 with a claim of edition 2" "03${rig2}001702000000000000000700000000000000080000000a0002" 'edition 3\nrig F 3\n# stop 13 2\n'
 shown "edition 2 with a claim of edition 3" "02${rig2}001802000000000000000700000000000000080000000a000202" 'edition 2\nrig F 3\n# stop 13 2\n'
-shown "a set shown" "03${rig2}${set}" 'edition 3\nrig F 3\nset 7 2 8:10 6:20\n'
-shown "a set without members shown" "03${rig2}000b0700000000000000070200" 'edition 3\nrig F 3\nset 7 2\n'
-shown "a set that counts one member more" "03${rig2}${set/0202/0203}" 'edition 3\nrig F 3\n# stop 13 2\n'
-shown "a set that counts one member less" "03${rig2}${set/0202/0201}" 'edition 3\nrig F 3\n# stop 13 2\n'
-shown "a set without its count" "03${rig2}000a07000000000000000702" 'edition 3\nrig F 3\n# stop 13 2\n'
-shown "a set that is cut off in a member" "03${rig2}${set%14}" 'edition 3\nrig F 3\n# stop 12 2\n'
-shown "a set in edition 2" "02${rig2}${set}" 'edition 2\nrig F 3\n# stop 13 2\n'
-shown "a set before the rig" "03${set}" 'edition 3\n# stop 13 1\n'
 shown "edition 2 with a desk" "02$rig2$desk" 'edition 2\nrig F 3\n# stop 13 2\n'
 shown "edition 1 with a desk" "01$rig$desk" "${header}rig F\n# stop 13 2\n"
 shown "a desk before the rig" "03$desk" 'edition 3\n# stop 13 1\n'
@@ -203,10 +194,6 @@ good "largest and least desk, guarantee and limit" 'edition 3\nrig F 3\ndesk 255
 good "a grace" 'edition 3\nrig F 3\ngrace 60000 # ticks\ndesk 2 10 64\n' "03$rig2$grace$desk"
 good "largest and least grace" 'edition 3\nrig F 3\ngrace 4294967295\ngrace 0\ngrace 000000000000060000\n' \
     "03${rig2}000508ffffffff00050800000000${grace}"
-good "a set" 'edition 3\nrig F 3\nset 7 2 8:10 1-2,:20 # two cues\n' "03${rig2}${set}"
-good "a set without members" 'edition 3\nrig F 3\nset 7 2\n' "03${rig2}000b0700000000000000070200"
-good "largest and least member" 'edition 3\nrig F 3\nset 18446744073709551615 255 FFFFFFFFFFFFFFFF:4294967295 0:0\n' \
-    "03${rig2}002307ffffffffffffffffff02ffffffffffffffffffffffff000000000000000000000000"
 bad "edition 4" '# x\nedition 4\nrig F\n' 'line 2: unknown edition'
 bad "edition 3 behind a call" 'rig F\nedition 3\n' 'line 2: unknown call'
 bad "a desk in edition 2" 'edition 2\nrig F 3\ndesk 1 64 64\n' 'line 3: unknown call'
@@ -233,21 +220,6 @@ bad "grace is no number" 'edition 3\nrig F 3\ngrace 60,000\n' 'line 3: grace is 
 bad "grace in hex" 'edition 3\nrig F 3\ngrace EA60\n' 'line 3: grace is not a number'
 bad "grace of 2^32" 'edition 3\nrig F 3\ngrace 4294967296\n' 'line 3: number too large'
 bad "a grace's line before the rig" 'edition 3\ngrace 60000\nrig F 3\n' 'line 2: rig must be first'
-bad "a set in edition 2" 'edition 2\nrig F 3\nset 7 2 8:10 6:20\n' 'line 3: unknown call'
-bad "a set in edition 1" 'rig F\nset 7 2 8:10 6:20\n' 'line 2: unknown call'
-bad "a set without its desk" 'edition 3\nrig F 3\nset 7\n' 'line 3: a number is missing: set CLOCK DESK GROUPS:LENGTH ..'
-bad "a member without a colon" 'edition 3\nrig F 3\nset 7 2 8:10 8\n' 'line 3: a member is not GROUPS:LENGTH'
-bad "a member with two colons" 'edition 3\nrig F 3\nset 7 2 8:10:1\n' 'line 3: a member is not GROUPS:LENGTH'
-bad "spaces around a colon" 'edition 3\nrig F 3\nset 7 2 8 : 10\n' 'line 3: a member is not GROUPS:LENGTH'
-bad "a member without groups" 'edition 3\nrig F 3\nset 7 2 :10\n' 'line 3: groups are not hex or a list'
-bad "a member without a length" 'edition 3\nrig F 3\nset 7 2 8:\n' 'line 3: length is not a number'
-bad "a member of group 64" 'edition 3\nrig F 3\nset 7 2 8:10 64,:10\n' 'line 3: group over 63'
-bad "a member's range backward" 'edition 3\nrig F 3\nset 7 2 8:10 7-5:10\n' 'line 3: range runs backward'
-bad "a member's length of 2^32" 'edition 3\nrig F 3\nset 7 2 8:4294967296\n' 'line 3: number too large'
-bad "the groups of a member go before its length" 'edition 3\nrig F 3\nset 7 2 G:x\n' 'line 3: groups are not hex or a list'
-bad "the desk goes before the members" 'edition 3\nrig F 3\nset 7 x y\n' 'line 3: desk is not a number'
-bad "a claim with a member" 'edition 3\nrig F 3\nclaim 7 8 10 0 2 8:10\n' 'line 3: too many words: claim CLOCK GROUPS LENGTH UNITS DESK'
-bad "a set's line before the rig" 'edition 3\nset 7 2 8:10 6:20\n' 'line 2: rig must be first'
 bad "edition 2 behind a call" 'rig F\nedition 2\n' 'line 2: unknown call'
 bad "edition 1 with a pool" 'rig F 3\n' 'line 1: too many words: rig GROUPS'
 bad "edition 1 with units" 'edition 1\nrig F\nclaim 0 F 1 2\n' 'line 3: too many words: claim CLOCK GROUPS LENGTH'
@@ -323,24 +295,6 @@ mv "$tmp/out" "$tmp/load"
 run load_show <"$tmp/load"
 cp "$tmp/full" "$tmp/want"
 verdict "a full load of edition 3 there and back"
-
-# sets of 255 members whose words are of the greatest length, and one member more
-members=$(yes ' FFFFFFFFFFFFFFFF:4294967295' | head -n 255 | tr -d '\n')
-{
-    echo "edition 3"
-    echo "rig FFFFFFFFFFFFFFFF 65535"
-    yes "set 18446744073709551615 255$members" | head -n 21
-} >"$tmp/full"
-run load_write <"$tmp/full"
-mv "$tmp/out" "$tmp/load"
-run load_show <"$tmp/load"
-cp "$tmp/full" "$tmp/want"
-verdict "a full load of sets there and back"
-{ cat "$tmp/full"; echo "set 0 1$members"; } | run load_write
-: >"$tmp/want"
-verdict "one set over a full load" "line 24: load over 65,536 bytes"
-{ head -n 2 "$tmp/full"; echo "set 0 1$members x"; } | run load_write
-verdict "256 members" "line 3: too many words: set CLOCK DESK GROUPS:LENGTH .."
 
 # sizes: the edition byte, the rig and 5,956 clocks are 65,528 bytes
 { echo "rig F"; yes "clock 1" | head -n 5956; } >"$tmp/full"

@@ -40,8 +40,8 @@ printf '\377' >"$work/unknown.load"
 printf '\001\000' >"$work/short.load"
 printf '\001\000\000' >"$work/misfit.load"
 head -c 65537 /dev/zero | tr '\000' '\001' >"$work/long.load"
-cp examples/overture.load examples/spots.load examples/desks.load examples/overdue.load examples/reveal.load examples/workshop.load "$work"
-for name in sample empty edition edition_2 edition_3 unknown short misfit long overture spots desks overdue reveal workshop; do
+cp examples/overture.load examples/spots.load examples/desks.load examples/overdue.load examples/workshop.load "$work"
+for name in sample empty edition edition_2 edition_3 unknown short misfit long overture spots desks overdue workshop; do
     try "player and program agree on $name" agree "$work/$name.load"
 done
 try "the sample of the paper" lists_as "$work/sample.load" crates/cue/stdout
@@ -49,7 +49,6 @@ try "the sample show's listing" lists_as examples/overture.load examples/overtur
 try "the listing of the show with followspots" lists_as examples/spots.load examples/spots.listing
 try "the listing of the show with two desks" lists_as examples/desks.load examples/desks.listing
 try "the listing of the show that runs over" lists_as examples/overdue.load examples/overdue.listing
-try "the listing of the show with a reveal" lists_as examples/reveal.load examples/reveal.listing
 try "the listing of the sample workload" lists_as examples/workshop.load examples/workshop.listing
 
 # A dance show from C: its listing, a wrong line, a buffer that is too small, and one whose later bytes stay.
@@ -169,7 +168,7 @@ try "player on a full disk" fails "standard output: No space left on device" sh 
 numbered() {
     local rows row number name
     rows=$(sed -n '/^## The numbers/,/^## /p' docs/FORMAT.md | sed -nE 's/^\| ([0-9]+) \| ([a-z -]+) \|.*/\1 \2/p')
-    [ "$(wc -l <<<"$rows")" -eq 23 ] || return 1
+    [ "$(wc -l <<<"$rows")" -eq 21 ] || return 1
     while read -r number row; do
         name=$(tr 'a-z -' 'A-Z__' <<<"$row")
         grep -qE "^ +BELGWYTH_$name = $number[, ]" include/belgwyth.h || { echo "no BELGWYTH_$name = $number"; return 1; }

@@ -69,7 +69,7 @@ fn call(words: &[&[u8]]) -> Result<Call, Reason> {
         },
         _ => return Err(Reason::UnknownCall),
     };
-    count(words, 2..=2)?;
+    count(words, 2)?;
     value(words[1])
 }
 

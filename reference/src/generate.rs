@@ -5,8 +5,8 @@ use std::iter::once;
 
 use crate::load::{self, Call, Kind, FORMATS, MAX_LOAD};
 use crate::monitor::{RunCall, Start};
-use crate::table::{Claim, Declaration, Member, State, Table, TableCall, TimedCall, ONLY_CLIENT};
-use crate::table::{MAX_CLIENT, MAX_CLOCK, MAX_GRACE, MAX_LENGTH, MAX_PENDING, MEMBERS};
+use crate::table::{Claim, Declaration, State, Table, TableCall, TimedCall, ONLY_CLIENT};
+use crate::table::{MAX_CLIENT, MAX_CLOCK, MAX_GRACE, MAX_LENGTH, MAX_PENDING};
 
 /// A small generator of numbers (splitmix64).
 #[derive(Clone, Debug)]
@@ -44,8 +44,8 @@ impl Prng {
     }
 
     /// One of the items, of which there is at least one.
-    pub fn pick<T: Clone>(&mut self, items: &[T]) -> T {
-        items[self.below(items.len() as u64) as usize].clone()
+    pub fn pick<T: Copy>(&mut self, items: &[T]) -> T {
+        items[self.below(items.len() as u64) as usize]
     }
 
     /// A number of random magnitude.
@@ -106,15 +106,10 @@ pub enum Shape {
     /// A grace is set, and holders overrun by more than it and less, with units
     /// and without; clocks at promised ends and one past them.
     Grace,
-    /// Sets of claims that start together, most of which wait; others between
-    /// them, and overruns.
-    Sets,
-    /// The same, in time.
-    SetsInTime,
 }
 
 /// Every shape.
-pub const SHAPES: [Shape; 18] = [
+pub const SHAPES: [Shape; 16] = [
     Shape::Short,
     Shape::Long,
     Shape::Full,
@@ -131,8 +126,6 @@ pub const SHAPES: [Shape; 18] = [
     Shape::PoolInTime,
     Shape::Clients,
     Shape::Grace,
-    Shape::Sets,
-    Shape::SetsInTime,
 ];
 
 /// A generated run: the edition of its load, the rig with its pool, and the
@@ -153,7 +146,7 @@ impl Run {
             groups: self.rig,
             pool: self.pool,
         };
-        let calls = self.calls.iter().map(|call| call.clone().into());
+        let calls = self.calls.iter().map(|&call| call.into());
         once(rig).chain(calls).collect()
     }
 
@@ -170,10 +163,10 @@ impl Run {
         if self.edition < 3 {
             calls.push(ONLY_CLIENT.into());
         }
-        for call in &self.calls {
+        for &call in &self.calls {
             let accepted = table.call(call).accepted();
             if !accepted || !matches!(call, TableCall::Grace(_)) {
-                calls.push(call.clone());
+                calls.push(call);
             }
         }
         Run {
@@ -204,7 +197,7 @@ impl Run {
 
 /// The run of a seed, its shape chosen by the seed.
 pub fn run(seed: u64) -> Run {
-    let weights = [4, 1, 2, 2, 4, 4, 3, 4, 3, 2, 1, 3, 5, 3, 7, 7, 8, 4];
+    let weights = [4, 1, 2, 2, 4, 4, 3, 4, 3, 2, 1, 3, 5, 3, 7, 7];
     let shape = SHAPES[Prng::new(!seed).weighted(&weights)];
     run_of(shape, seed)
 }
@@ -234,7 +227,7 @@ pub fn run_of(shape: Shape, seed: u64) -> Run {
     };
     let edition = match shape {
         Shape::Pool | Shape::PoolInTime => prng.pick(&[2, 2, 3]),
-        Shape::Clients | Shape::Grace | Shape::Sets | Shape::SetsInTime => 3,
+        Shape::Clients | Shape::Grace => 3,
         _ => prng.pick(&[1, 2, 3]),
     };
     let rig = rig(&mut prng, shape);
@@ -242,15 +235,14 @@ pub fn run_of(shape: Shape, seed: u64) -> Run {
         1 => 0,
         _ => pool(&mut prng, drawing),
     };
-    let in_time = matches!(shape, Shape::InTime | Shape::PoolInTime | Shape::SetsInTime);
+    let in_time = matches!(shape, Shape::InTime | Shape::PoolInTime);
     let mut build = Builder::new(prng, (edition, rig, pool), MAX_LOAD, in_time);
-    let mut cast = Cast::One;
     if edition == 3 {
         let first = build.prng.one_in(2);
         if first {
             build.set_graces(shape);
         }
-        cast = build.declare(shape);
+        build.declare(shape);
         if !first {
             build.set_graces(shape);
         }
@@ -329,17 +321,6 @@ pub fn run_of(shape: Shape, seed: u64) -> Run {
             let habits = build.prng.pick(&[&CLIENTS, &CLIENTS, &CLIENTS_LEAVE]);
             build.mix(count, habits);
         }
-        Shape::Sets | Shape::SetsInTime => {
-            if cast == Cast::Brim {
-                build.brim();
-            }
-            let count = build.prng.range(6, 70);
-            let habits = match shape {
-                Shape::Sets => build.prng.pick(&[&SETS, &SETS, &SETS_LATE]),
-                _ => &SETS,
-            };
-            build.mix(count, habits);
-        }
         Shape::Grace => {
             let count = build.prng.range(6, 90);
             build.mix(count, &GRACE);
@@ -358,8 +339,8 @@ pub fn run_of(shape: Shape, seed: u64) -> Run {
 }
 
 /// The calls of a run with lookups of one ticket, of two, of the units free and
-/// of chains between them, and with graces, declarations, and claims and sets of
-/// other clients.
+/// of chains between them, and with graces, declarations and claims of other
+/// clients.
 /// These are refused, or change nothing for the calls of the run: in a table as
 /// of the older editions all places are kept for client 1. Only the grace of
 /// such a table may come to be another.
@@ -371,7 +352,7 @@ pub fn with_lookups(run: &Run, seed: u64) -> Vec<RunCall> {
         3 => 0,
         _ => prng.pick(&[0, 0, 1, 2]),
     };
-    for call in &run.calls {
+    for &call in &run.calls {
         if graces > 0 {
             graces -= 1;
             let ticks = ticks(&mut prng);
@@ -383,7 +364,7 @@ pub fn with_lookups(run: &Run, seed: u64) -> Vec<RunCall> {
             calls.extend(more.map(RunCall::from));
         }
         table.call(call);
-        calls.push(call.clone().into());
+        calls.push(call.into());
         if prng.one_in(8) {
             calls.push(RunCall::Lookup(lookup_ticket(&mut prng, &table)));
         }
@@ -402,8 +383,8 @@ pub fn with_lookups(run: &Run, seed: u64) -> Vec<RunCall> {
     calls
 }
 
-/// A grace, a declaration, or a claim or a set of a client that is not declared
-/// or, in a table as of the older editions, not the first.
+/// A grace, a declaration, or a claim of a client that is not declared or, in a
+/// table as of the older editions, not the first.
 fn extra(prng: &mut Prng, run: &Run, table: &mut Table) -> Option<TableCall> {
     if prng.one_in(4) {
         let ticks = ticks(prng);
@@ -417,9 +398,6 @@ fn extra(prng: &mut Prng, run: &Run, table: &mut Table) -> Option<TableCall> {
     let client = prng.pick(&[0, 2, 2, 3, 8, 9, 255]);
     let declared = table.declared().iter().any(|own| own.client == client);
     if prng.one_in(3) && (run.edition < 3 || !declared) {
-        if prng.one_in(2) {
-            return Some(extra_set(prng, table.now(), run.rig, client).into());
-        }
         let claim = TimedCall::Claim {
             clock: table.now(),
             groups: run.rig,
@@ -447,23 +425,6 @@ fn extra(prng: &mut Prng, run: &Run, table: &mut Table) -> Option<TableCall> {
     Some(declaration.into())
 }
 
-/// A set of a client, that of too few members and too many among them.
-fn extra_set(prng: &mut Prng, clock: u64, rig: u64, client: u8) -> TimedCall {
-    let count = prng.pick(&[0, 1, 2, 2, 3, 8, 9, 40]);
-    let members = (0..count).map(|_| {
-        let one = 1 << prng.below(64);
-        Member {
-            groups: prng.pick(&[rig, one, one, 0]),
-            length: prng.pick(&[0, 1, 10, MAX_LENGTH]),
-        }
-    });
-    TimedCall::Set {
-        clock,
-        client,
-        members: members.collect(),
-    }
-}
-
 /// A ticket to look up: mostly one that is pending, else one that left or was
 /// never issued.
 pub fn lookup_ticket(prng: &mut Prng, table: &Table) -> u16 {
@@ -480,7 +441,6 @@ pub fn lookup_ticket(prng: &mut Prng, table: &Table) -> u16 {
 /// A good load of exactly this many bytes; none if it is too small for that.
 pub fn sized_load(edition: u8, seed: u64, size: usize) -> Option<Vec<u8>> {
     // From 120 on every number is a sum of 11s and 13s.
-    const REST: usize = 120;
     const CLOCK: usize = 11;
     const RELEASE: usize = 13;
     const CLAIM: usize = 26;
@@ -497,12 +457,9 @@ pub fn sized_load(edition: u8, seed: u64, size: usize) -> Option<Vec<u8>> {
         }
         build.push(TableCall::Grace(7));
     }
-    // A set that is too long for what is left is none.
-    build.limit = size.saturating_sub(REST);
-    while build.bytes + CLAIM <= build.limit {
+    while build.bytes + CLAIM + 120 <= size {
         build.step(&BRISK);
     }
-    build.limit = size;
     let rest = size.checked_sub(build.bytes)?;
     let releases = (0..CLOCK).find(|count| {
         rest.checked_sub(count * RELEASE)
@@ -527,9 +484,6 @@ fn rig(prng: &mut Prng, shape: Shape) -> u64 {
             prng.pick(&[0x3, 0x7, 0xF, 0x1F, 0x8000_0000_0000_0001])
         }
         Shape::Full => prng.pick(&[0x1, 1 << 63, 0x7, u64::MAX]),
-        Shape::Sets | Shape::SetsInTime => {
-            prng.pick(&[0xF, 0x3F, 0xFF, 0xFF, 0xFFF, u64::MAX, 0xF00F << 48])
-        }
         Shape::Short | Shape::Boundary | Shape::Noise => {
             let random = prng.draw();
             prng.pick(&[
@@ -665,10 +619,6 @@ enum Cast {
     Slack,
     /// Limits of a few claims, or none.
     Limited,
-    /// Limits of about as many claims as a set has members, and more.
-    Narrow,
-    /// One may have all places, the others have limits of a few claims.
-    Brim,
     /// Any values.
     Any,
     Nobody,
@@ -676,8 +626,8 @@ enum Cast {
 
 /// How the calls of a run are drawn.
 struct Habits {
-    /// Weights of claim, release, withdraw, clock and stray calls, and of sets.
-    weights: [u64; 6],
+    /// Weights of claim, release, withdraw, clock and stray calls.
+    weights: [u64; 5],
     groups: &'static [Groups],
     lengths: &'static [Lengths],
     draws: &'static [Draws],
@@ -685,15 +635,14 @@ struct Habits {
     /// Once in so many, a claim that draws units has no groups.
     bare: u64,
     /// Once in so many, a ticket is not aimed at a fitting claim, units are more
-    /// than the pool has, a client is not declared, or members are spoilt.
+    /// than the pool has, or a client is not declared.
     miss: u64,
-    /// Once in so many, a claim may be of a client that has no place left, or a
-    /// set has a member more than there is room for.
+    /// Once in so many, a claim may be of a client that has no place left.
     over: u64,
 }
 
 const ALL_ROUND: Habits = Habits {
-    weights: [10, 5, 2, 2, 2, 2],
+    weights: [10, 5, 2, 2, 2],
     groups: &[Groups::One, Groups::Pair, Groups::Few, Groups::Any],
     lengths: &[Lengths::Tiny, Lengths::Small, Lengths::Touch, Lengths::Long],
     draws: &[Draws::None, Draws::None, Draws::One, Draws::Few, Draws::Any],
@@ -704,7 +653,7 @@ const ALL_ROUND: Habits = Habits {
 };
 
 const ACCEPTED: Habits = Habits {
-    weights: [10, 7, 2, 2, 0, 2],
+    weights: [10, 7, 2, 2, 0],
     groups: &[Groups::One, Groups::Pair, Groups::Few],
     lengths: &[Lengths::Small, Lengths::Small, Lengths::Touch],
     draws: &[Draws::None, Draws::One, Draws::Few, Draws::Half],
@@ -716,12 +665,12 @@ const ACCEPTED: Habits = Habits {
 
 /// Few pending claims at any time, so that long loads go fast.
 const BRISK: Habits = Habits {
-    weights: [8, 9, 2, 1, 0, 1],
+    weights: [8, 9, 2, 1, 0],
     ..ACCEPTED
 };
 
 const MANY_GROUPS: Habits = Habits {
-    weights: [14, 6, 2, 1, 1, 3],
+    weights: [14, 6, 2, 1, 1],
     groups: &[
         Groups::One,
         Groups::Pair,
@@ -739,7 +688,7 @@ const MANY_GROUPS: Habits = Habits {
 };
 
 const TIES: Habits = Habits {
-    weights: [12, 5, 3, 1, 1, 3],
+    weights: [12, 5, 3, 1, 1],
     groups: &[Groups::One, Groups::One, Groups::Pair, Groups::Few],
     lengths: &[
         Lengths::Equal,
@@ -755,7 +704,7 @@ const TIES: Habits = Habits {
 };
 
 const OVERRUN: Habits = Habits {
-    weights: [9, 5, 2, 3, 1, 2],
+    weights: [9, 5, 2, 3, 1],
     groups: &[Groups::One, Groups::Pair, Groups::Few, Groups::Any],
     lengths: &[Lengths::Tiny, Lengths::Small, Lengths::Equal],
     draws: &[Draws::None, Draws::None, Draws::One, Draws::Half],
@@ -766,7 +715,7 @@ const OVERRUN: Habits = Habits {
 };
 
 const BOUNDARY: Habits = Habits {
-    weights: [4, 1, 1, 0, 10, 1],
+    weights: [4, 1, 1, 0, 10],
     groups: &[Groups::One, Groups::Few, Groups::All],
     lengths: &[Lengths::Tiny, Lengths::Greatest, Lengths::Long],
     draws: &[Draws::None, Draws::All, Draws::Any],
@@ -777,7 +726,7 @@ const BOUNDARY: Habits = Habits {
 };
 
 const END_OF_TIME: Habits = Habits {
-    weights: [10, 4, 2, 2, 2, 2],
+    weights: [10, 4, 2, 2, 2],
     groups: &[Groups::One, Groups::Pair, Groups::Few],
     lengths: &[
         Lengths::Small,
@@ -793,7 +742,7 @@ const END_OF_TIME: Habits = Habits {
 };
 
 const POOL: Habits = Habits {
-    weights: [14, 7, 3, 2, 1, 2],
+    weights: [14, 7, 3, 2, 1],
     groups: &[Groups::One, Groups::One, Groups::Pair],
     lengths: &[
         Lengths::Equal,
@@ -819,7 +768,7 @@ const POOL: Habits = Habits {
 };
 
 const POOL_LATE: Habits = Habits {
-    weights: [12, 5, 2, 4, 1, 2],
+    weights: [12, 5, 2, 4, 1],
     paces: &[
         Pace::Late,
         Pace::Late,
@@ -831,7 +780,7 @@ const POOL_LATE: Habits = Habits {
 };
 
 const CLIENTS: Habits = Habits {
-    weights: [40, 4, 2, 2, 3, 6],
+    weights: [40, 4, 2, 2, 3],
     groups: &[Groups::One, Groups::One, Groups::Pair],
     lengths: &[Lengths::Small, Lengths::Equal, Lengths::Touch],
     draws: &[Draws::None, Draws::None, Draws::One, Draws::Few],
@@ -843,12 +792,12 @@ const CLIENTS: Habits = Habits {
 
 /// Claims leave as fast as they come.
 const CLIENTS_LEAVE: Habits = Habits {
-    weights: [20, 10, 8, 2, 3, 4],
+    weights: [20, 10, 8, 2, 3],
     ..CLIENTS
 };
 
 const GRACE: Habits = Habits {
-    weights: [12, 5, 2, 5, 3, 3],
+    weights: [12, 5, 2, 5, 3],
     groups: &[Groups::One, Groups::One, Groups::Pair, Groups::Few],
     lengths: &[
         Lengths::Tiny,
@@ -876,28 +825,6 @@ const GRACE: Habits = Habits {
     bare: 3,
     miss: 16,
     over: 8,
-};
-
-const SETS: Habits = Habits {
-    weights: [8, 8, 4, 2, 1, 12],
-    draws: &[Draws::None, Draws::None, Draws::One, Draws::Half],
-    paces: &[Pace::Still, Pace::Still, Pace::Slow, Pace::Event],
-    miss: 10,
-    over: 2,
-    ..GRACE
-};
-
-/// Of a table that is full or nearly so.
-const FULL_SETS: Habits = Habits {
-    miss: 64,
-    over: 2,
-    ..TIES
-};
-
-const SETS_LATE: Habits = Habits {
-    weights: [7, 6, 3, 4, 1, 10],
-    paces: GRACE.paces,
-    ..SETS
 };
 
 /// A run being built, with the table that it leads to.
@@ -954,7 +881,7 @@ impl Builder {
     /// none.
     fn push(&mut self, call: impl Into<TableCall>) {
         let call = call.into();
-        let bytes = self.bytes + self.record(&call).len();
+        let bytes = self.bytes + self.record(call).len();
         if bytes > self.limit {
             return;
         }
@@ -964,13 +891,13 @@ impl Builder {
                 .earliest_end()
                 .is_some_and(|end| call.clock() > Some(end))
         {
-            let answer = self.table.clone().call(&call);
+            let answer = self.table.clone().call(call);
             if answer.accepted() {
                 return;
             }
         }
         self.bytes = bytes;
-        self.table.call(&call);
+        self.table.call(call);
         self.calls.push(call);
         if self.table.issued() > 0 {
             self.begun.get_or_insert(self.calls.len());
@@ -1016,13 +943,13 @@ impl Builder {
     }
 
     /// The record of a call.
-    fn record(&self, call: &TableCall) -> Vec<u8> {
-        load::encode(self.edition, &call.clone().into()).expect("a call that the edition carries")
+    fn record(&self, call: TableCall) -> Vec<u8> {
+        load::encode(self.edition, call.into()).expect("a call that the edition carries")
     }
 
     /// Declares clients as suits the shape. Bad declarations and refused calls
     /// come between.
-    fn declare(&mut self, shape: Shape) -> Cast {
+    fn declare(&mut self, shape: Shape) {
         let casts: &[Cast] = match shape {
             Shape::Full => &[Cast::One, Cast::Loose, Cast::Tight],
             Shape::Accepted => &[Cast::One, Cast::Loose],
@@ -1043,17 +970,6 @@ impl Builder {
                 Cast::Any,
                 Cast::Nobody,
             ],
-            Shape::Sets | Shape::SetsInTime => &[
-                Cast::One,
-                Cast::Loose,
-                Cast::Tight,
-                Cast::Slack,
-                Cast::Limited,
-                Cast::Narrow,
-                Cast::Narrow,
-                Cast::Brim,
-                Cast::Brim,
-            ],
             _ => &[Cast::One, Cast::Loose, Cast::Loose, Cast::Tight],
         };
         let cast = self.prng.pick(casts);
@@ -1066,7 +982,6 @@ impl Builder {
         let count = match cast {
             Cast::Nobody => 0,
             Cast::One => 1,
-            Cast::Brim => self.prng.pick(&[2, 2, 3]),
             _ => self.prng.pick(&[1, 2, 2, 2, 3, 3, 4, 8]),
         };
         clients.truncate(count);
@@ -1077,7 +992,6 @@ impl Builder {
             self.push(declaration);
         }
         self.before_declaring(steady);
-        cast
     }
 
     /// Now and then a declaration that is mostly bad, or a call that is no
@@ -1093,7 +1007,7 @@ impl Builder {
         if self.prng.one_in(6) {
             let call = self.stray();
             let mut after = self.table.clone();
-            after.call(&call);
+            after.call(call);
             // The greatest clocks leave little to do behind them.
             if after.issued() == 0 && after.now() < 1_000 {
                 self.push(call);
@@ -1127,17 +1041,10 @@ impl Builder {
                 let more = prng.below(65 - reserved);
                 (reserved, prng.pick(&[reserved, reserved + more, 64, 64]))
             }
-            Cast::Limited | Cast::Narrow | Cast::Nobody => {
-                let limit = match cast {
-                    Cast::Narrow => prng.range(3, 18),
-                    _ => prng.pick(&[0, 1, 1, 2, 3, few]),
-                };
+            Cast::Limited | Cast::Nobody => {
+                let limit = prng.pick(&[0, 1, 1, 2, 3, few]);
                 let reserved = prng.below(limit + 1).min(left);
                 (reserved, limit)
-            }
-            Cast::Brim => {
-                let limit = if first { 64 } else { prng.range(1, 7) };
-                (prng.pick(&[0, 0, 1]).min(left), limit)
             }
             Cast::Any => {
                 let any = prng.below(256);
@@ -1167,7 +1074,7 @@ impl Builder {
             ..spare
         };
         let declaration = self.prng.pick(&[odd, odd, spare, outside, ONLY_CLIENT]);
-        let bytes = self.record(&declaration.into()).len();
+        let bytes = self.record(declaration.into()).len();
         let Some(first) = self.begun else { return };
         if self.bytes + bytes > self.limit {
             return;
@@ -1195,7 +1102,7 @@ impl Builder {
             return self.stray_client();
         }
         let mut open = declared.clone();
-        open.retain(|&client| self.table.test_room(client, 0).is_ok());
+        open.retain(|&client| self.table.test_room(client).is_ok());
         if open.is_empty() || self.prng.one_in(habits.over) {
             self.prng.pick(&declared)
         } else {
@@ -1238,8 +1145,7 @@ impl Builder {
                 let clock = self.clock(pace);
                 TimedCall::Clock { clock }.into()
             }
-            4 => self.stray(),
-            _ => self.set(habits).into(),
+            _ => self.stray(),
         };
         self.push(call);
     }
@@ -1261,89 +1167,6 @@ impl Builder {
             length: self.length(lengths),
             units,
             client: self.client(habits),
-        }
-    }
-
-    /// A set, mostly of members that are good; a claim in editions without sets,
-    /// and mostly so where the rig has a group only.
-    fn set(&mut self, habits: &Habits) -> TimedCall {
-        let groups = self.rig.count_ones() as usize;
-        if self.edition < 3 || groups < 2 && !self.prng.one_in(8) {
-            return self.claim(habits);
-        }
-        let pace = self.prng.pick(habits.paces);
-        let client = self.client(habits);
-        // How many members find a place.
-        let most = *MEMBERS.end();
-        let full = (0..most).find(|&taken| self.table.test_room(client, taken).is_err());
-        let room = full.unwrap_or(most);
-        let some = self.prng.pick(&[2, 2, 2, 3, 3, 4, 5, 6, 7, 8, 8]);
-        let over = room < 2 || room < most && self.prng.one_in(habits.over);
-        let count = if over {
-            some.max(room + 1)
-        } else {
-            some.min(room)
-        };
-        let mut members = self.members(count.min(groups).max(2), habits.lengths);
-        if self.prng.one_in(habits.miss) {
-            self.spoil(&mut members);
-        }
-        TimedCall::Set {
-            clock: self.clock(pace),
-            client,
-            members,
-        }
-    }
-
-    /// So many members that share no group, as far as the rig has groups.
-    fn members(&mut self, count: usize, lengths: &[Lengths]) -> Vec<Member> {
-        let mut bits = self.bits();
-        for last in (1..bits.len()).rev() {
-            let at = self.prng.below(last as u64 + 1) as usize;
-            bits.swap(at, last);
-        }
-        let mut members = Vec::new();
-        for more in (0..count).rev() {
-            let mut groups = bits.pop().unwrap_or(1);
-            while bits.len() > more && self.prng.one_in(4) {
-                groups |= bits.pop().unwrap_or(0);
-            }
-            let how = self.prng.pick(lengths);
-            let length = self.length(how);
-            members.push(Member { groups, length });
-        }
-        members
-    }
-
-    /// Makes members bad in one way or in several: at any place one without
-    /// groups, outside the rig or of no good length, two that clash, or too few
-    /// and too many of them.
-    fn spoil(&mut self, members: &mut Vec<Member>) {
-        let ways = self.prng.pick(&[1, 1, 1, 2, 3]);
-        for _ in 0..ways {
-            let count = members.len();
-            if count < 2 {
-                return;
-            }
-            let one = self.prng.below(count as u64) as usize;
-            let other = (one + self.prng.range(1, count as u64 - 1) as usize) % count;
-            match self.prng.below(12) {
-                0..=2 => members[one].groups |= members[other].groups,
-                3 => members[one].groups = 0,
-                4 | 5 => members[one].groups = self.stray_groups(),
-                6 | 7 => members[one].length = self.stray_length(),
-                8 => members.truncate(one.min(1)),
-                // Two of different numbers.
-                9 | 10 => {
-                    members[one].groups = self.prng.pick(&[0, !self.rig, u64::MAX]);
-                    members[other].length = self.prng.pick(&[0, MAX_LENGTH + 1]);
-                }
-                _ => {
-                    let most = self.prng.pick(&[9, 9, 9, 10, 16, 64, 255]);
-                    let lengths = [Lengths::Tiny, Lengths::Small];
-                    members.extend(self.members(most.max(count) - count, &lengths));
-                }
-            }
         }
     }
 
@@ -1477,17 +1300,12 @@ impl Builder {
         }
     }
 
-    /// The groups of the rig.
-    fn bits(&self) -> Vec<u64> {
-        (0..64)
-            .map(|group| 1 << group)
-            .filter(|bit| self.rig & bit != 0)
-            .collect()
-    }
-
     /// Groups of the rig; group 0 if it has none.
     fn groups(&mut self, how: Groups) -> u64 {
-        let bits = self.bits();
+        let bits: Vec<u64> = (0..64)
+            .map(|group| 1 << group)
+            .filter(|bit| self.rig & bit != 0)
+            .collect();
         if bits.is_empty() {
             return 1;
         }
@@ -1551,19 +1369,6 @@ impl Builder {
         } else {
             self.client(&BOUNDARY)
         };
-        if self.edition == 3 && self.prng.one_in(5) {
-            let count = self.prng.pick(&[2, 2, 3, 8]);
-            let mut members = self.members(count, BOUNDARY.lengths);
-            if !self.prng.one_in(4) {
-                self.spoil(&mut members);
-            }
-            let set = TimedCall::Set {
-                clock,
-                client,
-                members,
-            };
-            return set.into();
-        }
         let call = match self.prng.below(8) {
             0..=2 => TimedCall::Claim {
                 clock,
@@ -1682,19 +1487,6 @@ impl Builder {
         }
         let clock = self.prng.magnitude();
         let ticket = self.prng.magnitude() as u16;
-        if self.edition == 3 && self.prng.one_in(8) {
-            let count = self.prng.below(11);
-            let members = (0..count).map(|_| Member {
-                groups: self.prng.draw() & self.prng.magnitude(),
-                length: self.prng.magnitude() as u32,
-            });
-            let set = TimedCall::Set {
-                clock,
-                members: members.collect(),
-                client: self.stray_client(),
-            };
-            return set.into();
-        }
         let call = match self.prng.below(4) {
             0 => TimedCall::Claim {
                 clock,
@@ -1713,21 +1505,16 @@ impl Builder {
         call.into()
     }
 
-    /// Claims of one group each, and sets, until 64 are pending, and some more;
-    /// then releases and withdrawals; and again.
+    /// A claim of one group each, until 64 are pending, and some more; then
+    /// releases and withdrawals; and again.
     fn full(&mut self) {
         let spread = self.prng.one_in(3);
         let fixed = self.groups(Groups::One);
         let rounds = self.prng.range(1, 2);
         for _ in 0..rounds {
-            for _ in 0..110 {
+            for _ in 0..80 {
                 if self.table.claims().len() == MAX_PENDING {
                     break;
-                }
-                if self.edition == 3 && self.prng.one_in(6) {
-                    let call = self.set(&FULL_SETS);
-                    self.push(call);
-                    continue;
                 }
                 let pace = self.prng.pick(&[Pace::Still, Pace::Still, Pace::Slow]);
                 let lengths = self.prng.pick(&[Lengths::Small, Lengths::Long]);
@@ -1756,8 +1543,6 @@ impl Builder {
                 self.push(call);
                 let call = self.stray();
                 self.push(call);
-                let call = self.set(&FULL_SETS);
-                self.push(call);
             }
             let leaving = self.prng.range(1, 70);
             for _ in 0..leaving {
@@ -1771,46 +1556,6 @@ impl Builder {
                     let call = self.claim(&TIES);
                     self.push(call);
                 }
-                if self.prng.one_in(5) {
-                    let call = self.set(&FULL_SETS);
-                    self.push(call);
-                }
-            }
-        }
-    }
-
-    /// Sets until all places but a few are taken, as far as clients may have
-    /// them, then some that find no room for each of their members.
-    fn brim(&mut self) {
-        let most = MAX_PENDING - self.prng.range(1, 7) as usize;
-        let clients: Vec<u8> = self.table.declared().iter().map(|own| own.client).collect();
-        while self.table.claims().len() < most {
-            let room = (most - self.table.claims().len()).min(*MEMBERS.end());
-            let count = room.min(self.bits().len()).max(2);
-            let open = |&&client: &&u8| self.table.test_room(client, count - 1).is_ok();
-            let Some(&client) = clients.iter().find(open) else {
-                break;
-            };
-            let before = self.table.issued();
-            let clock = self.clock(Pace::Still);
-            let members = self.members(count, &[Lengths::Tiny, Lengths::Small]);
-            self.push(TimedCall::Set {
-                clock,
-                client,
-                members,
-            });
-            // A rig of one group, or a load that has no room for it.
-            if self.table.issued() == before {
-                break;
-            }
-        }
-        let count = self.prng.range(3, 8);
-        for _ in 0..count {
-            let call = self.set(&FULL_SETS);
-            self.push(call);
-            if self.prng.one_in(3) {
-                let call = self.withdraw(&ACCEPTED);
-                self.push(call);
             }
         }
     }
@@ -1839,11 +1584,6 @@ impl Builder {
                 self.step(&ACCEPTED);
                 continue;
             }
-            if self.edition == 3 && self.prng.one_in(6) {
-                let call = self.set_along(top, links * step);
-                self.push(call);
-                continue;
-            }
             let low = top.saturating_sub(self.prng.below(links * step + 1));
             let lengths = self.prng.pick(&[Lengths::Touch, Lengths::Small]);
             let call = TimedCall::Claim {
@@ -1854,26 +1594,6 @@ impl Builder {
                 client: self.client(&ACCEPTED),
             };
             self.push(call);
-        }
-    }
-
-    /// A set of neighbours, each with a group of a chain of so many groups from
-    /// the top down.
-    fn set_along(&mut self, top: u64, span: u64) -> TimedCall {
-        let mut low = top.saturating_sub(self.prng.below(span + 1));
-        let mut members = Vec::new();
-        for _ in 0..self.prng.range(2, 5) {
-            let lengths = self.prng.pick(&[Lengths::Touch, Lengths::Small]);
-            members.push(Member {
-                groups: 1 << low,
-                length: self.length(lengths),
-            });
-            low = (low + self.prng.range(1, 3)) % 64;
-        }
-        TimedCall::Set {
-            clock: self.clock(Pace::Still),
-            client: self.client(&ACCEPTED),
-            members,
         }
     }
 }
@@ -1967,7 +1687,7 @@ pub fn damage(load: &[u8], seed: u64) -> Vec<u8> {
     } else {
         prng.pick(&places)
     };
-    match prng.below(28) {
+    match prng.below(24) {
         // Cut anywhere.
         0 | 1 => {
             let keep = prng.below(load.len() as u64 + 1) as usize;
@@ -1998,13 +1718,10 @@ pub fn damage(load: &[u8], seed: u64) -> Vec<u8> {
                     21,
                     23,
                     24,
-                    35,
-                    length.wrapping_sub(12),
                     length.wrapping_sub(2),
                     length.wrapping_sub(1),
                     length.wrapping_add(1),
                     length.wrapping_add(2),
-                    length.wrapping_add(12),
                     0x7FFF,
                     0xFFFF,
                     random,
@@ -2030,7 +1747,7 @@ pub fn damage(load: &[u8], seed: u64) -> Vec<u8> {
                 groups: prng.magnitude(),
                 pool: 0,
             };
-            let record = load::encode(edition, &rig).expect("every edition has it");
+            let record = load::encode(edition, rig).expect("every edition has it");
             let at = if places.len() > 1 && !prng.one_in(4) {
                 places[prng.range(1, places.len() as u64 - 1) as usize]
             } else {
@@ -2146,26 +1863,6 @@ pub fn damage(load: &[u8], seed: u64) -> Vec<u8> {
                 }
             }
         }
-        // A set behind the first record.
-        23 | 24 => {
-            let count = prng.pick(&[0, 1, 2, 2, 3, 8, 9]);
-            let members = (0..count).map(|_| Member {
-                groups: prng.pick(&[1, 2, 3, 4, 8, 0x80, 0]),
-                length: prng.pick(&[0, 1, 5, MAX_LENGTH + 1]),
-            });
-            let set = TimedCall::Set {
-                clock: 0,
-                members: members.collect(),
-                client: prng.pick(&[1, 1, 2, 0]),
-            };
-            insert_later(&mut prng, &mut out, &places, set.into());
-        }
-        // Inside a set.
-        25 | 26 => {
-            if let Some((at, end)) = record_of(&mut prng, load, &[Kind::Set]) {
-                damage_set(&mut prng, &mut out, at, end);
-            }
-        }
         // Any bytes behind the rig.
         _ => {
             out.truncate(first);
@@ -2179,54 +1876,10 @@ pub fn damage(load: &[u8], seed: u64) -> Vec<u8> {
     out
 }
 
-/// Damages a set from one place to another in a good load: its count, a byte of
-/// its client or of a member, a member more or less, with the length and the
-/// count that this makes or without, or its kind.
-fn damage_set(prng: &mut Prng, load: &mut Vec<u8>, at: usize, end: usize) {
-    // Behind length, kind, clock and client.
-    let count = at + 12;
-    let members = count + 1;
-    let byte = prng.range(at as u64 + 3, end as u64 - 1) as usize;
-    match prng.below(9) {
-        0 => {
-            let own = load[count];
-            let other = [0, 1, 2, 8, 9, 255, own.wrapping_sub(1), own.wrapping_add(1)];
-            load[count] = prng.pick(&other);
-        }
-        1 | 2 => load[byte] ^= 1 << prng.below(8),
-        3 => load[byte] = prng.pick(&[0, 1, 0x36, 0xEE, 0x80, 0xFF]),
-        4 => load[at + 2] = prng.pick(&[2, 3, 5, 6, 8, 9]),
-        _ => {
-            let more = prng.one_in(2);
-            if more {
-                let member = [0, 0, 0, 0, 0, 0, 0, 1 << prng.below(8), 0, 0, 0, 5];
-                load.splice(members..members, member);
-            } else if end - members >= load::MEMBER_BYTES {
-                load.drain(members..members + load::MEMBER_BYTES);
-            } else {
-                return;
-            }
-            let bytes = load::MEMBER_BYTES as u16;
-            let length = u16::from_be_bytes([load[at], load[at + 1]]);
-            let (length, own) = if more {
-                (length + bytes, load[count].wrapping_add(1))
-            } else {
-                (length - bytes, load[count].wrapping_sub(1))
-            };
-            if !prng.one_in(4) {
-                load[at..at + 2].copy_from_slice(&length.to_be_bytes());
-            }
-            if !prng.one_in(3) {
-                load[count] = own;
-            }
-        }
-    }
-}
-
 /// Puts the record of a call as edition 3 has it anywhere but first, now and
 /// then cut or of another length.
 fn insert_later(prng: &mut Prng, load: &mut Vec<u8>, places: &[usize], call: Call) {
-    let mut record = load::encode(3, &call).expect("edition 3 has it");
+    let mut record = load::encode(3, call).expect("edition 3 has it");
     match prng.below(6) {
         0 => {
             let keep = prng.below(record.len() as u64) as usize;

@@ -4,7 +4,7 @@
 use crate::generate::{self, Prng, Shape};
 use crate::load::{self, Call, Field, MAX_LOAD};
 use crate::table::TimedCall;
-use crate::text::{name, said, MAX_TEXT, UNSAID_EDITION};
+use crate::text::{name, MAX_TEXT, UNSAID_EDITION};
 
 /// A line as its words; one without words says nothing.
 pub(crate) type Line = Vec<String>;
@@ -36,12 +36,9 @@ pub fn any_text(seed: u64) -> Vec<u8> {
         let clock = Call::Timed(TimedCall::Clock { clock: 1 });
         let rig = Call::Rig { groups: 1, pool: 0 };
         let more = prng.range(3, 5);
-        calls.extend((0..more).map(|_| prng.pick(&[&clock, &clock, &clock, &rig]).clone()));
+        calls.extend((0..more).map(|_| prng.pick(&[clock, clock, clock, rig])));
     }
     let mut lines = lines(&mut prng, edition, &calls);
-    if edition == 3 && prng.one_in(40) {
-        lines.push(long_set(&mut prng));
-    }
     let count = prng.pick(if full { &[0, 0, 0, 1] } else { &[0, 1, 1, 2] });
     for _ in 0..count {
         damage_lines(&mut prng, &mut lines, 2);
@@ -75,7 +72,6 @@ fn calls(prng: &mut Prng, seed: u64) -> (u8, Vec<Call>) {
         Shape::Pool,
         Shape::Clients,
         Shape::Grace,
-        Shape::Sets,
     ]);
     let run = generate::run_of(shape, seed);
     let mut calls = run.load_calls();
@@ -90,7 +86,7 @@ fn lines(prng: &mut Prng, edition: u8, calls: &[Call]) -> Vec<Line> {
     if edition != UNSAID_EDITION || prng.one_in(3) {
         lines.push(vec!["edition".to_string(), decimal(prng, edition.into())]);
     }
-    lines.extend(calls.iter().map(|call| call_line(prng, edition, call)));
+    lines.extend(calls.iter().map(|&call| call_line(prng, edition, call)));
     add_blank(prng, &mut lines);
     lines
 }
@@ -106,36 +102,16 @@ pub(crate) fn add_blank(prng: &mut Prng, lines: &mut Vec<Line>) {
     }
 }
 
-fn call_line(prng: &mut Prng, edition: u8, call: &Call) -> Line {
+fn call_line(prng: &mut Prng, edition: u8, call: Call) -> Line {
     let mut line = vec![name(call.kind()).to_string()];
     let fields = load::fields(edition, call.kind()).expect("a kind of the edition");
-    let values = call.values();
-    for &field in said(fields).0 {
-        let value = values.get(field);
+    for &field in fields {
+        let value = call.values().get(field);
         line.push(match field {
             Field::Groups => set(prng, value),
             _ => decimal(prng, value),
         });
     }
-    for member in &values.members {
-        let length = decimal(prng, member.length.into());
-        line.push(set(prng, member.groups) + ":" + &length);
-    }
-    line
-}
-
-/// The line of a set with about as many members as its record can have.
-fn long_set(prng: &mut Prng) -> Line {
-    let count = prng.pick(&[253, 254, 255, 255, 256, 256, 257, 300, 512]);
-    let mut line = ["set", "0", "1"].map(String::from).to_vec();
-    let members = (0..count).map(|_| {
-        if prng.one_in(200) {
-            odd_member(prng)
-        } else {
-            format!("{:X}:{}", 1 << prng.below(64), prng.range(1, 20))
-        }
-    });
-    line.extend(members);
     line
 }
 
@@ -384,25 +360,8 @@ fn odd_set(prng: &mut Prng) -> String {
     items.join(",") + prng.pick(&["", "", ",", ",,"])
 }
 
-/// What stands between the parts of a word in place of a member.
-const COLONS: [&str; 9] = [":", ":", ":", ":", "", "::", ":1:", ";", ","];
-
-/// A word in place of a member.
-fn odd_member(prng: &mut Prng) -> String {
-    let groups = match prng.below(4) {
-        0 => String::new(),
-        1 => odd_set(prng),
-        _ => prng.pick(&SETS).to_string(),
-    };
-    let length = match prng.below(4) {
-        0 => String::new(),
-        _ => prng.pick(&NUMBERS).to_string(),
-    };
-    groups + prng.pick(&COLONS) + &length
-}
-
 /// Words in the place of a line's first.
-const NAMES: [&str; 36] = [
+const NAMES: [&str; 32] = [
     "rig",
     "claim",
     "release",
@@ -417,10 +376,6 @@ const NAMES: [&str; 36] = [
     "grace",
     "graces",
     "Grace",
-    "set",
-    "set",
-    "sets",
-    "Set",
     "edition",
     "editions",
     "Edition",
@@ -495,8 +450,6 @@ pub(crate) fn damage_lines(prng: &mut Prng, lines: &mut Vec<Line>, groups: usize
                 return lines[at] = odd_edition(prng);
             } else if line[0] == "rig" && word == 1 || line[0] == "claim" && word == groups {
                 odd_set(prng)
-            } else if line[0] == "set" && word > 2 {
-                odd_member(prng)
             } else {
                 prng.pick(&NUMBERS).to_string()
             }
@@ -536,7 +489,7 @@ pub(crate) fn damage_lines(prng: &mut Prng, lines: &mut Vec<Line>, groups: usize
 }
 
 /// Bytes that mean something, or nearly so.
-const BYTES: &[u8] = b"#\r\n\t ,-:+09aAfFgG1\x00\x0B\x0C\x7F\x80\xA0\xFF";
+const BYTES: &[u8] = b"#\r\n\t ,-+09aAfFgG1\x00\x0B\x0C\x7F\x80\xA0\xFF";
 
 /// Damages some bytes of a text, or cuts it.
 pub(crate) fn damage_bytes(prng: &mut Prng, text: &mut Vec<u8>) {
@@ -545,7 +498,7 @@ pub(crate) fn damage_bytes(prng: &mut Prng, text: &mut Vec<u8>) {
         let mut at = prng.below(text.len() as u64 + 1) as usize;
         if prng.one_in(2) {
             // Up to the next byte that parts words or lines.
-            while at < text.len() && !b"#\r\n\t ,-:".contains(&text[at]) {
+            while at < text.len() && !b"#\r\n\t ,-".contains(&text[at]) {
                 at += 1;
             }
         }

@@ -10,9 +10,7 @@
 //! down, overrun its overdue holder, scenario its plot. Document 02's
 //! followspots are the units of a pool, its desks are clients, a desk's
 //! guarantee is what is reserved for the client, its load for the workshop is
-//! the workload, its chain that explains a start a blocking chain, or a chain. Its
-//! set, of claims that start together, has members; those beside a member are its
-//! mates.
+//! the workload, its chain that explains a start a blocking chain, or a chain.
 
 #![deny(unsafe_code)]
 
@@ -34,7 +32,6 @@ pub mod refusal;
 pub mod shrink;
 pub mod svg;
 pub mod table;
-pub mod tally;
 pub mod text;
 pub mod tries;
 pub mod workload;

@@ -39,7 +39,7 @@ pub fn listing(load: &[u8]) -> Vec<u8> {
                     line(&mut out, record, &answer, 0);
                 }
                 (Call::Timed(call), Some(table)) => {
-                    let answer = table.call(&call);
+                    let answer = table.call(call);
                     line(&mut out, record, &answer, call.clock());
                 }
                 (Call::Declare(declaration), Some(table)) => {

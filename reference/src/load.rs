@@ -1,17 +1,11 @@
 //! The load of document 01, and the editions that document 02 adds: its reader
 //! and its writer.
 
-use std::borrow::Borrow;
-
 use crate::refusal::Refusal;
-use crate::table::{Answer, Declaration, Member, Table, TableCall, TimedCall, ONLY_CLIENT};
+use crate::table::{Answer, Declaration, Table, TableCall, TimedCall, ONLY_CLIENT};
 
 /// The most bytes of a load.
 pub const MAX_LOAD: usize = 65_536;
-/// The most members that the count of a record tells.
-pub const MAX_COUNT: usize = 255;
-/// The bytes of a member: its groups and its length.
-pub const MEMBER_BYTES: usize = 12;
 
 /// The kinds of records, with their numbers.
 #[derive(Clone, Copy, PartialEq, Eq, PartialOrd, Ord, Hash, Debug)]
@@ -22,7 +16,6 @@ pub enum Kind {
     Withdraw = 4,
     Clock = 5,
     Declare = 6,
-    Set = 7,
     Grace = 8,
 }
 
@@ -39,12 +32,10 @@ pub enum Field {
     Reserved,
     Limit,
     Grace,
-    /// How many members stand behind the fields.
-    Count,
 }
 
 /// Every field, in the order of its values in `Values`.
-pub const FIELDS: [Field; 11] = [
+pub const FIELDS: [Field; 10] = [
     Field::Clock,
     Field::Groups,
     Field::Length,
@@ -55,7 +46,6 @@ pub const FIELDS: [Field; 11] = [
     Field::Reserved,
     Field::Limit,
     Field::Grace,
-    Field::Count,
 ];
 
 impl Field {
@@ -73,7 +63,7 @@ impl Field {
             Field::Clock | Field::Groups => 8,
             Field::Length | Field::Grace => 4,
             Field::Pool | Field::Ticket | Field::Units => 2,
-            Field::Client | Field::Reserved | Field::Limit | Field::Count => 1,
+            Field::Client | Field::Reserved | Field::Limit => 1,
         }
     }
 }
@@ -127,7 +117,6 @@ pub const FORMATS: [(u8, &[Form]); 3] = [
                 Kind::Declare,
                 &[Field::Client, Field::Reserved, Field::Limit],
             ),
-            (Kind::Set, &[Field::Clock, Field::Client, Field::Count]),
             (Kind::Grace, &[Field::Grace]),
         ],
     ),
@@ -154,30 +143,23 @@ pub fn new_table(edition: u8, rig: u64, pool: u16) -> (Table, Answer) {
     }
 }
 
-/// A value for each field, and the members behind them.
-#[derive(Clone, PartialEq, Eq, Debug)]
-pub struct Values {
-    values: [u64; FIELDS.len()],
-    /// As many as the count tells, in a record that can be written.
-    pub members: Vec<Member>,
-}
+/// A value for each field.
+#[derive(Clone, Copy, PartialEq, Eq, Debug)]
+pub struct Values([u64; FIELDS.len()]);
 
 impl Values {
     /// The values of a record without fields.
     pub fn absent() -> Values {
-        Values {
-            values: FIELDS.map(Field::absent),
-            members: Vec::new(),
-        }
+        Values(FIELDS.map(Field::absent))
     }
 
     pub fn get(&self, field: Field) -> u64 {
-        self.values[field as usize]
+        self.0[field as usize]
     }
 
     /// Sets a value, of which only as many bytes count as the field has.
     pub fn set(&mut self, field: Field, value: u64) {
-        self.values[field as usize] = value;
+        self.0[field as usize] = value;
     }
 
     /// The same with one value set.
@@ -185,17 +167,10 @@ impl Values {
         self.set(field, value);
         self
     }
-
-    /// The same with these members, and their count.
-    pub fn with_members(self, members: &[Member]) -> Values {
-        let mut values = self.with(Field::Count, members.len() as u64);
-        values.members = members.to_vec();
-        values
-    }
 }
 
 /// What one record of a load says.
-#[derive(Clone, PartialEq, Eq, PartialOrd, Ord, Hash, Debug)]
+#[derive(Clone, Copy, PartialEq, Eq, PartialOrd, Ord, Hash, Debug)]
 pub enum Call {
     /// The rig: the groups that exist, and the units of the pool.
     Rig {
@@ -234,26 +209,24 @@ impl Call {
             Call::Timed(TimedCall::Release { .. }) => Kind::Release,
             Call::Timed(TimedCall::Withdraw { .. }) => Kind::Withdraw,
             Call::Timed(TimedCall::Clock { .. }) => Kind::Clock,
-            Call::Timed(TimedCall::Set { .. }) => Kind::Set,
         }
     }
 
-    /// The values of the call's fields, and its members; any other field is
-    /// absent.
+    /// The values of the call's fields; any other field is absent.
     pub fn values(&self) -> Values {
         let values = Values::absent();
-        match self {
+        match *self {
             Call::Rig { groups, pool } => values
-                .with(Field::Groups, *groups)
-                .with(Field::Pool, (*pool).into()),
+                .with(Field::Groups, groups)
+                .with(Field::Pool, pool.into()),
             Call::Declare(declaration) => values
                 .with(Field::Client, declaration.client.into())
                 .with(Field::Reserved, declaration.reserved.into())
                 .with(Field::Limit, declaration.limit.into()),
-            Call::Grace(ticks) => values.with(Field::Grace, (*ticks).into()),
+            Call::Grace(ticks) => values.with(Field::Grace, ticks.into()),
             Call::Timed(call) => {
                 let values = values.with(Field::Clock, call.clock());
-                match *call {
+                match call {
                     TimedCall::Claim {
                         groups,
                         length,
@@ -269,19 +242,12 @@ impl Call {
                         values.with(Field::Ticket, ticket.into())
                     }
                     TimedCall::Clock { .. } => values,
-                    TimedCall::Set {
-                        client,
-                        ref members,
-                        ..
-                    } => values
-                        .with(Field::Client, client.into())
-                        .with_members(members),
                 }
             }
         }
     }
 
-    /// The call of a kind with these values and members.
+    /// The call of a kind with these values.
     pub fn of(kind: Kind, values: &Values) -> Call {
         let clock = values.get(Field::Clock);
         let groups = values.get(Field::Groups);
@@ -312,11 +278,6 @@ impl Call {
             Kind::Release => TimedCall::Release { clock, ticket },
             Kind::Withdraw => TimedCall::Withdraw { clock, ticket },
             Kind::Clock => TimedCall::Clock { clock },
-            Kind::Set => TimedCall::Set {
-                clock,
-                client,
-                members: values.members.clone(),
-            },
         })
     }
 
@@ -326,7 +287,7 @@ impl Call {
 }
 
 /// What the reader says at a position.
-#[derive(Clone, PartialEq, Eq, Debug)]
+#[derive(Clone, Copy, PartialEq, Eq, Debug)]
 pub enum Next {
     /// A record's call, and the position behind that record.
     Call { call: Call, next: usize },
@@ -372,13 +333,12 @@ pub fn next_call(load: &[u8], position: usize) -> Result<Next, Refusal> {
 }
 
 /// The call of a record without its two length bytes; none for a kind that the
-/// edition lacks or a wrong length. Behind the fields stand as many members as
-/// the count tells.
+/// edition lacks or a wrong length.
 pub fn decode(edition: u8, body: &[u8]) -> Option<Call> {
     let (&number, mut rest) = body.split_first()?;
     let mut forms = forms(edition)?.iter();
     let &(kind, fields) = forms.find(|(kind, _)| *kind as u8 == number)?;
-    if rest.len() < fields.iter().map(|field| field.bytes()).sum() {
+    if rest.len() != fields.iter().map(|field| field.bytes()).sum() {
         return None;
     }
     let mut values = Values::absent();
@@ -386,16 +346,6 @@ pub fn decode(edition: u8, body: &[u8]) -> Option<Call> {
         let (bytes, behind) = rest.split_at(field.bytes());
         values.set(field, big_endian(bytes));
         rest = behind;
-    }
-    if rest.len() as u64 != values.get(Field::Count) * MEMBER_BYTES as u64 {
-        return None;
-    }
-    for member in rest.chunks_exact(MEMBER_BYTES) {
-        let (groups, length) = member.split_at(Field::Groups.bytes());
-        values.members.push(Member {
-            groups: big_endian(groups),
-            length: big_endian(length) as u32,
-        });
     }
     Some(Call::of(kind, &values))
 }
@@ -408,32 +358,19 @@ fn big_endian(bytes: &[u8]) -> u64 {
 }
 
 /// The whole record of a call, its two length bytes included; none for a call
-/// that the edition cannot carry.
-pub fn encode(edition: u8, call: &Call) -> Option<Vec<u8>> {
-    lay(edition, call.kind(), &call.values())
-}
-
-/// The whole record of a kind with these values and members; none where the
-/// edition cannot carry it: it lacks the kind, or a field that has a value, or
-/// the count is not that of the members.
-pub fn lay(edition: u8, kind: Kind, values: &Values) -> Option<Vec<u8>> {
-    let fields = fields(edition, kind)?;
+/// that the edition cannot carry: of a kind that it lacks, or with a value in a
+/// field that it lacks.
+pub fn encode(edition: u8, call: Call) -> Option<Vec<u8>> {
+    let fields = fields(edition, call.kind())?;
+    let values = call.values();
     let mut lacking = FIELDS.iter().filter(|field| !fields.contains(field));
     if lacking.any(|&field| values.get(field) != field.absent()) {
         return None;
     }
-    // The count has one byte.
-    if usize::from(values.get(Field::Count) as u8) != values.members.len() {
-        return None;
-    }
-    let mut body = vec![kind as u8];
+    let mut body = vec![call.kind() as u8];
     for &field in fields {
         let bytes = values.get(field).to_be_bytes();
         body.extend_from_slice(&bytes[bytes.len() - field.bytes()..]);
-    }
-    for member in &values.members {
-        body.extend_from_slice(&member.groups.to_be_bytes());
-        body.extend_from_slice(&member.length.to_be_bytes());
     }
     let mut record = (body.len() as u16).to_be_bytes().to_vec();
     record.extend_from_slice(&body);
@@ -442,17 +379,17 @@ pub fn lay(edition: u8, kind: Kind, values: &Values) -> Option<Vec<u8>> {
 
 /// Edition byte and records, one after another, without any test but that the
 /// edition can carry the calls.
-pub fn join(edition: u8, calls: &[impl Borrow<Call>]) -> Vec<u8> {
+pub fn join(edition: u8, calls: &[Call]) -> Vec<u8> {
     let mut load = vec![edition];
-    for call in calls {
-        let record = encode(edition, call.borrow()).expect("a call that the edition carries");
+    for &call in calls {
+        let record = encode(edition, call).expect("a call that the edition carries");
         load.extend_from_slice(&record);
     }
     load
 }
 
 /// A record as the reader shows it.
-#[derive(Clone, PartialEq, Eq, Debug)]
+#[derive(Clone, Copy, PartialEq, Eq, Debug)]
 pub struct Record<'a> {
     /// The record's part of the caller's load, its length bytes included.
     pub bytes: &'a [u8],
@@ -507,22 +444,12 @@ pub fn read_all(load: &[u8]) -> Result<Vec<Call>, Refusal> {
 /// The writer: puts the load with one record more at the start of the buffer
 /// and answers the new length. The given load's tests come first, then 13, 14
 /// and 15.
-pub fn append(load: &[u8], call: &Call, buffer: &mut [u8]) -> Result<usize, Refusal> {
-    append_values(load, call.kind(), &call.values(), buffer)
-}
-
-/// The same of a call by its kind, values and members.
-pub fn append_values(
-    load: &[u8],
-    kind: Kind,
-    values: &Values,
-    buffer: &mut [u8],
-) -> Result<usize, Refusal> {
+pub fn append(load: &[u8], call: Call, buffer: &mut [u8]) -> Result<usize, Refusal> {
     let first = read_all(load)?.is_empty();
-    if (kind == Kind::Rig) != first {
+    if call.is_rig() != first {
         return Err(Refusal::Misfit);
     }
-    let record = lay(load[0], kind, values).ok_or(Refusal::Misfit)?;
+    let record = encode(load[0], call).ok_or(Refusal::Misfit)?;
     let length = load.len() + record.len();
     if length > MAX_LOAD {
         return Err(Refusal::Overlong);

@@ -1,40 +1,31 @@
 //! A monitor of demand 3 (document 01: "A run of calls"), with what document
-//! 02, P3, P4 and P6 to P8, makes of it. It judges a run from its rig and pool and
-//! the clients declared in its new table, its calls, their answers and the lookups
-//! asked after each call. A member of a set is a claim in all that follows.
+//! 02, P3, P4, P6 and P7, makes of it. It judges a run from its rig and pool and the
+//! clients declared in its new table, its calls, their answers and the lookups
+//! asked after each call.
 //!
 //! In every run:
 //! - a claim of a client with fewer pending than its guarantee is not answered
-//!   6, nor is a set for which the guarantee has room;
+//!   6;
 //! - no client has more claims pending than its limit;
 //! - the pending claims and the unfilled guarantees of all clients together are
 //!   at most 64;
 //! - a call's number is the first in the order of its tests whose condition
-//!   holds by the calls and answers before it, or 0; of a set up to 23 the first
-//!   that any member meets, and then 6, 18 and 7 member by member, those before
-//!   counted as taken;
-//! - tickets are issued 1, 2, 3 and so on; a set that is accepted issues one for
-//!   each member, from the one answered on, and a call that is refused none;
-//! - of a set whose members wait, all wait with one start until one call grants
-//!   them all, or a withdrawal takes them all away;
+//!   holds by the calls and answers before it, or 0;
 //! - holders share no group;
 //! - holders have no more units together than the pool;
 //! - the units free and those of the holders make the pool after every call;
-//! - a first planned start is within its start bound, as answered and as counted
-//!   from calls, answers and lookups, for claims that draw no units; that of a set
-//!   stands for each member;
+//! - a first planned start is within its start bound, for claims that draw no
+//!   units;
 //! - after every call a waiting claim's planned start is not before the end of
-//!   a holder that shares a group with it, or with its set;
-//! - of two claims that share a group, also by way of the later one's set, the
-//!   one that was planned first, or went on, stays first;
+//!   a holder that shares a group with it;
 //! - a lookup says what calls and answers say, one of two tickets the lowest
 //!   group that both claims asked for;
 //! - every waiting claim has a chain: it begins with the ticket asked, all its
 //!   tickets are pending, none stands twice, and the last one is on and no
-//!   other; each link shares a group or the pool with the claim before it, or a
-//!   group with that one's set, and ends at its start, and no lower ticket does;
-//!   the end of the last and the lengths of those between it and the first make
-//!   the first one's start. A ticket that is not pending has 8, one that is on 10.
+//!   other; each link shares a group or the pool with the claim before it and
+//!   ends at that one's start, and no lower ticket does; the end of the last
+//!   and the lengths of those between it and the first make the first one's
+//!   start. A ticket that is not pending has 8, one that is on 10.
 //!
 //! The end of a holder is its promised end while the clock is not past it, and
 //! after that the clock and the grace more, which is that of the last accepted
@@ -51,11 +42,11 @@ use std::collections::{BTreeMap, BTreeSet};
 use std::fmt::Debug;
 
 use crate::refusal::Refusal;
-use crate::table::{Answer, Common, Declaration, Lookup, Member, Table, TableCall, TimedCall};
+use crate::table::{Answer, Common, Declaration, Lookup, Table, TableCall, TimedCall};
 use crate::table::{MAX_CLIENT, MAX_CLOCK, MAX_GRACE, MAX_LENGTH, MAX_PENDING, MAX_TICKET};
 
 /// One call of a run's list.
-#[derive(Clone, PartialEq, Eq, Debug)]
+#[derive(Clone, Copy, PartialEq, Eq, Debug)]
 pub enum RunCall {
     Timed(TimedCall),
     Declare(Declaration),
@@ -138,16 +129,8 @@ pub enum Rule {
     Free,
     /// A first planned start is past its start bound.
     Bound,
-    /// A ticket is issued before its turn.
-    Turn,
-    /// Members of a waiting set have more than one start, or some of them are
-    /// granted without their mates.
-    Together,
     /// A planned start is before the end of a holder that shares a group.
     Early,
-    /// A claim is planned before one that shares a group and was first, or goes
-    /// on before it.
-    Overtaken,
     /// A lookup contradicts the calls and answers.
     Lookup,
     /// A chain does not begin with the ticket asked, has a ticket that is not
@@ -182,16 +165,6 @@ pub struct Summary {
     pub late_grants: usize,
     /// Claims accepted that draw units.
     pub drew: usize,
-    /// Sets accepted.
-    pub sets: usize,
-    /// Of these the ones that waited after the call that issued their tickets.
-    pub waiting_sets: usize,
-    /// Sets that were granted after they had waited.
-    pub late_sets: usize,
-    /// Sets that were withdrawn.
-    pub withdrawn_sets: usize,
-    /// Sets answered 6, 18 or 7 for a member behind the first.
-    pub refused_later: usize,
     /// Claims that waited for units alone: after an accepted call a claim that
     /// shares a group with no pending claim still waits.
     pub short: usize,
@@ -219,8 +192,6 @@ pub struct Summary {
     pub long_chains: usize,
     /// Links of chains that share the pool and no group.
     pub pool_links: usize,
-    /// Links of chains that share a group with a mate alone.
-    pub mate_links: usize,
     /// Links of chains where a higher ticket could be one, too.
     pub tied_links: usize,
 }
@@ -231,9 +202,6 @@ struct Pending {
     length: u32,
     units: u16,
     client: u8,
-    /// The first ticket of the set that it waits with; its own where it is
-    /// alone, or held.
-    set: u16,
     first_start: u64,
     /// The clock of its grant, once held.
     grant: Option<u64>,
@@ -263,6 +231,11 @@ impl Pending {
         let waiting = self.start;
         self.end(clock, grace)
             .or_else(|| waiting.map(|start| start.saturating_add(u64::from(self.length))))
+    }
+
+    /// It shares a group with another, or both draw from the pool.
+    fn meets(&self, other: &Pending) -> bool {
+        self.groups & other.groups != 0 || self.units.min(other.units) > 0
     }
 }
 
@@ -297,7 +270,6 @@ fn judge_by(start: Start, steps: &[Step], numbers: bool) -> Result<Summary, Viol
         grace: 0,
         declared: declared.collect(),
         pending: BTreeMap::new(),
-        order: Vec::new(),
         issued: BTreeSet::new(),
         summary: Summary {
             in_time: true,
@@ -328,9 +300,6 @@ struct Monitor {
     /// The clients declared, by the accepted declarations.
     declared: BTreeMap<u8, Declaration>,
     pending: BTreeMap<u16, Pending>,
-    /// The waiting claims that share a group, by their tickets, each pair in the
-    /// order that it had before the call.
-    order: Vec<(u16, u16)>,
     issued: BTreeSet<u16>,
     summary: Summary,
 }
@@ -354,11 +323,6 @@ fn number_alone(call: &dyn Debug, answer: &Answer) -> Verdict {
     against(Rule::Form, format!("{answer:?} to {call:?}"))
 }
 
-/// More than one of the members is so.
-fn any_two(members: &[Member], is: impl Fn(&Member) -> bool) -> bool {
-    members.iter().filter(|own| is(own)).count() > 1
-}
-
 /// Places that are taken, and those kept for clients, are at most 64.
 fn within(taken: usize) -> Verdict {
     if taken <= MAX_PENDING {
@@ -377,18 +341,10 @@ impl Monitor {
                 if !answer.accepted() && !answer.grants.is_empty() {
                     return against(Rule::Form, "a refused call names grants".to_string());
                 }
-                match *call {
-                    TimedCall::Claim { client, .. } => self.share(client, 1, answer.number)?,
-                    TimedCall::Set {
-                        client,
-                        ref members,
-                        ..
-                    } => self.share(client, members.len(), answer.number)?,
-                    _ => {}
+                if let TimedCall::Claim { client, .. } = *call {
+                    self.share(client, answer.number)?;
                 }
-                let refusal = self.refusal(call);
-                self.number(call, refusal, answer.number)?;
-                self.count_later(call, refusal);
+                self.number(call, self.refusal(call), answer.number)?;
                 if answer.accepted() {
                     self.accepted(call, answer)?;
                 }
@@ -431,9 +387,7 @@ impl Monitor {
                 return against(Rule::Form, format!("no lookup of pending ticket {ticket}"));
             }
         }
-        self.one_start()?;
         let behind_grace = self.behind_holders()?;
-        self.overtaken()?;
         match &step.asked {
             Asked::Timed(call, answer) if answer.accepted() => {
                 self.summary.behind_grace += behind_grace;
@@ -477,17 +431,17 @@ impl Monitor {
         self.pending.len() + self.unfilled_but(0)
     }
 
-    /// What the number of a call for so many claims says of its client: none
-    /// below its guarantee is answered 6, none at its limit is accepted.
-    fn share(&mut self, client: u8, count: usize, number: u8) -> Verdict {
+    /// What a claim's number says of its client: none below its guarantee is
+    /// answered 6, none at its limit is accepted.
+    fn share(&mut self, client: u8, number: u8) -> Verdict {
         let Some(&own) = self.declared.get(&client) else {
             return Ok(());
         };
         let pending = self.pending_of(client);
         let (reserved, limit) = (usize::from(own.reserved), usize::from(own.limit));
         if number == Refusal::Full.number() {
-            self.summary.kept_out += usize::from(self.pending.len() + count <= MAX_PENDING);
-            if pending + count <= reserved {
+            self.summary.kept_out += usize::from(self.pending.len() < MAX_PENDING);
+            if pending < reserved {
                 return against(
                     Rule::Reserved,
                     format!("client {client} has {pending} pending of {reserved} reserved"),
@@ -496,16 +450,16 @@ impl Monitor {
         }
         self.summary.over += usize::from(number == Refusal::OverLimit.number());
         if number == 0 {
-            self.summary.let_in += usize::from(self.taken() + count > MAX_PENDING);
-            if pending + count > limit {
+            self.summary.let_in += usize::from(self.taken() == MAX_PENDING);
+            if pending >= limit {
                 return against(
                     Rule::Limit,
                     format!("client {client} has more pending than its limit {limit}"),
                 );
             }
-            // These may fill a part of the client's guarantee.
-            let kept = reserved.saturating_sub(pending).min(count);
-            return within(self.taken() + count - kept);
+            // This one may fill a part of the client's guarantee.
+            let taken = self.taken() + usize::from(pending >= reserved);
+            return within(taken);
         }
         Ok(())
     }
@@ -560,39 +514,19 @@ impl Monitor {
                 units,
                 client,
                 ..
-            } => {
-                let tests = vec![
-                    (!self.declared.contains_key(&client), Refusal::Stranger),
-                    (groups == 0 && units == 0, Refusal::NoGroup),
-                    (groups & !self.rig != 0, Refusal::OutsideRig),
-                    (units > self.pool, Refusal::OverPool),
-                    (length == 0 || length > MAX_LENGTH, Refusal::Length),
-                ];
-                [tests, self.room_tests(client, 0).to_vec()].concat()
-            }
-            TimedCall::Set {
-                client,
-                ref members,
-                ..
-            } => {
-                let any = |fails: &dyn Fn(&Member) -> bool| members.iter().any(fails);
-                let shared = |group: u32| any_two(members, |own| own.groups >> group & 1 == 1);
-                let mut tests = vec![
-                    (!(2..=8).contains(&members.len()), Refusal::Cast),
-                    (!self.declared.contains_key(&client), Refusal::Stranger),
-                    (any(&|own| own.groups == 0), Refusal::NoGroup),
-                    (any(&|own| own.groups & !self.rig != 0), Refusal::OutsideRig),
-                    (
-                        any(&|own| own.length == 0 || own.length > MAX_LENGTH),
-                        Refusal::Length,
-                    ),
-                    ((0..64).any(shared), Refusal::Clash),
-                ];
-                for before in 0..members.len() {
-                    tests.extend(self.room_tests(client, before));
-                }
-                tests
-            }
+            } => vec![
+                (!self.declared.contains_key(&client), Refusal::Stranger),
+                (groups == 0 && units == 0, Refusal::NoGroup),
+                (groups & !self.rig != 0, Refusal::OutsideRig),
+                (units > self.pool, Refusal::OverPool),
+                (length == 0 || length > MAX_LENGTH, Refusal::Length),
+                (self.full(client), Refusal::Full),
+                (self.at_limit(client), Refusal::OverLimit),
+                (
+                    self.issued.len() >= usize::from(MAX_TICKET),
+                    Refusal::NoTicket,
+                ),
+            ],
             TimedCall::Release { ticket, .. } => vec![
                 (held(ticket).is_none(), Refusal::Unknown),
                 (held(ticket) == Some(false), Refusal::NotYetOn),
@@ -607,32 +541,19 @@ impl Monitor {
         tests.find(|(fails, _)| *fails).map(|(_, refusal)| refusal)
     }
 
-    /// The tests of a claim by what is pending and issued, with so many more of
-    /// its client before it. A client that has its guarantee finds no place that
-    /// is not kept for others; it has its limit of claims pending; no ticket is
-    /// left.
-    fn room_tests(&self, client: u8, before: usize) -> [(bool, Refusal); 3] {
-        let own = self.declared.get(&client);
-        let (reserved, limit) = own.map_or((0, 0), |own| (own.reserved, own.limit));
-        let pending = self.pending_of(client) + before;
-        let all = self.pending.len() + before + self.unfilled_but(client);
-        let full = pending >= usize::from(reserved) && all >= MAX_PENDING;
-        let issued = self.issued.len() + before;
-        [
-            (full, Refusal::Full),
-            (pending >= usize::from(limit), Refusal::OverLimit),
-            (issued >= usize::from(MAX_TICKET), Refusal::NoTicket),
-        ]
+    /// A client that has its guarantee finds no place that is not kept for
+    /// others.
+    fn full(&self, client: u8) -> bool {
+        let reserved = self.declared.get(&client).map_or(0, |own| own.reserved);
+        let pending = self.pending.len();
+        self.pending_of(client) >= usize::from(reserved)
+            && pending + self.unfilled_but(client) >= MAX_PENDING
     }
 
-    /// Counts a set that is refused for a member behind the first.
-    fn count_later(&mut self, call: &TimedCall, refusal: Option<Refusal>) {
-        if let TimedCall::Set { client, .. } = *call {
-            let first = self.room_tests(client, 0);
-            let listed = first.iter().any(|test| Some(test.1) == refusal);
-            let passed = first.iter().all(|test| !test.0);
-            self.summary.refused_later += usize::from(listed && passed);
-        }
+    /// A client has its limit of claims pending.
+    fn at_limit(&self, client: u8) -> bool {
+        let limit = self.declared.get(&client).map_or(0, |own| own.limit);
+        self.pending_of(client) >= usize::from(limit)
     }
 
     /// What an accepted call and its answer say.
@@ -647,176 +568,75 @@ impl Monitor {
         {
             self.summary.in_time = false;
         }
-        let mut issued = 0;
         match *call {
-            TimedCall::Claim {
-                groups,
-                length,
-                units,
-                client,
-                ..
-            } => {
-                issued = 1;
-                self.summary.drew += usize::from(units > 0);
-                self.issue(client, &[Member { groups, length }], units, answer)?;
-            }
-            TimedCall::Set {
-                client,
-                ref members,
-                ..
-            } => {
-                issued = members.len();
-                self.summary.sets += 1;
-                self.issue(client, members, 0, answer)?;
-            }
+            TimedCall::Claim { .. } => self.issue(call, answer)?,
             TimedCall::Release { ticket, .. } | TimedCall::Withdraw { ticket, .. } => {
-                self.leave(ticket);
+                self.pending.remove(&ticket);
             }
             TimedCall::Clock { .. } => {}
         }
         for &ticket in &answer.grants {
             self.grant(clock, ticket)?;
         }
-        self.whole_sets(answer)?;
-        if !answer.grants.contains(&answer.ticket) {
-            self.summary.waited += issued;
-            self.summary.waiting_sets += usize::from(issued > 1);
+        if let TimedCall::Claim { .. } = call {
+            if !answer.grants.contains(&answer.ticket) {
+                self.summary.waited += 1;
+            }
         }
         Ok(())
     }
 
-    /// Tickets are issued, one for each member; their first planned start is
-    /// within the bound, which claims that draw units have not.
-    fn issue(&mut self, client: u8, members: &[Member], units: u16, answer: &Answer) -> Verdict {
-        let set = answer.ticket;
-        let mut bound = self.clock;
-        for own in members {
-            for claim in self.pending.values() {
-                if claim.groups & own.groups != 0 {
-                    let remaining = match claim.end(self.clock, self.grace) {
-                        Some(end) => end - self.clock,
-                        None => u64::from(claim.length),
-                    };
-                    let more = remaining + u64::from(own.length).saturating_sub(1);
-                    bound = bound.saturating_add(more);
-                }
+    /// A ticket is issued; its first planned start is within its bound, which
+    /// claims that draw units have not.
+    fn issue(&mut self, call: &TimedCall, answer: &Answer) -> Verdict {
+        let TimedCall::Claim {
+            clock,
+            groups,
+            length,
+            units,
+            client,
+        } = *call
+        else {
+            unreachable!("only a claim issues a ticket");
+        };
+        let ticket = answer.ticket;
+        if ticket == 0 || !self.issued.insert(ticket) {
+            return against(Rule::Form, format!("ticket {ticket} is issued again"));
+        }
+        let mut bound = clock;
+        for claim in self.pending.values() {
+            if claim.groups & groups != 0 {
+                let remaining = match claim.end(clock, self.grace) {
+                    Some(end) => end - clock,
+                    None => u64::from(claim.length),
+                };
+                let more = remaining + u64::from(length).saturating_sub(1);
+                bound = bound.saturating_add(more);
             }
         }
-        bound = bound.min(answer.start_bound);
         if units == 0 && answer.start > bound {
             return against(
                 Rule::Bound,
                 format!(
-                    "ticket {set} starts at {}, past its bound {bound}",
+                    "ticket {ticket} starts at {}, past its bound {bound}",
                     answer.start
                 ),
             );
         }
-        for (index, own) in members.iter().enumerate() {
-            let ticket = set.wrapping_add(index as u16);
-            if ticket == 0 || !self.issued.insert(ticket) {
-                return against(Rule::Form, format!("ticket {ticket} is issued again"));
-            }
-            if usize::from(ticket) != self.issued.len() {
-                return against(Rule::Turn, format!("ticket {ticket} is issued too soon"));
-            }
-            self.pending.insert(
-                ticket,
-                Pending {
-                    groups: own.groups,
-                    length: own.length,
-                    units,
-                    client,
-                    set,
-                    first_start: answer.start,
-                    grant: None,
-                    start: None,
-                },
-            );
-        }
+        self.summary.drew += usize::from(units > 0);
+        self.pending.insert(
+            ticket,
+            Pending {
+                groups,
+                length,
+                units,
+                client,
+                first_start: answer.start,
+                grant: None,
+                start: None,
+            },
+        );
         Ok(())
-    }
-
-    /// A claim leaves, and with it whoever waits in one set with it.
-    fn leave(&mut self, ticket: u16) {
-        if let Some(set) = self.pending.get(&ticket).map(|claim| claim.set) {
-            let before = self.pending.len();
-            self.pending.retain(|_, claim| claim.set != set);
-            self.summary.withdrawn_sets += usize::from(before - self.pending.len() > 1);
-        }
-    }
-
-    /// A call grants all members of a set, or none; those that are held are a
-    /// set no more.
-    fn whole_sets(&mut self, answer: &Answer) -> Verdict {
-        for ticket in &answer.grants {
-            let set = self.pending.get(ticket).map(|claim| claim.set);
-            let mut mates = self.pending.iter().filter(|own| Some(own.1.set) == set);
-            if let Some((mate, _)) = mates.find(|(_, mate)| mate.grant.is_none()) {
-                return against(
-                    Rule::Together,
-                    format!("ticket {ticket} is granted without its mate {mate}"),
-                );
-            }
-            let late = set == Some(*ticket) && answer.ticket != *ticket;
-            let several = self.pending.values().filter(|own| Some(own.set) == set);
-            self.summary.late_sets += usize::from(late && several.count() > 1);
-        }
-        for ticket in &answer.grants {
-            if let Some(claim) = self.pending.get_mut(ticket) {
-                claim.set = *ticket;
-            }
-        }
-        Ok(())
-    }
-
-    /// Waiting members of one set have one start.
-    fn one_start(&self) -> Verdict {
-        for (ticket, claim) in &self.pending {
-            let first = self.pending.get(&claim.set);
-            let other = first.filter(|first| first.start != claim.start);
-            if let (Some(start), Some(first)) = (claim.start, other) {
-                return against(
-                    Rule::Together,
-                    format!("ticket {ticket} starts at {start}, {:?}", first.start),
-                );
-            }
-        }
-        Ok(())
-    }
-
-    /// Of waiting claims that share a group none has overtaken the other.
-    fn overtaken(&mut self) -> Verdict {
-        for (first, second) in std::mem::take(&mut self.order) {
-            // One that has left is no matter.
-            if let (Some(one), Some(other)) = (self.pending.get(&first), self.pending.get(&second))
-            {
-                let kept = match (one.start, other.start) {
-                    (Some(one), Some(other)) => one < other,
-                    (start, _) => start.is_none(),
-                };
-                if !kept {
-                    return against(
-                        Rule::Overtaken,
-                        format!("ticket {second} is before ticket {first}, which was first"),
-                    );
-                }
-            }
-        }
-        for (&ticket, claim) in &self.pending {
-            let groups = self.together(claim);
-            let ahead = self.pending.iter().filter(|(_, own)| {
-                own.groups & groups != 0 && own.start.is_some() && own.start < claim.start
-            });
-            self.order.extend(ahead.map(|(&first, _)| (first, ticket)));
-        }
-        Ok(())
-    }
-
-    /// The groups of the whole set that a claim waits with.
-    fn together(&self, claim: &Pending) -> u64 {
-        let mates = self.pending.values().filter(|own| own.set == claim.set);
-        mates.fold(0, |groups, mate| groups | mate.groups)
     }
 
     /// An answer names a ticket as granted.
@@ -893,9 +713,12 @@ impl Monitor {
     /// Counts the claims that wait for units alone.
     fn count_short(&mut self) {
         for claim in self.pending.values() {
-            let groups = self.together(claim);
-            let mut others = self.pending.values().filter(|own| own.set != claim.set);
-            let alone = !others.any(|other| other.groups & groups != 0);
+            let sharing = self
+                .pending
+                .values()
+                .filter(|o| o.groups & claim.groups != 0);
+            // With a group it shares that with itself.
+            let alone = sharing.count() == usize::from(claim.groups != 0);
             if let (true, Some(start)) = (alone, claim.start) {
                 self.summary.short += 1;
                 self.summary.held_back += usize::from(start == self.clock);
@@ -982,8 +805,8 @@ impl Monitor {
 
     /// A chain explains the start of a waiting claim.
     fn chain(&mut self, ticket: u16, chain: &[u16]) -> Verdict {
-        let claims = self.claims_of(ticket, chain)?;
-        let (mut pool_links, mut mate_links, mut tied_links) = (0, 0, 0);
+        let claims = self.members(ticket, chain)?;
+        let (mut pool_links, mut tied_links) = (0, 0);
         for (tickets, two) in chain.windows(2).zip(claims.windows(2)) {
             let links = self.links(two[0]);
             if !links.contains(&tickets[1]) {
@@ -998,10 +821,7 @@ impl Monitor {
                     format!("{chain:?}: {} is a lower link of {}", links[0], tickets[0]),
                 );
             }
-            let own = two[0].groups & two[1].groups != 0;
-            let mates = self.together(two[0]) & two[1].groups != 0;
-            pool_links += usize::from(!mates);
-            mate_links += usize::from(mates && !own);
+            pool_links += usize::from(two[0].groups & two[1].groups == 0);
             tied_links += usize::from(links.len() > 1);
         }
         let (first, holder) = (claims[0], claims[claims.len() - 1]);
@@ -1014,14 +834,13 @@ impl Monitor {
         self.summary.chains += 1;
         self.summary.long_chains += usize::from(chain.len() > 2);
         self.summary.pool_links += pool_links;
-        self.summary.mate_links += mate_links;
         self.summary.tied_links += tied_links;
         Ok(())
     }
 
     /// The claims of a chain: pending, the asked one first, none twice, and of
     /// them only the last is on.
-    fn claims_of(&self, ticket: u16, chain: &[u16]) -> Result<Vec<&Pending>, (Rule, String)> {
+    fn members(&self, ticket: u16, chain: &[u16]) -> Result<Vec<&Pending>, (Rule, String)> {
         if chain.first() != Some(&ticket) {
             let other = format!("{chain:?} does not begin with {ticket}");
             return Err((Rule::Chain, other));
@@ -1043,11 +862,8 @@ impl Monitor {
     }
 
     /// The tickets, ascending, of the claims that share a group or the pool with
-    /// a waiting one, or a group with its set, and end at its start.
+    /// a waiting one and end at its start.
     fn links(&self, claim: &Pending) -> Vec<u16> {
-        let groups = self.together(claim);
-        let meets =
-            |other: &Pending| other.groups & groups != 0 || other.units.min(claim.units) > 0;
         let ends = |other: &Pending| {
             let end = other.planned_end(self.clock, self.grace);
             end.is_some() && end == claim.start
@@ -1055,7 +871,7 @@ impl Monitor {
         let links = self
             .pending
             .iter()
-            .filter(|(_, other)| meets(other) && ends(other));
+            .filter(|(_, other)| other.meets(claim) && ends(other));
         links.map(|(&ticket, _)| ticket).collect()
     }
 
@@ -1080,19 +896,17 @@ impl Monitor {
     }
 
     /// A waiting claim starts at or behind the end of every holder that shares
-    /// a group with it, or with its set. How many wait behind an overrun with a
-    /// grace.
+    /// a group with it. How many wait behind an overrun with a grace.
     fn behind_holders(&self) -> Result<usize, (Rule, String)> {
         let mut behind_grace = 0;
         for (ticket, claim) in &self.pending {
             let Some(start) = claim.start else { continue };
-            let groups = self.together(claim);
             let mut graced = false;
             for (other, holder) in &self.pending {
                 let Some(end) = holder.end(self.clock, self.grace) else {
                     continue;
                 };
-                if holder.groups & groups == 0 {
+                if holder.groups & claim.groups == 0 {
                     continue;
                 }
                 if start < end {
@@ -1152,18 +966,14 @@ impl ClaimsTable for Table {
 /// Runs the calls on a new table. After each, a lookup is asked of every ticket
 /// that is pending by calls and answers, of ticket 0, of the next one, of the
 /// last few that left, and of the units free.
-pub fn run<C: Clone + Into<RunCall>>(table: &mut dyn ClaimsTable, calls: &[C]) -> Vec<Step> {
-    // Each with the first ticket of the set that it waits with.
-    let mut pending: BTreeMap<u16, u16> = BTreeMap::new();
+pub fn run<C: Copy + Into<RunCall>>(table: &mut dyn ClaimsTable, calls: &[C]) -> Vec<Step> {
+    let mut pending: BTreeSet<u16> = BTreeSet::new();
     let mut left: Vec<u16> = Vec::new();
     let mut last = 0;
     let mut steps = Vec::new();
-    for call in calls {
-        let asked = match call.clone().into() {
-            RunCall::Timed(call) => {
-                let answer = table.call(call.clone());
-                Asked::Timed(call, answer)
-            }
+    for &call in calls {
+        let asked = match call.into() {
+            RunCall::Timed(call) => Asked::Timed(call, table.call(call)),
             RunCall::Declare(declaration) => {
                 Asked::Declare(declaration, table.declare(declaration))
             }
@@ -1175,34 +985,24 @@ pub fn run<C: Clone + Into<RunCall>>(table: &mut dyn ClaimsTable, calls: &[C]) -
             RunCall::Free => Asked::Free(table.free()),
             RunCall::Why(ticket) => Asked::Why(ticket, table.why(ticket)),
         };
-        if let Asked::Timed(call, answer) = &asked {
-            if answer.accepted() {
-                let count = match call {
-                    TimedCall::Claim { .. } => 1,
-                    TimedCall::Set { members, .. } => members.len(),
-                    TimedCall::Release { ticket, .. } | TimedCall::Withdraw { ticket, .. } => {
-                        let set = pending.get(ticket).copied();
-                        let with = pending.iter().filter(|(_, own)| Some(**own) == set);
-                        left.extend(with.map(|(ticket, _)| ticket));
-                        pending.retain(|_, own| Some(*own) != set);
-                        0
-                    }
-                    TimedCall::Clock { .. } => 0,
-                };
-                for index in 0..count {
-                    let ticket = answer.ticket.wrapping_add(index as u16);
-                    pending.insert(ticket, answer.ticket);
-                    last = last.max(ticket);
-                }
-                for ticket in &answer.grants {
-                    pending.entry(*ticket).and_modify(|set| *set = *ticket);
-                }
+        match &asked {
+            Asked::Timed(TimedCall::Claim { .. }, answer) if answer.accepted() => {
+                pending.insert(answer.ticket);
+                last = last.max(answer.ticket);
             }
+            Asked::Timed(
+                TimedCall::Release { ticket, .. } | TimedCall::Withdraw { ticket, .. },
+                answer,
+            ) if answer.accepted() => {
+                pending.remove(ticket);
+                left.push(*ticket);
+            }
+            _ => {}
         }
-        let mut tickets: Vec<u16> = pending.keys().copied().collect();
+        let mut tickets: Vec<u16> = pending.iter().copied().collect();
         tickets.push(0);
         tickets.push(last.wrapping_add(1));
-        tickets.extend(left.iter().rev().take(8));
+        tickets.extend(left.iter().rev().take(4));
         let lookups = tickets
             .into_iter()
             .map(|ticket| (ticket, table.lookup(ticket)))

@@ -51,10 +51,6 @@ pub enum Refusal {
     /// 21, "grace": a grace over 60,000, or one that is set after an accepted
     /// claim.
     Grace = 21,
-    /// 22, "cast": a set of fewer than two members, or of over eight.
-    Cast = 22,
-    /// 23, "clash": two members of a set share a group.
-    Clash = 23,
 }
 
 impl Refusal {

@@ -1,11 +1,11 @@
 //! Makes a load smaller while a difference that it shows stays: drops records,
-//! then members of sets, lowers the values of fields, then the edition, where that
-//! has no clients, no set or no grace without them. Makes a text smaller: drops lines, then bytes.
+//! then lowers the values of fields, then the edition, where that has no clients
+//! or no grace without them. Makes a text smaller: drops lines, then bytes.
 //! Makes a question about a load smaller with the load: lowers tickets.
 
 use crate::ask::{self, Question};
 use crate::load::{self, Call, Field, Kind, FORMATS};
-use crate::table::{Member, Table, ONLY_CLIENT};
+use crate::table::{Table, TimedCall, ONLY_CLIENT};
 
 /// A load in parts: its first byte, whole records by their lengths, and what
 /// is left behind them.
@@ -52,22 +52,10 @@ impl Parts {
     }
 
     /// The record of a call of this load with another value in one field.
-    fn lay(&self, call: &Call, field: Field, value: u64) -> Vec<u8> {
-        let record = load::lay(
-            self.edition[0],
-            call.kind(),
-            &call.values().with(field, value),
-        );
+    fn lay(&self, call: Call, field: Field, value: u64) -> Vec<u8> {
+        let values = call.values().with(field, value);
+        let record = load::encode(self.edition[0], Call::of(call.kind(), &values));
         record.expect("a field of the edition")
-    }
-
-    /// The same with other members in the set of a record.
-    fn with_members(&self, index: usize, call: &Call, members: &[Member]) -> Parts {
-        let values = call.values().with_members(members);
-        let record = load::lay(self.edition[0], call.kind(), &values);
-        let mut parts = self.clone();
-        parts.records[index] = record.expect("no more members than before");
-        parts
     }
 
     /// The same calls in another edition, if it carries them, without those of
@@ -85,9 +73,9 @@ impl Parts {
                 Some(call) if !clients => {
                     let only = ONLY_CLIENT.client.into();
                     let values = call.values().with(Field::Client, only);
-                    load::encode(edition, &Call::of(call.kind(), &values))?
+                    load::encode(edition, Call::of(call.kind(), &values))?
                 }
-                Some(call) => load::encode(edition, &call)?,
+                Some(call) => load::encode(edition, call)?,
             };
             parts.records.push(record);
         }
@@ -102,7 +90,7 @@ impl Parts {
             if let Some(call) = self.call(index) {
                 for field in [Field::Pool, Field::Units] {
                     if call.values().get(field) > pool {
-                        *record = self.lay(&call, field, pool);
+                        *record = self.lay(call, field, pool);
                     }
                 }
             }
@@ -110,12 +98,12 @@ impl Parts {
         parts
     }
 
-    /// The tickets that each record issues.
-    fn tickets(&self) -> Vec<Vec<u16>> {
+    /// The ticket that each record issues, 0 for none.
+    fn tickets(&self) -> Vec<u16> {
         let mut table = Table::new(0, 0).0;
         let mut tickets = Vec::new();
         for index in 0..self.records.len() {
-            let issued = table.issued();
+            let mut ticket = 0;
             match self.call(index) {
                 Some(Call::Rig { groups, pool }) => {
                     table = load::new_table(self.edition[0], groups, pool).0;
@@ -126,12 +114,15 @@ impl Parts {
                 Some(Call::Grace(ticks)) => {
                     table.set_grace(ticks);
                 }
+                Some(Call::Timed(call @ TimedCall::Claim { .. })) => {
+                    ticket = table.call(call).ticket;
+                }
                 Some(Call::Timed(call)) => {
                     table.call(call);
                 }
                 None => {}
             }
-            tickets.push((issued + 1..=table.issued()).collect());
+            tickets.push(ticket);
         }
         tickets
     }
@@ -143,16 +134,22 @@ impl Parts {
         parts
     }
 
-    /// Without releases and withdrawals of these tickets; later tickets move
-    /// down.
-    fn without_tickets(&self, gone: &[u16]) -> Parts {
+    /// Without these records and without releases and withdrawals of tickets
+    /// that they issue; later tickets move down. `tickets` is what each record
+    /// issues.
+    fn without_tickets(&self, from: usize, to: usize, tickets: &[u16]) -> Parts {
+        let gone: Vec<u16> = tickets[from..to]
+            .iter()
+            .copied()
+            .filter(|&ticket| ticket != 0)
+            .collect();
         let moved = |ticket: u16| {
             let below = gone.iter().filter(|&&other| other < ticket).count();
             ticket - below as u16
         };
         let mut parts = self.clone();
         parts.records.clear();
-        for index in 0..self.records.len() {
+        for index in (0..from).chain(to..self.records.len()) {
             let mut record = self.records[index].clone();
             if let Some(call) = self.call(index) {
                 // 0 where the call has none.
@@ -160,7 +157,7 @@ impl Parts {
                 if gone.contains(&ticket) {
                     continue;
                 }
-                record = self.lay(&call, Field::Ticket, moved(ticket).into());
+                record = self.lay(call, Field::Ticket, moved(ticket).into());
             }
             parts.records.push(record);
         }
@@ -223,8 +220,8 @@ fn drop_records(parts: &mut Parts, holds: &mut Holds) {
         let mut to = parts.records.len();
         while to > 0 {
             let from = to.saturating_sub(size);
+            let moved = parts.without_tickets(from, to, &tickets);
             let plain = parts.without(from, to);
-            let moved = plain.without_tickets(&tickets[from..to].concat());
             if attempt(parts, moved, holds) || attempt(parts, plain, holds) {
                 tickets = parts.tickets();
             }
@@ -240,62 +237,8 @@ fn drop_records(parts: &mut Parts, holds: &mut Holds) {
 fn lower_fields(parts: &mut Parts, holds: &mut Holds) {
     while lower_pool(parts, holds) {}
     for index in 0..parts.records.len() {
-        while drop_members(parts, index, holds) {}
-        while lower_members(parts, index, holds) {}
         while lower_record(parts, index, holds) {}
     }
-}
-
-/// Drops members of a record's set, as many together as goes; without them
-/// later tickets move down.
-fn drop_members(parts: &mut Parts, index: usize, holds: &mut Holds) -> bool {
-    let Some(call) = parts.call(index) else {
-        return false;
-    };
-    let members = call.values().members;
-    let tickets = parts.tickets().swap_remove(index);
-    let mut size = members.len();
-    while size > 0 {
-        for from in (0..=members.len() - size).rev().step_by(size) {
-            let mut fewer = members.clone();
-            fewer.drain(from..from + size);
-            let plain = parts.with_members(index, &call, &fewer);
-            // None are issued where the set is refused.
-            let gone = tickets.get(from..from + size).unwrap_or(&[]);
-            let moved = plain.without_tickets(gone);
-            if attempt(parts, moved, holds) || attempt(parts, plain, holds) {
-                return true;
-            }
-        }
-        size /= 2;
-    }
-    false
-}
-
-/// Lowers a member of a record's set, if that goes.
-fn lower_members(parts: &mut Parts, index: usize, holds: &mut Holds) -> bool {
-    let Some(call) = parts.call(index) else {
-        return false;
-    };
-    let members = call.values().members;
-    (0..members.len()).any(|at| {
-        let Member { groups, length } = members[at];
-        let lengths = smaller(length.into()).into_iter();
-        let shorter = lengths.map(|length| Member {
-            groups,
-            length: length as u32,
-        });
-        let smaller = fewer(groups)
-            .into_iter()
-            .map(|groups| Member { groups, length });
-        let lower: Vec<Member> = shorter.chain(smaller).collect();
-        lower.into_iter().any(|member| {
-            let mut others = members.clone();
-            others[at] = member;
-            let other = parts.with_members(index, &call, &others);
-            attempt(parts, other, holds)
-        })
-    })
 }
 
 /// Lowers the pool of the first record and the units that are more, if that
@@ -321,13 +264,11 @@ fn lower_record(parts: &mut Parts, index: usize, holds: &mut Holds) -> bool {
             Field::Groups => fewer(value),
             // No client is simpler than the first.
             Field::Client => (1..value).collect(),
-            // The members tell it.
-            Field::Count => Vec::new(),
             _ => smaller(value),
         };
         lower.into_iter().any(|value| {
             let mut other = parts.clone();
-            other.records[index] = parts.lay(&call, field, value);
+            other.records[index] = parts.lay(call, field, value);
             attempt(parts, other, holds)
         })
     })

@@ -1,8 +1,6 @@
 //! The claims table of document 01, in the plainest way, and what document 02
 //! adds to it.
 
-use std::ops::RangeInclusive;
-
 use crate::pool::Plan;
 use crate::refusal::Refusal;
 
@@ -20,8 +18,6 @@ pub const GROUPS: u8 = 64;
 pub const MAX_CLIENT: u8 = 8;
 /// The greatest grace in ticks (document 02, P6).
 pub const MAX_GRACE: u32 = 60_000;
-/// How many members a set has (document 02, P8).
-pub const MEMBERS: RangeInclusive<usize> = 2..=8;
 
 /// Document 01: "either waiting, with a planned start, or on, with the clock
 /// of its grant".
@@ -45,9 +41,6 @@ pub struct Claim {
     pub units: u16,
     /// Who made it (document 02, P4: its desk).
     pub client: u8,
-    /// The first ticket of the set that it waits with (document 02, P8); its
-    /// own where it waits alone, or is on.
-    pub set: u16,
     pub state: State,
 }
 
@@ -67,8 +60,24 @@ impl Claim {
         self.common(groups).is_some()
     }
 
+    /// Document 02, P7: "shares a group, or the pool, with it": both have a
+    /// group in common, or both draw units.
+    pub fn meets(&self, other: &Claim) -> bool {
+        self.conflicts(other.groups) || (self.units > 0 && other.units > 0)
+    }
+
     pub fn is_on(&self) -> bool {
         matches!(self.state, State::On(_))
+    }
+
+    /// Document 01: "precedes" (the paragraph on order).
+    pub fn precedes(&self, other: &Claim) -> bool {
+        let earlier = match (self.state, other.state) {
+            (State::On(_), State::Waiting(_)) => true,
+            (State::Waiting(mine), State::Waiting(its)) => mine < its,
+            (_, State::On(_)) => false,
+        };
+        earlier && self.conflicts(other.groups)
     }
 
     /// Document 01: "promised end", of an on claim.
@@ -113,34 +122,8 @@ impl Claim {
     }
 }
 
-/// Document 02, P8: a member of a set, which is a claim without units.
+/// Document 01: "timed call (claim, release, withdraw, clock)".
 #[derive(Clone, Copy, PartialEq, Eq, PartialOrd, Ord, Hash, Debug)]
-pub struct Member {
-    pub groups: u64,
-    pub length: u32,
-}
-
-/// What a claim asks for, alone or as a member of a set.
-#[derive(Clone, Copy, Debug)]
-struct Request {
-    groups: u64,
-    length: u32,
-    units: u16,
-}
-
-impl From<&Member> for Request {
-    fn from(member: &Member) -> Request {
-        Request {
-            groups: member.groups,
-            length: member.length,
-            units: 0,
-        }
-    }
-}
-
-/// Document 01: "timed call (claim, release, withdraw, clock)"; document 02,
-/// P8, adds the set.
-#[derive(Clone, PartialEq, Eq, PartialOrd, Ord, Hash, Debug)]
 pub enum TimedCall {
     Claim {
         clock: u64,
@@ -160,12 +143,6 @@ pub enum TimedCall {
     Clock {
         clock: u64,
     },
-    /// The members of a set may be too few or too many.
-    Set {
-        clock: u64,
-        client: u8,
-        members: Vec<Member>,
-    },
 }
 
 impl TimedCall {
@@ -175,8 +152,7 @@ impl TimedCall {
             TimedCall::Claim { clock, .. }
             | TimedCall::Release { clock, .. }
             | TimedCall::Withdraw { clock, .. }
-            | TimedCall::Clock { clock }
-            | TimedCall::Set { clock, .. } => clock,
+            | TimedCall::Clock { clock } => clock,
         }
     }
 }
@@ -199,7 +175,7 @@ pub const ONLY_CLIENT: Declaration = Declaration {
 };
 
 /// A call on a table that a load can have.
-#[derive(Clone, PartialEq, Eq, PartialOrd, Ord, Hash, Debug)]
+#[derive(Clone, Copy, PartialEq, Eq, PartialOrd, Ord, Hash, Debug)]
 pub enum TableCall {
     Timed(TimedCall),
     Declare(Declaration),
@@ -220,18 +196,6 @@ impl TableCall {
 impl From<TimedCall> for TableCall {
     fn from(call: TimedCall) -> TableCall {
         TableCall::Timed(call)
-    }
-}
-
-impl From<&TimedCall> for TableCall {
-    fn from(call: &TimedCall) -> TableCall {
-        TableCall::Timed(call.clone())
-    }
-}
-
-impl From<&TableCall> for TableCall {
-    fn from(call: &TableCall) -> TableCall {
-        call.clone()
     }
 }
 
@@ -405,11 +369,6 @@ impl Table {
             TableCall::Timed(TimedCall::Release { clock, ticket }) => self.release(clock, ticket),
             TableCall::Timed(TimedCall::Withdraw { clock, ticket }) => self.withdraw(clock, ticket),
             TableCall::Timed(TimedCall::Clock { clock }) => self.clock(clock),
-            TableCall::Timed(TimedCall::Set {
-                clock,
-                client,
-                members,
-            }) => self.claim_set(clock, client, &members),
             TableCall::Declare(declaration) => self.declare(declaration),
             TableCall::Grace(ticks) => self.set_grace(ticks),
         }
@@ -443,68 +402,39 @@ impl Table {
         units: u16,
         client: u8,
     ) -> Answer {
-        let request = Request {
-            groups,
-            length,
-            units,
-        };
-        let tested = self.test_clock(clock);
-        let tested = tested.and_then(|()| self.test_requests(client, &[request]));
-        match tested {
-            Err(refusal) => Answer::refused(refusal),
-            Ok(()) => self.enter(clock, client, &[request]),
+        if let Err(refusal) = self.test_claim(clock, groups, length, units, client) {
+            return Answer::refused(refusal);
         }
-    }
-
-    /// Document 02, P8: a set of claims that start together, accepted whole or
-    /// not at all. The answer has the ticket of the first member.
-    pub fn claim_set(&mut self, clock: u64, client: u8, members: &[Member]) -> Answer {
-        let requests: Vec<Request> = members.iter().map(Request::from).collect();
-        match self.test_set(clock, client, &requests) {
-            Err(refusal) => Answer::refused(refusal),
-            Ok(()) => self.enter(clock, client, &requests),
-        }
-    }
-
-    /// The accepted part of a claim, or of a set: its members get successive
-    /// tickets and one start. Contention and start bound go over the pairs of a
-    /// member and a pending claim that conflict.
-    fn enter(&mut self, clock: u64, client: u8, requests: &[Request]) -> Answer {
         self.clock = clock;
         self.pack();
 
         let mut contention = 0;
         let mut start_bound = clock;
-        for request in requests {
-            for claim in &self.claims {
-                if claim.conflicts(request.groups) {
-                    contention += 1;
-                    start_bound += claim.remaining(clock, self.grace);
-                    start_bound += u64::from(request.length) - 1;
-                }
+        for claim in &self.claims {
+            if claim.conflicts(groups) {
+                contention += 1;
+                start_bound += claim.remaining(clock, self.grace);
             }
         }
+        start_bound += contention * (u64::from(length) - 1);
 
-        let start = self.least_start(requests);
-        let first = self.issued + 1;
-        for request in requests {
-            self.issued += 1;
-            self.claims.push(Claim {
-                ticket: self.issued,
-                groups: request.groups,
-                length: request.length,
-                units: request.units,
-                client,
-                set: first,
-                state: State::Waiting(start),
-            });
-        }
+        let start = self.least_start(groups, length, units);
+        self.issued += 1;
+        let ticket = self.issued;
+        self.claims.push(Claim {
+            ticket,
+            groups,
+            length,
+            units,
+            client,
+            state: State::Waiting(start),
+        });
 
         self.pack();
         let grants = self.grant();
         Answer {
             number: 0,
-            ticket: first,
+            ticket,
             start,
             contention,
             start_bound,
@@ -524,8 +454,7 @@ impl Table {
         }
     }
 
-    /// Document 01: "withdraw", which takes away a waiting claim, and with it
-    /// the set that it waits with (document 02, P8).
+    /// Document 01: "withdraw", which takes away a waiting claim.
     pub fn withdraw(&mut self, clock: u64, ticket: u16) -> Answer {
         if let Err(refusal) = self.test_clock(clock) {
             return Answer::refused(refusal);
@@ -601,38 +530,14 @@ impl Table {
     }
 
     /// The link of a claim that waits for this start: the lowest ticket of those
-    /// that end there and share a group, or the pool, with it; of a member with
-    /// its whole set. A waiting claim starts before its end, so the starts along
-    /// a chain fall.
+    /// that end there and share a group, or the pool, with it. A waiting claim
+    /// starts before its end, so the starts along a chain fall.
     fn link(&self, claim: &Claim, start: u64) -> &Claim {
-        let groups = self.together(claim);
-        let meets = |other: &Claim| {
-            let pool = other.units > 0 && claim.units > 0;
-            pool || other.conflicts(groups)
-        };
         // The claims stand by ticket.
         self.claims
             .iter()
-            .find(|other| self.end(other) == start && meets(other))
+            .find(|other| self.end(other) == start && other.meets(claim))
             .expect("a claim waits for another's end")
-    }
-
-    /// The groups of the whole set that a claim waits with; its own where it is
-    /// alone.
-    pub fn together(&self, claim: &Claim) -> u64 {
-        let mates = self.claims.iter().filter(|other| other.set == claim.set);
-        mates.fold(0, |groups, mate| groups | mate.groups)
-    }
-
-    /// Document 01: "precedes" (the paragraph on order). A set waits whole
-    /// (document 02, P8), so what precedes a member precedes its mates.
-    pub fn precedes(&self, one: &Claim, other: &Claim) -> bool {
-        let earlier = match (one.state, other.state) {
-            (State::On(_), State::Waiting(_)) => true,
-            (State::Waiting(first), State::Waiting(second)) => first < second,
-            (_, State::On(_)) => false,
-        };
-        earlier && one.conflicts(self.together(other))
     }
 
     /// The end of a claim at the table's clock.
@@ -704,74 +609,56 @@ impl Table {
         self.declaration(client).ok_or(Refusal::Stranger)
     }
 
-    /// The tests of a claim by who has how many pending and how many tickets are
-    /// issued: 6, 18, 7; so many claims of the client before it count as taken. A
-    /// client below its guarantee never meets 6.
-    pub fn test_room(&self, client: u8, taken: usize) -> Result<(), Refusal> {
+    /// The tests of a claim by who has how many pending: 6, 18. A client below
+    /// its guarantee never meets 6.
+    pub fn test_room(&self, client: u8) -> Result<(), Refusal> {
         let own = self.test_client(client)?;
         let others = self.declared.iter().filter(|other| other.client != client);
         let kept: usize = others.map(|other| self.unfilled(other)).sum();
-        let pending = self.pending(client) + taken;
-        if pending >= usize::from(own.reserved) && self.claims.len() + taken + kept >= MAX_PENDING {
+        if self.unfilled(own) == 0 && self.claims.len() + kept >= MAX_PENDING {
             return Err(Refusal::Full);
         }
-        if pending >= usize::from(own.limit) {
+        if self.pending(client) >= usize::from(own.limit) {
             return Err(Refusal::OverLimit);
         }
-        if usize::from(self.issued) + taken >= usize::from(MAX_TICKET) {
+        Ok(())
+    }
+
+    /// The tests of a claim: 5, 4, 17, 1, 2, 16, 3, 6, 18, 7.
+    fn test_claim(
+        &self,
+        clock: u64,
+        groups: u64,
+        length: u32,
+        units: u16,
+        client: u8,
+    ) -> Result<(), Refusal> {
+        self.test_clock(clock)?;
+        self.test_client(client)?;
+        if groups == 0 && units == 0 {
+            return Err(Refusal::NoGroup);
+        }
+        if groups & !self.rig != 0 {
+            return Err(Refusal::OutsideRig);
+        }
+        if units > self.pool {
+            return Err(Refusal::OverPool);
+        }
+        if length == 0 || length > MAX_LENGTH {
+            return Err(Refusal::Length);
+        }
+        self.test_room(client)?;
+        if self.issued == MAX_TICKET {
             return Err(Refusal::NoTicket);
         }
         Ok(())
     }
 
-    /// The tests of a set: 5, 4, 22, and then those of its members.
-    fn test_set(&self, clock: u64, client: u8, requests: &[Request]) -> Result<(), Refusal> {
-        self.test_clock(clock)?;
-        if !MEMBERS.contains(&requests.len()) {
-            return Err(Refusal::Cast);
-        }
-        self.test_requests(client, requests)
-    }
-
-    /// The tests of a claim behind 5 and 4: 17, 1, 2, 16, 3, 6, 18, 7. Those of a
-    /// set are the same, with 23 behind 3, and 16 cannot come: up to 23 the first
-    /// of these numbers that any member meets; then member by member 6, 18, 7,
-    /// those before counted as taken.
-    fn test_requests(&self, client: u8, requests: &[Request]) -> Result<(), Refusal> {
-        self.test_client(client)?;
-        let any = |fails: &dyn Fn(&Request) -> bool| requests.iter().any(fails);
-        let tests = [
-            (
-                Refusal::NoGroup,
-                any(&|own| own.groups == 0 && own.units == 0),
-            ),
-            (Refusal::OutsideRig, any(&|own| own.groups & !self.rig != 0)),
-            (Refusal::OverPool, any(&|own| own.units > self.pool)),
-            (
-                Refusal::Length,
-                any(&|own| own.length == 0 || own.length > MAX_LENGTH),
-            ),
-        ];
-        if let Some((refusal, _)) = tests.into_iter().find(|(_, fails)| *fails) {
-            return Err(refusal);
-        }
-        let mut groups = 0;
-        for request in requests {
-            if groups & request.groups != 0 {
-                return Err(Refusal::Clash);
-            }
-            groups |= request.groups;
-        }
-        (0..requests.len()).try_for_each(|taken| self.test_room(client, taken))
-    }
-
-    /// The accepted part of a release or a withdrawal: the claim leaves, and
-    /// whoever waits with it.
+    /// The accepted part of a release or a withdrawal.
     fn take_away(&mut self, clock: u64, ticket: u16) -> Answer {
-        let set = self.find(ticket).map(|claim| claim.set);
         self.clock = clock;
         self.pack();
-        self.claims.retain(|claim| Some(claim.set) != set);
+        self.claims.retain(|claim| claim.ticket != ticket);
         self.pack();
         let grants = self.grant();
         Answer {
@@ -782,82 +669,64 @@ impl Table {
         }
     }
 
-    /// Document 01: "packing"; document 02, P3, adds the pool, and P8 the sets.
-    /// On claims stand; the waiting ones come by start, then ticket, a set as one
-    /// by that of its first member. Each is put behind the conflicting claims
-    /// before it, where its units are free beside them all; a set at the greatest
-    /// start that a member needs.
+    /// Document 01: "packing"; document 02, P3, adds the pool. On claims stand;
+    /// the waiting ones come by start, then ticket. Each is put behind the
+    /// conflicting claims before it, where its units are free beside them all.
     fn pack(&mut self) {
         let mut plan = Plan::new(self.pool);
-        // Those that are on, and then those packed, by their places.
-        let mut before: Vec<usize> = Vec::new();
-        let mut waiting: Vec<(u64, u16, usize)> = Vec::new();
+        let mut waiting: Vec<(u64, usize)> = Vec::new();
         for (index, claim) in self.claims.iter().enumerate() {
             match claim.state {
-                State::On(grant) => {
-                    plan.enter(grant, self.end(claim), claim.units);
-                    before.push(index);
-                }
-                State::Waiting(start) => waiting.push((start, claim.set, index)),
+                State::On(grant) => plan.enter(grant, self.end(claim), claim.units),
+                // The claims stand by ticket.
+                State::Waiting(start) => waiting.push((start, index)),
             }
         }
         waiting.sort_unstable();
-        let mut rest = &waiting[..];
-        while let Some(&(_, set, _)) = rest.first() {
-            let count = rest.iter().take_while(|turn| turn.1 == set).count();
-            let (members, others) = rest.split_at(count);
-            let needs = members
-                .iter()
-                .map(|turn| self.need(&self.claims[turn.2], &before, &plan));
-            let start = needs.fold(self.clock, u64::max);
-            for &(_, _, index) in members {
-                let claim = &mut self.claims[index];
-                plan.enter(start, start + u64::from(claim.length), claim.units);
-                claim.state = State::Waiting(start);
-                before.push(index);
-            }
-            rest = others;
+        for (turn, &(_, index)) in waiting.iter().enumerate() {
+            let Claim {
+                groups,
+                length,
+                units,
+                ..
+            } = self.claims[index];
+            let on = self.claims.iter().filter(|claim| claim.is_on());
+            let packed = waiting[..turn].iter().map(|&(_, at)| &self.claims[at]);
+            let bound = on
+                .chain(packed)
+                .filter(|before| before.conflicts(groups))
+                .map(|before| self.end(before))
+                .fold(self.clock, u64::max);
+            let start = plan.least_start(units, length, bound);
+            plan.enter(start, start + u64::from(length), units);
+            self.claims[index].state = State::Waiting(start);
         }
     }
 
-    /// The least start, not below the clock, of a claim behind the conflicting
-    /// ones of those before it, where its units are free beside the plan.
-    fn need(&self, claim: &Claim, before: &[usize], plan: &Plan) -> u64 {
-        let bound = before
-            .iter()
-            .map(|&index| &self.claims[index])
-            .filter(|other| other.conflicts(claim.groups))
-            .map(|other| self.end(other))
-            .fold(self.clock, u64::max);
-        plan.least_start(claim.units, claim.length, bound)
-    }
-
-    /// The least start that fits a claim, or every member of a set: the clock
-    /// and the ends of the claims that conflict or draw from the same pool are
-    /// tried, ascending.
-    fn least_start(&self, requests: &[Request]) -> u64 {
+    /// The least start that fits: the clock and the ends of the claims that
+    /// conflict or draw from the same pool are tried, ascending.
+    fn least_start(&self, groups: u64, length: u32, units: u16) -> u64 {
         let mut plan = Plan::new(self.pool);
         let mut candidates = vec![self.clock];
         for claim in &self.claims {
             let end = self.end(claim);
-            let draws = claim.units > 0 && requests.iter().any(|own| own.units > 0);
+            let draws = units > 0 && claim.units > 0;
             if draws {
                 let (State::Waiting(start) | State::On(start)) = claim.state;
                 plan.enter(start, end, claim.units);
             }
-            if draws || requests.iter().any(|own| claim.conflicts(own.groups)) {
+            if draws || claim.conflicts(groups) {
                 candidates.push(end);
             }
         }
         candidates.sort_unstable();
-        let fits = |start: u64| {
-            requests.iter().all(|own| {
-                let end = start + u64::from(own.length);
-                self.fits(own.groups, start, end) && plan.leaves(own.units, start, end)
-            })
-        };
-        let found = candidates.into_iter().find(|&start| fits(start));
-        found.expect("the greatest of all ends fits")
+        for &start in &candidates {
+            let end = start + u64::from(length);
+            if self.fits(groups, start, end) && plan.leaves(units, start, end) {
+                return start;
+            }
+        }
+        unreachable!("the greatest of all ends fits")
     }
 
     /// Whether a claim of these groups may hold them from start to end.
@@ -874,29 +743,22 @@ impl Table {
             })
     }
 
-    /// Document 01: "grant"; document 02, P3, adds the pool, and P8 the sets. A
-    /// waiting claim goes on whose start is the clock, which no claim precedes,
-    /// and whose units are free after the grants before it; of a set all members,
-    /// or none, and then it is a set no more. By start, then ticket: they have
-    /// one start, and the claims stand by ticket.
+    /// Document 01: "grant"; document 02, P3, adds the pool. A waiting claim
+    /// goes on whose start is the clock, which no claim precedes, and whose
+    /// units are free after the grants before it. By start, then ticket: they
+    /// have one start, and the claims stand by ticket.
     fn grant(&mut self) -> Vec<u16> {
         let mut free = self.free();
         let mut grants = Vec::new();
         for index in 0..self.claims.len() {
-            let first = self.claims[index];
-            // A set comes with its first member; what precedes that one precedes
-            // its mates, which have its start and draw no units either.
-            if first.ticket == first.set
-                && first.state == State::Waiting(self.clock)
-                && first.units <= free
-                && !self.claims.iter().any(|other| self.precedes(other, &first))
+            let claim = self.claims[index];
+            if claim.state == State::Waiting(self.clock)
+                && claim.units <= free
+                && !self.claims.iter().any(|other| other.precedes(&claim))
             {
-                for claim in self.claims.iter_mut().filter(|own| own.set == first.set) {
-                    claim.state = State::On(self.clock);
-                    claim.set = claim.ticket;
-                    free -= claim.units;
-                    grants.push(claim.ticket);
-                }
+                self.claims[index].state = State::On(self.clock);
+                free -= claim.units;
+                grants.push(claim.ticket);
             }
         }
         grants

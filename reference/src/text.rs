@@ -10,21 +10,17 @@
 //! withdraw CLOCK TICKET
 //! clock CLOCK
 //! desk DESK GUARANTEE LIMIT           in edition 3
-//! set CLOCK DESK GROUPS:LENGTH ..     in edition 3
 //! grace TICKS                         in edition 3
 //! ```
 //!
-//! The line of a call has a word for each field of its record in the edition; in
-//! place of a count it has the members, a word each.
+//! The line of a call has a word for each field of its record in the edition.
 //! `#` begins a comment. Groups are hex, or a list such as `0,3,5-7` if the
 //! word has a `,` or a `-`.
 
 use std::fmt;
-use std::ops::RangeInclusive;
 
-use crate::load::{self, Call, Field, Kind, Reader, Values, MAX_COUNT, MAX_LOAD};
+use crate::load::{self, Call, Field, Kind, Reader, Values, MAX_LOAD};
 use crate::refusal::Refusal;
-use crate::table::Member;
 
 /// The most bytes of a text.
 pub const MAX_TEXT: usize = 1_048_576;
@@ -55,11 +51,10 @@ pub enum Reason {
     Reserved = 114,
     Limit = 115,
     Grace = 116,
-    Member = 117,
 }
 
 /// Every reason.
-pub const REASONS: [Reason; 20] = [
+pub const REASONS: [Reason; 19] = [
     Reason::Edition,
     Reason::RigNotFirst,
     Reason::LoadTooLong,
@@ -79,7 +74,6 @@ pub const REASONS: [Reason; 20] = [
     Reason::Reserved,
     Reason::Limit,
     Reason::Grace,
-    Reason::Member,
 ];
 
 impl Reason {
@@ -109,7 +103,6 @@ impl Reason {
             Reason::Reserved => "guarantee is not a number",
             Reason::Limit => "limit is not a number",
             Reason::Grace => "grace is not a number",
-            Reason::Member => "a member is not GROUPS:LENGTH",
         }
     }
 }
@@ -161,7 +154,7 @@ pub(crate) fn outputs(
 }
 
 /// The forms of lines, with the editions that have them.
-pub const LINE_FORMS: [(&[u8], &str); 12] = [
+pub const LINE_FORMS: [(&[u8], &str); 11] = [
     (&[1, 2, 3], "edition NUMBER"),
     (&[1], "rig GROUPS"),
     (&[2, 3], "rig GROUPS POOL"),
@@ -172,7 +165,6 @@ pub const LINE_FORMS: [(&[u8], &str); 12] = [
     (&[1, 2, 3], "withdraw CLOCK TICKET"),
     (&[1, 2, 3], "clock CLOCK"),
     (&[3], "desk DESK GUARANTEE LIMIT"),
-    (&[3], "set CLOCK DESK GROUPS:LENGTH .."),
     (&[3], "grace TICKS"),
 ];
 
@@ -205,7 +197,7 @@ pub fn make(text: &[u8]) -> Result<Vec<u8>, Wrong> {
             load[0] = edition(words)?;
         } else {
             let call = call(load[0], words)?;
-            add(&mut load, &call)?;
+            add(&mut load, call)?;
         }
         begun = true;
         Ok(())
@@ -237,12 +229,12 @@ fn words(line: &[u8]) -> Vec<&[u8]> {
         .collect()
 }
 
-/// Refuses a count of words that is not one of those needed.
-pub(crate) fn count(words: &[&[u8]], needed: RangeInclusive<usize>) -> Result<(), Reason> {
-    if words.len() < *needed.start() {
+/// Refuses a count of words that is not the one needed.
+pub(crate) fn count(words: &[&[u8]], needed: usize) -> Result<(), Reason> {
+    if words.len() < needed {
         return Err(Reason::Missing);
     }
-    if words.len() > *needed.end() {
+    if words.len() > needed {
         return Err(Reason::TooMany);
     }
     Ok(())
@@ -250,7 +242,7 @@ pub(crate) fn count(words: &[&[u8]], needed: RangeInclusive<usize>) -> Result<()
 
 /// The edition that an edition's line names.
 fn edition(words: &[&[u8]]) -> Result<u8, Reason> {
-    count(words, 2..=2)?;
+    count(words, 2)?;
     number(words[1], 10)
         .and_then(|number| u8::try_from(number).ok())
         .filter(|&edition| load::forms(edition).is_some())
@@ -258,14 +250,13 @@ fn edition(words: &[&[u8]]) -> Result<u8, Reason> {
 }
 
 /// The words that calls begin with.
-const NAMES: [(Kind, &str); 8] = [
+const NAMES: [(Kind, &str); 7] = [
     (Kind::Rig, "rig"),
     (Kind::Claim, "claim"),
     (Kind::Release, "release"),
     (Kind::Withdraw, "withdraw"),
     (Kind::Clock, "clock"),
     (Kind::Declare, "desk"),
-    (Kind::Set, "set"),
     (Kind::Grace, "grace"),
 ];
 
@@ -283,38 +274,12 @@ fn call(edition: u8, words: &[&[u8]]) -> Result<Call, Reason> {
         .map(|&(kind, _)| kind)
         .ok_or(Reason::UnknownCall)?;
     let fields = load::fields(edition, kind).ok_or(Reason::UnknownCall)?;
-    let (fields, most) = said(fields);
-    let least = 1 + fields.len();
-    count(words, least..=least + most)?;
+    count(words, 1 + fields.len())?;
     let mut values = Values::absent();
     for (&field, word) in fields.iter().zip(&words[1..]) {
         values.set(field, value(field, word)?);
     }
-    for word in &words[least..] {
-        values.members.push(member(word)?);
-    }
     Ok(Call::of(kind, &values))
-}
-
-/// The fields of a record that have a word each, and the most members behind
-/// them: the count, which is the last field, is told by these.
-pub(crate) fn said(fields: &[Field]) -> (&[Field], usize) {
-    match fields {
-        [others @ .., Field::Count] => (others, MAX_COUNT),
-        _ => (fields, 0),
-    }
-}
-
-/// The member of a word: groups and a length around one `:`.
-fn member(word: &[u8]) -> Result<Member, Reason> {
-    let parts: Vec<&[u8]> = word.split(|&byte| byte == b':').collect();
-    let [set, length] = parts[..] else {
-        return Err(Reason::Member);
-    };
-    Ok(Member {
-        groups: groups(set)?,
-        length: field(length, Reason::Length)?,
-    })
 }
 
 /// The value of a field's word.
@@ -330,13 +295,12 @@ fn value(of: Field, word: &[u8]) -> Result<u64, Reason> {
         Field::Reserved => field::<u8>(word, Reason::Reserved).map(u64::from),
         Field::Limit => field::<u8>(word, Reason::Limit).map(u64::from),
         Field::Grace => field::<u32>(word, Reason::Grace).map(u64::from),
-        Field::Count => unreachable!("a count has no word"),
     }
 }
 
 /// Puts the record of a call behind the load. The words of an edition say only
 /// what it carries.
-fn add(load: &mut Vec<u8>, call: &Call) -> Result<(), Reason> {
+fn add(load: &mut Vec<u8>, call: Call) -> Result<(), Reason> {
     if call.is_rig() != (load.len() == 1) {
         return Err(Reason::RigNotFirst);
     }
@@ -409,7 +373,7 @@ pub fn load_show(load: &[u8]) -> String {
     loop {
         record += 1;
         match reader.read() {
-            Ok(Some(read)) => text.push_str(&line(load[0], &read.call)),
+            Ok(Some(read)) => text.push_str(&line(load[0], read.call)),
             Ok(None) => return text,
             Err(refusal) => return text + &stop_line(refusal, record),
         }
@@ -428,19 +392,15 @@ fn stop_line(refusal: Refusal, record: usize) -> String {
 }
 
 /// The line of a call that the edition carries.
-pub fn line(edition: u8, call: &Call) -> String {
+pub fn line(edition: u8, call: Call) -> String {
     let fields = load::fields(edition, call.kind()).expect("a kind of the edition");
-    let values = call.values();
     let mut line = name(call.kind()).to_string();
-    for &field in said(fields).0 {
-        let value = values.get(field);
+    for &field in fields {
+        let value = call.values().get(field);
         line += &match field {
             Field::Groups => format!(" {value:X}"),
             _ => format!(" {value}"),
         };
-    }
-    for Member { groups, length } in &values.members {
-        line += &format!(" {groups:X}:{length}");
     }
     line + "\n"
 }

@@ -1,48 +1,45 @@
 //! What the reader and the writer answer on a load, a line for each answer.
 
-use crate::load::{self, Call, Field, Kind, Reader, Values};
-use crate::table::{Declaration, Member, TimedCall, MAX_GRACE};
+use crate::load::{self, Call, Reader};
+use crate::table::{Declaration, TimedCall, MAX_GRACE};
 
 /// What a lent buffer holds before a call.
 const FILL: u8 = 0xAA;
 
-/// What is appended: a rig and a clock call that every edition carries; a rig
+/// Calls to append: a rig and a clock call that every edition carries; a rig
 /// and a claim with units; a claim of a client other than the first, and a
-/// declaration; a grace; and a set of two members, with their count and with one
-/// that is one more.
-fn appended() -> Vec<(Kind, Values)> {
-    let rig = |pool| Call::Rig { groups: 15, pool };
-    let claim = |units, client| TimedCall::Claim {
+/// declaration; and a grace.
+const APPENDED: [Call; 7] = [
+    Call::Rig {
+        groups: 15,
+        pool: 0,
+    },
+    Call::Timed(TimedCall::Clock { clock: 1 }),
+    Call::Rig {
+        groups: 15,
+        pool: 3,
+    },
+    Call::Timed(TimedCall::Claim {
         clock: 1,
         groups: 1,
         length: 1,
-        units,
-        client,
-    };
-    let members = [(1, 1), (2, 2)].map(|(groups, length)| Member { groups, length });
-    let set = Call::Timed(TimedCall::Set {
-        clock: 1,
+        units: 2,
         client: 1,
-        members: members.to_vec(),
-    });
-    let more = (set.kind(), set.values().with(Field::Count, 3));
-    let calls = [
-        rig(0),
-        Call::Timed(TimedCall::Clock { clock: 1 }),
-        rig(3),
-        Call::Timed(claim(2, 1)),
-        Call::Timed(claim(0, 2)),
-        Call::Declare(Declaration {
-            client: 2,
-            reserved: 3,
-            limit: 4,
-        }),
-        Call::Grace(MAX_GRACE),
-        set,
-    ];
-    let calls = calls.iter().map(|call| (call.kind(), call.values()));
-    calls.chain([more]).collect()
-}
+    }),
+    Call::Timed(TimedCall::Claim {
+        clock: 1,
+        groups: 1,
+        length: 1,
+        units: 0,
+        client: 2,
+    }),
+    Call::Declare(Declaration {
+        client: 2,
+        reserved: 3,
+        limit: 4,
+    }),
+    Call::Grace(MAX_GRACE),
+];
 
 /// The records and the stop as a scan counts them and as the reader comes by
 /// them; the calls so read written again behind the load's first byte; then
@@ -51,19 +48,19 @@ pub fn tries(load: &[u8]) -> Vec<u8> {
     let mut out = String::new();
     let (records, position, stop) = read(load);
     out.push_str(&format!("scan {} {stop}\n", records.len()));
-    for (position, length, _) in &records {
+    for &(position, length, _) in &records {
         out.push_str(&format!("record {position} {length}\n"));
     }
     out.push_str(&format!("stop {position} {stop}\n"));
     if load::open(load).is_ok() {
-        let calls: Vec<&Call> = records.iter().map(|(_, _, call)| call).collect();
+        let calls: Vec<Call> = records.iter().map(|&(_, _, call)| call).collect();
         let written = write(&mut out, load[0], &calls);
         out.push_str(&format!("same {}\n", u8::from(written == load[..position])));
     }
-    for (kind, values) in appended() {
+    for call in APPENDED {
         for room in [load::MAX_LOAD, 1] {
             let mut buffer = vec![FILL; room];
-            append(&mut out, load, (kind, &values), &mut buffer);
+            append(&mut out, load, call, &mut buffer);
             let kept = buffer.iter().all(|&byte| byte == FILL);
             out.push_str(&format!("kept {}\n", u8::from(kept)));
         }
@@ -91,12 +88,11 @@ fn read(load: &[u8]) -> (Vec<(usize, usize, Call)>, usize, u8) {
 }
 
 /// The load that the writer makes of calls, one after the other.
-fn write(out: &mut String, edition: u8, calls: &[&Call]) -> Vec<u8> {
+fn write(out: &mut String, edition: u8, calls: &[Call]) -> Vec<u8> {
     let mut written = vec![edition];
     for &call in calls {
         let mut buffer = vec![FILL; load::MAX_LOAD];
-        let said = (call.kind(), &call.values());
-        let length = append(out, &written, said, &mut buffer);
+        let length = append(out, &written, call, &mut buffer);
         buffer.truncate(length);
         written = buffer;
     }
@@ -105,13 +101,8 @@ fn write(out: &mut String, edition: u8, calls: &[&Call]) -> Vec<u8> {
 
 /// The writer's answer in a line: its number and the new length, which it
 /// gives too, 0 for a refusal.
-fn append(
-    out: &mut String,
-    load: &[u8],
-    (kind, values): (Kind, &Values),
-    buffer: &mut [u8],
-) -> usize {
-    let (number, length) = match load::append_values(load, kind, values, buffer) {
+fn append(out: &mut String, load: &[u8], call: Call, buffer: &mut [u8]) -> usize {
+    let (number, length) = match load::append(load, call, buffer) {
         Ok(length) => (0, length),
         Err(refusal) => (refusal.number(), 0),
     };

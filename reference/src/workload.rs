@@ -75,7 +75,7 @@ pub fn calls(seed: u32, count: u32) -> Result<Vec<Call>, Refusal> {
     // The table is run to know who is on.
     let (mut table, _) = load::new_table(EDITION, RIG, 0);
     let mut call = |table: &mut Table, call: TimedCall| {
-        table.call(&call);
+        table.call(call);
         calls.push(Call::Timed(call));
     };
     let mut clock = 0;

@@ -456,8 +456,7 @@ fn generated_questions_are_varied() {
     let (mut shared, mut none, mut first, mut second) = (0, 0, 0, 0);
     let (mut no_pool, mut all, mut some, mut held) = (0, 0, 0, 0);
     let (mut holder, mut absent, mut one_link, mut links) = (0, 0, 0, 0);
-    let mut mates = 0;
-    for_seeds(0..2_400, |seed| {
+    for_seeds(0..1_500, |seed| {
         let load = asked_load(seed);
         let line = question(&load, seed);
         let table: Table = left(&load).0;
@@ -481,15 +480,8 @@ fn generated_questions_are_varied() {
                 _ => some += 1,
             },
             Some(Question::Why(ticket)) => match table.why(ticket) {
-                Ok(chain) => {
-                    match chain.len() {
-                        2 => one_link += 1,
-                        _ => links += 1,
-                    }
-                    let apart = table.common(chain[0], chain[1]) == Common::None;
-                    let first = table.find(ticket).map_or(0, |claim| claim.units);
-                    mates += u64::from(apart && first == 0);
-                }
+                Ok(chain) if chain.len() == 2 => one_link += 1,
+                Ok(_) => links += 1,
                 Err(Refusal::AlreadyOn) => holder += 1,
                 Err(_) => absent += 1,
             },
@@ -499,8 +491,7 @@ fn generated_questions_are_varied() {
     assert!(tickets.iter().all(|&count| count >= 20), "{tickets:?}");
     let units = [no_pool, all, some, held];
     assert!(units.iter().all(|&count| count >= 10), "{units:?}");
-    // The link shares a group with a mate alone.
-    let chains = [holder, absent, one_link, links, mates];
+    let chains = [holder, absent, one_link, links];
     assert!(chains.iter().all(|&count| count >= 20), "{chains:?}");
 }
 

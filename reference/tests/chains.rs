@@ -14,7 +14,7 @@ const S: [(u64, u32); 3] = [(0x8, 10), (0xC, 10), (0x6, 11)];
 fn after(pool: u16, grace: u32, calls: &[TimedCall]) -> Table {
     let mut table = Table::new(0xF, pool).0;
     assert!(table.set_grace(grace).accepted());
-    for call in calls {
+    for &call in calls {
         assert!(table.call(call).accepted(), "{call:?}");
     }
     table
@@ -174,13 +174,13 @@ fn the_lower_ticket_is_the_link_though_only_the_higher_is_in_the_way() {
     assert_eq!((start(&table, 3), chain(&table, 3)), (10, vec![3, 1]));
     let without = after(9, 0, &calls[1..]);
     assert_eq!((start(&without, 2), chain(&without, 2)), (10, vec![2, 1]));
-    let without = after(9, 0, &[calls[0].clone(), calls[2].clone()]);
+    let without = after(9, 0, &[calls[0], calls[2]]);
     assert_eq!(without.why(2), Err(Refusal::AlreadyOn));
     // The same with units alone: 1 gives back one of two that 3 lacks.
     let calls = [draw(0, 1, 10, 1), draw(0, 2, 10, 3), draw(0, 4, 5, 3)];
     let table = after(4, 0, &calls);
     assert_eq!((start(&table, 3), chain(&table, 3)), (10, vec![3, 1]));
-    let without = after(4, 0, &[calls[0].clone(), calls[2].clone()]);
+    let without = after(4, 0, &[calls[0], calls[2]]);
     assert_eq!(without.why(2), Err(Refusal::AlreadyOn));
 }
 
@@ -233,8 +233,6 @@ struct Count {
     group: u64,
     pool: u64,
     both: u64,
-    /// Links by a group of a mate alone.
-    mate: u64,
     /// Links where a higher ticket ends there, too.
     tied: u64,
     /// Links to a higher ticket.
@@ -259,20 +257,15 @@ impl Count {
     }
 
     fn link(&mut self, table: &Table, claim: &Claim, link: &Claim) {
-        let groups = table.together(claim);
-        let pool = |other: &Claim| other.units > 0 && claim.units > 0;
-        let own = link.conflicts(claim.groups);
-        let kind = match (link.conflicts(groups), pool(link)) {
-            (true, false) if !own => &mut self.mate,
-            (true, false) => &mut self.group,
-            (true, true) => &mut self.both,
+        let kind = match (link.conflicts(claim.groups), link.units.min(claim.units)) {
+            (true, 0) => &mut self.group,
+            (true, _) => &mut self.both,
             (false, _) => &mut self.pool,
         };
         *kind += 1;
         let (now, grace) = (table.now(), table.grace());
         let ends = |other: &&Claim| {
-            let meets = other.conflicts(groups) || pool(other);
-            meets && claim.planned_start() == Some(other.end(now, grace))
+            other.meets(claim) && claim.planned_start() == Some(other.end(now, grace))
         };
         let tied = table.claims().iter().filter(ends).count() > 1;
         self.tied += u64::from(tied);
@@ -295,7 +288,7 @@ fn generated_runs_have_chains() {
         for_seeds(0..seeds, |seed| {
             let run = generate::run_of(shape, seed);
             let mut table = run.table();
-            for call in run.calls.iter().take(60) {
+            for &call in run.calls.iter().take(60) {
                 table.call(call);
                 for claim in table.claims() {
                     if let Ok(chain) = table.why(claim.ticket) {
@@ -319,14 +312,9 @@ fn generated_runs_have_chains() {
                     count.lengths.iter().all(|&length| length >= 1_000),
                     "{told}"
                 );
-                // Members draw no units.
-                let sets = matches!(shape, Shape::Sets | Shape::SetsInTime);
-                let least = if sets { 50 } else { 500 };
-                assert!(kinds.iter().all(|&kind| kind >= least), "{told}");
-                assert!(!sets || count.mate >= 10_000, "{told}");
+                assert!(kinds.iter().all(|&kind| kind >= 500), "{told}");
                 assert!(count.higher >= 100, "{told}");
-                let in_time =
-                    matches!(shape, Shape::InTime | Shape::PoolInTime | Shape::SetsInTime);
+                let in_time = matches!(shape, Shape::InTime | Shape::PoolInTime);
                 let [bare, graced] = count.overruns;
                 assert!(in_time || (bare >= 500 && graced >= 20), "{told}");
             }

@@ -7,10 +7,8 @@ use std::collections::{BTreeMap, BTreeSet};
 
 use common::{for_seeds, listing};
 use reference::generate::{self, Prng, Shape, SHAPES};
-use reference::generate_question::asked_load;
 use reference::load::{self, Call, MAX_LOAD};
 use reference::table::{Answer, Claim, Declaration, Table, TableCall, TimedCall};
-use reference::tally::{Sets, Way};
 
 #[test]
 fn the_numbers_are_those_of_splitmix64() {
@@ -54,7 +52,7 @@ fn every_shape_and_every_number_comes() {
         let run = generate::run(seed);
         *shapes.entry(run.shape).or_default() += 1;
         let mut table = run.table();
-        for call in &run.calls {
+        for &call in &run.calls {
             let answer = table.call(call);
             *numbers.entry(answer.number).or_default() += 1;
             several += u64::from(answer.grants.len() > 1);
@@ -86,7 +84,6 @@ fn every_boundary_value_comes() {
     let mut reserved = BTreeSet::new();
     let mut limits = BTreeSet::new();
     let mut graces = BTreeSet::new();
-    let mut counts = BTreeSet::new();
     for_seeds(0..600, |seed| {
         let run = generate::run_of(Shape::Boundary, seed);
         rigs.insert(run.rig);
@@ -103,13 +100,6 @@ fn every_boundary_value_comes() {
                     tickets.insert(ticket);
                 }
                 TableCall::Timed(TimedCall::Clock { .. }) => {}
-                TableCall::Timed(TimedCall::Set {
-                    client, members, ..
-                }) => {
-                    clients.insert(client);
-                    counts.insert(members.len());
-                    lengths.extend(members.iter().map(|own| own.length));
-                }
                 TableCall::Declare(declaration) => {
                     declared.insert(declaration.client);
                     reserved.insert(declaration.reserved);
@@ -121,9 +111,6 @@ fn every_boundary_value_comes() {
             }
         }
     });
-    for count in [0, 1, 2, 3, 8, 9, 10, 64, 255] {
-        assert!(counts.contains(&count), "{count} members");
-    }
     for ticks in [0, 1, 5, 59_999, 60_000, 60_001, u32::MAX] {
         assert!(graces.contains(&ticks), "grace {ticks}");
     }
@@ -152,13 +139,13 @@ fn every_boundary_value_comes() {
 }
 
 /// What a claim of edition 2 is like, by its answer and the table behind it.
-fn features(call: &TableCall, answer: &Answer, table: &Table) -> Vec<(&'static str, bool)> {
+fn features(call: TableCall, answer: &Answer, table: &Table) -> Vec<(&'static str, bool)> {
     let TableCall::Timed(TimedCall::Claim {
         groups,
         length,
         units,
         ..
-    }) = *call
+    }) = call
     else {
         return Vec::new();
     };
@@ -210,7 +197,7 @@ fn pools_are_drawn_from_in_every_way() {
         }
         *pools.entry(run.pool).or_default() += 1;
         let mut table = run.table();
-        for call in run.calls.iter().take(200) {
+        for &call in run.calls.iter().take(200) {
             let answer = table.call(call);
             for (name, holds) in features(call, &answer, &table) {
                 *counts.entry(name).or_default() += u64::from(holds);
@@ -229,7 +216,7 @@ fn pools_are_drawn_from_in_every_way() {
 
 /// What a call of edition 3 is like, by the table before it and its answer.
 fn client_features(
-    call: &TableCall,
+    call: TableCall,
     before: &Table,
     refused: bool,
     answer: &Answer,
@@ -246,7 +233,7 @@ fn client_features(
         |own: &Declaration| usize::from(own.reserved).saturating_sub(pending(own.client));
     let sum: u32 = declared.iter().map(|own| u32::from(own.reserved)).sum();
     let number = answer.number;
-    match *call {
+    match call {
         TableCall::Declare(Declaration {
             client,
             reserved,
@@ -337,7 +324,7 @@ fn clients_come_in_every_way() {
         }
         let mut table = run.table();
         let mut refused = false;
-        for call in run.calls.iter().take(200) {
+        for &call in run.calls.iter().take(200) {
             let before = table.clone();
             let answer = table.call(call);
             for (name, holds) in client_features(call, &before, refused, &answer) {
@@ -388,7 +375,7 @@ fn grace_features(
 /// What an accepted call is like where there is a grace, by the tables before
 /// and behind it and its answer.
 fn overrun_features(
-    call: &TimedCall,
+    call: TimedCall,
     before: &Table,
     answer: &Answer,
     after: &Table,
@@ -413,7 +400,7 @@ fn overrun_features(
     let placed = own.is_some_and(|own| {
         own.planned_start() == Some(now + grace) && overruns.iter().any(|o| o.conflicts(own.groups))
     });
-    let leaves = match *call {
+    let leaves = match call {
         TimedCall::Release { ticket, .. } => before
             .claims()
             .iter()
@@ -452,13 +439,13 @@ fn graces_come_in_every_way() {
         let run = generate::run(seed);
         let mut table = run.table();
         let (mut graces, mut refused) = (0, false);
-        for call in run.calls.iter().take(200) {
+        for &call in run.calls.iter().take(200) {
             let before = table.clone();
             let answer = table.call(call);
             let accepted = answer.accepted();
             let features = match call {
                 TableCall::Grace(ticks) => {
-                    grace_features(*ticks, &before, &answer, (graces, refused))
+                    grace_features(ticks, &before, &answer, (graces, refused))
                 }
                 TableCall::Timed(call) if accepted && table.grace() > 0 => {
                     overrun_features(call, &before, &answer, &table)
@@ -479,42 +466,6 @@ fn graces_come_in_every_way() {
     }
 }
 
-/// Sets come in every way, and leave in every way; the older editions have none.
-#[test]
-fn sets_come_in_every_way() {
-    let mut sets = Sets::default();
-    for_seeds(0..3_000, |seed| {
-        let run = generate::run(seed);
-        let set = |call: &TableCall| matches!(call, TableCall::Timed(TimedCall::Set { .. }));
-        if run.edition < 3 {
-            assert!(!run.calls.iter().any(set));
-            return;
-        }
-        let mut table = run.table();
-        for call in run.calls.iter().take(200) {
-            sets.call(&mut table, call);
-        }
-    });
-    let rare = sets.rare(12, |way| !matches!(way, Way::Damaged(_)));
-    assert!(rare.is_empty(), "{rare:?}");
-}
-
-/// Sets are dense in the loads whose whole answers are compared, and in those
-/// that questions are asked about.
-#[test]
-fn sets_are_dense() {
-    let mut answered = Sets::default();
-    for_seeds(1..2_001, |seed| {
-        let load = generate::any_load(seed);
-        answered.add(&load[..load.len().min(2_500)]);
-    });
-    assert!(answered.reach(3_000, 600, 500), "{answered:?}");
-    let mut asked = Sets::default();
-    for_seeds(1..3_001, |seed| asked.add(&asked_load(seed)));
-    assert!(asked.reach(3_000, 600, 500), "{asked:?}");
-    println!("answered {answered:?}, asked {asked:?}");
-}
-
 /// A run behind another grace has its calls otherwise, in edition 3.
 #[test]
 fn a_run_is_put_behind_a_grace() {
@@ -533,15 +484,15 @@ fn a_run_is_put_behind_a_grace() {
             older += usize::from(run.edition < 3);
             let mut calls = other.calls[added..].iter();
             let mut table = run.table();
-            for call in &run.calls {
+            for &call in &run.calls {
                 let dropped = table.call(call).accepted() && matches!(call, TableCall::Grace(_));
                 if !dropped {
-                    assert_eq!(calls.next(), Some(call));
+                    assert_eq!(calls.next(), Some(&call));
                 }
             }
             assert_eq!(calls.next(), None);
             let mut table = other.table();
-            for call in &other.calls {
+            for &call in &other.calls {
                 table.call(call);
             }
             let grace = if ticks > 60_000 { 0 } else { ticks };
@@ -595,7 +546,7 @@ fn shapes_keep_what_they_say() {
             let mut table = run.table();
             let mut most = 0;
             let mut refused = 0;
-            for call in &run.calls {
+            for &call in &run.calls {
                 refused += usize::from(!table.call(call).accepted());
                 most = most.max(table.claims().len());
             }
@@ -677,19 +628,6 @@ fn damage_gives_every_stop() {
     assert!(counts.iter().all(|&count| count >= 10), "{counts:?}");
     let counts = [graces, foreign_graces, spoilt_graces];
     assert!(counts.iter().all(|&count| count >= 10), "{counts:?}");
-}
-
-/// Sets are damaged in their counts and members, and come where they may not.
-#[test]
-fn damage_comes_inside_sets() {
-    let mut sets = Sets::default();
-    for_seeds(0..3_000, |seed| {
-        let shape = [Shape::Sets, Shape::Short][seed as usize % 2];
-        let good = generate::run_of(shape, seed).load();
-        sets.damage(&good, &generate::damage(&good, seed));
-    });
-    let rare = sets.rare(8, |way| matches!(way, Way::Damaged(_)));
-    assert!(rare.is_empty(), "{rare:?}");
 }
 
 #[test]

@@ -7,7 +7,7 @@ use common::{claim, claim_of, client_load_of, clock, declare, draw, for_seeds, l
 use common::{load_of, pool_load_of, release, withdraw};
 use reference::generate::{self, Prng, Shape};
 use reference::load;
-use reference::table::{Answer, Claim, Lookup, Member, Table, TableCall, TimedCall};
+use reference::table::{Answer, Claim, Lookup, Table, TableCall, TimedCall};
 use reference::table::{MAX_CLOCK, MAX_GRACE, MAX_LENGTH, ONLY_CLIENT};
 
 /// Rig F hex with a pool and a grace, at clock 0.
@@ -45,7 +45,7 @@ fn refused(table: &mut Table, call: impl Into<TableCall>, number: u8) {
         number,
         ..Answer::default()
     };
-    assert_eq!(table.call(&call), expected, "{call:?}");
+    assert_eq!(table.call(call), expected, "{call:?}");
     assert_eq!(*table, before, "{call:?}");
 }
 
@@ -309,7 +309,7 @@ fn every_new_table_has_a_grace_of_0_and_takes_one() {
 
 #[test]
 fn the_older_editions_have_no_kind_8() {
-    let record = load::encode(3, &load::Call::Grace(5)).unwrap();
+    let record = load::encode(3, load::Call::Grace(5)).unwrap();
     let header = "rec answer ticket start\n1 0 0 0\n";
     for load in [load_of(0xF, &[]), pool_load_of(0xF, 3, &[])] {
         let load = [&load[..], &record].concat();
@@ -349,7 +349,7 @@ fn a_grace_of_0_changes_nothing() {
         let mut set = run.table();
         assert!(set.set_grace(0).accepted());
         assert_eq!(plain, set);
-        for call in &run.calls {
+        for &call in &run.calls {
             if matches!(call, TableCall::Grace(_)) {
                 continue;
             }
@@ -380,7 +380,7 @@ fn in_time_a_grace_is_no_matter() {
             table.set_grace(grace);
             table
         });
-        for call in &run.calls {
+        for &call in &run.calls {
             if matches!(call, TableCall::Grace(_)) {
                 continue;
             }
@@ -406,8 +406,6 @@ struct Entry {
     /// The planned start, or the clock of the grant.
     from: u64,
     on: bool,
-    /// The first ticket of its set.
-    set: u16,
 }
 
 /// A small table that counts at every tick what is held.
@@ -447,42 +445,34 @@ impl Ticks {
         own.units == 0 || (start..start + own.length).all(free)
     }
 
-    /// The least start at which at no tick anybody else has a group of one of
-    /// these, and units are free for it.
-    fn place(&self, members: &[Entry]) -> u64 {
-        let held = |own: &Entry, tick| {
+    /// The least start at which nobody's groups are held at any tick, and units
+    /// are free.
+    fn place(&self, own: &Entry) -> u64 {
+        let held = |tick| {
             let mut others = self.entries.iter();
             others.any(|other| other.groups & own.groups != 0 && self.holds(other, tick))
         };
-        let fits = |own: &Entry, start: u64| {
-            !(start..start + own.length).any(|tick| held(own, tick))
-                && self.units_free(own, &self.entries, start)
+        let fits = |&start: &u64| {
+            !(start..start + own.length).any(held) && self.units_free(own, &self.entries, start)
         };
-        let all = |&start: &u64| members.iter().all(|own| fits(own, start));
-        self.coming().find(all).expect("it fits behind all")
+        self.coming().find(fits).expect("it fits behind all")
     }
 
     /// By start, then ticket, each behind the last tick of those with a group
-    /// of it; a set behind the last tick of any that one of it waits for.
+    /// of it.
     fn pack(&mut self) {
         let (mut done, mut rest): (Vec<Entry>, Vec<Entry>) =
             self.entries.iter().partition(|entry| entry.on);
         rest.sort_by_key(|entry| (entry.from, entry.ticket));
-        while let Some(&first) = rest.first() {
-            let (members, others) = rest.iter().partition(|own| own.set == first.set);
-            rest = others;
-            let needs = |own: &Entry| {
-                let held = |&tick: &u64| {
-                    let mut others = done.iter();
-                    others.any(|other| other.groups & own.groups != 0 && self.holds(other, tick))
-                };
-                let least = self.coming().rfind(held).map_or(self.now, |last| last + 1);
-                let start = (least..).find(|&start| self.units_free(own, &done, start));
-                start.expect("it fits behind all")
+        for mut own in rest {
+            let held = |&tick: &u64| {
+                let mut others = done.iter();
+                others.any(|other| other.groups & own.groups != 0 && self.holds(other, tick))
             };
-            let members: Vec<Entry> = members;
-            let from = members.iter().map(needs).max().expect("the first of them");
-            done.extend(members.iter().map(|own| Entry { from, ..*own }));
+            let least = self.coming().rfind(held).map_or(self.now, |last| last + 1);
+            let start = (least..).find(|&start| self.units_free(&own, &done, start));
+            own.from = start.expect("it fits behind all");
+            done.push(own);
         }
         done.sort_by_key(|entry| entry.ticket);
         self.entries = done;
@@ -490,64 +480,20 @@ impl Ticks {
 
     fn grant(&mut self) -> Vec<u16> {
         let mut grants = Vec::new();
-        for first in self.entries.clone() {
-            let (members, others): (Vec<Entry>, Vec<Entry>) = self
+        for index in 0..self.entries.len() {
+            let own = self.entries[index];
+            let before = self
                 .entries
                 .iter()
-                .partition(|own| !own.on && own.set == first.ticket);
-            let can = |own: &Entry| {
-                let before = others.iter().any(|other| {
-                    other.groups & own.groups != 0 && (other.on || other.from < own.from)
-                });
-                let on = others.iter().filter(|other| other.on);
-                let held: u64 = on.map(|other| other.units).sum();
-                own.from == self.now && !before && held + own.units <= self.pool
-            };
-            if members.iter().all(can) {
-                grants.extend(members.iter().map(|own| own.ticket));
-            }
-            for own in &mut self.entries {
-                own.on |= grants.contains(&own.ticket);
+                .any(|other| other.groups & own.groups != 0 && (other.on || other.from < own.from));
+            let on = self.entries.iter().filter(|other| other.on);
+            let held: u64 = on.map(|other| other.units).sum();
+            if !own.on && own.from == self.now && !before && held + own.units <= self.pool {
+                self.entries[index].on = true;
+                grants.push(own.ticket);
             }
         }
         grants
-    }
-
-    /// Enters claims that start together.
-    fn enter(&mut self, members: &[Member], units: u16) -> Answer {
-        let set = self.issued + 1;
-        let mut answer = Answer {
-            ticket: set,
-            start_bound: self.now,
-            ..Answer::default()
-        };
-        let mut entries = Vec::new();
-        for own in members {
-            self.issued += 1;
-            let length = u64::from(own.length);
-            for other in &self.entries {
-                if other.groups & own.groups != 0 {
-                    answer.contention += 1;
-                    let left = self.coming().filter(|&tick| self.holds(other, tick));
-                    answer.start_bound += left.count() as u64 + length - 1;
-                }
-            }
-            entries.push(Entry {
-                ticket: self.issued,
-                groups: own.groups,
-                length,
-                units: units.into(),
-                from: 0,
-                on: false,
-                set,
-            });
-        }
-        answer.start = self.place(&entries);
-        for entry in &mut entries {
-            entry.from = answer.start;
-        }
-        self.entries.extend(entries);
-        answer
     }
 
     /// An accepted call.
@@ -564,17 +510,32 @@ impl Ticks {
                 length,
                 units,
                 ..
-            } => answer = self.enter(&[Member { groups, length }], units),
-            TimedCall::Set { members, .. } => answer = self.enter(&members, 0),
-            TimedCall::Release { ticket, .. } => {
+            } => {
+                self.issued += 1;
+                let mut own = Entry {
+                    ticket: self.issued,
+                    groups,
+                    length: length.into(),
+                    units: units.into(),
+                    from: 0,
+                    on: false,
+                };
+                own.from = self.place(&own);
+                answer.start_bound = self.now;
+                for other in &self.entries {
+                    if other.groups & groups != 0 {
+                        answer.contention += 1;
+                        let left = self.coming().filter(|&tick| self.holds(other, tick));
+                        answer.start_bound += left.count() as u64 + own.length - 1;
+                    }
+                }
+                answer.ticket = own.ticket;
+                answer.start = own.from;
+                self.entries.push(own);
+            }
+            TimedCall::Release { ticket, .. } | TimedCall::Withdraw { ticket, .. } => {
                 answer.ticket = ticket;
                 self.entries.retain(|entry| entry.ticket != ticket);
-            }
-            TimedCall::Withdraw { ticket, .. } => {
-                answer.ticket = ticket;
-                let left = self.entries.iter().find(|entry| entry.ticket == ticket);
-                let set = left.map(|entry| entry.set);
-                self.entries.retain(|entry| Some(entry.set) != set);
             }
             TimedCall::Clock { .. } => {}
         }
@@ -616,18 +577,6 @@ impl Ticks {
             (!tickets.is_empty()).then(|| prng.pick(&tickets))
         };
         let drawn = prng.below(10);
-        if drawn < 3 && self.entries.len() < 6 {
-            let groups = prng.pick(&[&[1, 2][..], &[4, 2], &[1, 6], &[5, 2], &[2, 1, 4]]);
-            let members = groups.iter().map(|&groups| Member {
-                groups,
-                length: prng.range(1, 8) as u32,
-            });
-            return TimedCall::Set {
-                clock,
-                members: members.collect(),
-                client: 1,
-            };
-        }
         if drawn < 6 && self.entries.len() < 7 {
             let groups = prng.pick(&[1, 2, 4, 3, 5, 6, 0]);
             let least = u64::from(groups == 0);
@@ -671,8 +620,8 @@ fn tables_are_as_run_tick_by_tick() {
         };
         for _ in 0..25 {
             let call = ticks.draw(&mut prng);
-            let answer = ticks.call(call.clone());
-            assert_eq!(table.call(&call), answer, "{call:?}");
+            let answer = ticks.call(call);
+            assert_eq!(table.call(call), answer, "{call:?}");
             for ticket in 0..=ticks.issued {
                 assert_eq!(table.lookup(ticket), ticks.lookup(ticket), "{call:?}");
             }

@@ -129,10 +129,7 @@ on 4 14
 fn an_edition_without_units_changes_nothing() {
     for_seeds(0..150, |seed| {
         let mut run = generate::run(seed);
-        let newer = |call: &TableCall| {
-            call.clock().is_none() || matches!(call, TableCall::Timed(TimedCall::Set { .. }))
-        };
-        run.calls.retain(|call| !newer(call));
+        run.calls.retain(|call| call.clock().is_some());
         for call in &mut run.calls {
             if let TableCall::Timed(TimedCall::Claim { units, client, .. }) = call {
                 *units = 0;
@@ -309,7 +306,7 @@ fn a_dark_rig_ends_the_listing() {
 
 #[test]
 fn a_stop_takes_the_place_of_its_record() {
-    let encode = |call| load::encode(1, &call).expect("a call of edition 1");
+    let encode = |call| load::encode(1, call).expect("a call of edition 1");
     let rig = encode(rig(1));
     let load = [sample(), rig.clone()].concat();
     assert_eq!(listing(&load), format!("{SAMPLE}stop 13 7\n"));

@@ -25,7 +25,7 @@ fn good_pool() -> Vec<u8> {
 
 /// The record of a call in edition 1.
 fn record(call: Call) -> Vec<u8> {
-    load::encode(1, &call).expect("a call of edition 1")
+    load::encode(1, call).expect("a call of edition 1")
 }
 
 /// The load from which writing in edition 1 begins.
@@ -91,7 +91,7 @@ fn units_stand_last_in_edition_2() {
 #[test]
 fn an_edition_carries_the_fields_that_it_has() {
     let values = FIELDS.map(|field| field as usize);
-    assert_eq!(values, [0, 1, 2, 3, 4, 5, 6, 7, 8, 9, 10]);
+    assert_eq!(values, [0, 1, 2, 3, 4, 5, 6, 7, 8, 9]);
     // Editions 1 and 2 have the same calls but for units, and 3 has clients and
     // a grace.
     for (edition, _) in FORMATS {
@@ -99,7 +99,7 @@ fn an_edition_carries_the_fields_that_it_has() {
             let rig = Call::Rig { groups: 7, pool };
             let claim = Call::Timed(draw(1, 2, 3, units));
             for (call, carried) in [(rig, pool == 0), (claim, units == 0)] {
-                let record = load::encode(edition, &call);
+                let record = load::encode(edition, call);
                 assert_eq!(record.is_some(), edition > 1 || carried);
                 if let Some(record) = record {
                     assert_eq!(load::decode(edition, &record[2..]), Some(call));
@@ -110,7 +110,7 @@ fn an_edition_carries_the_fields_that_it_has() {
             let claim = Call::Timed(claim_of(client, 1, 2, 3));
             let declaration = Call::Declare(declare(client, 255, 0));
             for (call, carried) in [(claim, client == 1), (declaration, false)] {
-                let record = load::encode(edition, &call);
+                let record = load::encode(edition, call);
                 assert_eq!(record.is_some(), edition == 3 || carried);
                 if let Some(record) = record {
                     assert_eq!(load::decode(edition, &record[2..]), Some(call));
@@ -119,7 +119,7 @@ fn an_edition_carries_the_fields_that_it_has() {
         }
         for ticks in [0, 1, 5, 255, 256, 60_000, 60_001, u32::MAX] {
             let call = Call::Grace(ticks);
-            let record = load::encode(edition, &call);
+            let record = load::encode(edition, call);
             assert_eq!(record.is_some(), edition == 3);
             if let Some(record) = record {
                 assert_eq!(load::decode(edition, &record[2..]), Some(call));
@@ -128,7 +128,7 @@ fn an_edition_carries_the_fields_that_it_has() {
     }
     // No call is of an edition that is not known.
     for edition in [0, 4, 255] {
-        assert_eq!(load::encode(edition, &rig(1)), None);
+        assert_eq!(load::encode(edition, rig(1)), None);
         assert_eq!(load::decode(edition, &record(rig(1))[2..]), None);
     }
 }
@@ -178,7 +178,7 @@ fn the_reader_shows_each_record_as_a_part_of_the_load() {
         for expected in calls {
             assert_eq!(reader.position(), position);
             let record = reader.read().unwrap().unwrap();
-            let bytes = load::encode(load[0], &expected).unwrap();
+            let bytes = load::encode(load[0], expected).unwrap();
             assert_eq!(record.call, expected);
             assert_eq!(record.bytes, bytes);
             assert_eq!(record.bytes.as_ptr(), load[position..].as_ptr());
@@ -242,11 +242,7 @@ fn the_length_of_each_kind_is_its_own() {
     let forms = |edition| match edition {
         1 => vec![(1, 9), (2, 21), (3, 11), (4, 11), (5, 9)],
         2 => vec![(1, 11), (2, 23), (3, 11), (4, 11), (5, 9)],
-        _ => [(1, 11), (2, 24), (3, 11), (4, 11), (5, 9), (6, 4), (8, 5)]
-            .into_iter()
-            // A set without members: the count is 0 here.
-            .chain([(7, 11)])
-            .collect(),
+        _ => vec![(1, 11), (2, 24), (3, 11), (4, 11), (5, 9), (6, 4), (8, 5)],
     };
     for (edition, rig) in [
         (1, load_of(1, &[])),
@@ -311,7 +307,7 @@ fn clients_stand_last_in_edition_3() {
     // Only the rig comes first.
     let first = [&[3][..], &expected[14..]].concat();
     assert_eq!(load::next_call(&first, 1), Err(Refusal::Misfit));
-    // 7 and 8 have other lengths, 9 is not known, and 6 is none of the older
+    // Kind 7 is not known, 8 has another length, and 6 is none of the older
     // editions.
     for kind in [7, 8, 9] {
         let mut other = expected.clone();
@@ -332,7 +328,7 @@ fn a_grace_is_kind_8_of_edition_3() {
     let rig = client_load_of(1, 0, &[]);
     let record = [0, 5, 8, 0x71, 0x72, 0x73, 0x74];
     let grace = Call::Grace(0x7172_7374);
-    assert_eq!(load::encode(3, &grace), Some(record.to_vec()));
+    assert_eq!(load::encode(3, grace), Some(record.to_vec()));
     let load = [&rig[..], &record].concat();
     assert_eq!(load, client_load_of(1, 0, &[TableCall::Grace(0x7172_7374)]));
     let next = Next::Call {
@@ -422,7 +418,7 @@ fn the_reader_keeps_its_position_at_12_and_13() {
 }
 
 /// Appends into a buffer of a known pattern and checks what it becomes.
-fn append(load: &[u8], call: &Call, space: usize) -> Result<usize, Refusal> {
+fn append(load: &[u8], call: Call, space: usize) -> Result<usize, Refusal> {
     let pattern: Vec<u8> = (0..space).map(|at| (at * 7 + 3) as u8).collect();
     let mut buffer = pattern.clone();
     let answer = load::append(load, call, &mut buffer);
@@ -440,24 +436,24 @@ fn append(load: &[u8], call: &Call, space: usize) -> Result<usize, Refusal> {
 
 #[test]
 fn the_writer_begins_from_the_edition_byte_alone() {
-    assert_eq!(append(&EMPTY, &rig(5), 12), Ok(12));
-    assert_eq!(append(&EMPTY, &rig(5), 40), Ok(12));
-    assert_eq!(append(&EMPTY, &rig(5), 11), Err(Refusal::NoSpace));
+    assert_eq!(append(&EMPTY, rig(5), 12), Ok(12));
+    assert_eq!(append(&EMPTY, rig(5), 40), Ok(12));
+    assert_eq!(append(&EMPTY, rig(5), 11), Err(Refusal::NoSpace));
     let pool = Call::Rig { groups: 5, pool: 9 };
-    assert_eq!(append(&[2], &pool, 14), Ok(14));
-    assert_eq!(append(&[2], &pool, 13), Err(Refusal::NoSpace));
-    assert_eq!(append(&[2], &rig(5), 14), Ok(14));
+    assert_eq!(append(&[2], pool, 14), Ok(14));
+    assert_eq!(append(&[2], pool, 13), Err(Refusal::NoSpace));
+    assert_eq!(append(&[2], rig(5), 14), Ok(14));
     // The writer does not judge fields.
-    assert_eq!(append(&EMPTY, &rig(0), 12), Ok(12));
+    assert_eq!(append(&EMPTY, rig(0), 12), Ok(12));
     let call = Call::Timed(claim(u64::MAX, 0, u32::MAX));
-    assert_eq!(append(&load_of(1, &[]), &call, 35), Ok(35));
+    assert_eq!(append(&load_of(1, &[]), call, 35), Ok(35));
     let dark = Call::Rig {
         groups: 0,
         pool: u16::MAX,
     };
-    assert_eq!(append(&[2], &dark, 14), Ok(14));
+    assert_eq!(append(&[2], dark, 14), Ok(14));
     let call = Call::Timed(draw(u64::MAX, 0, 0, u16::MAX));
-    assert_eq!(append(&pool_load_of(1, 0, &[]), &call, 39), Ok(39));
+    assert_eq!(append(&pool_load_of(1, 0, &[]), call, 39), Ok(39));
 }
 
 /// What the older editions cannot carry is 13.
@@ -468,25 +464,25 @@ fn clients_are_written_in_edition_3_only() {
     let good_clients = client_load_of(0xF, 3, &[clock(4).into()]);
     for room in [0, 11, 70_000] {
         for load in [good(), good_pool()] {
-            assert_eq!(append(&load, &second, room), Err(Refusal::Misfit));
-            assert_eq!(append(&load, &declared, room), Err(Refusal::Misfit));
-            assert_eq!(append(&load[..1], &declared, room), Err(Refusal::Misfit));
+            assert_eq!(append(&load, second, room), Err(Refusal::Misfit));
+            assert_eq!(append(&load, declared, room), Err(Refusal::Misfit));
+            assert_eq!(append(&load[..1], declared, room), Err(Refusal::Misfit));
         }
-        assert_eq!(append(&[3], &declared, room), Err(Refusal::Misfit));
-        assert_eq!(append(&[3], &second, room), Err(Refusal::Misfit));
+        assert_eq!(append(&[3], declared, room), Err(Refusal::Misfit));
+        assert_eq!(append(&[3], second, room), Err(Refusal::Misfit));
     }
     let length = good_clients.len();
-    assert_eq!(append(&good_clients, &second, 70_000), Ok(length + 26));
-    assert_eq!(append(&good_clients, &declared, 70_000), Ok(length + 6));
+    assert_eq!(append(&good_clients, second, 70_000), Ok(length + 26));
+    assert_eq!(append(&good_clients, declared, 70_000), Ok(length + 6));
     // Client 1 goes into every edition.
     let first = Call::Timed(claim_of(1, 1, 1, 1));
     for (load, bytes) in [(good(), 23), (good_pool(), 25), (good_clients, 26)] {
-        assert_eq!(append(&load, &first, 70_000), Ok(load.len() + bytes));
+        assert_eq!(append(&load, first, 70_000), Ok(load.len() + bytes));
     }
     let most = generate::sized_load(3, 1, MAX_LOAD).unwrap();
-    assert_eq!(append(&most, &declared, 70_000), Err(Refusal::Overlong));
+    assert_eq!(append(&most, declared, 70_000), Err(Refusal::Overlong));
     let most = generate::sized_load(2, 1, MAX_LOAD).unwrap();
-    assert_eq!(append(&most, &declared, 70_000), Err(Refusal::Misfit));
+    assert_eq!(append(&most, declared, 70_000), Err(Refusal::Misfit));
 }
 
 /// A grace is written wherever a load of edition 3 has a rig, and not judged.
@@ -496,24 +492,24 @@ fn graces_are_written_in_edition_3_only() {
         let grace = Call::Grace(ticks);
         for room in [0, 11, 70_000] {
             for load in [good(), good_pool()] {
-                assert_eq!(append(&load, &grace, room), Err(Refusal::Misfit));
-                assert_eq!(append(&load[..1], &grace, room), Err(Refusal::Misfit));
+                assert_eq!(append(&load, grace, room), Err(Refusal::Misfit));
+                assert_eq!(append(&load[..1], grace, room), Err(Refusal::Misfit));
             }
-            assert_eq!(append(&[3], &grace, room), Err(Refusal::Misfit));
+            assert_eq!(append(&[3], grace, room), Err(Refusal::Misfit));
         }
         let rig = client_load_of(0xF, 3, &[]);
         let late = client_load_of(0xF, 3, &[claim(0, 1, 1).into()]);
         for load in [rig, late] {
             let length = load.len() + 7;
-            assert_eq!(append(&load, &grace, length), Ok(length));
-            assert_eq!(append(&load, &grace, length - 1), Err(Refusal::NoSpace));
+            assert_eq!(append(&load, grace, length), Ok(length));
+            assert_eq!(append(&load, grace, length - 1), Err(Refusal::NoSpace));
         }
         let most = generate::sized_load(3, 1, MAX_LOAD - 7).unwrap();
-        assert_eq!(append(&most, &grace, 70_000), Ok(MAX_LOAD));
+        assert_eq!(append(&most, grace, 70_000), Ok(MAX_LOAD));
         let most = generate::sized_load(3, 1, MAX_LOAD - 6).unwrap();
-        assert_eq!(append(&most, &grace, 70_000), Err(Refusal::Overlong));
+        assert_eq!(append(&most, grace, 70_000), Err(Refusal::Overlong));
         let most = generate::sized_load(2, 1, MAX_LOAD).unwrap();
-        assert_eq!(append(&most, &grace, 70_000), Err(Refusal::Misfit));
+        assert_eq!(append(&most, grace, 70_000), Err(Refusal::Misfit));
     }
 }
 
@@ -523,19 +519,19 @@ fn units_are_written_in_edition_2_only() {
     let pool = Call::Rig { groups: 5, pool: 9 };
     let draws = Call::Timed(draw(1, 1, 1, 2));
     for room in [0, 11, 12, 14, 70_000] {
-        assert_eq!(append(&EMPTY, &pool, room), Err(Refusal::Misfit));
-        assert_eq!(append(&good(), &draws, room), Err(Refusal::Misfit));
+        assert_eq!(append(&EMPTY, pool, room), Err(Refusal::Misfit));
+        assert_eq!(append(&good(), draws, room), Err(Refusal::Misfit));
     }
     let most = generate::sized_load(1, 1, MAX_LOAD).unwrap();
-    assert_eq!(append(&most, &draws, 70_000), Err(Refusal::Misfit));
+    assert_eq!(append(&most, draws, 70_000), Err(Refusal::Misfit));
     let length = good_pool().len();
-    assert_eq!(append(&good_pool(), &draws, 70_000), Ok(length + 25));
+    assert_eq!(append(&good_pool(), draws, 70_000), Ok(length + 25));
     let most = generate::sized_load(2, 1, MAX_LOAD).unwrap();
-    assert_eq!(append(&most, &draws, 70_000), Err(Refusal::Overlong));
-    assert_eq!(append(&most, &pool, 70_000), Err(Refusal::Misfit));
+    assert_eq!(append(&most, draws, 70_000), Err(Refusal::Overlong));
+    assert_eq!(append(&most, pool, 70_000), Err(Refusal::Misfit));
     // The faults of the given load come before.
-    assert_eq!(append(&[1, 0], &pool, 0), Err(Refusal::Short));
-    assert_eq!(append(&[4], &pool, 0), Err(Refusal::Edition));
+    assert_eq!(append(&[1, 0], pool, 0), Err(Refusal::Short));
+    assert_eq!(append(&[4], pool, 0), Err(Refusal::Edition));
 }
 
 #[test]
@@ -543,24 +539,24 @@ fn the_writer_refuses_in_order() {
     let timed = Call::Timed(clock(0));
     let rig = rig(1);
     // The given load's own faults come first, whatever else is wrong.
-    assert_eq!(append(&[], &timed, 0), Err(Refusal::Short));
-    assert_eq!(append(&[4], &timed, 0), Err(Refusal::Edition));
-    assert_eq!(append(&[1, 0], &timed, 0), Err(Refusal::Short));
-    assert_eq!(append(&[1, 0, 0], &rig, 0), Err(Refusal::Misfit));
+    assert_eq!(append(&[], timed, 0), Err(Refusal::Short));
+    assert_eq!(append(&[4], timed, 0), Err(Refusal::Edition));
+    assert_eq!(append(&[1, 0], timed, 0), Err(Refusal::Short));
+    assert_eq!(append(&[1, 0, 0], rig, 0), Err(Refusal::Misfit));
     let long = generate::sized_load(1, 1, MAX_LOAD + 1).unwrap();
-    assert_eq!(append(&long, &rig, 0), Err(Refusal::Overlong));
+    assert_eq!(append(&long, rig, 0), Err(Refusal::Overlong));
     let mut short = good();
     short.pop();
-    assert_eq!(append(&short, &rig, 0), Err(Refusal::Short));
+    assert_eq!(append(&short, rig, 0), Err(Refusal::Short));
     // 13 before 14 and 15.
     let most = generate::sized_load(1, 1, MAX_LOAD).unwrap();
-    assert_eq!(append(&EMPTY, &timed, 0), Err(Refusal::Misfit));
-    assert_eq!(append(&good(), &rig, 0), Err(Refusal::Misfit));
-    assert_eq!(append(&most, &rig, 0), Err(Refusal::Misfit));
+    assert_eq!(append(&EMPTY, timed, 0), Err(Refusal::Misfit));
+    assert_eq!(append(&good(), rig, 0), Err(Refusal::Misfit));
+    assert_eq!(append(&most, rig, 0), Err(Refusal::Misfit));
     // 14 before 15.
-    assert_eq!(append(&most, &timed, 0), Err(Refusal::Overlong));
-    assert_eq!(append(&most, &timed, 70_000), Err(Refusal::Overlong));
-    assert_eq!(append(&good(), &timed, 0), Err(Refusal::NoSpace));
+    assert_eq!(append(&most, timed, 0), Err(Refusal::Overlong));
+    assert_eq!(append(&most, timed, 70_000), Err(Refusal::Overlong));
+    assert_eq!(append(&good(), timed, 0), Err(Refusal::NoSpace));
 }
 
 #[test]
@@ -574,7 +570,7 @@ fn the_writer_fills_a_load_to_its_last_byte() {
         ] {
             let load = generate::sized_load(edition, 7, size).unwrap();
             assert_eq!((load[0], load.len()), (edition, size));
-            assert_eq!(append(&load, &timed, 70_000), answer);
+            assert_eq!(append(&load, timed, 70_000), answer);
         }
     }
 }
@@ -588,7 +584,7 @@ fn writer_and_reader_go_round() {
         assert_eq!(load::read_all(&whole), Ok(calls.clone()));
         // The writer tests the whole load each time, so long ones are cut.
         let mut load = vec![run.edition];
-        for call in calls.iter().take(60) {
+        for &call in calls.iter().take(60) {
             let record = load::encode(run.edition, call).unwrap();
             let length = load.len() + record.len();
             assert_eq!(append(&load, call, length - 1), Err(Refusal::NoSpace));
@@ -610,7 +606,7 @@ fn damaged_loads_are_refused_alike_by_reader_and_writer() {
         match load::read_all(&load) {
             Err(refusal) => {
                 assert!((11..=14).contains(&refusal.number()));
-                assert_eq!(append(&load, &call, 70_000), Err(refusal));
+                assert_eq!(append(&load, call, 70_000), Err(refusal));
             }
             Ok(calls) => {
                 assert_eq!(load::join(load[0], &calls), load);
@@ -621,7 +617,7 @@ fn damaged_loads_are_refused_alike_by_reader_and_writer() {
                 } else {
                     Ok(load.len() + 11)
                 };
-                assert_eq!(append(&load, &call, 70_000), expected);
+                assert_eq!(append(&load, call, 70_000), expected);
             }
         }
     });

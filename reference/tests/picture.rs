@@ -8,7 +8,7 @@ use std::path::Path;
 
 use common::{
     claim, claim_of, client_load_of, clock, declare, draw, for_seeds, load_of, pool_load_of,
-    release, set, withdraw,
+    release, withdraw,
 };
 use reference::generate::any_load;
 use reference::picture::{Axis, Bar, Picture};
@@ -74,31 +74,6 @@ fn claims_have_bars() {
     assert_eq!(Picture::of(&load).clock, 15);
     let waiting = [(1, 0, 10, 10, false), (2, 10, 20, 20, true)];
     assert_eq!(shown(&load_of(0xF, &calls[..2])), waiting);
-}
-
-/// Each member of a set has a bar; those of one that was withdrawn have none.
-#[test]
-fn members_have_bars() {
-    let calls = [
-        declare(1, 0, 9).into(),
-        claim(0, 0x1, 10).into(),
-        set(0, &[(0x1, 5), (0x2, 7)]).into(),
-        set(0, &[(0x4, 3), (0x8, 4)]).into(),
-        release(1, 4).into(),
-        set(1, &[(0x8, 2), (0x1, 2)]).into(),
-        withdraw(2, 7).into(),
-    ];
-    let bars = [
-        (1, 0, 10, 10, false),
-        (2, 10, 15, 15, true),
-        (3, 10, 17, 17, true),
-        (4, 0, 1, 3, false),
-        (5, 0, 4, 4, false),
-    ];
-    assert_eq!(shown(&client_load_of(0xF, 0, &calls)), bars);
-    let waiting = [(6, 15, 17, 17, true), (7, 15, 17, 17, true)];
-    let before = client_load_of(0xF, 0, &calls[..6]);
-    assert_eq!(shown(&before), [&bars[..], &waiting].concat());
 }
 
 /// An overrun is drawn up to its end, the clock and the grace, and what waits

@@ -13,7 +13,7 @@ use reference::svg::svg;
 
 const PLAN: &str = env!("CARGO_BIN_EXE_plan");
 /// The pictures in docs/, in the order of their names.
-const PICTURES: [&str; 5] = ["collide", "overdue", "overture", "reveal", "spots"];
+const PICTURES: [&str; 4] = ["collide", "overdue", "overture", "spots"];
 
 /// What stands in a directory of the repository.
 fn path(name: &str) -> PathBuf {

@@ -20,7 +20,7 @@ fn new_table(pool: u16) -> Table {
 /// The starts that some accepted calls answer, with the tickets they grant.
 fn starts(table: &mut Table, calls: &[TimedCall]) -> Vec<(u64, Vec<u16>)> {
     let mut starts = Vec::new();
-    for call in calls {
+    for &call in calls {
         let answer = table.call(call);
         assert!(answer.accepted(), "{call:?}");
         starts.push((answer.start, answer.grants));
@@ -257,7 +257,7 @@ fn a_clock_call_can_grant_where_plans_have_moved() {
 fn packing_takes_claims_by_start_then_ticket() {
     // Tickets 4 and 5 have one start, where 2 gives its units back and 3 ends.
     let (one, two) = (draw(0, 4, 10, 1), draw(0, 8, 10, 2));
-    for (fourth, fifth) in [(one.clone(), two.clone()), (two.clone(), one.clone())] {
+    for (fourth, fifth) in [(one, two), (two, one)] {
         let mut table = new_table(3);
         let calls = [
             claim(0, 1, 5),
@@ -363,7 +363,7 @@ fn tests_of_a_claim_come_in_order() {
         (draw(5, 0xF, 1, 3), 0),
     ] {
         let before = table.clone();
-        let answer = table.call(&call);
+        let answer = table.call(call);
         assert_eq!(answer.number, number, "{call:?}");
         if number != 0 {
             let refused = Answer {
@@ -385,7 +385,7 @@ fn tests_of_a_claim_come_in_order() {
         (draw(5, 0, 0, 1), 3),
         (draw(5, 0, 1, 1), 6),
     ] {
-        assert_eq!(table.call(&call).number, number, "{call:?}");
+        assert_eq!(table.call(call).number, number, "{call:?}");
     }
 }
 
@@ -444,7 +444,7 @@ fn units_free_are_those_that_holders_have_not() {
         (release(31, 2), 4),
         (release(32, 3), 9),
     ] {
-        table.call(&call);
+        table.call(call);
         assert_eq!(table.free(), free, "{call:?}");
         assert_eq!(table.pool(), 9);
     }
@@ -495,7 +495,7 @@ fn a_pool_that_is_not_drawn_from_changes_nothing() {
         let calls: Vec<TableCall> = run
             .calls
             .iter()
-            .map(|call| match *call {
+            .map(|&call| match call {
                 TableCall::Timed(TimedCall::Claim {
                     clock,
                     groups,
@@ -506,7 +506,7 @@ fn a_pool_that_is_not_drawn_from_changes_nothing() {
                     drew += u64::from(units > 0);
                     claim_of(client, clock, groups, length).into()
                 }
-                ref other => other.clone(),
+                other => other,
             })
             .take(200)
             .collect();
@@ -514,9 +514,9 @@ fn a_pool_that_is_not_drawn_from_changes_nothing() {
         let mut plain = new(0);
         let mut pools = [1, 2, 40, 65_535].map(new);
         for call in calls {
-            let answer = plain.call(&call);
+            let answer = plain.call(call);
             for table in &mut pools {
-                assert_eq!(table.call(&call), answer);
+                assert_eq!(table.call(call), answer);
                 assert_eq!(table.claims(), plain.claims());
                 assert_eq!(table.free(), table.pool());
             }

@@ -43,7 +43,7 @@ fn a_refused_withdrawal_shrinks_to_three_records() {
         };
         assert_eq!(rig.count_ones(), 1);
         // One of units alone stays one.
-        let held = [claim(0, rig, 1), draw(0, 0, 1, 1)][usize::from(small[0] - 1)].clone();
+        let held = [claim(0, rig, 1), draw(0, 0, 1, 1)][usize::from(small[0] - 1)];
         assert_eq!(calls[1..], [held, withdraw(0, 1)].map(Call::Timed));
     });
     assert!(shrunk >= 3, "{shrunk}");
@@ -69,7 +69,7 @@ fn release_grants(load: &[u8]) -> bool {
             false
         }
         Call::Timed(call) => {
-            let granted = !table.call(&call).grants.is_empty();
+            let granted = !table.call(call).grants.is_empty();
             granted && matches!(call, TimedCall::Release { .. })
         }
     })
@@ -121,10 +121,7 @@ fn units_and_the_edition_are_lowered() {
     let small = shrink(&load_of_pool(), short);
     let calls = load::read_all(&small).unwrap();
     assert!(matches!(calls[0], Call::Rig { pool: 1, .. }));
-    assert_eq!(
-        calls[1..],
-        [draw(0, 0, 1, 1), draw(0, 0, 1, 1)].map(Call::Timed)
-    );
+    assert_eq!(calls[1..], [Call::Timed(draw(0, 0, 1, 1)); 2]);
     // More units than the pool.
     let small = shrink(&load_of_pool(), |load| answers(load, "16"));
     assert_eq!(small, pool_load_of(4, 0, &[draw(0, 0, 0, 1)]));
@@ -239,7 +236,7 @@ fn load_of_pool() -> Vec<u8> {
 #[test]
 fn releases_before_a_dropped_claim_go_with_it() {
     let mut calls = vec![clock(0); 2];
-    calls.extend(vec![release(0, 1); 6]);
+    calls.extend([release(0, 1); 6]);
     calls.push(claim(0, 1, 1));
     let three = |load: &[u8]| load::read_all(load).is_ok_and(|calls| calls.len() >= 3);
     let small = shrink(&load_of(1, &calls), three);

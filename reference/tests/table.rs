@@ -3,12 +3,9 @@
 
 mod common;
 
-use std::collections::{BTreeMap, BTreeSet};
-
 use common::for_seeds;
 use reference::generate::{self, Shape};
-use reference::table::{Answer, Claim, Common, Lookup, Member};
-use reference::table::{State, Table, TableCall, TimedCall};
+use reference::table::{Answer, Claim, Common, Lookup, State, Table, TableCall, TimedCall};
 use reference::table::{MAX_CLOCK, MAX_LENGTH};
 
 fn new_table(rig: u64) -> Table {
@@ -355,7 +352,7 @@ fn check_shares(table: &Table) {
         assert!(pending(own.client) <= usize::from(own.limit));
         taken += reserved.saturating_sub(pending(own.client));
         if pending(own.client) < reserved {
-            assert_eq!(table.test_room(own.client, 0), Ok(()));
+            assert_eq!(table.test_room(own.client), Ok(()));
         }
     }
     assert!(taken <= 64);
@@ -385,7 +382,7 @@ fn check_laws(table: &Table) {
         };
         let before: Vec<&Claim> = claims
             .iter()
-            .filter(|other| table.precedes(other, claim))
+            .filter(|other| other.precedes(claim))
             .collect();
         let ends = before.iter();
         let ends = ends.map(|other| end_of(other, now, table.grace()));
@@ -410,167 +407,101 @@ fn check_laws(table: &Table) {
             }
             assert_eq!(shared, table.common(other.ticket, claim.ticket));
             if other.ticket != claim.ticket && other.conflicts(claim.groups) {
-                assert!(table.precedes(other, claim) != table.precedes(claim, other));
+                assert!(other.precedes(claim) != claim.precedes(other));
             }
         }
     }
-    check_sets(table);
     // Packing again changes nothing, and grants nobody.
     let mut again = table.clone();
     assert_eq!(again.clock(now).grants, []);
     assert_eq!(again, *table);
 }
 
-/// The waiting sets by their starts and first tickets; a claim that waits alone
-/// is one of itself.
-fn sets(table: &Table) -> BTreeMap<(u64, u16), Vec<&Claim>> {
-    let mut sets: BTreeMap<(u64, u16), Vec<&Claim>> = BTreeMap::new();
-    for claim in table.claims() {
-        if let State::Waiting(start) = claim.state {
-            sets.entry((start, claim.set)).or_default().push(claim);
-        }
-    }
-    sets
-}
-
-/// Members that wait have one start and successive tickets, draw no units and
-/// share no group; a claim that is on is of no set.
-fn check_sets(table: &Table) {
-    let mut seen = BTreeSet::new();
-    for ((_, set), members) in sets(table) {
-        assert!(seen.insert(set), "one start");
-        let tickets: Vec<u16> = members.iter().map(|own| own.ticket).collect();
-        let count = tickets.len() as u16;
-        assert!(tickets.iter().copied().eq(set..set + count));
-        assert!(count <= 8);
-        if count > 1 {
-            let client = members[0].client;
-            let alike = |own: &&Claim| own.units == 0 && own.client == client;
-            assert!(members.iter().all(alike));
-            let groups: u32 = members.iter().map(|own| own.groups.count_ones()).sum();
-            assert_eq!(groups, table.together(members[0]).count_ones());
-        }
-    }
-    for claim in table.claims().iter().filter(|claim| claim.is_on()) {
-        assert_eq!(claim.set, claim.ticket);
-        assert_eq!(table.together(claim), claim.groups);
-    }
-}
-
 /// Packing at a clock against its rule, tick by tick: the waiting claims by
 /// start, then ticket, each at the least start behind the conflicting claims
-/// before it with units enough beside them all; a set as one, where its members
-/// need it.
+/// before it with units enough beside them all.
 fn check_packing(before: &Table, clock: u64) {
     let mut after = before.clone();
     after.clock(clock);
-    let on = before.claims().iter().filter(|claim| claim.is_on());
-    let mut placed: Vec<Hold> = on
-        .map(|claim| Hold::of(claim, clock, before.grace()))
-        .collect();
-    for members in sets(before).values() {
-        // Of several none draws units.
-        let Claim { length, units, .. } = *members[0];
-        let length = u64::from(length);
-        let starts = members.iter().map(|own| match after.lookup(own.ticket) {
+    let mut waiting: Vec<(u64, &Claim)> = Vec::new();
+    let mut placed = Vec::new();
+    for claim in before.claims() {
+        match claim.state {
+            State::On(_) => placed.push(Hold::of(claim, clock, before.grace())),
+            State::Waiting(start) => waiting.push((start, claim)),
+        }
+    }
+    waiting.sort_by_key(|&(start, claim)| (start, claim.ticket));
+    for (_, claim) in waiting {
+        let length = u64::from(claim.length);
+        let start = match after.lookup(claim.ticket) {
             Lookup::Waiting(start) => start,
             // Granted by this call, at its clock.
-            Lookup::On(end) => end - u64::from(own.length),
+            Lookup::On(end) => end - length,
             Lookup::Unknown => unreachable!("a clock call takes nobody away"),
-        });
-        let starts: BTreeSet<u64> = starts.collect();
-        assert_eq!(starts.len(), 1, "one start");
-        let start = starts.into_iter().fold(0, u64::max);
-        let needs = members.iter().flat_map(|own| {
-            let conflicting = placed.iter().filter(|hold| hold.groups & own.groups != 0);
-            conflicting.map(|hold| hold.to)
-        });
-        let bound = needs.fold(clock, u64::max);
+        };
+        let conflicting = placed.iter().filter(|hold| hold.groups & claim.groups != 0);
+        let bound = conflicting.map(|hold| hold.to).fold(clock, u64::max);
         assert!(start >= bound);
         let end = start + length;
-        let times = lacking(&placed, before.pool(), units, bound, end);
+        let times = lacking(&placed, before.pool(), claim.units, bound, end);
         assert!(none_in(&times, start, end), "units are free");
         if start - bound < SHORT {
             for start in bound..start {
                 assert!(!none_in(&times, start, start + length), "{start} fits");
             }
         }
-        placed.extend(members.iter().map(|own| Hold {
-            groups: own.groups,
-            units: own.units,
+        placed.push(Hold {
+            groups: claim.groups,
+            units: claim.units,
             from: start,
-            to: start + u64::from(own.length),
-        }));
+            to: end,
+        });
     }
 }
 
-/// The answer of a claim that draws units, or of members that draw none,
-/// against the rules, tick by tick.
-fn check_claim(before: &Table, clock: u64, members: &[Member], units: u16, answer: &Answer) {
+/// A claim's answer against the rules, tick by tick.
+fn check_claim(before: &Table, call: TimedCall, answer: &Answer) {
+    let TimedCall::Claim {
+        clock,
+        groups,
+        length,
+        units,
+        ..
+    } = call
+    else {
+        unreachable!("a claim");
+    };
     // A clock call packs; what it grants is planned from its clock on either
     // way.
     let mut packed = before.clone();
     packed.clock(clock);
-    // Of several none draws units.
-    let length = u64::from(members[0].length);
-    let end = answer.start + length;
+    let end = answer.start + u64::from(length);
     let times = lacking(&holds(&packed), packed.pool(), units, clock, end);
-    let fits = |start| {
-        let fits = |own: &Member| fits(&packed, own.groups, own.length, start);
-        members.iter().all(fits) && none_in(&times, start, start + length)
-    };
     if answer.start - clock < SHORT {
         for start in clock..answer.start {
-            assert!(!fits(start), "{start} fits");
+            let fits = fits(&packed, groups, length, start);
+            let free = none_in(&times, start, start + u64::from(length));
+            assert!(!fits || !free, "{start} fits");
         }
     }
-    assert!(fits(answer.start));
+    assert!(fits(&packed, groups, length, answer.start));
+    assert!(none_in(&times, answer.start, end));
     let mut contention = 0;
-    let mut bound = clock;
-    for own in members {
-        let sharing = packed.claims().iter();
-        for claim in sharing.filter(|claim| claim.groups & own.groups != 0) {
+    let mut sum = 0;
+    for claim in packed.claims() {
+        if claim.groups & groups != 0 {
             contention += 1;
-            bound += u64::from(own.length - 1);
-            bound += match claim.state {
+            sum += match claim.state {
                 State::On(_) => end_of(claim, clock, packed.grace()) - clock,
                 State::Waiting(_) => u64::from(claim.length),
             };
         }
     }
     assert_eq!(answer.contention, contention);
+    let bound = clock + sum + contention * u64::from(length - 1);
     assert_eq!(answer.start_bound, bound);
     assert!(units > 0 || answer.start <= bound);
-}
-
-/// What a claim or a set was answered, and how its members stand behind it.
-fn check_entry(
-    before: &Table,
-    (clock, members, units): (u64, &[Member], u16),
-    answer: &Answer,
-    after: &Table,
-) {
-    check_claim(before, clock, members, units, answer);
-    assert_eq!(answer.ticket, before.issued() + 1);
-    assert_eq!(after.issued(), before.issued() + members.len() as u16);
-    let tickets = answer.ticket..=after.issued();
-    let granted = answer.grants.contains(&answer.ticket);
-    // The start answered is the start placed, for each member.
-    for (ticket, own) in tickets.clone().zip(members) {
-        assert_eq!(answer.grants.contains(&ticket), granted);
-        let said = after.lookup(ticket);
-        if granted {
-            assert_eq!(answer.start, clock);
-            assert_eq!(said, Lookup::On(clock + u64::from(own.length)));
-        } else {
-            assert_eq!(said, Lookup::Waiting(answer.start));
-        }
-    }
-    // Without units only a claim that leaves lets others go on.
-    let drawn = after.claims().iter().any(|claim| claim.units > 0);
-    let others = answer.grants.iter().any(|other| !tickets.contains(other));
-    assert!(drawn || !others);
-    check_others(before, after, clock);
 }
 
 #[test]
@@ -592,16 +523,11 @@ fn rules_hold_on_generated_runs() {
         Shape::Grace,
         Shape::Grace,
         Shape::Grace,
-        Shape::Sets,
-        Shape::Sets,
-        Shape::SetsInTime,
-        Shape::AllGroups,
     ];
-    let mut sets = 0;
-    for_seeds(0..1_200, |seed| {
+    for_seeds(0..960, |seed| {
         let run = generate::run_of(shapes[seed as usize % shapes.len()], seed);
         let mut table = run.table();
-        for call in &run.calls {
+        for &call in &run.calls {
             let before = table.clone();
             let answer = table.call(call);
             if !answer.accepted() {
@@ -622,7 +548,7 @@ fn rules_hold_on_generated_runs() {
                 let declared = usize::from(matches!(call, TableCall::Declare(_)));
                 assert_eq!(table.declared().len(), before.declared().len() + declared);
                 let grace = match call {
-                    TableCall::Grace(ticks) => *ticks,
+                    TableCall::Grace(ticks) => ticks,
                     _ => before.grace(),
                 };
                 assert!(table.grace() == grace && grace <= 60_000);
@@ -638,32 +564,26 @@ fn rules_hold_on_generated_runs() {
             assert!(answer.grants.windows(2).all(|pair| pair[0] < pair[1]));
             // Without units only a claim that leaves lets others go on.
             let drawn = table.claims().iter().any(|claim| claim.units > 0);
-            match *call {
-                TimedCall::Claim {
-                    clock,
-                    groups,
-                    length,
-                    units,
-                    ..
-                } => {
-                    let own = [Member { groups, length }];
-                    check_entry(&before, (clock, &own, units), &answer, &table);
-                }
-                TimedCall::Set {
-                    clock, ref members, ..
-                } => {
-                    sets += 1;
-                    check_entry(&before, (clock, members, 0), &answer, &table);
+            match call {
+                TimedCall::Claim { clock, length, .. } => {
+                    check_claim(&before, call, &answer);
+                    assert_eq!(answer.ticket, before.issued() + 1);
+                    // The start answered is the start placed.
+                    let said = table.lookup(answer.ticket);
+                    if answer.grants.contains(&answer.ticket) {
+                        assert_eq!(answer.start, clock);
+                        assert_eq!(said, Lookup::On(clock + u64::from(length)));
+                    } else {
+                        assert_eq!(said, Lookup::Waiting(answer.start));
+                    }
+                    let others = answer.grants.iter().any(|&other| other != answer.ticket);
+                    assert!(drawn || !others);
+                    check_others(&before, &table, clock);
                 }
                 TimedCall::Release { clock, ticket } | TimedCall::Withdraw { clock, ticket } => {
                     assert_eq!((answer.ticket, answer.start), (ticket, clock));
                     assert_eq!((answer.contention, answer.start_bound), (0, 0));
-                    // Whoever waited with it has left, too, and nobody else.
-                    let set = before.find(ticket).map(|claim| claim.set);
-                    for claim in before.claims() {
-                        let left = table.lookup(claim.ticket) == Lookup::Unknown;
-                        assert_eq!(left, Some(claim.set) == set);
-                    }
+                    assert_eq!(table.lookup(ticket), Lookup::Unknown);
                 }
                 TimedCall::Clock { clock } => {
                     assert_eq!((answer.ticket, answer.start), (0, clock));
@@ -673,7 +593,6 @@ fn rules_hold_on_generated_runs() {
             }
         }
     });
-    assert!(sets > 2_000, "{sets}");
 }
 
 /// A claim pushes no other: they stand as after a clock call.

@@ -5,7 +5,7 @@ mod common;
 use common::{claim, claim_of, client_load_of, clock, declare, draw, for_seeds, load_of};
 use common::{pool_load_of, release, rig, withdraw};
 use reference::generate;
-use reference::load::{self, Call, Field, MAX_LOAD};
+use reference::load::{self, Call, MAX_LOAD};
 use reference::table::TableCall;
 use reference::text::{
     edition_line, groups, line, load_show, load_write, make, name, Reason, Wrong, LINE_FORMS,
@@ -33,7 +33,7 @@ fn each_call_has_its_line() {
         (rig(0), "rig 0\n"),
         (rig(u64::MAX), "rig FFFFFFFFFFFFFFFF\n"),
     ] {
-        assert_eq!(line(1, &call), text);
+        assert_eq!(line(1, call), text);
         assert_eq!(made(text), load::join(1, &[call]));
     }
     for (call, text) in [
@@ -42,7 +42,7 @@ fn each_call_has_its_line() {
         (withdraw(0, 65_535), "withdraw 0 65535\n"),
         (clock(u64::MAX), "clock 18446744073709551615\n"),
     ] {
-        assert_eq!(line(1, &Call::Timed(call.clone())), text);
+        assert_eq!(line(1, Call::Timed(call)), text);
         assert_eq!(made(&format!("rig F\n{text}")), load_of(0xF, &[call]));
     }
 }
@@ -54,7 +54,7 @@ fn rigs_and_claims_of_edition_2_have_a_word_more() {
         (3, "rig F 3\n"),
         (65_535, "rig F 65535\n"),
     ] {
-        assert_eq!(line(2, &Call::Rig { groups: 0xF, pool }), text);
+        assert_eq!(line(2, Call::Rig { groups: 0xF, pool }), text);
         assert_eq!(
             made(&format!("edition 2\n{text}")),
             pool_load_of(0xF, pool, &[])
@@ -68,7 +68,7 @@ fn rigs_and_claims_of_edition_2_have_a_word_more() {
         (withdraw(0, 65_535), "withdraw 0 65535\n"),
         (clock(u64::MAX), "clock 18446744073709551615\n"),
     ] {
-        assert_eq!(line(2, &Call::Timed(call.clone())), text);
+        assert_eq!(line(2, Call::Timed(call)), text);
         let whole = format!("edition 2\nrig F 9\n{text}");
         assert_eq!(made(&whole), pool_load_of(0xF, 9, &[call]));
     }
@@ -163,7 +163,7 @@ fn clients_of_edition_3_have_their_words() {
         (withdraw(0, 65_535).into(), "withdraw 0 65535\n"),
         (clock(u64::MAX).into(), "clock 18446744073709551615\n"),
     ] {
-        assert_eq!(line(3, &call.clone().into()), text);
+        assert_eq!(line(3, call.into()), text);
         let whole = format!("edition 3\nrig F 9\n{text}");
         assert_eq!(made(&whole), client_load_of(0xF, 9, &[call]));
     }
@@ -233,7 +233,7 @@ fn a_grace_of_edition_3_has_its_word() {
         (60_001, "grace 60001\n"),
         (u32::MAX, "grace 4294967295\n"),
     ] {
-        assert_eq!(line(3, &Call::Grace(ticks)), text);
+        assert_eq!(line(3, Call::Grace(ticks)), text);
         let whole = format!("edition 3\nrig F 9\n{text}");
         let load = client_load_of(0xF, 9, &[TableCall::Grace(ticks)]);
         assert_eq!(made(&whole), load);
@@ -564,7 +564,6 @@ fn a_wrong_line_is_reported_and_nothing_written() {
     let numbers: Vec<u8> = REASONS.iter().map(|reason| reason.number()).collect();
     let expected = [
         11, 13, 14, 101, 102, 103, 104, 105, 106, 107, 108, 109, 110, 111, 112, 113, 114, 115, 116,
-        117,
     ];
     assert_eq!(numbers, expected);
     for (line, words) in [
@@ -582,7 +581,6 @@ fn a_wrong_line_is_reported_and_nothing_written() {
         ("desk 1 1 x", "limit is not a number"),
         ("claim 0 1 1 0 x", "desk is not a number"),
         ("grace x", "grace is not a number"),
-        ("set 0 1 F", "a member is not GROUPS:LENGTH"),
     ] {
         let text = format!("edition 3\nrig F 0\n{line}");
         let message = format!("line 3: {words}\n").into_bytes();
@@ -591,30 +589,25 @@ fn a_wrong_line_is_reported_and_nothing_written() {
 }
 
 /// A line with too few or too many words is reported with its form, which has
-/// a word for each field of the record, and where members stand behind them two
-/// for these.
+/// a word for each field of the record.
 #[test]
 fn a_wrong_count_is_reported_with_the_form() {
     for (edition, kinds) in load::FORMATS {
-        let of_calls = kinds.iter().map(|&(kind, fields)| match fields {
-            [others @ .., Field::Count] => (name(kind), others.len(), 255),
-            _ => (name(kind), fields.len(), 0),
-        });
-        for (word, fields, members) in of_calls.chain([("edition", 1, 0)]) {
+        let of_calls = kinds
+            .iter()
+            .map(|&(kind, fields)| (name(kind), fields.len()));
+        for (word, fields) in of_calls.chain([("edition", 1)]) {
             let mut forms = LINE_FORMS.iter().filter(|(editions, form)| {
                 editions.contains(&edition) && form.split(' ').next() == Some(word)
             });
             let form = forms.next().expect("a form").1;
             assert_eq!(forms.next(), None);
-            let more = if members > 0 { 2 } else { 0 };
-            assert_eq!(form.split(' ').count(), 1 + fields + more);
+            assert_eq!(form.split(' ').count(), 1 + fields);
             let head = match word {
                 "edition" => "# x\n\n".to_string(),
                 _ => format!("\nedition {edition}\n"),
             };
-            let needed = fields..=fields + members;
-            let counts = (0..=9).chain([256, 257, 258, 259, 512, 513]);
-            for count in counts.filter(|count| !needed.contains(count)) {
+            for count in (0..=9).filter(|&count| count != fields) {
                 let reason = match count < fields {
                     true => "a number is missing",
                     false => "too many words",

@@ -203,8 +203,8 @@ fn judge(seed: u32, count: u32, load: &[u8]) -> Result<Seen, Rule> {
     let lines = lines(load);
     assert_eq!(lines.len(), calls.len());
     let mut judge = Judge::default();
-    for (call, line) in calls.iter().zip(&lines).skip(1) {
-        judge.step(call.clone(), line)?;
+    for (&call, line) in calls.iter().zip(&lines).skip(1) {
+        judge.step(call, line)?;
     }
     let Judge { seen, claims, .. } = judge;
     rule(claims.len() == count as usize, Rule::Count)?;
@@ -275,7 +275,7 @@ fn each_count_begins_the_next() {
                 claims += u32::from(is_claim(call));
                 claims <= count
             });
-            let part: Vec<Call> = part.cloned().collect();
+            let part: Vec<Call> = part.copied().collect();
             assert_eq!(calls(seed, count), Ok(part), "seed {seed}, count {count}");
         }
     }
@@ -408,7 +408,7 @@ impl Broken {
             self.clock = base;
         }
         let claim = self.drawn_claim();
-        let accepted = self.table.call(&claim).accepted();
+        let accepted = self.table.call(claim).accepted();
         self.calls.push(claim);
         let odd = self.draw() % 2 == 1;
         let releases = match self.flaw {
@@ -456,8 +456,8 @@ impl Broken {
 
     fn release(&mut self, ticket: u16) {
         let release = release(self.clock, ticket);
-        self.table.call(&release);
-        self.calls.push(release.clone());
+        self.table.call(release);
+        self.calls.push(release);
         if self.flaw == Flaw::ReleasesTwice {
             self.calls.push(release);
         }

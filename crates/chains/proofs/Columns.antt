@@ -1,29 +1,26 @@
 -- Columns: filling them, and the first place that passes a test of what they hold.
-use mathlib.Core.Path.{◌≡◌, refl, sym, ◌∙◌, ap, subst}
+use mathlib.Core.Path.{◌≡◌, refl, sym, ◌∙◌, ap}
 use mathlib.Core.Logic.{◌⊎◌, ⊎_elim, ◌≢◌}
 use mathlib.Core.Bool.{Bool, true, false, and-false}
-use mathlib.Core.List.{List, ◌∷◌}
+use mathlib.Core.List.{List, [], ◌∷◌}
 use Prim.Native.Nat.{ℕ, zero, suc, ◌+◌, ◌≤◌, ◌<◌}
 use native.Mathlib.Omega.{arith}
 use native.Mathlib.Numerals.{add-one}
 use lib.Dec.{eqb}
-use lib.ListN.{length, take, drop, get_or, set, replicate, length-map, length-set, length-replicate}
+use lib.ListN.{take, drop, get_or, set, replicate, length-set, length-replicate}
 use lib.Seq.{get_or-set_same, get_or-set_other}
 use borrow.Author.Tests.{eqb-true, eqb-false, eq-eqb, ne_eqb}
 use Rattle.rules.specs.declared.Claim.{Claim}
 use Rattle.rules.specs.declared.Setting.{Setting}
 use Rattle.rules.specs.Lists.{◌∈◌, any, first_with}
 use Rattle.rules.specs.Claims.{on, at, end_of}
-use Rattle.rules.specs.Order.{reach_in}
-use Rattle.rules.specs.Tables.{vacant, pad, followers_in}
+use Rattle.rules.specs.Tables.{vacant}
 use Rattle.rules.proofs.Bools.{by-test, clash, and_i}
 use Rattle.rules.proofs.Lists.{any-i}
-use Rattle.rules.proofs.Places.{prefix-end, pad-length}
-use Rattle.holds.specs.Rows.{InPlaces}
-use Rattle.plan.specs.Sets.{reaches_of}
-use Rattle.holds.proofs.Rows.{row_count, row_step, row-member}
-use Rattle.plan.proofs.SetRows.{groups-alone, reaches-at}
-use Rattle.chains.specs.Columns.{meets_by, links_at, FirstPlace, Column, Columns, ReachColumn}
+use Rattle.rules.proofs.Places.{prefix-end}
+use Rattle.plan.specs.Rows.{InPlaces}
+use Rattle.plan.proofs.Rows.{row_step}
+use Rattle.chains.specs.Columns.{meets_by, links_at, FirstPlace, Column, Columns}
 
 -- ── filling ──
 module _ {A : Type 0} {f : Claim → A} {d : A} {claims : List Claim} where
@@ -57,18 +54,6 @@ columns-more h k s e b p q o = record {
   ticket = column-more h.ticket k _ refl;
   phase = column-more h.phase k b o;
 }
-
--- ── the groups of the sets ──
-module _ {v : Setting} {claims : List Claim} {n : ℕ} (row : InPlaces v claims n) where
-  -- As they are laid for all claims at once;
-  pub reach-laid : (l : List ℕ) → l ≡ pad 0 (reaches_of (take n claims)) → ReachColumn claims n l
-  reach-laid l e =
-      let size : length (reaches_of (take n claims)) ≡ n = length-map (take n claims) (λ (c : Claim). reach_in (take n claims) c.lead) ∙ row_count row in
-      subst (ReachColumn claims n) (sym e) (record { places = pad-length 0 (reaches_of (take n claims)) (omega (arith, row.few)); each = reaches-at row })
-
-  -- and where no claim follows another they are the claims' own.
-  pub reach-alone : followers_in (take n claims) ≡ 0 → {l : List ℕ} → Column (λ c. c.groups) 0 claims n l → ReachColumn claims n l
-  reach-alone z h = record { places = h.places; each = λ j b. h.each j b ∙ sym (groups-alone row.ranges z (get_or claims j vacant) (row-member row j b)) }
 
 -- ── the first place ──
 -- The test of a place, by its parts.

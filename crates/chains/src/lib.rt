@@ -3,11 +3,11 @@
 // A table handed into a recursion is copied at each step, so what a chain is told by goes into columns of 64 numbers once, and the
 // recursion goes over those by place.
 ghost use Rattle.std.specs.Prelude.{◌≡◌, ◌≤◌, ◌<◌, get_or};
-ghost use Rattle.rules.specs.Tables.{vacant, followers_in, model};
+ghost use Rattle.rules.specs.Tables.{vacant, model};
 ghost use Rattle.rules.specs.Calls.{setting_of};
 ghost use Rattle.rules.specs.Invariants.{Invariant};
 ghost use Rattle.rules.specs.Chains.{chain, chain_tickets};
-ghost use Rattle.holds.specs.Rows.{InPlaces};
+ghost use Rattle.plan.specs.Rows.{InPlaces};
 ghost use Rattle.chains.specs.Columns.{meets_by, links_at, FirstPlace, Followed, CanFollow};
 ghost use Rattle.chains.specs.Blocking.{blocking};
 
@@ -26,9 +26,8 @@ fn meets(x: u64, m: u16, y: u64, n: u16) -> bool
     0 < n
 }
 
-// The first of `count` places whose claim ends at `start` and has a group, or the pool, in common with a claim whose set has the groups x and
-// which draws n units; `count` where there is none. The places go by ticket, so it is the lowest. Cost: one pass at most, a test of two ends
-// for each.
+// The first of `count` places whose claim ends at `start` and has a group, or the pool, in common with a claim of the groups x that draws
+// n units; `count` where there is none. The places go by ticket, so it is the lowest. Cost: one pass at most, a test of two ends for each.
 fn link(
     ends: &[u64; 64],
     groups: &[u64; 64],
@@ -61,29 +60,27 @@ fn follow(
     starts: &[u64; 64],
     ends: &[u64; 64],
     groups: &[u64; 64],
-    reaches: &[u64; 64],
     units: &[u16; 64],
     tickets: &[u16; 64],
     held: &[bool; 64],
     count: usize,
     i: usize,
 ) -> usize
-    requires { CanFollow starts.now ends.now groups.now reaches.now units.now tickets.now held.now count i k }
-    ensures { Followed starts.now ends.now groups.now reaches.now units.now tickets.now
-        held.now count i k chain.old chain.new result }
+    requires { CanFollow starts.now ends.now groups.now units.now tickets.now held.now count i k }
+    ensures { Followed starts.now ends.now groups.now units.now tickets.now held.now count i k
+        chain.old chain.new result }
 {
     chain[k] = tickets[i];
     if held[i] {
         return k + 1;
     }
-    let j = link(ends, groups, units, count, starts[i], reaches[i], units[i]);
+    let j = link(ends, groups, units, count, starts[i], groups[i], units[i]);
     follow(
         chain,
         k + 1,
         starts,
         ends,
         groups,
-        reaches,
         units,
         tickets,
         held,
@@ -92,10 +89,9 @@ fn follow(
     )
 }
 
-// The blocking chain of the claim at place i. Cost: one pass to gather, two more where sets are pending, and one at most for each waiting claim
-// of the chain.
+// The blocking chain of the claim at place i. Cost: one pass to gather, and one at most for each waiting claim of the chain.
 pub fn chain(t: Table, i: usize) -> Blocking
-    requires { InPlaces (setting_of (model t)) t.claims t.count × (t.followers ≡ followers_in (model t).pending) × Invariant (model t) × (i < t.count) }
+    requires { InPlaces (setting_of (model t)) t.claims t.count × Invariant (model t) × (i < t.count) }
     ensures { result ≡ blocking (chain_tickets (chain (setting_of (model t)) (model t).pending (get_or t.claims i vacant))) }
 {
     let v = Setting {
@@ -113,22 +109,17 @@ pub fn chain(t: Table, i: usize) -> Blocking
     let mut j: usize = 0;
     while j < count {
         let c = t.claims[j];
-        starts[j] = holds::start_or_grant(c);
-        ends[j] = holds::end_of(v, c);
+        starts[j] = plan::start_or_grant(c);
+        ends[j] = plan::end_of(v, c);
         groups[j] = c.groups;
         units[j] = c.units;
         tickets[j] = c.ticket;
-        held[j] = holds::is_on(c);
+        held[j] = plan::is_on(c);
         j += 1;
     }
-    let reaches = if t.followers == 0 {
-        groups
-    } else {
-        plan::reaches(t)
-    };
     let mut chain = [0u16; 64];
     let n = follow(
-        &mut chain, 0, &starts, &ends, &groups, &reaches, &units, &tickets, &held, count, i,
+        &mut chain, 0, &starts, &ends, &groups, &units, &tickets, &held, count, i,
     );
     Blocking {
         number: 0,

@@ -36,6 +36,19 @@ pub survey-calls : (text : List ℕ) → (survey_of text).number ≡ 0 → (surv
 unfolding survey_of
 survey-calls text h = calls-in 0 0 (said_in text) h ∙ zero-add _
 
+-- A line that is wrong has a number, from 1 on, after any lines;
+line-in : (k c : ℕ) (ls : List Line) → (survey_in k c ls).number ≢ 0 → 1 ≤ (survey_in k c ls).line
+unfolding survey_in
+line-in k c [] = λ h. absurd (h refl)
+line-in k c (l ∷ ls) =
+    wrong-cases (λ s. s.number ≢ 0 → 1 ≤ s.line) (line_number (ltb 0 c) l) (k + 1) (survey_in (k + 1) (c + length (calls_of l)) ls)
+    (λ w h. omega arith) (λ z h. line-in (k + 1) (c + length (calls_of l)) ls h)
+
+-- and so in a text.
+pub survey-line : (text : List ℕ) → (survey_of text).number ≢ 0 → 1 ≤ (survey_of text).line
+unfolding survey_of
+survey-line text h = line-in 0 0 (said_in text) h
+
 -- ── calls from a place on ──
 -- What the lines from a place on say.
 abbrev pub said_from : List ℕ → ℕ → List Line

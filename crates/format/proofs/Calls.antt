@@ -26,6 +26,12 @@ unfolding listed
 listed-is d [] = refl
 listed-is d (x ∷ xs) = ap (λ r. x ∷ r) (listed-is (λ i. d (suc i)) xs)
 
+-- What stands at a place of a list does not depend on what stands for nothing.
+pub given_is : (ns : List ℕ) (f d : ℕ) → f < length ns → get_or ns f 0 ≡ get_or ns f d
+given_is [] f d h = absurd (omega arith)
+given_is (n ∷ ns) zero d h = refl
+given_is (n ∷ ns) (suc f) d h = given_is ns f d (omega arith)
+
 -- A call made of as many numbers as there are fields has them at their places.
 numbers-made : (ns : List ℕ) → length ns ≡ field_count → numbers (made ns) ≡ ns
 unfolding numbers made listed field_widths
@@ -212,7 +218,7 @@ typed_call c i = within-at (numbers c) field_widths i
 pub typed-bare : (k : ℕ) → k < 2 ^ 8 → Typed (bare k)
 unfolding numbers bare made defaults default field_widths
 typed-bare k h =
-    typed_call (bare k) (h, (omega arith, (omega arith, (omega arith, (omega arith, (omega arith, (omega arith, (omega arith, (omega arith, (omega arith, (omega arith, (omega arith, tt))))))))))))
+    typed_call (bare k) (h, (omega arith, (omega arith, (omega arith, (omega arith, (omega arith, (omega arith, (omega arith, (omega arith, (omega arith, (omega arith, tt)))))))))))
 
 -- So do the defaults.
 pub default-typed : (f : ℕ) → default f < 256 ^ field_width f

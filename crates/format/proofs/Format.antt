@@ -6,13 +6,11 @@ use mathlib.Core.Logic.{◌⊎◌, inl, inr, ⊎_elim}
 use mathlib.Core.Path.{◌≡◌, refl, sym, ap, ◌∙◌}
 use native.Mathlib.Omega.{arith}
 use lib.Dec.{ltb, leb, eqb}
-use borrow.Author.Tests.{ltb-true, ltb-false, leb-true, eqb-true, eqb-false, eq-eqb, ne_eqb, not-true}
+use borrow.Author.Tests.{ltb-true, ltb-false, lt-ltb, le-ltb, leb-true, eqb-true, eqb-false, eq-eqb, ne_eqb, not-true}
 use native.Mathlib.Numerals.{add-one}
 use lib.ListN.{length, drop, get_or, replicate, get_or-eq_default}
 use lib.Seq.{drop-nil}
--- passed on: whether a field is among those of a row
-unfoldable pub use Rattle.format.specs.Format.{has}
-use Rattle.format.specs.Format.{rig_kind, set_kind, the_count, Row, field_widths, field_count, field_width, format, known_in, known, is_row, has_in, has_kind, row_in, fields_of, widths, total, padded, row_of, length_in, length_of, has_members, OnlySets, least_in, least_length}
+use Rattle.format.specs.Format.{rig_kind, Row, field_widths, field_count, field_width, format, known_in, known, is_row, has_in, has_kind, row_in, fields_of, widths, total, padded, row_of, length_in, length_of, least_in, least_length}
 
 -- ── computed tests ──
 pub both : (a b : Bool) → (a && b) ≡ true → (a ≡ true) × (b ≡ true)
@@ -44,6 +42,10 @@ below-passes (suc n) f h i l =
     either (eqb i n) (λ p. rw (eqb-true i n p) q.0) (λ p. below-passes n f q.1 i (omega (arith, eqb-false i n p)))
 
 -- ── rows ──
+unfoldable pub has : ℕ → List ℕ → Bool
+has f [] = false
+has f (g ∷ gs) = eqb f g || has f gs
+
 -- Each is a field, none is the kind byte, and no two are the same.
 unfoldable pub proper : List ℕ → Bool
 proper [] = true
@@ -116,12 +118,18 @@ pub length-total : (e k : ℕ) → has_kind e k ≡ true → length_of e k ≡ s
 unfolding length_in widths total field_width field_widths
 length-total e k h = omega (arith, length-of e k h)
 
--- The fields of a record take up few bytes.
-pub length-few : (e k : ℕ) → length_of e k ≤ 24
+-- Where a kind is, its records have a length.
+pub has-length : (e k : ℕ) → has_kind e k ≡ ltb 0 (length_of e k)
+has-length e k =
+    either (has_kind e k) (λ h. h ∙ sym (lt-ltb 0 (length_of e k) (omega (arith, length-total e k h))))
+    (λ h. h ∙ sym (le-ltb 0 (length_of e k) (omega (arith, length_none e k h))))
+
+-- A length goes into two bytes.
+pub length-bounded : (e k : ℕ) → length_of e k ≤ 65535
 unfolding all_rows format length_in total field_width field_widths
-length-few e k =
+length-bounded e k =
     either (has_kind e k)
-    (λ h. let t = leb-true (length_in (fields_of e k)) 24 (kind-tested (λ e k fs. leb (length_in fs) 24) e k refl h) in omega (arith, t, length-of e k h))
+    (λ h. let t = leb-true (length_in (fields_of e k)) 65535 (kind-tested (λ e k fs. leb (length_in fs) 65535) e k refl h) in omega (arith, t, length-of e k h))
     (λ h. omega (arith, length_none e k h))
 
 pub least-some : 0 < least_length
@@ -133,18 +141,6 @@ unfolding all_rows format length_in total field_width field_widths least_length 
 length-least e k h =
     let t = leb-true least_length (2 + length_in (fields_of e k)) (kind-tested (λ e k fs. leb least_length (2 + length_in fs)) e k refl h) in
     omega (arith, t, length-of e k h)
-
--- ── members ──
-pub only-sets : OnlySets
-unfolding has_members fields_of row_in format all_rows has
-only-sets e k =
-    either (eqb e 3 && eqb k set_kind)
-    (λ p. let q = both (eqb e 3) (eqb k set_kind) p in rw (eqb-true e 3 q.0, eqb-true k set_kind q.1))
-    (λ p. rw p (⊎_elim (λ n. rw n) (λ t. not-true (has the_count (fields_of e k)) (rw p at t)) (tested (λ e k fs. (eqb e 3 && eqb k set_kind) || not (has the_count fs)) e k refl)))
-
--- No other kind has any.
-pub no-members-edition : (e k : ℕ) → (e ≡ 3 → ⊥) → has_members e k ≡ false
-no-members-edition e k h = only-sets e k ∙ rw (ne_eqb e 3 h)
 
 -- ── the fields of a row, one after the other ──
 pub proper-parts : (f : ℕ) (fs : List ℕ) → proper (f ∷ fs) ≡ true → (0 < f) × (f < field_count) × (has f fs ≡ false) × (proper fs ≡ true)

@@ -1,13 +1,13 @@
 -- A call as numbers, and its values in the fields of an edition, there and back.
 use Rattle.std.specs.Prelude.{ℕ, zero, suc, ◌%◌, ◌^◌, ◌<◌, Bool, true, ◌&&◌, List, [], ◌∷◌, map, ◌≡◌, eqb, drop, get_or, set}
 use Rattle.format.specs.declared.Call.{Call}
-use Rattle.format.specs.Format.{rig_kind, claim_kind, release_kind, withdraw_kind, clock_kind, declaration_kind, set_kind, grace_kind}
-use Rattle.format.specs.Format.{the_kind, the_clock, the_groups, the_length, the_ticket, the_pool, the_units, the_client, the_reserved, the_limit, the_grace, the_count}
+use Rattle.format.specs.Format.{rig_kind, claim_kind, release_kind, withdraw_kind, clock_kind, declaration_kind, grace_kind}
+use Rattle.format.specs.Format.{the_kind, the_clock, the_groups, the_length, the_ticket, the_pool, the_units, the_client, the_reserved, the_limit, the_grace}
 use Rattle.format.specs.Format.{field_widths, field_count, field_width, default, has_kind, fields_of}
 
 -- Each number stands at the place that names its field.
 unfoldable pub numbers : Call → List ℕ
-numbers c = c.kind ∷ c.clock ∷ c.groups ∷ c.length ∷ c.ticket ∷ c.pool ∷ c.units ∷ c.client ∷ c.reserved ∷ c.limit ∷ c.grace ∷ c.count ∷ []
+numbers c = c.kind ∷ c.clock ∷ c.groups ∷ c.length ∷ c.ticket ∷ c.pool ∷ c.units ∷ c.client ∷ c.reserved ∷ c.limit ∷ c.grace ∷ []
 
 -- The number of a field; its default where the list ends before.
 abbrev pub given : List ℕ → ℕ → ℕ
@@ -27,7 +27,6 @@ made ns = record {
   reserved = given ns the_reserved;
   limit = given ns the_limit;
   grace = given ns the_grace;
-  count = given ns the_count;
 }
 
 -- As much of each number as goes into its field's width.
@@ -121,7 +120,3 @@ declaration client reserved limit = call_of 3 declaration_kind (client ∷ reser
 
 abbrev pub grace : ℕ → Call
 grace ticks = call_of 3 grace_kind (ticks ∷ [])
-
--- The call of a set that counts so many members.
-abbrev pub set_call : ℕ → ℕ → ℕ → Call
-set_call clock client count = call_of 3 set_kind (clock ∷ client ∷ count ∷ [])

@@ -1,7 +1,7 @@
 -- The load format as one table: document 01, "The load", and editions 2 and 3 of document 02. Reader, writer and round trip are driven by
 -- it. An edition and a kind are rows of `format`; a field is a name and a width here, and a number of a call (specs/Calls). Quotations are
 -- from document 01, of editions 2 and 3 from document 02.
-use Rattle.std.specs.Prelude.{ℕ, zero, suc, ◌+◌, ◌*◌, min, Bool, false, ◌&&◌, ◌||◌, cond, List, [], ◌∷◌, ◌++◌, map, ◌≡◌, eqb, length, drop, get_or}
+use Rattle.std.specs.Prelude.{ℕ, zero, suc, ◌+◌, ◌*◌, min, Bool, false, ◌&&◌, ◌||◌, cond, List, [], ◌∷◌, ◌++◌, map, eqb, length, drop, get_or}
 use Rattle.numerals.specs.Texts.{bytes}
 
 -- ── kinds ──
@@ -23,10 +23,6 @@ clock_kind = 5
 -- (document 02: desk)
 abbrev pub declaration_kind : ℕ
 declaration_kind = 6
-
--- (document 02: cues that start together)
-abbrev pub set_kind : ℕ
-set_kind = 7
 
 abbrev pub grace_kind : ℕ
 grace_kind = 8
@@ -68,14 +64,10 @@ the_limit = 9
 abbrev pub the_grace : ℕ
 the_grace = 10
 
--- How many members stand behind the fields.
-abbrev pub the_count : ℕ
-the_count = 11
-
 -- Their widths in bytes, in that order: kind 1, clock 8, groups 8, length 4, ticket 2, pool 2, units 2, client 1, reserved 1, limit 1,
--- grace 4, count 1.
+-- grace 4.
 unfoldable pub field_widths : List ℕ
-field_widths = 1 ∷ 8 ∷ 8 ∷ 4 ∷ 2 ∷ 2 ∷ 2 ∷ 1 ∷ 1 ∷ 1 ∷ 4 ∷ 1 ∷ []
+field_widths = 1 ∷ 8 ∷ 8 ∷ 4 ∷ 2 ∷ 2 ∷ 2 ∷ 1 ∷ 1 ∷ 1 ∷ 4 ∷ []
 
 abbrev pub field_count : ℕ
 field_count = length field_widths
@@ -86,7 +78,7 @@ field_width f = get_or field_widths f 0
 -- Their values where a record lacks them, in that order: "edition 1 reads as 0 for both" pool and units, and 1 for the client, the only one
 -- of older editions, which "start with desk 1 declared".
 unfoldable pub defaults : List ℕ
-defaults = 0 ∷ 0 ∷ 0 ∷ 0 ∷ 0 ∷ 0 ∷ 0 ∷ 1 ∷ 0 ∷ 0 ∷ 0 ∷ 0 ∷ []
+defaults = 0 ∷ 0 ∷ 0 ∷ 0 ∷ 0 ∷ 0 ∷ 0 ∷ 1 ∷ 0 ∷ 0 ∷ 0 ∷ []
 
 unfoldable pub default : ℕ → ℕ
 default f = get_or defaults f 0
@@ -136,8 +128,6 @@ edition3 =
     ∷ row 3 claim_kind (the_clock ∷ the_groups ∷ the_length ∷ the_units ∷ the_client ∷ [])
     -- "and a kind 6 record of desk, guarantee and limit, a byte each (length 4)"
     ∷ row 3 declaration_kind (the_client ∷ the_reserved ∷ the_limit ∷ [])
-    -- "Edition 3 gains kind 7: clock 8, desk 1, count 1", then the members
-    ∷ row 3 set_kind (the_clock ∷ the_client ∷ the_count ∷ [])
     -- "Edition 3 gains kind 8, the grace in four bytes (length 5), after the rig."
     ∷ row 3 grace_kind (the_grace ∷ [])
     -- the other kinds are edition 1's
@@ -188,34 +178,16 @@ length_in fs = total (map field_width (the_kind ∷ fs))
 unfoldable pub length_of : ℕ → ℕ → ℕ
 length_of e k = cond (has_kind e k) (length_in (fields_of e k)) 0
 
--- ── members ──
--- "then groups 8 and length 4 for each member": the fields of a member, in their order. They have the widths of a call's.
+-- The fields of a member, in their order: its groups and its length. They have the widths of a call's.
 abbrev pub member_fields : List ℕ
 member_fields = the_groups ∷ the_length ∷ []
 
 unfoldable pub member_widths : List ℕ
 member_widths = map field_width member_fields
 
--- A field is among these.
-unfoldable pub has : ℕ → List ℕ → Bool
-has f [] = false
-has f (g ∷ gs) = eqb f g || has f gs
-
--- The kinds with members are those with a field that counts them.
-unfoldable pub has_members : ℕ → ℕ → Bool
-has_members e k = has the_count (fields_of e k)
-
--- These are edition 3's sets alone. (Proved in proofs/Format: only-sets.)
-abbrev pub OnlySets : Type 0
-OnlySets = (e k : ℕ) → has_members e k ≡ (eqb e 3 && eqb k set_kind)
-
--- How many members a record with this count has: none where its kind has none.
-unfoldable pub members_of : ℕ → ℕ → ℕ → ℕ
-members_of e k count = cond (has_members e k) count 0
-
--- "length 11 + 12 × count": the length of a record with this count, its fields and its members.
+-- The length of a record with so many members behind its fields.
 unfoldable pub length_with : ℕ → ℕ → ℕ → ℕ
-length_with e k count = length_of e k + members_of e k count * total member_widths
+length_with e k count = length_of e k + count * total member_widths
 
 -- The least length of a whole record, its two length bytes included. (Two bytes say 65,535 at most.)
 unfoldable pub least_in : List Row → ℕ
@@ -225,10 +197,9 @@ least_in (r ∷ rs) = min (2 + length_in r.fields) (least_in rs)
 unfoldable pub least_length : ℕ
 least_length = least_in format
 
--- The names of the kinds, in ASCII, from kind 0 on. There is no kind 0, and it has no name.
+-- The names of the kinds, in ASCII, from kind 0 on. There is no kind 0 and no kind 7, and they have no name.
 unfoldable pub names : List (List ℕ)
-names =
-    [] ∷ bytes "rig" ∷ bytes "claim" ∷ bytes "release" ∷ bytes "withdraw" ∷ bytes "clock" ∷ bytes "desk" ∷ bytes "set" ∷ bytes "grace" ∷ []
+names = [] ∷ bytes "rig" ∷ bytes "claim" ∷ bytes "release" ∷ bytes "withdraw" ∷ bytes "clock" ∷ bytes "desk" ∷ [] ∷ bytes "grace" ∷ []
 
 -- The name of a kind; none for one that the edition lacks.
 unfoldable pub name_of : ℕ → ℕ → List ℕ

@@ -24,14 +24,11 @@ pub const LIMIT: u8 = 9;
 
 pub const GRACE: u8 = 10;
 
-// How many members stand behind the fields.
-pub const COUNT: u8 = 11;
-
-// How many fields there are, the kind byte included: the numbers of a call.
-pub const NUMBERS: usize = 12;
+// How many there are, the kind byte included.
+pub const COUNT: usize = 11;
 
 // Their widths in bytes.
-pub const WIDTHS: [u8; NUMBERS] = [1, 8, 8, 4, 2, 2, 2, 1, 1, 1, 4, 1];
+pub const WIDTHS: [u8; COUNT] = [1, 8, 8, 4, 2, 2, 2, 1, 1, 1, 4];
 
 // Their values where a record lacks them: 0, but for the client, which is 1.
-pub const DEFAULTS: [u64; NUMBERS] = [0, 0, 0, 0, 0, 0, 0, 1, 0, 0, 0, 0];
+pub const DEFAULTS: [u64; COUNT] = [0, 0, 0, 0, 0, 0, 0, 1, 0, 0, 0];

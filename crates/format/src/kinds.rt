@@ -12,9 +12,6 @@ pub const CLOCK: u8 = 5;
 // Document 02: desk.
 pub const DECLARATION: u8 = 6;
 
-// Document 02: cues that start together.
-pub const SET: u8 = 7;
-
 pub const GRACE: u8 = 8;
 
 // All are below it.

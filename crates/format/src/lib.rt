@@ -1,15 +1,14 @@
 // The load format: the kinds of each edition with their fields and lengths, and a call by its fields. All calls take any values.
 ghost use Rattle.std.specs.Prelude.{◌%◌, ◌^◌, ◌<◌, ◌≡◌, get_or};
-ghost use Rattle.format.specs.Format.{known, has_kind, fields_of, row_of, field_width, has_members, members_of, length_with, least_length};
+ghost use Rattle.format.specs.Format.{known, has_kind, fields_of, row_of, field_width, length_of, least_length};
 ghost use Rattle.format.specs.Calls.{numbers, value_of, fitted, made, with_value, bare, kept, same, Typed};
-ghost use Rattle.format.specs.Records.{carries_with};
+ghost use Rattle.format.specs.Records.{record_of, carries};
 
 pub mod fields;
 pub mod kinds;
 
 // One record of a load: its kind, and a value for each field that some kind has. A field that its kind lacks is 0, but for the client
-// (document 02: desk): a record without one is client 1's. `reserved` is document 02's guarantee; `grace` is the grace in ticks; `count` is
-// how many members stand behind the fields.
+// (document 02: desk): a record without one is client 1's. `reserved` is document 02's guarantee; `grace` is the grace in ticks.
 #[derive(Drop)]
 pub struct Call {
     pub kind: u8,
@@ -23,7 +22,6 @@ pub struct Call {
     pub reserved: u8,
     pub limit: u8,
     pub grace: u32,
-    pub count: u8,
 }
 
 // ---- the rows
@@ -65,7 +63,7 @@ fn edition_2(kind: u8) -> [u8; 8]
     }
 }
 
-// The claim has its client at the end, a client is declared, and there are sets and a grace.
+// The claim has its client at the end, a client is declared, and there is a grace.
 fn edition_3(kind: u8) -> [u8; 8]
     ensures { result ≡ row_of 3 kind }
 {
@@ -94,7 +92,6 @@ fn edition_3(kind: u8) -> [u8; 8]
             0,
             0,
         ],
-        kinds::SET => [fields::CLOCK, fields::CLIENT, fields::COUNT, 0, 0, 0, 0, 0],
         kinds::GRACE => [fields::GRACE, 0, 0, 0, 0, 0, 0, 0],
         _ => [0; 8],
     }
@@ -123,9 +120,9 @@ pub fn field_at(edition: u8, kind: u8, i: usize) -> u8
     row[i]
 }
 
-// The length of a record with a count of members: its kind byte, its fields and its members. 0 for a kind that the edition lacks.
-pub fn length_of(edition: u8, kind: u8, count: u8) -> usize
-    ensures { result ≡ length_with edition kind count }
+// The length of a record: its kind byte and its fields. 0 for a kind that the edition lacks.
+pub fn length_of(edition: u8, kind: u8) -> usize
+    ensures { result ≡ length_of edition kind }
 {
     match edition {
         1 => match kind {
@@ -151,7 +148,6 @@ pub fn length_of(edition: u8, kind: u8, count: u8) -> usize
             kinds::WITHDRAW => 11,
             kinds::CLOCK => 9,
             kinds::DECLARATION => 4,
-            kinds::SET => 11 + 12 * (count as usize),
             kinds::GRACE => 5,
             _ => 0,
         },
@@ -163,27 +159,7 @@ pub fn length_of(edition: u8, kind: u8, count: u8) -> usize
 pub fn has_kind(edition: u8, kind: u8) -> bool
     ensures { result ≡ has_kind edition kind }
 {
-    0 < length_of(edition, kind, 0)
-}
-
-// Whether a kind of an edition has members.
-pub fn has_members(edition: u8, kind: u8) -> bool
-    ensures { result ≡ has_members edition kind }
-{
-    if edition != 3 {
-        return false;
-    }
-    kind == kinds::SET
-}
-
-// How many members a record with a count has: none where its kind has none.
-pub fn members_of(edition: u8, kind: u8, count: u8) -> usize
-    ensures { (result ≡ members_of edition kind count) × (result < 256) }
-{
-    if has_members(edition, kind) {
-        return count as usize;
-    }
-    0
+    0 < length_of(edition, kind)
 }
 
 // The least length of a whole record, its two length bytes included.
@@ -203,7 +179,7 @@ pub fn known(edition: u8) -> bool
 // ---- calls
 // The numbers of a call, each at the place that names its field. Cost: a word is laid out for each; who goes through fields asks once,
 // before.
-pub fn numbers_of(call: Call) -> [u64; fields::NUMBERS]
+pub fn numbers_of(call: Call) -> [u64; fields::COUNT]
     ensures { (result ≡ numbers call) × Typed call }
 {
     [
@@ -218,7 +194,6 @@ pub fn numbers_of(call: Call) -> [u64; fields::NUMBERS]
         call.reserved as u64,
         call.limit as u64,
         call.grace as u64,
-        call.count as u64,
     ]
 }
 
@@ -230,7 +205,7 @@ fn in_eight(number: u64) -> u64
 }
 
 // The call of such numbers: as much of each as goes into its field.
-pub fn made(numbers: [u64; fields::NUMBERS]) -> Call
+pub fn made(numbers: [u64; fields::COUNT]) -> Call
     ensures { result ≡ made (fitted numbers) }
 {
     Call {
@@ -245,7 +220,6 @@ pub fn made(numbers: [u64; fields::NUMBERS]) -> Call
         reserved: (numbers[8] % 256) as u8,
         limit: (numbers[9] % 256) as u8,
         grace: (numbers[10] % 4294967296) as u32,
-        count: (numbers[11] % 256) as u8,
     }
 }
 
@@ -254,7 +228,7 @@ pub fn value_of(call: Call, field: u8) -> u64
     ensures { (result ≡ value_of field call) × (result < 256 ^ field_width field) }
 {
     let numbers = numbers_of(call);
-    if (field as usize) < fields::NUMBERS {
+    if (field as usize) < fields::COUNT {
         return numbers[field as usize];
     }
     0
@@ -299,16 +273,13 @@ pub fn with_value(call: Call, field: u8, value: u64) -> Call
         fields::GRACE => {
             c.grace = (value % 4294967296) as u32;
         }
-        fields::COUNT => {
-            c.count = (value % 256) as u8;
-        }
         _ => {}
     }
     c
 }
 
 // The numbers of a call of a kind with no values: each field is as where a record lacks it.
-pub fn bare_numbers(kind: u8) -> [u64; fields::NUMBERS]
+pub fn bare_numbers(kind: u8) -> [u64; fields::COUNT]
     ensures { (result ≡ numbers (bare kind)) × Typed (bare kind) }
 {
     let mut numbers = fields::DEFAULTS;
@@ -346,7 +317,7 @@ fn same(a: Call, b: Call) -> bool
 {
     let p = numbers_of(a);
     let q = numbers_of(b);
-    let mut f: usize = fields::NUMBERS;
+    let mut f: usize = fields::COUNT;
     while 0 < f {
         f -= 1;
         if p[f] != q[f] {
@@ -356,17 +327,13 @@ fn same(a: Call, b: Call) -> bool
     true
 }
 
-// Whether an edition can carry a call with so many members: it has the kind, every field that it lacks is as in `bare`, and the call counts
-// as many members.
-pub fn carries(edition: u8, call: Call, members: usize) -> bool
-    ensures { result ≡ carries_with edition call members }
+// Whether an edition can carry a call, as a record without members: it has the kind, and every field that it lacks is as in `bare`.
+pub fn carries(edition: u8, call: Call) -> bool
+    ensures { result ≡ carries edition (record_of call) }
 {
     if !has_kind(edition, call.kind) {
         return false;
     }
     let k = kept(edition, call);
-    if !same(k, call) {
-        return false;
-    }
-    members == members_of(edition, call.kind, call.count)
+    same(k, call)
 }

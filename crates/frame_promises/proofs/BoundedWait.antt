@@ -18,7 +18,7 @@ use Rattle.rules.proofs.Bools.{by-test, by_order, both_ways, clash}
 use Rattle.rules.proofs.Lists.{Each, here, none, any_false, any-cong, any-map, keep-e, keep-map, snoc-each, map-id, map-e, map-i, map_each, map-cong, ascends-unmap}
 use Rattle.frames.specs.declared.Claim.{Claim}
 use Rattle.frames.specs.Rows.{on, named, rival, contention, row_for, nearer, head_tickets}
-use Rattle.frames.specs.Calls.{Model, Call, claim, release, Step, tests, unchanged, fresh, admit, lacking, remove, step, blank, new}
+use Rattle.frames.specs.Calls.{Model, Call, claim, release, Step, tests, unchanged, fresh, admit, lacking, remove, step, blank, new, after}
 use Rattle.frames.specs.Invariants.{ticket_of, Invariant}
 use Rattle.frames.proofs.Rows.{taken_none, taken-some, row-joins, row-bound, head-ascends, head-i, head-e, head-named, behind-head, turned-cases}
 use Rattle.frames.proofs.Calls.{Admissible, Releasable, step-cases, step-number, new-cases, admit-invariant, remove-invariant, blank-invariant}
@@ -470,3 +470,9 @@ bounded-wait = bounded-wait-of step told
 pub new-tested : NewTested
 unfolding first_number
 new-tested rig = new-cases (λ (s : Step). NewNumber rig s.answer.number) rig (λ e. rw e) (λ e. rw e)
+
+-- The rules' own name for the table after a list of calls.
+pub table-after : (m : Model) (cs : List Call) → table_after step m cs ≡ after m cs
+unfolding table_after after
+table-after m [] = refl
+table-after m (c ∷ cs) = table-after (step m c).model cs

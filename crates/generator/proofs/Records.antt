@@ -15,7 +15,6 @@ use Rattle.format.specs.Records.{record_of}
 use Rattle.load.specs.Bytes.{call_bytes}
 use Rattle.load.specs.Reading.{agree}
 use Rattle.format.proofs.Calls.{kind-of-call, typed_call, call-keeps}
-use Rattle.format.proofs.Format.{no-members-edition}
 use Rattle.format.proofs.Records.{call-carried}
 use Rattle.load.proofs.Bytes.{call_length}
 use Rattle.load.proofs.Loads.{Sound}
@@ -24,7 +23,7 @@ use Rattle.generator.specs.Workload.{all_groups}
 
 -- ── by their fields ──
 abbrev call_with : ℕ → ℕ → ℕ → ℕ → ℕ → Call
-call_with k t g n j = record { kind = k; clock = t; groups = g; length = n; ticket = j; pool = 0; units = 0; client = 1; reserved = 0; limit = 0; grace = 0; count = 0 }
+call_with k t g n j = record { kind = k; clock = t; groups = g; length = n; ticket = j; pool = 0; units = 0; client = 1; reserved = 0; limit = 0; grace = 0 }
 
 pub record ByFields : Type 0 where
   pub bare : (k : ℕ) → bare k ≡ call_with k 0 0 0 0
@@ -39,15 +38,15 @@ by-fields = record { bare = λ k. refl; rig = λ g. refl; claim = λ t g n. refl
 -- So the code makes them, from a bare call.
 module _ (b : Call) where
   pub rig-is : (g : ℕ) → b ≡ bare 1
-      → ◌≡◌ {A = Call} (record { kind = b.kind; clock = b.clock; groups = g; length = b.length; ticket = b.ticket; pool = b.pool; units = b.units; client = b.client; reserved = b.reserved; limit = b.limit; grace = b.grace; count = b.count }) (rig g)
+      → ◌≡◌ {A = Call} (record { kind = b.kind; clock = b.clock; groups = g; length = b.length; ticket = b.ticket; pool = b.pool; units = b.units; client = b.client; reserved = b.reserved; limit = b.limit; grace = b.grace }) (rig g)
   rig-is g e = rw (e ∙ by-fields.bare 1) (sym (by-fields.rig g))
 
   pub claim-is : (t g n : ℕ) → b ≡ bare 2
-      → ◌≡◌ {A = Call} (record { kind = b.kind; clock = t; groups = g; length = n; ticket = b.ticket; pool = b.pool; units = b.units; client = b.client; reserved = b.reserved; limit = b.limit; grace = b.grace; count = b.count }) (claim t g n)
+      → ◌≡◌ {A = Call} (record { kind = b.kind; clock = t; groups = g; length = n; ticket = b.ticket; pool = b.pool; units = b.units; client = b.client; reserved = b.reserved; limit = b.limit; grace = b.grace }) (claim t g n)
   claim-is t g n e = rw (e ∙ by-fields.bare 2) (sym (by-fields.claim t g n))
 
   pub release-is : (t j : ℕ) → b ≡ bare 3
-      → ◌≡◌ {A = Call} (record { kind = b.kind; clock = t; groups = b.groups; length = b.length; ticket = j; pool = b.pool; units = b.units; client = b.client; reserved = b.reserved; limit = b.limit; grace = b.grace; count = b.count }) (release t j)
+      → ◌≡◌ {A = Call} (record { kind = b.kind; clock = t; groups = b.groups; length = b.length; ticket = j; pool = b.pool; units = b.units; client = b.client; reserved = b.reserved; limit = b.limit; grace = b.grace }) (release t j)
   release-is t j e = rw (e ∙ by-fields.bare 3) (sym (by-fields.release t j))
 
 -- ── what they do ──
@@ -88,8 +87,8 @@ module _ (k : ℕ) (vs : List ℕ) (n : ℕ) (s : Shape k (length vs) n) where
   unfolding numbers field_widths
   sound first p t g l j e hk ht hg hl hj = record {
     place = ap (λ (x : ℕ). agree (eqb x 1) first) (kind-of-call 1 k vs) ∙ p;
-    carried = call-carried 1 (call_of 1 k vs) (no-members-edition 1 (call_of 1 k vs).kind (λ z. omega arith)) ∙ call-keeps 1 k vs (sym s.fields) s.kind;
-    typed = (subst Typed (sym e) (typed_call (call_with k t g l j) (hk, (ht, (hg, (hl, (hj, (omega arith, (omega arith, (omega arith, (omega arith, (omega arith, (omega arith, (omega arith, tt))))))))))))), tt);
+    carried = call-carried 1 (call_of 1 k vs) ∙ call-keeps 1 k vs (sym s.fields) s.kind;
+    typed = (subst Typed (sym e) (typed_call (call_with k t g l j) (hk, (ht, (hg, (hl, (hj, (omega arith, (omega arith, (omega arith, (omega arith, (omega arith, (omega arith, tt)))))))))))), tt);
   }
 
 pub rig-length : (g : ℕ) → length (call_bytes 1 (rig g)) ≡ 11

@@ -11,10 +11,11 @@ use Rattle.groups.proofs.Groups.{set-under}
 use Rattle.rules.specs.declared.Claim.{Claim}
 use Rattle.rules.specs.Lists.{◌∈◌, keep, least}
 use Rattle.rules.specs.Claims.{on}
-use Rattle.rules.specs.Calls.{Model, Step, new}
+use Rattle.rules.specs.Calls.{Model, Step, asking, claim as claimCall, release as releaseCall, new}
 use Rattle.rules.specs.Invariants.{Invariant}
 use Rattle.rules.proofs.Lists.{here, keep-e, map-e, least_under}
 use Rattle.rules.proofs.Calls.{step-invariant, new-invariant, new-cases}
+use Rattle.table.proofs.Promised.{by_call, issues_few}
 use Rattle.format.specs.declared.Call.{Call}
 use Rattle.format.specs.Format.{format, known, known_in}
 use Rattle.format.specs.Calls.{rig, claim, release}
@@ -27,7 +28,6 @@ use Rattle.load.proofs.RoundTrip.{Good, good-reads}
 use Rattle.lcg.specs.Draws.{state_in}
 use Rattle.replay.specs.Records.{step_of, ending, alone_in, unrigged}
 use Rattle.replay.specs.Replay.{replay_from, replay_in, replay_of}
-use Rattle.replay.proofs.Issuing.{record-issues}
 use Rattle.generator.specs.declared.Draws.{Draws}
 use Rattle.generator.specs.declared.MaybeTicket.{MaybeTicket}
 use Rattle.generator.specs.declared.MaybeTicket.TheVariants.{Ticket, NoTicket}
@@ -68,16 +68,14 @@ record Stands (m : Model) (n : ℕ) : Type 0 where
   pub invariant : Invariant m
   pub issued : m.issued ≤ n
 
-step-stands : (m : Model) (c : Call) (s : Step) (n : ℕ) → step_of true m (record_of c) ≡ s → Invariant s.model → Stands m n → Stands (after_record m c) (suc n)
-step-stands m c s n e i w =
-    let f = subst (λ (x : Step). x.model.issued - m.issued ≤ 1) e (record-issues true m (record_of c)) in
-    subst (λ (x : Step). Stands x.model (suc n)) (sym e) (let g = w.issued in record { invariant = i; issued = omega arith })
+step-stands : (m : Model) (c : Call) (s : Step) (n : ℕ) → step_of true m (record_of c) ≡ s → Invariant s.model → s.model.issued - m.issued ≤ 1 → Stands m n → Stands (after_record m c) (suc n)
+step-stands m c s n e i f w = subst (λ (x : Step). Stands x.model (suc n)) (sym e) (let g = w.issued in record { invariant = i; issued = omega arith })
 
 claim-stands : (m : Model) (t g l n : ℕ) → Stands m n → Stands (after_record m (claim t g l)) (suc n)
-claim-stands m t g l n w = step-stands m (claim t g l) _ n (claim-does m t g l) (step-invariant m _ w.invariant) w
+claim-stands m t g l n w = step-stands m (claim t g l) _ n (claim-does m t g l) (step-invariant m _ w.invariant) (issues_few (by_call (claimCall t (asking g l)))) w
 
 release-stands : (m : Model) (t k n : ℕ) → Stands m n → Stands (after_record m (release t k)) (suc n)
-release-stands m t k n w = step-stands m (release t k) _ n (release-does m t k) (step-invariant m _ w.invariant) w
+release-stands m t k n w = step-stands m (release t k) _ n (release-does m t k) (step-invariant m _ w.invariant) (issues_few (by_call (releaseCall t k))) w
 
 -- ── records ──
 -- Records of n claims that may follow a rig.

@@ -3,4 +3,3 @@ pub mod Lines
 pub mod PlayersCall
 pub mod RecordLoop
 pub mod Sizes
-pub mod Tickets

@@ -15,11 +15,11 @@ use Rattle.table.specs.Valid.{Valid}
 use Rattle.table.specs.Outcomes.{outcome}
 use Rattle.table.proofs.Promised.{outcome-model, outcome-grants, granted-few}
 use Rattle.format.specs.declared.Call.{Call}
-use Rattle.format.specs.Records.{Record}
+use Rattle.format.specs.Records.{Record, record_of}
 use Rattle.load.specs.declared.Item.TheVariants as item
 use Rattle.load.specs.declared.Item.TheVariants.{End, Refused}
-use Rattle.load.specs.Reading.{item_at, record_at, walk, open_number}
-use Rattle.load.proofs.Reading.{walk-record, walk_end, walk_refused, step-refused}
+use Rattle.load.specs.Reading.{item_at, walk, open_number}
+use Rattle.load.proofs.Reading.{walk_call, walk_end, walk_refused, step-refused}
 use Rattle.replay.specs.Records.{alone_in, step_of, ending, unrigged}
 use Rattle.replay.specs.StopLine.{stop_line}
 use Rattle.replay.proofs.Records.{record-promised, ends_as, Reached, reached-start, reached-more, first-table}
@@ -54,14 +54,14 @@ module _ (s : List ℕ) (alone : Bool) (at : ℕ) (m : Model) (k : ℕ) where
   unfolding lines_of lines_from
   lines-refused n e = rw (walk_refused s at n e) (stop-some n k [] (λ z. omega (arith, step-refused s at n e)))
 
-  module _ (c : Call) (next : ℕ) (e : item_at s at ≡ item.Record c next) (o : Outcome) (p : o ≡ outcome (step_of alone m (record_at s at c))) (n : ℕ) (q : n ≡ ending k o.number) where
+  module _ (c : Call) (next : ℕ) (e : item_at s at ≡ item.Record c next) (o : Outcome) (p : o ≡ outcome (step_of alone m (record_of c))) (n : ℕ) (q : n ≡ ending k o.number) where
     lines-stop : (n ≡ 0 → ⊥) → lines_of alone k m (walk s at) ≡ stop_line n k
     unfolding lines_of lines_from
-    lines-stop z = rw (walk-record s at c next e, sym (ends_as alone m (record_at s at c) o p k n q)) (stop-some n k _ z)
+    lines-stop z = rw (walk_call s at c next e, sym (ends_as alone m (record_of c) o p k n q)) (stop-some n k _ z)
 
     lines-record : n ≡ 0 → lines_of alone k m (walk s at) ≡ shown k o ++ lines_of alone (k + 1) (model o.table) (walk s next)
     unfolding lines_of lines_from
-    lines-record z = rw (walk-record s at c next e, sym (ends_as alone m (record_at s at c) o p k n q), outcome-model o (step_of alone m (record_at s at c)) p, sym (entry-is alone m (record_at s at c) o p k)) (stop-none n k _ z)
+    lines-record z = rw (walk_call s at c next e, sym (ends_as alone m (record_of c) o p k n q), outcome-model o (step_of alone m (record_of c)) p, sym (entry-is alone m (record_of c) o p k)) (stop-none n k _ z)
 
   module _ (o₀ : List ℕ) (at₀ : ℕ) (w out : List ℕ) (n : ℕ) (g : Going o₀ at₀ w out n (lines_of alone k m (walk s at))) where
     pub run_end : item_at s at ≡ End → Put o₀ at₀ w n out
@@ -70,7 +70,7 @@ module _ (s : List ℕ) (alone : Bool) (at : ℕ) (m : Model) (k : ℕ) where
     pub run-refused : (x r : ℕ) (p : List ℕ) → item_at s at ≡ Refused x → Put out n (stop_line x k) r p → Put o₀ at₀ w r p
     run-refused x r p e z = going-last o₀ at₀ w out n (stop_line x k) p r (going-as o₀ at₀ w out n _ _ (lines-refused x e) g) z
 
-    module _ (c : Call) (next : ℕ) (e : item_at s at ≡ item.Record c next) (o : Outcome) (h : o ≡ outcome (step_of alone m (record_at s at c))) (x : ℕ) (q : x ≡ ending k o.number) (r : ℕ) (p : List ℕ) where
+    module _ (c : Call) (next : ℕ) (e : item_at s at ≡ item.Record c next) (o : Outcome) (h : o ≡ outcome (step_of alone m (record_of c))) (x : ℕ) (q : x ≡ ending k o.number) (r : ℕ) (p : List ℕ) where
       pub run-stop : (x ≡ 0 → ⊥) → Put out n (stop_line x k) r p → Put o₀ at₀ w r p
       run-stop y z = going-last o₀ at₀ w out n (stop_line x k) p r (going-as o₀ at₀ w out n _ _ (lines-stop c next e o h x q y) g) z
 
@@ -91,7 +91,7 @@ turn-start s alone o from r h k e v =
     }
 
 pub turn_more : (s : List ℕ) (alone : Bool) (o₀ : List ℕ) (from : ℕ) (out : List ℕ) (t : Table) (at k n : ℕ) → Turn s alone o₀ from out t at k n → length s ≤ 65536
-    → (c : Call) (next : ℕ) → item_at s at ≡ item.Record c next → (o : Outcome) → o ≡ outcome (step_of alone (model t) (record_at s at c)) → Valid o.table
+    → (c : Call) (next : ℕ) → item_at s at ≡ item.Record c next → (o : Outcome) → o ≡ outcome (step_of alone (model t) (record_of c)) → Valid o.table
     → (x : ℕ) → x ≡ ending k o.number → x ≡ 0 → (r : ℕ) (p : List ℕ) → Put out n (shown k o) r p → Turn s alone o₀ from p o.table next (k + 1) r
 turn_more s alone o₀ from out t at k n u l c next e o h v x q y r p z =
     record {

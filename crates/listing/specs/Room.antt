@@ -1,5 +1,5 @@
--- Room that the listing of every load of n bytes goes into (proofs/Sizes, `listing-bounded`): the header and a stop line, and a line and an
--- `on` line for each least_length bytes. A record has so many bytes, and a set's as many more for each member, which may add an `on` line.
+-- Room that the listing of every load of n bytes goes into (proofs/Sizes, `listing-bounded`): the header and a stop line, and for each
+-- record, of which there are n / least_length at most, a line and an `on` line.
 use Rattle.std.specs.Prelude.{cond, ℕ, ◌+◌, ◌*◌, ◌/◌, ltb}
 use Rattle.numbers.specs.Numbers.{most_bytes}
 use Rattle.format.specs.Format.{least_length}

@@ -1,10 +1,9 @@
 -- The listing that document 01 prints, those of case 15 of its "Plots to try" and of a dark rig, and some of editions 2 and 3, as one table of
 -- loads and texts. proofs/AllSamples has the theorem that covers the table.
-use Rattle.std.specs.Prelude.{List, [], ◌∷◌, ◌++◌, ℕ, replicate}
+use Rattle.std.specs.Prelude.{List, [], ◌∷◌, ◌++◌, ℕ}
 use Rattle.numerals.specs.Texts.{bytes}
-use Rattle.format.specs.Calls.{rig, claim, release, withdraw, clock, rig_with, claim_with, claim_from, declaration, grace}
-use Rattle.format.specs.Records.{member, record_of, set_record}
-use Rattle.load.specs.Bytes.{load_bytes, load_of}
+use Rattle.format.specs.Calls.{rig, claim, release, clock, rig_with, claim_with, claim_from, declaration, grace}
+use Rattle.load.specs.Bytes.{load_of}
 use Rattle.listing.specs.Lines.{header}
 use Rattle.listing.specs.Text.{listing_of}
 
@@ -79,38 +78,7 @@ samples =
     ++ bytes "10 0 4 27\n"
     ++ bytes "11 0 1 13\n"
     ++ bytes "on 2 13\n")
-    -- edition 3 with sets: two members behind different holders start at the later end; two that start at once; one member, nine, and two that
-    -- share a group; the holders released, and the set granted whole; a set behind it, withdrawn whole by its second member
-    ∷ sample
-    (load_bytes 3 (record_of (rig_with 0xF 0) ∷ record_of (declaration 1 64 64) ∷ record_of (claim_from 0 0x1 10 0 1) ∷ record_of (claim_from 0 0x2 20 0 1)
-    ∷ set_record 0 1 (member 0x1 5 ∷ member 0x2 7 ∷ []) ∷ set_record 0 1 (member 0x4 5 ∷ member 0x8 7 ∷ [])
-    ∷ set_record 0 1 (member 0x4 5 ∷ []) ∷ set_record 0 1 (replicate 9 (member 0x4 5)) ∷ set_record 0 1 (member 0x4 5 ∷ member 0xC 7 ∷ [])
-    ∷ record_of (release 9 2) ∷ record_of (release 10 1) ∷ set_record 10 1 (member 0x1 3 ∷ member 0x2 3 ∷ []) ∷ record_of (withdraw 11 8)
-    ∷ record_of (withdraw 11 7) ∷ []))
-    (bytes "1 0 0 0\n"
-    ++ bytes "2 0 0 0\n"
-    ++ bytes "3 0 1 0\n"
-    ++ bytes "on 1 0\n"
-    ++ bytes "4 0 2 0\n"
-    ++ bytes "on 2 0\n"
-    ++ bytes "5 0 3 20\n"
-    ++ bytes "6 0 5 0\n"
-    ++ bytes "on 5 0\n"
-    ++ bytes "on 6 0\n"
-    ++ bytes "7 22 0 0\n"
-    ++ bytes "8 22 0 0\n"
-    ++ bytes "9 23 0 0\n"
-    ++ bytes "10 0 2 9\n"
-    ++ bytes "11 0 1 10\n"
-    ++ bytes "on 3 10\n"
-    ++ bytes "on 4 10\n"
-    ++ bytes "12 0 7 17\n"
-    ++ bytes "13 0 8 11\n"
-    ++ bytes "14 8 0 0\n")
-    -- edition 2 has no kinds 7 and 8
-    ∷ sample (load_of 2 (rig_with 0xF 0 ∷ []) ++ (0x00 ∷ 0x0B ∷ 0x07 ∷ replicate 10 0x00))
-    (bytes "1 0 0 0\n"
-    ++ bytes "stop 13 2\n")
+    -- edition 2 has no kind 8
     ∷ sample (load_of 2 (rig_with 0xF 0 ∷ []) ++ (0x00 ∷ 0x05 ∷ 0x08 ∷ 0x00 ∷ 0x00 ∷ 0x00 ∷ 0x05 ∷ []))
     (bytes "1 0 0 0\n"
     ++ bytes "stop 13 2\n")

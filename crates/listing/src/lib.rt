@@ -88,19 +88,6 @@ fn records(load: &[u8], out: &mut [u8], from: usize) -> usize
                     kinds::DECLARATION => {
                         o = table::declare(o.table, call.client, call.reserved, call.limit);
                     }
-                    kinds::SET => {
-                        let set = replay::members_at(load, at, call);
-                        let groups = set.groups;
-                        let lengths = set.lengths;
-                        o = table::claim_set(
-                            o.table,
-                            call.clock,
-                            call.client,
-                            set.count,
-                            groups,
-                            lengths,
-                        );
-                    }
                     kinds::GRACE => {
                         o = table::set_grace(o.table, call.grace);
                     }
@@ -138,8 +125,7 @@ fn run(load: &[u8], out: &mut [u8]) -> usize
     records(load, out, n)
 }
 
-// Room that the listing of every load of a size goes into: the header and a stop line, and a line and an `on` line for each record and for
-// each member of a set.
+// Room that the listing of every load of a size goes into: the header and a stop line, and for each record a line and an `on` line.
 fn room_for(size: usize) -> usize
     ensures { result ≡ room_for size }
 {

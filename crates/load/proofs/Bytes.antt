@@ -1,24 +1,24 @@
 -- Fields written at their widths and read at them, and the lengths of records and loads.
 use Prim.Native.Nat.{ℕ, zero, suc, ◌+◌, ◌*◌, ◌^◌, ◌≤◌, ◌<◌}
-use mathlib.Core.Bool.{true, cond}
+use mathlib.Core.Bool.{true}
 use mathlib.Core.List.{List, [], ◌∷◌, ◌++◌, map, append_assoc, append-nil}
 use mathlib.Core.Path.{◌≡◌, refl, sym, ap, ◌∙◌}
 use native.Mathlib.Omega.{arith}
-use lib.Dec.{ltb, eqb, leb-suc-suc}
-use borrow.Author.Tests.{lt-ltb, le-ltb, eqb-true}
+use lib.Dec.{eqb}
+use borrow.Author.Tests.{eqb-true}
 use lib.ListN.{length, take, drop, get_or, length-append, length-drop}
-use lib.Seq.{take_at, drop_at, take-add, get_or-drop, drop-drop}
+use lib.Seq.{take_at, drop_at, take-add, get_or-drop}
 use Rattle.numerals.proofs.BigEndian.{digits-length, numeral-digits, digits-numeral, numeral-below}
 use Rattle.format.specs.declared.Call.{Call}
 use Rattle.format.specs.Format.{field_widths, field_width, has_kind, fields_of, widths, total, length_of, member_widths, length_with}
 use Rattle.format.specs.Calls.{numbers, value_of, values_in, values_of, keeps, Typed}
-use Rattle.format.specs.Records.{Member, Record, member, member_values, member_of, TypedMembers, carries}
-use Rattle.load.specs.Bytes.{numeral, digits, big, field_bytes, field_values, members_bytes, members_read, record_bytes, records_bytes, load_bytes, call_bytes, calls_bytes}
+use Rattle.format.specs.Records.{Member, Record, record_of, member_values, TypedMembers}
+use Rattle.load.specs.Bytes.{big, field_bytes, field_values, members_bytes, members_read, record_bytes, records_bytes, load_bytes, call_bytes, calls_bytes}
 use Rattle.load.specs.Reading.{edition_of}
 use Rattle.load.specs.RoundTrip.{Bytes}
-use Rattle.format.proofs.Format.{either, has, length-total}
-use Rattle.format.proofs.Calls.{keeps-kind, keeps-none, default-typed}
-use Rattle.format.proofs.Records.{carries-parts}
+use Rattle.format.proofs.Format.{either, has}
+use Rattle.format.proofs.Calls.{keeps-none, default-typed}
+use Rattle.format.proofs.Records.{with-total, with_none}
 
 -- ── fields ──
 -- Each value goes into its width.
@@ -88,7 +88,7 @@ fits-typed e c k h t (suc f) =
     (λ p. rw (keeps-none e c f h p) (default-typed (suc f)))
 
 -- ── members ──
-pub members-length : (ms : List Member) → length (members_bytes ms) ≡ length ms * total member_widths
+members-length : (ms : List Member) → length (members_bytes ms) ≡ length ms * total member_widths
 unfolding members_bytes member_widths total field_width field_widths
 members-length [] = refl
 members-length (m ∷ ms) =
@@ -126,40 +126,20 @@ unfolding members_read
 members-many zero bs = refl
 members-many (suc n) bs = ap suc (members-many n (drop (total member_widths) bs))
 
--- Member i of so many.
-pub member-read : (n : ℕ) (bs : List ℕ) (i : ℕ) → get_or (members_read n bs) i (member 0 0) ≡ member_of (field_values member_widths (cond (ltb i n) (drop (i * total member_widths) bs) []))
-unfolding members_read member_widths total field_width field_widths field_values numeral
-member-read zero bs i = rw (le-ltb i 0 (omega arith))
-member-read (suc n) bs zero = rw (lt-ltb 0 (suc n) (omega arith))
-member-read (suc n) bs (suc i) =
-    let e : suc i * 12 ≡ 12 + i * 12 = omega arith in
-    member-read n (drop 12 bs) i ∙ rw (drop-drop (i * 12) 12 bs, e, leb-suc-suc (suc i) n)
-
 -- ── records ──
--- A record is what stands before its members, and they.
-pub record-parts : (e : ℕ) (r : Record) → record_bytes e r ≡ call_bytes e r.call ++ members_bytes r.members
-unfolding record_bytes members_bytes digits
-record-parts e r =
-    let fs = field_bytes (widths e r.call.kind) (values_of e r.call) in
-    rw (append-nil fs)
+pub record-length : (e : ℕ) (r : Record) → has_kind e r.call.kind ≡ true → length (record_bytes e r) ≡ 2 + length_with e r.call.kind (length r.members)
+unfolding record_bytes
+record-length e r h =
+    let t = with-total e r.call.kind (length r.members) h in
+    simp (length-append, digits-length, field-bytes-length, members-length) (omega arith)
 
 -- Of a call without members.
-pub call-bytes : (e : ℕ) (c : Call) → call_bytes e c ≡ big 2 (length_with e c.kind c.count) ++ (c.kind ∷ field_bytes (widths e c.kind) (values_of e c))
+pub call-bytes : (e : ℕ) (c : Call) → call_bytes e c ≡ big 2 (length_of e c.kind) ++ (c.kind ∷ field_bytes (widths e c.kind) (values_of e c))
 unfolding record_bytes members_bytes
-call-bytes e c = rw (append-nil (field_bytes (widths e c.kind) (values_of e c)))
+call-bytes e c = rw (with_none e c.kind, append-nil (field_bytes (widths e c.kind) (values_of e c)))
 
 pub call_length : (e : ℕ) (c : Call) → has_kind e c.kind ≡ true → length (call_bytes e c) ≡ 2 + length_of e c.kind
-call_length e c h =
-    let t = length-total e c.kind h in
-    rw (call-bytes e c) (simp (length-append, digits-length, field-bytes-length) (omega arith))
-
--- A record that an edition carries is as long as its call tells.
-pub record-length : (e : ℕ) (r : Record) → carries e r ≡ true → length (record_bytes e r) ≡ 2 + length_with e r.call.kind r.call.count
-unfolding length_with
-record-length e r h =
-    let p = carries-parts e r h in
-    let l = call_length e r.call (keeps-kind e r.call p.0) in
-    rw (record-parts e r) (simp (length-append, members-length) (rw p.1 (omega arith)))
+call_length e c h = record-length e (record_of c) h ∙ ap (λ (n : ℕ). 2 + n) (with_none e c.kind)
 
 pub record-some : (e : ℕ) (r : Record) → 2 < length (record_bytes e r)
 unfolding record_bytes

@@ -1,22 +1,18 @@
 -- The fields of a row in bytes, as the code goes through them: what is left from place i on gives the same as the whole.
 use Prim.Native.Nat.{ℕ, ◌+◌, ◌*◌, ◌^◌, ◌≤◌, ◌<◌, min}
 use mathlib.Core.List.{List, map}
-use mathlib.Core.Bool.{true, false}
-use mathlib.Core.Path.{◌≡◌, refl, sym, ◌∙◌}
+use mathlib.Core.Path.{◌≡◌, refl, ◌∙◌}
 use native.Mathlib.Omega.{arith}
-use lib.Dec.{eqb}
-use borrow.Author.Tests.{eqb-true}
-use lib.ListN.{length, take, drop, get_or, set, length-set, drop_of_length-le}
+use lib.ListN.{length, take, drop, get_or, set, length-set}
 use lib.Seq.{drop-drop}
 use Rattle.numerals.specs.Digits.{bytes_at}
 use Rattle.format.specs.declared.Call.{Call}
-use Rattle.numerals.proofs.BigEndian.{numeral-byte}
-use Rattle.format.specs.Format.{set_kind, the_count, field_widths, field_count, field_width, defaults, default, format, row_in, fields_of, widths, has_members}
-use Rattle.format.specs.Calls.{numbers, made, value_of, with_value, bare, filled, call_of, values_in, Typed}
-use Rattle.format.proofs.Format.{both, fields-proper, fields-few, place-under, only-sets}
-use Rattle.format.proofs.Calls.{with-made, typed-with, lacked}
+use Rattle.format.specs.Format.{field_widths, field_count, field_width, fields_of, widths}
+use Rattle.format.specs.Calls.{numbers, made, bare, filled, call_of, values_in, Typed}
+use Rattle.format.proofs.Format.{fields-proper, fields-few, place-under}
+use Rattle.format.proofs.Calls.{with-made, typed-with}
 use Rattle.format.proofs.Rows.{left, row_more, row_next}
-use Rattle.load.specs.Bytes.{numeral, big_value, field_bytes, field_values}
+use Rattle.load.specs.Bytes.{big_value, field_bytes, field_values}
 
 abbrev pub read_left : ℕ → ℕ → ℕ → List ℕ → Call → Call
 read_left e k i bs c = filled (left e k i) (field_values (map field_width (left e k i)) bs) c
@@ -57,22 +53,3 @@ module _ (e k i f : ℕ) (s : f ≡ get_or (fields_of e k) i 0) (z : f ≡ 0 →
         typed = rw d (typed-with f v (made ns) b (rw (← u.0) p.1) r.typed);
         call = rw (d, x, u.0, ← (drop-drop (field_width f) at bs)) (rw (row_next e k i f s z) at r.call);
       }
-
--- ── the count of members ──
--- 0 in a kind without members; else the tenth byte behind the kind byte.
-pub count_none : (e k : ℕ) (vs : List ℕ) → has_members e k ≡ false → 0 ≡ (call_of e k vs).count
-unfolding has_members value_of numbers defaults default
-count_none e k vs h = sym (lacked e k vs the_count (omega arith) h)
-
-count-byte : (e k : ℕ) (bs : List ℕ) → has_members e k ≡ true → big_value (take 1 (drop 9 bs)) ≡ (call_of e k (field_values (widths e k) bs)).count
-unfolding fields_of row_in format widths field_width field_widths field_values call_of filled with_value made numbers bare defaults default
-count-byte e k bs h =
-    let q = both (eqb e 3) (eqb k set_kind) (sym (only-sets e k) ∙ h) in
-    rw (eqb-true e 3 q.0, eqb-true k set_kind q.1, drop-drop 1 8 bs)
-
-pub count_past : (e k : ℕ) (bs : List ℕ) → has_members e k ≡ true → length bs ≤ 9 → 0 ≡ (call_of e k (field_values (widths e k) bs)).count
-unfolding numeral
-count_past e k bs h l = rw (← (count-byte e k bs h), drop_of_length-le bs {i = 9} l)
-
-pub count-there : (e k : ℕ) (bs : List ℕ) → has_members e k ≡ true → 9 < length bs → get_or bs 9 0 ≡ (call_of e k (field_values (widths e k) bs)).count
-count-there e k bs h l = sym (numeral-byte bs 9 l) ∙ count-byte e k bs h

@@ -11,8 +11,8 @@ use lib.Seq.{drop_at, take-add, drop-cons, drop-drop}
 use Rattle.numerals.specs.Digits.{digits}
 use Rattle.numerals.proofs.BigEndian.{numeral-digits, digits-numeral}
 use Rattle.format.specs.declared.Call.{Call}
-use Rattle.format.specs.Format.{rig_kind, the_count, field_widths, field_width, has_kind, fields_of, widths, total, member_widths, members_of, length_with}
-use Rattle.format.specs.Calls.{numbers, value_of, call_of, values_of, Typed}
+use Rattle.format.specs.Format.{rig_kind, field_width, has_kind, fields_of, widths, total, member_widths, length_with}
+use Rattle.format.specs.Calls.{call_of, values_of}
 use Rattle.format.specs.Records.{Member, Record, member_count, TypedRecord, carries}
 use Rattle.format.proofs.Calls.{kind-of-call, values-of-call, call-of-values, call-keeps, keeps-kind}
 use Rattle.format.proofs.Records.{carries-parts, carried, with-total, with-bounded}
@@ -36,11 +36,6 @@ pub data Loadable (e : ℕ) : Bool → List Record → Type 0 where
 
 carried-kind : (e : ℕ) (r : Record) → carries e r ≡ true → has_kind e r.call.kind ≡ true
 carried-kind e r h = keeps-kind e r.call (carries-parts e r h).0
-
--- A count is one byte.
-count-typed : (c : Call) → Typed c → c.count < 256
-unfolding value_of numbers field_width field_widths
-count-typed c t = t the_count
 
 -- ── one record, there and back ──
 module _ (e at : ℕ) (r : Record) (rest : List ℕ) (v : Sound e (eqb at 1) r) where
@@ -69,47 +64,45 @@ module _ (e at : ℕ) (r : Record) (rest : List ℕ) (v : Sound e (eqb at 1) r) 
   record-reads =
       let c = r.call in
       let k = c.kind in
-      let n = length_with e k c.count in
+      let many = (carries-parts e r v.carried).1 in
       let whole = record_bytes e r ++ rest in
-      let l = record-length e r v.carried in
-      let n-is : length_field whole ≡ n = numeral-digits 2 n (omega (arith, with-bounded e k c.count (count-typed c v.typed.0))) in
+      let h = carried-kind e r v.carried in
+      let l = record-length e r h in
+      let b = ap (length_with e k) many in
+      let n : length_field whole ≡ length_with e k (length r.members) = numeral-digits 2 (length_with e k (length r.members)) (omega (arith, b, with-bounded e c v.typed.0)) in
       let a = length-append (record_bytes e r) rest in
-      let i : count_in e whole ≡ c.count = ap (λ (x : Call). x.count) call-reads in
-      let m : misfit e at (length_field whole) (kind_field whole) (count_in e whole) ≡ false = rw (n-is, i) (misfit-none e at k c.count (carried-kind e r v.carried) v.place) in
-      read-record e at whole (omega arith) m ∙ rw (n-is, call-reads, l)
+      let i : count_in e whole ≡ length r.members = ap (member_count e) call-reads ∙ sym many in
+      let m : misfit e at (length_field whole) (kind_field whole) (count_in e whole) ≡ false = rw (n, i) (misfit-none e at k (length r.members) h v.place) in
+      read-record e at whole (omega arith) m ∙ rw (n, call-reads, l)
 
 -- Bytes that are a record.
 abbrev values_read : ℕ → List ℕ → List ℕ
 values_read e bs = field_values (widths e (kind_field bs)) (drop 3 bs)
 
-abbrev many_in : ℕ → List ℕ → ℕ
-many_in e bs = member_count e (call_in e bs)
-
 abbrev record_in : ℕ → List ℕ → Record
-record_in e bs = record { call = call_in e bs; members = members_read (many_in e bs) (drop (total (widths e (kind_field bs))) (drop 3 bs)) }
+record_in e bs = record { call = call_in e bs; members = members_read (count_in e bs) (drop (total (widths e (kind_field bs))) (drop 3 bs)) }
 
 module _ (e at : ℕ) (bs : List ℕ) (s : Bytes bs) (h : 2 + length_field bs ≤ length bs) (m : misfit e at (length_field bs) (kind_field bs) (count_in e bs) ≡ false) where
-  kind-is : (call_in e bs).kind ≡ kind_field bs
-  kind-is = kind-of-call e (kind_field bs) (values_read e bs)
-
   parts : let w = total (widths e (kind_field bs)) in
-      let n = many_in e bs * total member_widths in
+      let n = count_in e bs * total member_widths in
       (has_kind e (kind_field bs) ≡ true) × (length_field bs ≡ suc (w + n)) × (w + n ≤ length (drop 3 bs))
   parts =
       let q = misfit-not e at (length_field bs) (kind_field bs) (count_in e bs) m in
       let t = with-total e (kind_field bs) (count_in e bs) q.0 in
-      let k : many_in e bs ≡ members_of e (kind_field bs) (count_in e bs) = ap (λ (j : ℕ). members_of e j (count_in e bs)) kind-is in
-      (q.0, rw k (q.1 ∙ t), rw k (omega (arith, q.1, t, length-drop 3 bs)))
+      (q.0, q.1 ∙ t, omega (arith, q.1, t, length-drop 3 bs))
 
   many : length (values_read e bs) ≡ length (fields_of e (kind_field bs))
   unfolding widths
   many = values_length (widths e (kind_field bs)) (drop 3 bs) ∙ length-map (fields_of e (kind_field bs)) field_width
 
+  kind-is : (call_in e bs).kind ≡ kind_field bs
+  kind-is = kind-of-call e (kind_field bs) (values_read e bs)
+
   values-are : values_of e (call_in e bs) ≡ values_read e bs
   values-are = values-of-call e (kind_field bs) (values_read e bs) many
 
   -- The members' bytes.
-  members-room : many_in e bs * total member_widths ≤ length (drop (total (widths e (kind_field bs))) (drop 3 bs))
+  members-room : count_in e bs * total member_widths ≤ length (drop (total (widths e (kind_field bs))) (drop 3 bs))
   members-room = omega (arith, length-drop (total (widths e (kind_field bs))) (drop 3 bs), parts.2)
 
   members-bytes : Bytes (drop (total (widths e (kind_field bs))) (drop 3 bs))
@@ -122,15 +115,14 @@ module _ (e at : ℕ) (bs : List ℕ) (s : Bytes bs) (h : 2 + length_field bs �
       let n = length_field bs in
       let w = total (widths e k) in
       let count = count_in e bs in
-      let many = many_in e bs in
       let d = drop 3 bs in
       let ms = (record_in e bs).members in
       let jj = bytes-of-values (widths e k) d (omega (arith, parts.2)) (bytes_drop bs 3 s) in
-      let mm = bytes-of-members many (drop w d) members-room members-bytes in
+      let mm = bytes-of-members count (drop w d) members-room members-bytes in
       let bb : big 2 (length_with e k count) ≡ take 2 bs = ap (big 2) (sym (misfit-not e at n k count m).1) ∙ digits-numeral 2 bs (omega (arith, parts.1)) s in
-      let e2 : take n (drop 2 bs) ≡ k ∷ take (w + many * total member_widths) d = rw (parts.1, drop-cons bs 2 0 (omega (arith, parts.1))) in
-      ap (λ (j : ℕ). big 2 (length_with e j count) ++ (j ∷ field_bytes (widths e j) (values_of e (call_in e bs)) ++ members_bytes ms)) kind-is
-      ∙ rw (values-are, jj, mm, bb) (sym (take-add 2 n bs ∙ ap (λ r. take 2 bs ++ r) (e2 ∙ ap (λ r. k ∷ r) (take-add w (many * total member_widths) d))))
+      let e2 : take n (drop 2 bs) ≡ k ∷ take (w + count * total member_widths) d = rw (parts.1, drop-cons bs 2 0 (omega (arith, parts.1))) in
+      ap (λ (j : ℕ). big 2 (length_with e j (length ms)) ++ (j ∷ field_bytes (widths e j) (values_of e (call_in e bs)) ++ members_bytes ms)) kind-is
+      ∙ rw (values-are, jj, members-many count (drop w d), mm, bb) (sym (take-add 2 n bs ∙ ap (λ r. take 2 bs ++ r) (e2 ∙ ap (λ r. k ∷ r) (take-add w (count * total member_widths) d))))
 
   sound-record : Sound e (eqb at 1) (record_in e bs)
   sound-record =
@@ -142,8 +134,8 @@ module _ (e at : ℕ) (bs : List ℕ) (s : Bytes bs) (h : 2 + length_field bs �
       let b : c.kind < 256 = omega (arith, kind-is, s 2) in
       record {
         place = ap (λ (j : ℕ). agree (eqb j rig_kind) (eqb at 1)) kind-is ∙ (misfit-not e at (length_field bs) k (count_in e bs) m).2;
-        carried = carried e c (record_in e bs).members h (members-many (many_in e bs) _);
-        typed = (fits-typed e c b h g, members-typed (many_in e bs) _ members-room members-bytes);
+        carried = carried e c (record_in e bs).members h (members-many (count_in e bs) _);
+        typed = (fits-typed e c b h g, members-typed (count_in e bs) _ members-room members-bytes);
       }
 
 -- What stands at a position is that record.
@@ -152,7 +144,7 @@ record_is s at c q =
     let e = edition_of s in
     let bs = drop at s in
     let k = kind-of-call e (kind_field bs) (values_read e bs) in
-    let f : ℕ → Record = λ j. record { call = call_in e bs; members = members_read (many_in e bs) (drop (total (widths e j)) (drop 3 bs)) } in
+    let f : ℕ → Record = λ j. record { call = call_in e bs; members = members_read (count_in e bs) (drop (total (widths e j)) (drop 3 bs)) } in
     sym (ap (record_at s at) q) ∙ ap f k
 
 -- ── the bytes of records read as them ──
@@ -166,7 +158,7 @@ walk-good e s first rs (Loadable.one {r = r} {rs = qs} v g) at p q h d =
     let u : Sound e (eqb at 1) r = rw p v in
     let x : item_at s at ≡ item.Record c n = rw (q, d) (record-reads e at r (records_bytes e qs) u) in
     let y : record_at s at c ≡ r = ap (λ (ms : List Member). record { call = c; members = ms }) (rw (q, d) (members-read e at r (records_bytes e qs) u)) in
-    let l = record-length e r v.carried in
+    let l = record-length e r (carried-kind e r v.carried) in
     let t : drop n s ≡ records_bytes e qs = sym (drop-drop (length (record_bytes e r)) at s) ∙ ap (drop (length (record_bytes e r))) d
     ∙ drop_at (record_bytes e r) (records_bytes e qs) (length (record_bytes e r)) refl in
     walk-record s at c n x ∙ ap (λ x. onto x (walk s n)) y ∙ ap (onto r) (walk-good e s false qs g n (ne_eqb n 1 (λ z. omega arith)) q (omega arith) t)
@@ -237,4 +229,4 @@ pub alone : (e : ℕ) (first : Bool) (rs : List Record) → Loadable e first rs 
 unfolding load_bytes records_bytes
 alone e first rs Loadable.none = refl
 alone e first rs (Loadable.one {r = d} {rs = ds} v g) =
-    ne_eqb (length (load_bytes e (d ∷ ds))) 1 (λ z. omega (arith, length-append (record_bytes e d) (records_bytes e ds), record-length e d v.carried))
+    ne_eqb (length (load_bytes e (d ∷ ds))) 1 (λ z. omega (arith, length-append (record_bytes e d) (records_bytes e ds), record-length e d (carried-kind e d v.carried)))

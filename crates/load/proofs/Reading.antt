@@ -1,29 +1,28 @@
 -- Laws of the reader: what stands at a position, by cases; a walk without its count of items; what the tests of a load say.
 use Prim.Native.Nat.{ℕ, zero, suc, ◌+◌, ◌-◌, ◌*◌, ◌/◌, ◌≤◌, ◌<◌}
-use mathlib.Core.Bool.{Bool, true, false, not, ◌||◌}
+use mathlib.Core.Bool.{true, false, not, ◌||◌}
 use mathlib.Core.List.{List, [], ◌∷◌}
-use mathlib.Core.Path.{◌≡◌, refl, sym, ap, subst, ◌∙◌}
+use mathlib.Core.Path.{◌≡◌, refl, sym, ap, ◌∙◌}
 use native.Mathlib.Omega.{arith}
 use native.Mathlib.Nat.{le-div_iff_mul-le, div-le_self}
 use lib.Dec.{ltb, eqb}
 use borrow.Author.Tests.{ltb-false, eqb-true, eqb-false, lt-ltb, le-ltb, eq-eqb, ne_eqb, not-false}
-use lib.ListN.{length, take, drop, get_or, length-drop, length-map, drop_of_length-le}
-use lib.Seq.{get_or-drop, drop-nil, drop-drop, take_all}
+use lib.ListN.{length, take, drop, get_or, length-drop, drop_of_length-le}
+use lib.Seq.{get_or-drop, drop-drop, take_all}
 use Rattle.numbers.specs.Numbers.{or_else}
 use Rattle.format.specs.declared.Call.{Call}
 use Rattle.load.specs.declared.Item.{Item}
 use Rattle.load.specs.declared.Item.TheVariants as item
 use Rattle.load.specs.declared.Item.TheVariants.{End, Refused}
-use Rattle.format.specs.Format.{the_pool, the_units, field_widths, field_width, format, defaults, default, known, has_kind, fields_of, widths, total, member_widths, length_with, least_length}
-use Rattle.format.specs.Calls.{numbers, value_of, call_of, keeps}
-use Rattle.format.specs.Records.{Record, member_count, member_of}
+use Rattle.format.specs.Format.{the_pool, the_units, format, defaults, default, known, has_kind, widths, length_of, length_with, least_length}
+use Rattle.format.specs.Calls.{numbers, value_of, call_of}
+use Rattle.format.specs.Records.{Record, record_of, records_of, calls_of, member_count}
 use Rattle.load.specs.Bytes.{field_values, members_read, load_bytes}
 use Rattle.load.specs.Answers.{item_values}
-use Rattle.load.specs.Reading.{is_in_place, length_field, kind_field, short, misfit, call_in, count_in, read_at, edition_of, members_at, record_at, NoMembers, member_at, member_part, item_at, record_number, record_values, ItemValued, Edition1Bare, OlderClient1, open_number, Walk, ended, onto, walk_in, walk, unless_refused, reading, load_number, MembersCounted, ReadingTested}
-use Rattle.format.proofs.Format.{neither, passed, either, has, all_rows, length-total, least-some}
-use Rattle.format.proofs.Calls.{kind-of-call, call-keeps, older-lacks, older-call-client}
-use Rattle.format.proofs.Records.{members-none, members-kind, members-counted, with-zero, with-total, has-length, with-least}
-use Rattle.load.proofs.Bytes.{values_length, members-many, member-read}
+use Rattle.load.specs.Reading.{is_in_place, length_field, kind_field, short, misfit, call_in, count_in, read_at, edition_of, record_at, NoMembers, item_at, record_number, record_values, ItemValued, Edition1Bare, OlderClient1, open_number, Walk, ended, onto, walk_in, walk, unless_refused, reading, load_number, WalkOfCalls, ReadingTested}
+use Rattle.format.proofs.Format.{neither, passed, either, has, all_rows, least-some}
+use Rattle.format.proofs.Calls.{kind-of-call, older-lacks, older-call-client}
+use Rattle.format.proofs.Records.{with_none, with-total, with-least}
 
 -- ── what stands at a position ──
 pub read-record : (e at : ℕ) (bs : List ℕ) → 2 + length_field bs ≤ length bs → misfit e at (length_field bs) (kind_field bs) (count_in e bs) ≡ false
@@ -101,33 +100,15 @@ pub misfit-none : (e at k count : ℕ) → has_kind e k ≡ true → is_in_place
 unfolding misfit
 misfit-none e at k count h q = rw (h, eq-eqb (length_with e k count) (length_with e k count) refl, q)
 
--- The tests as the code makes them: l is the length that the kind and the count ask for, 0 for a kind that the edition lacks.
-module _ (e at n k count l : ℕ) (p : l ≡ length_with e k count) where
-  pub misfit-lacked : l ≡ 0 → true ≡ misfit e at n k count
-  unfolding misfit
-  misfit-lacked z = rw (has-length e k count ∙ le-ltb 0 (length_with e k count) (omega arith))
-
-  module _ (h : l ≡ 0 → ⊥) where
-    kind-there : has_kind e k ≡ true
-    kind-there = has-length e k count ∙ lt-ltb 0 (length_with e k count) (omega (arith, h))
-
-    pub misfit-long : (n ≡ l → ⊥) → true ≡ misfit e at n k count
-    unfolding misfit
-    misfit-long d = rw (kind-there, ne_eqb n (length_with e k count) (λ z. d (z ∙ sym p)))
-
-    pub misfit-place : n ≡ l → (b : Bool) → b ≡ is_in_place k at → not b ≡ misfit e at n k count
-    unfolding misfit
-    misfit-place d b i = rw (kind-there, eq-eqb n (length_with e k count) (d ∙ p), i)
-
 -- A record of no bytes does not fit.
 pub misfit-empty : (e at n k count : ℕ) → n ≡ 0 → misfit e at n k count ≡ true
 misfit-empty e at n k count z =
     either (misfit e at n k count) (λ m. m) (λ m. let q = misfit-not e at n k count m in absurd (omega (arith, q.1, with-total e k count q.0)))
 
--- A record of a kind without members has none.
+-- No kind so far has members.
 pub no-members : NoMembers
-unfolding members_read
-no-members s at c h = rw (members-none (edition_of s) c.kind c.count h)
+unfolding member_count members_read
+no-members s at c = refl
 
 -- A field that no edition before `first` has reads as its default there.
 older-reads : (f first : ℕ) → 0 < f → all_rows (λ e k fs. not (ltb e first) || not (has f fs)) format ≡ true
@@ -151,78 +132,21 @@ module _ (s : List ℕ) (at : ℕ) where
       rw (ne_eqb (length (drop at s)) 0 (λ e. omega arith), lt-ltb (length (drop at s)) (2 + length_field (drop at s)) (omega arith))
 
   module _ (n : ℕ) (e : n ≡ length_field (drop at s)) (h : 2 + n ≤ length s - at) where
-    refused-13 : misfit (edition_of s) at n (kind_field (drop at s)) (count_in (edition_of s) (drop at s)) ≡ true → Refused 13 ≡ item_at s at
-    unfolding item_at read_at
-    refused-13 m =
+    pub step-misfit : misfit (edition_of s) at n (get_or s (at + 2) 0) 0 ≡ true → Refused 13 ≡ item_at s at
+    unfolding item_at read_at member_count
+    step-misfit m =
         let l = length-drop at s in
         let z = le-ltb (length (drop at s)) (2 + length_field (drop at s)) (omega arith) in
-        rw (ne_eqb (length (drop at s)) 0 (λ z. omega arith), z, ← e, m)
+        rw (ne_eqb (length (drop at s)) 0 (λ z. omega arith), z, ← e, get_or-drop at s 2 0, m)
 
-    -- A record of no bytes, whatever comes after it.
-    pub step-empty : n ≡ 0 → Refused 13 ≡ item_at s at
-    step-empty z = refused-13 (misfit-empty _ _ _ _ _ z)
-
-    -- The call that the bytes behind the kind byte say, as the code takes them.
-    abbrev call_there : Call
-    call_there = call_of (edition_of s) (get_or s (at + 2) 0) (field_values (widths (edition_of s) (get_or s (at + 2) 0)) (take (length s - (at + 3)) (drop (at + 3) s)))
-
-    there-is : call_in (edition_of s) (drop at s) ≡ call_there
-    there-is =
+    pub step-record : (r : Call) → misfit (edition_of s) at n (get_or s (at + 2) 0) 0 ≡ false
+        → r ≡ call_of (edition_of s) (get_or s (at + 2) 0) (field_values (widths (edition_of s) (get_or s (at + 2) 0)) (take (length s - (at + 3)) (drop (at + 3) s)))
+        → item.Record r (at + (2 + n)) ≡ item_at s at
+    unfolding item_at member_count
+    step-record r m p =
+        let l = length-drop at s in
         let t = take_all (length s - (at + 3)) (drop (at + 3) s) (omega (arith, length-drop (at + 3) s)) in
-        rw (get_or-drop at s 2 0, drop-drop 3 at s, t)
-
-    -- x is its count.
-    module _ (x : ℕ) (p : x ≡ call_there.count) where
-      tested-is : misfit (edition_of s) at n (get_or s (at + 2) 0) x ≡ misfit (edition_of s) at n (kind_field (drop at s)) (count_in (edition_of s) (drop at s))
-      tested-is =
-          ap (misfit (edition_of s) at n (get_or s (at + 2) 0)) (p ∙ sym (ap (λ (c : Call). c.count) there-is))
-          ∙ ap (λ (k : ℕ). misfit (edition_of s) at n k (count_in (edition_of s) (drop at s))) (sym (get_or-drop at s 2 0))
-
-      pub step-misfit : misfit (edition_of s) at n (get_or s (at + 2) 0) x ≡ true → Refused 13 ≡ item_at s at
-      step-misfit m = refused-13 (sym tested-is ∙ m)
-
-      pub step-record : (r : Call) → r ≡ call_there → misfit (edition_of s) at n (get_or s (at + 2) 0) x ≡ false → item.Record r (at + (2 + n)) ≡ item_at s at
-      unfolding item_at
-      step-record r q m =
-          let l = length-drop at s in
-          rw (q, read-record (edition_of s) at (drop at s) (omega arith) (rw (← e) (sym tested-is ∙ m)), there-is, ← e)
-
--- ── members ──
--- Member i is what the bytes of its part say.
-pub member_is : (s : List ℕ) (at : ℕ) (c : Call) (i : ℕ) → member_at s at c i ≡ member_of (field_values member_widths (member_part s at c i))
-unfolding member_at member_part
-member_is s at c i = member-read (member_count (edition_of s) c) (drop (total (widths (edition_of s) c.kind)) (drop 3 (drop at s))) i
-
--- The part as the code finds it.
-module _ (s : List ℕ) (at : ℕ) (c : Call) (i : ℕ) where
-  pub part-past : length s ≤ at → [] ≡ member_part s at c i
-  unfolding member_part
-  part-past h =
-      either (ltb i (member_count (edition_of s) c))
-      (λ p. rw (p, drop_of_length-le s {i = at} h, drop-nil 3, drop-nil (total (widths (edition_of s) c.kind)), drop-nil (i * total member_widths)))
-      (λ p. rw p)
-
-  pub part_none : member_count (edition_of s) c ≤ i → [] ≡ member_part s at c i
-  unfolding member_part
-  part_none h = rw (le-ltb i (member_count (edition_of s) c) h)
-
-  -- So far behind the position.
-  module _ (h : i < member_count (edition_of s) c) (n : ℕ) (e : n ≡ 2 + length_with (edition_of s) c.kind 0 + 12 * i) where
-    part-is : member_part s at c i ≡ drop (at + n) s
-    unfolding member_part member_widths total field_width field_widths
-    part-is =
-        let d = edition_of s in
-        let k = c.kind in
-        let t = length-total d k (members-kind d k c.count i h) in
-        let w = total (widths d k) in
-        let q : at + n ≡ at + 3 + w + i * 12 = omega (arith, with-zero d k) in
-        rw (lt-ltb i (member_count d c) h, drop-drop 3 at s, drop-drop w (at + 3) s, drop-drop (i * 12) (at + 3 + w) s, q)
-
-    pub part-short : length s - at < n → [] ≡ member_part s at c i
-    part-short l = rw part-is (sym (drop_of_length-le s {i = at + n} (omega arith)))
-
-    pub part-there : n ≤ length s - at → take (length s - (at + n)) (drop (at + n) s) ≡ member_part s at c i
-    part-there l = rw part-is (take_all (length s - (at + n)) (drop (at + n) s) (omega (arith, length-drop (at + n) s)))
+        rw (read-record (edition_of s) at (drop at s) (omega arith) (rw (← e, get_or-drop at s 2 0) m), get_or-drop at s 2 0, drop-drop 3 at s, ← e, p, t)
 
 -- ── walks ──
 pub by-item : {P : Type 0} (x : Item) → ((c : Call) (n : ℕ) → x ≡ item.Record c n → P) → (x ≡ End → P) → ((n : ℕ) → x ≡ Refused n → P) → P
@@ -248,6 +172,10 @@ walk-record s at c next e =
     let q = step-next s at c next e in
     rw e (ap (onto (record_at s at c)) (walk-in-same (length s) (suc (length s)) s next (omega (arith, q.0)) (omega (arith, q.0))))
 
+-- Of a call without members, as all are so far.
+pub walk_call : (s : List ℕ) (at : ℕ) (c : Call) (next : ℕ) → item_at s at ≡ item.Record c next → walk s at ≡ onto (record_of c) (walk s next)
+walk_call s at c next e = walk-record s at c next e ∙ ap (λ (r : Record). onto r (walk s next)) (no-members s at c)
+
 pub walk_end : (s : List ℕ) (at : ℕ) → item_at s at ≡ End → walk s at ≡ ended 0
 unfolding walk walk_in
 walk_end s at e = rw e
@@ -256,37 +184,37 @@ pub walk_refused : (s : List ℕ) (at n : ℕ) → item_at s at ≡ Refused n �
 unfolding walk walk_in
 walk_refused s at n e = rw e
 
--- A record has the length of its kind and its count; its call tells both, and the edition keeps it whole.
-module _ (s : List ℕ) (at : ℕ) (c : Call) (next : ℕ) (h : item_at s at ≡ item.Record c next) where
-  kind-read : c.kind ≡ kind_field (drop at s)
-  kind-read = sym (ap (λ (x : Call). x.kind) (stands s at c next h).call) ∙ kind-of-call (edition_of s) (kind_field (drop at s)) _
+-- A record has the length of its kind and its members; its call tells both.
+pub record-size : (s : List ℕ) (at : ℕ) (c : Call) (next : ℕ) → item_at s at ≡ item.Record c next
+    → (has_kind (edition_of s) c.kind ≡ true) × (at + (2 + length_with (edition_of s) c.kind (member_count (edition_of s) c)) ≡ next)
+record-size s at c next h =
+    let e = edition_of s in
+    let r = stands s at c next h in
+    let n = length_field (drop at s) in
+    let k = kind_field (drop at s) in
+    let f = misfit-not e at n k _ r.fits in
+    let q : c.kind ≡ k = sym (ap (λ (x : Call). x.kind) r.call) ∙ kind-of-call e k _ in
+    let l : length_with e c.kind (member_count e c) ≡ n = ap (λ (j : ℕ). length_with e j (member_count e c)) q ∙ sym (f.1 ∙ ap (λ (x : Call). length_with e k (member_count e x)) r.call) in
+    (ap (has_kind e) q ∙ f.0, omega (arith, r.behind, l))
 
-  pub record-size : (has_kind (edition_of s) c.kind ≡ true) × (at + (2 + length_with (edition_of s) c.kind c.count) ≡ next)
-  record-size =
-      let e = edition_of s in
-      let r = stands s at c next h in
-      let n = length_field (drop at s) in
-      let k = kind_field (drop at s) in
-      let f = misfit-not e at n k _ r.fits in
-      let l : length_with e c.kind c.count ≡ n = ap (λ (j : ℕ). length_with e j c.count) kind-read ∙ sym (f.1 ∙ ap (λ (x : Call). length_with e k x.count) r.call) in
-      (ap (has_kind e) kind-read ∙ f.0, omega (arith, r.behind, l))
+-- Of a call without members.
+pub call-size : (s : List ℕ) (at : ℕ) (c : Call) (next : ℕ) → item_at s at ≡ item.Record c next
+    → (has_kind (edition_of s) c.kind ≡ true) × (at + (2 + length_of (edition_of s) c.kind) ≡ next)
+unfolding member_count
+call-size s at c next h = let z = record-size s at c next h in (z.0, omega (arith, z.1, with_none (edition_of s) c.kind))
 
-  pub record-kept : keeps (edition_of s) c ≡ true
-  unfolding widths
-  record-kept =
-      let e = edition_of s in
-      let r = stands s at c next h in
-      let k = kind_field (drop at s) in
-      let ws = widths e k in
-      let f = misfit-not e at _ k _ r.fits in
-      let l = values_length ws (drop 3 (drop at s)) ∙ length-map (fields_of e k) field_width in
-      subst (λ (x : Call). keeps e x ≡ true) r.call (call-keeps e k (field_values ws (drop 3 (drop at s))) l f.0)
+walk-in-of-calls : (k : ℕ) (s : List ℕ) (at : ℕ) → (walk_in k s at).records ≡ records_of (calls_of (walk_in k s at).records)
+unfolding walk_in
+walk-in-of-calls zero s at = refl
+walk-in-of-calls (suc k) s at =
+    by-item (item_at s at)
+    (λ c n e. rw (e, no-members s at c) (ap (λ (rs : List Record). record_of c ∷ rs) (walk-in-of-calls k s n)))
+    (λ e. rw e)
+    (λ n e. rw e)
 
-pub many-at : (s : List ℕ) (at : ℕ) (c : Call) → length (members_at s at c) ≡ member_count (edition_of s) c
-many-at s at c = members-many (member_count (edition_of s) c) _
-
-pub read-counted : MembersCounted
-read-counted s at c next h = many-at s at c ∙ members-counted (edition_of s) c (record-kept s at c next h)
+pub walk_of-calls : WalkOfCalls
+unfolding walk
+walk_of-calls s at = walk-in-of-calls (suc (length s)) s at
 
 walk-in-few : (k : ℕ) (s : List ℕ) (at : ℕ) → least_length * length (walk_in k s at).records ≤ length s - at
 unfolding walk_in
@@ -294,7 +222,7 @@ walk-in-few zero s at = omega arith
 walk-in-few (suc k) s at =
     by-item (item_at s at)
     (λ c n e. let z = record-size s at c n e in
-    rw e (omega (arith, walk-in-few k s n, with-least (edition_of s) c.kind c.count z.0, z.1, (step-next s at c n e).1)))
+    rw e (omega (arith, walk-in-few k s n, with-least (edition_of s) c.kind (member_count (edition_of s) c) z.0, z.1, (step-next s at c n e).1)))
     (λ e. rw e (omega arith))
     (λ n e. rw e (omega arith))
 

@@ -1,26 +1,22 @@
 -- The writer's definitions as the code meets them: the tests in its order, the answer, and the pieces of a record.
-use Prim.Native.Nat.{ℕ, zero, suc, ◌+◌, ◌≤◌, ◌<◌, min}
+use Prim.Native.Nat.{ℕ, zero, suc, ◌+◌, ◌≤◌, ◌<◌}
 use mathlib.Core.Bool.{true, not, ◌||◌}
-use mathlib.Core.List.{List, [], ◌∷◌, ◌++◌, map}
+use mathlib.Core.List.{List}
 use mathlib.Core.Path.{◌≡◌, refl, sym, ap, ◌∙◌}
 use native.Mathlib.Omega.{arith}
-use native.Mathlib.Numerals.{add-one}
-use lib.Dec.{ltb, leb, eqb}
-use borrow.Author.Tests.{lt-ltb, le-ltb, ltb-false, leb-true, leb-false, eq-eqb, not-false}
-use lib.ListN.{length, drop, get_or, length-append, length-map, drop_of_length-le}
-use lib.Seq.{drop-cons}
+use lib.Dec.{ltb}
+use borrow.Author.Tests.{lt-ltb, le-ltb, ltb-false, not-false}
+use lib.ListN.{length, length-append}
 use Rattle.numerals.specs.Laid.{Put}
 use Rattle.numerals.proofs.Laying.{laid-fits, put-short}
 use Rattle.load.specs.declared.Written.{Written}
 use Rattle.load.specs.declared.Written.TheVariants.{Length, Refusal}
-use Rattle.format.specs.declared.Call.{Call}
-use Rattle.format.specs.Records.{Member, Record, member, record_of, carries}
+use Rattle.format.specs.Records.{Record, carries}
 use Rattle.load.specs.Answers.{written_values}
-use Rattle.load.specs.Bytes.{record_bytes, call_bytes, member_bytes, members_bytes}
+use Rattle.load.specs.Bytes.{record_bytes}
 use Rattle.load.specs.Reading.{is_in_place, edition_of, load_number}
-use Rattle.load.specs.Writing.{grown, room_number, grow_number, append_number, answered, answered_values, lent, begun, append_answer, append_values, append_out, side_by_side, record_by, columns_number, columns_answer, columns_values, columns_out, GivenByColumns}
-use Rattle.format.proofs.Format.{either, neither, passed}
-use Rattle.load.proofs.Bytes.{record-parts}
+use Rattle.load.specs.Writing.{grown, room_number, grow_number, append_number, answered, answered_values, lent, begun}
+use Rattle.format.proofs.Format.{neither, passed}
 use Rattle.load.proofs.Reading.{or-else}
 
 -- ── the tests ──
@@ -97,54 +93,3 @@ accepted g out k p r h b l w =
 
 pub written : (s : List ℕ) (r : Record) (out : List ℕ) (k : ℕ) (p : List ℕ) (n : ℕ) → k ≡ 0 → Grows s r (length out) → Put out 0 (grown s r) n p → Answers (grown s r) out k (Length n) p
 written s r out k p n h g w = accepted (grown s r) out k p n h g.bounded g.goes_in w
-
--- ── members in two columns ──
-pub side-length : (gs ls : List ℕ) → length gs ≡ length ls → length (side_by_side gs ls) ≡ length gs
-unfolding side_by_side
-side-length [] ls e = refl
-side-length (g ∷ gs) [] e = absurd (omega arith)
-side-length (g ∷ gs) (l ∷ ls) e = ap suc (side-length gs ls (omega arith))
-
-side-of : (ms : List Member) → side_by_side (map (λ (m : Member). m.groups) ms) (map (λ (m : Member). m.length) ms) ≡ ms
-unfolding side_by_side
-side-of [] = refl
-side-of (m ∷ ms) = ap (λ (ns : List Member). m ∷ ns) (side-of ms)
-
--- What accepted columns know.
-pub columns-parts : (s : List ℕ) (c : Call) (gs ls : List ℕ) (room : ℕ) → columns_number s c gs ls room ≡ 0 → (load_number s ≡ 0) × Grows s (record_by c gs ls) room
-unfolding columns_number
-columns-parts s c gs ls room h =
-    let p = or-else (load_number s) _ h in
-    (p.0, grow-known s (record_by c gs ls) room (either (eqb (length gs) (length ls)) (λ t. rw t at p.1) (λ t. absurd (omega (arith, rw t at p.1)))))
-
-pub grown-parts : (s : List ℕ) (r : Record) → grown s r ≡ s ++ (call_bytes (edition_of s) r.call ++ members_bytes r.members)
-unfolding grown
-grown-parts s r = ap (λ t. s ++ t) (record-parts (edition_of s) r)
-
--- One member after the other, from place i on, as far as both columns go.
-pub side-next : (gs ls : List ℕ) (i : ℕ) → i < length gs → i < length ls
-    → members_bytes (side_by_side (drop i gs) (drop i ls)) ≡ member_bytes (member (get_or gs i 0) (get_or ls i 0)) ++ members_bytes (side_by_side (drop (i + 1) gs) (drop (i + 1) ls))
-unfolding side_by_side members_bytes
-side-next gs ls i h k = rw (add-one, drop-cons gs i 0 h, drop-cons ls i 0 k)
-
-pub side-end : (gs ls : List ℕ) (i : ℕ) → i ≡ min (length gs) (length ls) → members_bytes (side_by_side (drop i gs) (drop i ls)) ≡ []
-unfolding side_by_side members_bytes
-side-end gs ls i e =
-    either (leb (length gs) i)
-    (λ p. rw (drop_of_length-le gs {i = i} (leb-true (length gs) i p)))
-    (λ p. rw (drop_of_length-le ls {i = i} (omega (arith, leb-false (length gs) i p)), no_second (drop i gs)))
-  where
-    no_second : (gs : List ℕ) → side_by_side gs [] ≡ []
-    no_second [] = refl
-    no_second (g ∷ gs) = refl
-
-pub given-by-columns : GivenByColumns
-unfolding columns_answer columns_values columns_out columns_number append_answer append_values append_out append_number
-given-by-columns s c ms out =
-    let e = length-map ms (λ (m : Member). m.groups) ∙ sym (length-map ms (λ (m : Member). m.length)) in
-    rw (eq-eqb _ _ e, side-of ms) (refl, refl, refl)
-
--- No columns are a call without members.
-pub given-none : (s : List ℕ) (c : Call) (out : List ℕ)
-    → (columns_answer s c [] [] out ≡ append_answer s (record_of c) out) × (columns_values s c [] [] out ≡ append_values s (record_of c) out) × (columns_out s c [] [] out ≡ append_out s (record_of c) out)
-given-none s c out = given-by-columns s c [] out

@@ -1,6 +1,6 @@
 -- Records as bytes. "One edition byte, 1. Then records: length in two bytes (the bytes after it), a kind byte, fields. All numbers are
 -- big-endian."
-use Rattle.std.specs.Prelude.{ℕ, zero, suc, List, [], ◌∷◌, ◌++◌, take, drop, get_or}
+use Rattle.std.specs.Prelude.{ℕ, zero, suc, List, [], ◌∷◌, ◌++◌, length, take, drop, get_or}
 -- passed on: a number as bytes is part of the format
 unfoldable pub use Rattle.numerals.specs.Digits.{numeral, digits}
 use Rattle.format.specs.declared.Call.{Call}
@@ -26,24 +26,21 @@ unfoldable pub field_values : List ℕ → List ℕ → List ℕ
 field_values [] bs = []
 field_values (w ∷ ws) bs = big_value (take w bs) ∷ field_values ws (drop w bs)
 
--- A member, by the widths of its fields: "groups 8 and length 4".
-abbrev pub member_bytes : Member → List ℕ
-member_bytes m = field_bytes member_widths (member_values m)
-
+-- Members, each by the widths of its fields.
 unfoldable pub members_bytes : List Member → List ℕ
 members_bytes [] = []
-members_bytes (m ∷ ms) = member_bytes m ++ members_bytes ms
+members_bytes (m ∷ ms) = field_bytes member_widths (member_values m) ++ members_bytes ms
 
 -- And so many read so.
 unfoldable pub members_read : ℕ → List ℕ → List Member
 members_read zero bs = []
 members_read (suc n) bs = member_of (field_values member_widths bs) ∷ members_read n (drop (total member_widths) bs)
 
--- A record: "length in two bytes (the bytes after it), a kind byte, fields"; "then groups 8 and length 4 for each member", if it has any.
+-- A record: "length in two bytes (the bytes after it), a kind byte, fields"; then its members, if it has any.
 unfoldable pub record_bytes : ℕ → Record → List ℕ
 record_bytes e r =
     let c = r.call in
-    big 2 (length_with e c.kind c.count) ++ (c.kind ∷ field_bytes (widths e c.kind) (values_of e c) ++ members_bytes r.members)
+    big 2 (length_with e c.kind (length r.members)) ++ (c.kind ∷ field_bytes (widths e c.kind) (values_of e c) ++ members_bytes r.members)
 
 unfoldable pub records_bytes : ℕ → List Record → List ℕ
 records_bytes e [] = []
@@ -53,7 +50,7 @@ records_bytes e (r ∷ rs) = record_bytes e r ++ records_bytes e rs
 unfoldable pub load_bytes : ℕ → List Record → List ℕ
 load_bytes e rs = e ∷ records_bytes e rs
 
--- The same of calls, as records without members. Of a call that counts some, these are the bytes that stand before them.
+-- The same of calls, as records without members.
 abbrev pub call_bytes : ℕ → Call → List ℕ
 call_bytes e c = record_bytes e (record_of c)
 

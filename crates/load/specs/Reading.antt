@@ -1,14 +1,14 @@
 -- The reader. A position is a count of bytes from the load's start; the first record stands at 1. "A load [is tested in the order] 14, 12,
 -- 11, then each record 12, 13." "Reader and writer pass fields on without judging them; the table judges."
-use Rattle.std.specs.Prelude.{ℕ, zero, suc, ◌+◌, ◌*◌, ◌<◌, Bool, true, false, not, ◌&&◌, ◌||◌, cond, List, [], ◌∷◌, ◌≡◌, ltb, eqb, length, take, drop, get_or}
+use Rattle.std.specs.Prelude.{ℕ, zero, suc, ◌+◌, ◌<◌, Bool, true, false, not, ◌&&◌, ◌||◌, cond, List, [], ◌∷◌, ◌≡◌, ltb, eqb, length, take, drop, get_or}
 use Rattle.numbers.specs.Numbers.{short_number, misfit_number, overlong_number, edition_number, most_bytes, or_else}
 use Rattle.format.specs.declared.Call.{Call}
 use Rattle.load.specs.declared.Item.{Item}
 use Rattle.load.specs.declared.Item.TheVariants as item
 use Rattle.load.specs.declared.Item.TheVariants.{End, Refused}
-use Rattle.format.specs.Format.{rig_kind, known, has_kind, widths, total, member_widths, has_members, length_with}
+use Rattle.format.specs.Format.{rig_kind, known, has_kind, widths, total, length_with}
 use Rattle.format.specs.Calls.{call_of}
-use Rattle.format.specs.Records.{Member, Record, member, record_of, member_count}
+use Rattle.format.specs.Records.{Member, Record, record_of, records_of, calls_of, member_count}
 use Rattle.load.specs.Answers.{ItemValues, item_values}
 use Rattle.load.specs.Bytes.{big_value, field_values, members_read}
 
@@ -33,17 +33,17 @@ kind_field bs = get_or bs 2 0
 abbrev pub short : List ℕ → Bool
 short bs = ltb (length bs) (2 + length_field bs)
 
--- 13: "record length wrong for its kind, a kind its edition lacks, or rig record out of place", of a record of n bytes with this count of
--- members. (A record of no bytes has a wrong length, whatever byte comes after it.)
+-- 13: "record length wrong for its kind, a kind its edition lacks, or rig record out of place", of a record of n bytes whose call asks for
+-- `count` members. (A record of no bytes has a wrong length, whatever byte comes after it.)
 unfoldable pub misfit : ℕ → ℕ → ℕ → ℕ → ℕ → Bool
 misfit e at n kind count = not (has_kind e kind) || (not (eqb n (length_with e kind count)) || not (is_in_place kind at))
 
--- The call that bytes say, where they begin with a record, and its count of members.
+-- The call that bytes say, where they begin with a record, and how many members it asks for.
 abbrev pub call_in : ℕ → List ℕ → Call
 call_in e bs = call_of e (kind_field bs) (field_values (widths e (kind_field bs)) (drop 3 bs))
 
 abbrev pub count_in : ℕ → List ℕ → ℕ
-count_in e bs = (call_in e bs).count
+count_in e bs = member_count e (call_in e bs)
 
 -- What the bytes from a position to the load's end begin with: "Behind the last record it says that the load has ended".
 unfoldable pub read_at : ℕ → ℕ → List ℕ → Item
@@ -66,19 +66,9 @@ members_at s at c =
 abbrev pub record_at : List ℕ → ℕ → Call → Record
 record_at s at c = record { call = c; members = members_at s at c }
 
--- A record of a kind without members has none. (Proved in proofs/Reading: no-members.)
+-- Every record read so far has no members. (Proved in proofs/Reading: no-members.)
 abbrev pub NoMembers : Type 0
-NoMembers = (s : List ℕ) (at : ℕ) (c : Call) → has_members (edition_of s) c.kind ≡ false → record_at s at c ≡ record_of c
-
--- Member i of them, from 0 on; where there is no such member its groups and its length are 0.
-unfoldable pub member_at : List ℕ → ℕ → Call → ℕ → Member
-member_at s at c i = get_or (members_at s at c) i (member 0 0)
-
--- Where it lies in the load: the bytes from there on; none where there is no such member.
-unfoldable pub member_part : List ℕ → ℕ → Call → ℕ → List ℕ
-member_part s at c i =
-    let e = edition_of s in
-    cond (ltb i (member_count e c)) (drop (i * total member_widths) (drop (total (widths e c.kind)) (drop 3 (drop at s)))) []
+NoMembers = (s : List ℕ) (at : ℕ) (c : Call) → record_at s at c ≡ record_of c
 
 -- What stands at a position of a load: a record's call with the next position, the end, or a refusal.
 unfoldable pub item_at : List ℕ → ℕ → Item
@@ -119,10 +109,6 @@ Edition1Bare = (s : List ℕ) (at : ℕ) (c : Call) (next : ℕ) → edition_of 
 abbrev pub OlderClient1 : Type 0
 OlderClient1 = (s : List ℕ) (at : ℕ) (c : Call) (next : ℕ) → edition_of s < 3 → item_at s at ≡ item.Record c next → c.client ≡ 1
 
--- A record has as many members as its call counts. (Proved in proofs/Reading: read-counted.)
-abbrev pub MembersCounted : Type 0
-MembersCounted = (s : List ℕ) (at : ℕ) (c : Call) (next : ℕ) → item_at s at ≡ item.Record c next → length (members_at s at c) ≡ c.count
-
 -- ── a whole load ──
 -- 14 "load over 65,536 bytes", 12 "the load is empty", 11 "first byte of a load names no edition the reader knows"; 0 for none of them.
 unfoldable pub open_number : List ℕ → ℕ
@@ -153,6 +139,10 @@ walk_in (suc k) s at = follow s at (λ n. walk_in k s n) (item_at s at)
 -- What a load reads as from a position on.
 unfoldable pub walk : List ℕ → ℕ → Walk
 walk s at = walk_in (suc (length s)) s at
+
+-- None of them has members, so far. (Proved in proofs/Reading: walk_of-calls.)
+abbrev pub WalkOfCalls : Type 0
+WalkOfCalls = (s : List ℕ) (at : ℕ) → (walk s at).records ≡ records_of (calls_of (walk s at).records)
 
 -- The refusal of a number, or, where that is 0, what there is.
 abbrev pub unless_refused : {A : Type 0} → ℕ → (ℕ → A) → A → A

@@ -1,11 +1,10 @@
 -- The writer. "The writer is given a load and one call, puts that load with one record more behind it at the start of a lent buffer, and
 -- answers the new length; later bytes of the buffer keep their contents."
-use Rattle.std.specs.Prelude.{ℕ, zero, suc, ◌+◌, not, ◌||◌, cond, List, [], ◌∷◌, ◌++◌, map, ◌≡◌, ltb, eqb, length, drop}
+use Rattle.std.specs.Prelude.{ℕ, zero, suc, ◌+◌, not, ◌||◌, cond, List, ◌++◌, ltb, length, drop}
 use Rattle.numbers.specs.Numbers.{misfit_number, overlong_number, no_space_number, most_bytes, or_else}
 use Rattle.load.specs.declared.Written.{Written}
 use Rattle.load.specs.declared.Written.TheVariants.{Length, Refusal}
-use Rattle.format.specs.declared.Call.{Call}
-use Rattle.format.specs.Records.{Member, Record, member, record_with, carries}
+use Rattle.format.specs.Records.{Record, carries}
 use Rattle.load.specs.Answers.{WrittenValues}
 use Rattle.load.specs.Bytes.{record_bytes}
 use Rattle.load.specs.Reading.{is_in_place, edition_of, load_number, unless_refused}
@@ -21,10 +20,6 @@ room_number whole room = cond (ltb most_bytes whole) overlong_number (cond (ltb 
 
 unfoldable pub grow_number : ℕ → ℕ → Record → ℕ → ℕ
 grow_number e n r room = cond (not (is_in_place r.call.kind n) || not (carries e r)) misfit_number (room_number (n + length (record_bytes e r)) room)
-
--- The number of a call with so many members, whichever they are.
-abbrev pub GrowsAs : ℕ → ℕ → Call → ℕ → ℕ → ℕ → Type 0
-GrowsAs e n c many room k = (ms : List Member) → length ms ≡ many → k ≡ grow_number e n (record_with c ms) room
 
 -- "The load it is given is tested as by the reader, then come .."
 unfoldable pub append_number : List ℕ → Record → ℕ → ℕ
@@ -57,37 +52,3 @@ begun s out = s ++ drop (length s) out
 
 unfoldable pub append_out : List ℕ → Record → List ℕ → List ℕ
 append_out s r out = lent (append_number s r (length out)) (begun (grown s r) out) out
-
--- ── members in two columns ──
--- The members that the writer is given as two columns, their groups and their lengths.
-unfoldable pub side_by_side : List ℕ → List ℕ → List Member
-side_by_side [] ls = []
-side_by_side (g ∷ gs) [] = []
-side_by_side (g ∷ gs) (l ∷ ls) = member g l ∷ side_by_side gs ls
-
-abbrev pub record_by : Call → List ℕ → List ℕ → Record
-record_by c gs ls = record_with c (side_by_side gs ls)
-
--- Columns that differ in length fit no count: 13.
-unfoldable pub columns_number : List ℕ → Call → List ℕ → List ℕ → ℕ → ℕ
-columns_number s c gs ls room =
-    or_else (load_number s) (cond (eqb (length gs) (length ls)) (grow_number (edition_of s) (length s) (record_by c gs ls) room) misfit_number)
-
--- The answer and the lent buffer, as above.
-unfoldable pub columns_answer : List ℕ → Call → List ℕ → List ℕ → List ℕ → Written
-columns_answer s c gs ls out = answered (columns_number s c gs ls (length out)) (length (grown s (record_by c gs ls)))
-
-unfoldable pub columns_values : List ℕ → Call → List ℕ → List ℕ → List ℕ → WrittenValues
-columns_values s c gs ls out = answered_values (columns_number s c gs ls (length out)) (length (grown s (record_by c gs ls)))
-
-unfoldable pub columns_out : List ℕ → Call → List ℕ → List ℕ → List ℕ → List ℕ
-columns_out s c gs ls out = lent (columns_number s c gs ls (length out)) (begun (grown s (record_by c gs ls)) out) out
-
--- So every record can be given, and is answered as a record is. (Proved in proofs/Writing: given-by-columns.)
-abbrev pub GivenByColumns : Type 0
-GivenByColumns = (s : List ℕ) (c : Call) (ms : List Member) (out : List ℕ)
-    → let gs = map (λ (m : Member). m.groups) ms in
-    let ls = map (λ (m : Member). m.length) ms in
-    (columns_answer s c gs ls out ≡ append_answer s (record_with c ms) out)
-    × (columns_values s c gs ls out ≡ append_values s (record_with c ms) out)
-    × (columns_out s c gs ls out ≡ append_out s (record_with c ms) out)

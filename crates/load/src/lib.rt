@@ -1,14 +1,14 @@
-// Loads: opening a load, reading the record at a position and its members by index, testing a whole load, and appending a record.
+// Loads: opening a load, reading the record at a position, testing a whole load, and appending a record.
 // All calls take any bytes and any values. A load is a slice of the caller's; nothing is copied to read it.
-ghost use Rattle.std.specs.Prelude.{◌≡◌, min, length};
+ghost use Rattle.std.specs.Prelude.{◌≡◌, length};
 ghost use Rattle.numerals.specs.Laid.{behind, laid, Put};
 ghost use Rattle.format.specs.Format.{widths};
 ghost use Rattle.format.specs.Calls.{call_of, values_of};
-ghost use Rattle.format.specs.Records.{member, record_of};
+ghost use Rattle.format.specs.Records.{record_of};
 ghost use Rattle.load.specs.Answers.{item_values, written_values};
-ghost use Rattle.load.specs.Bytes.{call_bytes, field_bytes, field_values, member_bytes, members_bytes};
-ghost use Rattle.load.specs.Reading.{is_in_place, open_number, misfit, member_at, member_part, item_at, record_values, load_number};
-ghost use Rattle.load.specs.Writing.{GrowsAs, append_answer, append_values, append_out, side_by_side, columns_number, columns_answer, columns_values, columns_out};
+ghost use Rattle.load.specs.Bytes.{call_bytes, field_bytes, field_values};
+ghost use Rattle.load.specs.Reading.{is_in_place, open_number, misfit, item_at, record_values, load_number};
+ghost use Rattle.load.specs.Writing.{grow_number, append_number, append_answer, append_values, append_out};
 
 use format::{Call, fields, kinds};
 
@@ -55,27 +55,24 @@ fn placed(kind: u8, at: usize) -> bool
     at != 1
 }
 
-// A record of n bytes at a position is not as its kind, its count and its place ask: 13.
-fn misfits(edition: u8, at: usize, n: usize, kind: u8, count: u8) -> bool
-    ensures { result ≡ misfit edition at n kind count }
+// A record of n bytes at a position is not as its kind, which has no members, and its place ask: 13.
+fn misfits(edition: u8, at: usize, n: usize, kind: u8) -> bool
+    ensures { result ≡ misfit edition at n kind 0 }
 {
-    let long = format::length_of(edition, kind, count);
-    if long == 0 {
+    if !format::has_kind(edition, kind) {
         return true;
     }
-    if n != long {
+    if n != format::length_of(edition, kind) {
         return true;
     }
     !placed(kind, at)
 }
 
-// The call that the fields of a record, at the start of some bytes, say. The bytes after them are not looked at. Cost: a few instructions
-// for each field; the widths are laid out once, not at each read.
+// The call that the fields of a record, at the start of some bytes, say. The bytes after them are not looked at. Cost: a few instructions for each field.
 fn call_of(edition: u8, kind: u8, bytes: &[u8]) -> Call
     ensures { result ≡ call_of edition kind (field_values (widths edition kind) bytes.now) }
 {
     let row = format::row_of(edition, kind);
-    let widths = fields::WIDTHS;
     let mut numbers = format::bare_numbers(kind);
     let mut at: usize = 0;
     let mut i: usize = 0;
@@ -84,28 +81,15 @@ fn call_of(edition: u8, kind: u8, bytes: &[u8]) -> Call
         if f == 0 {
             return format::made(numbers);
         }
-        let w = widths[f as usize] as usize;
+        let w = fields::WIDTHS[f as usize] as usize;
         numbers[f as usize] = numerals::number(bytes, at, w);
         at += w;
         i += 1;
     }
 }
 
-// The count of members of that call alone, which stands behind its clock and its client.
-fn count_of(edition: u8, kind: u8, bytes: &[u8]) -> u8
-    ensures { result ≡ (call_of edition kind (field_values (widths edition kind) bytes.now)).count }
-{
-    if !format::has_members(edition, kind) {
-        return 0;
-    }
-    if bytes.len() <= 9 {
-        return 0;
-    }
-    bytes[9]
-}
-
-// What stands at a position of a load: a record's call, the end, or 12 or 13. The first record stands at 1. Reads the fields of that record
-// alone, whatever the load's length.
+// What stands at a position of a load: a record's call, the end, or 12 or 13. The first record stands at 1. Reads that record alone,
+// whatever the load's length.
 pub fn record_at(load: &[u8], at: usize) -> Item
     ensures { (result ≡ item_at load.now at) × (item_values at result ≡ record_values load.now at) }
 {
@@ -126,51 +110,12 @@ pub fn record_at(load: &[u8], at: usize) -> Item
     }
     let edition = load[0];
     let kind = load[at + 2];
-    let from = at + 3;
-    let bytes = &load[from..];
-    let count = count_of(edition, kind, bytes);
-    if misfits(edition, at, n, kind, count) {
+    if misfits(edition, at, n, kind) {
         return Item::Refused(numbers::MISFIT);
     }
-    let call = call_of(edition, kind, bytes);
+    let from = at + 3;
+    let call = call_of(edition, kind, &load[from..]);
     Item::Record(call, at + (2 + n))
-}
-
-// The bytes of a load from member i on, of the record with a call at a position; none where it has no such member.
-fn member_part(load: &[u8], at: usize, call: Call, i: usize) -> &[u8]
-    ensures { result.now ≡ member_part load.now at call i }
-{
-    let size = load.len();
-    if size <= at {
-        return &load[..0];
-    }
-    let edition = load[0];
-    let kind = call.kind;
-    if format::members_of(edition, kind, call.count) <= i {
-        return &load[..0];
-    }
-    let behind = 2 + format::length_of(edition, kind, 0) + 12 * i;
-    if size - at < behind {
-        return &load[..0];
-    }
-    let from = at + behind;
-    &load[from..]
-}
-
-// The groups and the length of member i, from 0 on, of the record with a call at a position; 0 where there is no such member. Each reads its
-// own bytes alone.
-pub fn member_groups(load: &[u8], at: usize, call: Call, i: usize) -> u64
-    ensures { result ≡ (member_at load.now at call i).groups }
-{
-    let part = member_part(load, at, call, i);
-    numerals::number(part, 0, 8)
-}
-
-pub fn member_length(load: &[u8], at: usize, call: Call, i: usize) -> u32
-    ensures { result ≡ (member_at load.now at call i).length }
-{
-    let part = member_part(load, at, call, i);
-    numerals::number(part, 8, 4) as u32
 }
 
 // The test of a load: its opening, then each record once. 0 if it reads to its end, else the number of the first refusal.
@@ -198,19 +143,18 @@ pub fn load_number(load: &[u8]) -> u8
 }
 
 // ---- writing
-// For a load of an edition and a size that reads to its end: 0 for a call with so many members that can be appended in so much room; else
-// 13, 14 or 15.
-pub fn grow_number(edition: u8, size: usize, call: Call, members: usize, room: usize) -> u8
-    ensures { GrowsAs edition size call members room result }
+// For a load of an edition and a size that reads to its end: 0 for a call that can be appended in so much room; else 13, 14 or 15.
+pub fn grow_number(edition: u8, size: usize, call: Call, room: usize) -> u8
+    ensures { result ≡ grow_number edition size (record_of call) room }
 {
     let kind = call.kind;
     if !placed(kind, size) {
         return numbers::MISFIT;
     }
-    if !format::carries(edition, call, members) {
+    if !format::carries(edition, call) {
         return numbers::MISFIT;
     }
-    let more = 2 + format::length_of(edition, kind, call.count);
+    let more = 2 + format::length_of(edition, kind);
     if numbers::MOST_BYTES < more {
         return numbers::OVERLONG;
     }
@@ -224,18 +168,14 @@ pub fn grow_number(edition: u8, size: usize, call: Call, members: usize, room: u
 }
 
 // The same for any load, which is tested whole: its own number comes first.
-fn append_number(load: &[u8], call: Call, groups: &[u64], lengths: &[u32], room: usize) -> u8
-    ensures { result ≡ columns_number load.now call groups.now lengths.now room }
+fn append_number(load: &[u8], call: Call, room: usize) -> u8
+    ensures { result ≡ append_number load.now (record_of call) room }
 {
     let t = load_number(load);
     if t != 0 {
         return t;
     }
-    let members = groups.len();
-    if members != lengths.len() {
-        return numbers::MISFIT;
-    }
-    grow_number(load[0], load.len(), call, members, room)
+    grow_number(load[0], load.len(), call, room)
 }
 
 // The fields of a call, laid at a place one after the other. Reads the row once.
@@ -243,7 +183,6 @@ fn put_fields(out: &mut [u8], at: usize, edition: u8, call: Call) -> usize
     ensures { Put out.old at (field_bytes (widths edition call.kind) (values_of edition call)) result out.new }
 {
     let row = format::row_of(edition, call.kind);
-    let widths = fields::WIDTHS;
     let given = format::numbers_of(call);
     let mut to = at;
     let mut i: usize = 0;
@@ -252,84 +191,36 @@ fn put_fields(out: &mut [u8], at: usize, edition: u8, call: Call) -> usize
         if f == 0 {
             return to;
         }
-        let w = widths[f as usize] as usize;
+        let w = fields::WIDTHS[f as usize] as usize;
         to = numerals::put_big(out, to, w, given[f as usize]);
         i += 1;
     }
 }
 
-// A record of an edition laid at a place up to its members, which `put_member` lays behind it: length, kind, fields. Answers the place after
-// it.
+// A record of an edition laid at a place: length, kind, fields. Answers the place after it.
 pub fn put_record(out: &mut [u8], at: usize, edition: u8, call: Call) -> usize
     ensures { (result ≡ behind at (length (call_bytes edition call))) × (out.new ≡ laid out.old at (call_bytes edition call)) }
 {
     let kind = call.kind;
-    let n = format::length_of(edition, kind, call.count);
+    let n = format::length_of(edition, kind);
     let a = numerals::put_big(out, at, 2, n as u64);
     let b = numerals::put_byte(out, a, kind);
     put_fields(out, b, edition, call)
 }
 
-// A member laid at a place: its groups and its length. Answers the place after it.
-pub fn put_member(out: &mut [u8], at: usize, groups: u64, ticks: u32) -> usize
-    ensures { (result ≡ behind at (length (member_bytes (member groups ticks)))) × (out.new ≡ laid out.old at (member_bytes (member groups ticks))) }
-{
-    let m = numerals::put_big(out, at, 8, groups);
-    numerals::put_big(out, m, 4, ticks as u64)
-}
-
-fn least(a: usize, b: usize) -> usize
-    ensures { result ≡ min a b }
-{
-    if a < b { a } else { b }
-}
-
-// Members laid one after the other, as far as both columns go.
-fn put_members(out: &mut [u8], at: usize, groups: &[u64], lengths: &[u32]) -> usize
-    ensures { Put out.old at (members_bytes (side_by_side groups.now lengths.now)) result out.new }
-{
-    let n = least(groups.len(), lengths.len());
-    let mut to = at;
-    let mut i: usize = 0;
-    while i < n {
-        to = put_member(out, to, groups[i], lengths[i]);
-        i += 1;
-    }
-    to
-}
-
-// Puts the load with one record more at the start of the buffer and answers the new length; the buffer's later bytes stay. The record's
-// members are given as two columns, their groups and their lengths; columns that are not as long as the call counts are 13. Turned down it
+// Puts the load with one record more at the start of the buffer and answers the new length; the buffer's later bytes stay. Turned down it
 // answers the number, and the whole buffer stays. Reads the load once to test it and once to copy it.
-pub fn append_record(
-    load: &[u8],
-    call: Call,
-    groups: &[u64],
-    lengths: &[u32],
-    out: &mut [u8],
-) -> Written
-    ensures answer { result ≡ columns_answer load.now call groups.now lengths.now out.old }
-    ensures buffer { out.new ≡ columns_out load.now call groups.now lengths.now out.old }
-    ensures values { written_values result ≡ columns_values load.now call groups.now lengths.now out.old }
-{
-    let room = out.len();
-    let t = append_number(load, call, groups, lengths, room);
-    if t != 0 {
-        return Written::Refusal(t);
-    }
-    let m = numerals::put_bytes(out, 0, load);
-    let n = put_record(out, m, load[0], call);
-    let whole = put_members(out, n, groups, lengths);
-    Written::Length(whole)
-}
-
-// The same for a call without members.
 pub fn append(load: &[u8], call: Call, out: &mut [u8]) -> Written
     ensures answer { result ≡ append_answer load.now (record_of call) out.old }
     ensures buffer { out.new ≡ append_out load.now (record_of call) out.old }
     ensures values { written_values result ≡ append_values load.now (record_of call) out.old }
 {
-    let groups: [u64; 0] = [];
-    let lengths: [u32; 0] = [];
-    append_record(load, call, &groups, &lengths, out)
+    let room = out.len();
+    let t = append_number(load, call, room);
+    if t != 0 {
+        return Written::Refusal(t);
+    }
+    let m = numerals::put_bytes(out, 0, load);
+    let whole = put_record(out, m, load[0], call);
+    Written::Length(whole)
 }

@@ -10,12 +10,11 @@ use lib.Dec.{leb, eqb}
 use lib.ListN.{length}
 use borrow.Author.Tests.{le-leb, eq-eqb, ne_eqb, leb-true}
 use Rattle.numbers.specs.Numbers.{dark_number, edition_number, overlong_number}
-use Rattle.rules.specs.declared.Request.{Request}
 use Rattle.rules.specs.Lists.{◌∈◌}
-use Rattle.rules.specs.Calls.{Model, Call as TableCall, clock_of, Answer, Step, unchanged, advance, plain, finish, join, admit, step, blank, new}
+use Rattle.rules.specs.Calls.{Model, Call as TableCall, Answer, Step, unchanged, advance, plain, finish, join, admit, step, blank, new}
 use Rattle.rules.proofs.Bools.{by-test, and_l, and_r}
 use Rattle.rules.proofs.Lists.{here, there, none}
-use Rattle.rules.proofs.Calls.{Issues, by-claim, by_set, leaves-clock, step-cases, new-cases}
+use Rattle.rules.proofs.Calls.{leaves-clock, step-cases, new-cases}
 use Rattle.promises.specs.Ledger.{Turn, turns, table_after}
 use Rattle.promises.specs.Runs.{by-new}
 use Rattle.promises.proofs.Promises.{promises}
@@ -24,23 +23,18 @@ use Rattle.load.specs.Reading.{walk, open_number}
 use Rattle.replay.specs.Records.{says_call, alone_in, step_of, ending, unrigged}
 use Rattle.replay.specs.StopLine.{stop_or}
 use Rattle.replay.specs.Replay.{replay_from, replay_in, replay_of}
-use Rattle.replay.specs.RecordKinds.{Says, says-claim, says-release, says-withdrawal, says-clock, says-declaration, says-set, says-grace, RigThenCalls, no_record, rig-first}
+use Rattle.replay.specs.RecordKinds.{Says, says-claim, says-release, says-withdrawal, says-clock, says-declaration, says-grace, RigThenCalls, no_record, rig-first}
 use Rattle.replay.proofs.RecordKinds.{records-say-calls}
 use Rattle.listing.specs.Lines.{header, line_of, on_lines}
 use Rattle.listing.specs.Text.{entry_of, lines_from, lines_of, listing_of}
 use Rattle.load_runs.specs.LoadRuns.{turn_lines, turns_lines, Ends, rig_start, Ran, NotRun, LoadRuns}
 
 -- ── one record ──
-claimed-clock : {c : TableCall} {t : ℕ} {asks : List Request} → Issues c t asks → t ≡ clock_of c
-claimed-clock (by-claim t ask) = refl
-claimed-clock (by_set t c ms) = refl
-
 -- What grants go by is the call's clock: where there are any it is the table's.
 turn-entry : (k : ℕ) (m : Model) (c : TableCall) → entry_of k (step m c) ≡ turn_lines k (record { call = c; answer = (step m c).answer })
 unfolding entry_of on_lines admit finish join advance
 turn-entry k m =
-    step-cases (λ c s. entry_of k s ≡ turn_lines k (record { call = c; answer = s.answer })) m (λ c n i. refl)
-    (λ c t asks f a. let x = (admit (advance m t) asks).answer in ap (λ (n : ℕ). line_of k 0 x.ticket x.start ++ on_lines n x.grants) (claimed-clock f))
+    step-cases (λ c s. entry_of k s ≡ turn_lines k (record { call = c; answer = s.answer })) m (λ c n i. refl) (λ t ask a. refl)
     (λ c t j q o v. ap (λ (n : ℕ). line_of k 0 j t ++ on_lines n (finish q (plain j t)).answer.grants) ((leaves-clock v).0 ∙ sym (leaves-clock v).1))
     (λ c r l d. refl) (λ n d. refl)
 
@@ -76,7 +70,6 @@ says-no-rig {c} (says-release e) = ne_eqb c.call.kind 1 (λ q. omega arith)
 says-no-rig {c} (says-withdrawal e) = ne_eqb c.call.kind 1 (λ q. omega arith)
 says-no-rig {c} (says-clock e) = ne_eqb c.call.kind 1 (λ q. omega arith)
 says-no-rig {c} (says-declaration e) = ne_eqb c.call.kind 1 (λ q. omega arith)
-says-no-rig {c} (says-set e) = ne_eqb c.call.kind 1 (λ q. omega arith)
 says-no-rig {c} (says-grace e) = ne_eqb c.call.kind 1 (λ q. omega arith)
 
 ran-from : (alone : Bool) (k : ℕ) (m : Model) (cs : List Record) (n : ℕ) → 1 < k → ((c : Record) → c ∈ cs → Says c (says_call c)) → RanFrom alone k m cs n

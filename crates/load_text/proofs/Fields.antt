@@ -1,25 +1,22 @@
 -- Laws of the words of a call, as the code reads them.
 use Prim.Native.Nat.{ℕ, zero, suc, ◌-◌, ◌%◌, ◌^◌, ◌≤◌, ◌<◌}
-use mathlib.Core.Bool.{true, cond}
-use mathlib.Core.Path.{◌≡◌, refl, sym, ap, ◌∙◌}
+use mathlib.Core.Path.{◌≡◌, refl, ap, ◌∙◌}
 use mathlib.Core.List.{List, map}
 use native.Mathlib.Nat.{mod-eq_of_lt}
-use native.Mathlib.Omega.{arith}
-use lib.Dec.{eqb, leb}
-use lib.ListN.{length, get_or, get_or-eq_default, get_or-map}
-use borrow.Author.Tests.{eqb-true, ne_eqb, le-leb, lt-leb}
+use lib.Dec.{eqb}
+use lib.ListN.{get_or, get_or-eq_default, get_or-map}
+use borrow.Author.Tests.{eqb-true, ne_eqb}
 use Rattle.format.specs.declared.Call.{Call}
-use Rattle.format.specs.Format.{the_groups, the_count, field_widths, field_count, field_width}
+use Rattle.format.specs.Format.{the_groups, field_widths, field_count, field_width, fields_of}
 use Rattle.format.specs.Calls.{with_value, bare}
 use Rattle.format.proofs.Format.{all_below, below-passes, no-width}
 use Rattle.words.specs.declared.Field.TheVariants.{Value}
 use Rattle.words.specs.Words.{number_in}
-use Rattle.words.specs.Reasons.{unknown_reason, too_many_reason, too_large_reason}
+use Rattle.words.specs.Reasons.{unknown_reason, too_large_reason}
 use Rattle.load_text.specs.declared.parse.Parsed.{Parsed}
-use Rattle.load_text.specs.declared.parse.Parsed.TheVariants.{Nothing, Said, Bad}
-use Rattle.load_text.specs.Parsing.{no_numbers, no_number, field_in, wrong_member, line_fields, most_members, with_field, with_members, filled_in, kind_says}
-use Rattle.load_text.proofs.Cases.{refused}
-use Rattle.load_text.proofs.Within.{field_fits, count_fits}
+use Rattle.load_text.specs.declared.parse.Parsed.TheVariants.{Said}
+use Rattle.load_text.specs.Parsing.{no_numbers, no_number, field_in, with_field, filled_in, kind_says}
+use Rattle.load_text.proofs.Within.{field_fits}
 
 -- ── a field: MOST and NONE ──
 module _ (f : ℕ) (w : List ℕ) (n : f ≡ the_groups → ⊥) where
@@ -38,29 +35,6 @@ pub with-said : (f : ℕ) (w : List ℕ) (p : Parsed) (c : Call) → p ≡ Said 
     → (v : ℕ) (d : Call) → field_in f w ≡ Value v → d ≡ with_value f (v % 256 ^ field_width f) c → Said d ≡ with_field f (field_in f w) p
 with-said f w p c e v d q r = rw (e, q) (ap Said (r ∙ ap (λ (x : ℕ). with_value f x c) (mod-eq_of_lt (field_fits f v w q))))
 
--- ── words taken for members ──
-module _ (ws : List (List ℕ)) (most : ℕ) (n : ℕ) (l : n ≡ length ws) where
-  pub members-over : (p : Parsed) → most < n → Bad too_many_reason ≡ cond (leb (length ws) most) (with_members ws p) (Bad too_many_reason)
-  members-over p h = rw (lt-leb (length ws) most (omega arith))
-
-  module _ (h : n ≤ most) where
-    few : leb (length ws) most ≡ true
-    few = le-leb (length ws) most (omega arith)
-
-    pub members-nothing : (p : Parsed) → p ≡ Nothing → Nothing ≡ cond (leb (length ws) most) (with_members ws p) (Bad too_many_reason)
-    members-nothing p e = rw (few, e)
-
-    pub members-bad : (p : Parsed) (k : ℕ) → p ≡ Bad k → Bad k ≡ cond (leb (length ws) most) (with_members ws p) (Bad too_many_reason)
-    members-bad p k e = rw (few, e)
-
-    module _ (p : Parsed) (c : Call) (e : p ≡ Said c) (k : ℕ) (w : k ≡ wrong_member ws) where
-      pub members-wrong : (k ≡ 0 → ⊥) → Bad k ≡ cond (leb (length ws) most) (with_members ws p) (Bad too_many_reason)
-      members-wrong z = rw (few, e, ← w) (sym (refused Bad _ k z))
-
-      pub members-said : k ≡ 0 → most ≤ 255 → (d : Call) → d ≡ with_value the_count (n % 256 ^ field_width the_count) c
-          → Said d ≡ cond (leb (length ws) most) (with_members ws p) (Bad too_many_reason)
-      members-said z b d r = rw (few, e, sym w ∙ z) (ap Said (r ∙ ap (λ (x : ℕ). with_value the_count x c) (mod-eq_of_lt (count_fits n (omega arith)) ∙ l)))
-
-pub kind-some : (e k : ℕ) (ws : List (List ℕ)) → (k ≡ 0 → ⊥) → filled_in (most_members e k) (line_fields e k) ws (Said (bare k)) ≡ kind_says e k ws
+pub kind-some : (e k : ℕ) (ws : List (List ℕ)) → (k ≡ 0 → ⊥) → filled_in (fields_of e k) ws (Said (bare k)) ≡ kind_says e k ws
 kind-some e zero ws z = absurd (z refl)
 kind-some e (suc k) ws z = refl

@@ -1,13 +1,13 @@
 -- The forms of lines: as the code finds them, and for every line that wants one.
-use Prim.Native.Nat.{ℕ, suc, ◌+◌, ◌≤◌}
-use mathlib.Core.Bool.{Bool, true, false, not, ◌&&◌, cond}
+use Prim.Native.Nat.{ℕ, suc, ◌≤◌}
+use mathlib.Core.Bool.{Bool, true, false, not, ◌&&◌}
 use mathlib.Core.List.{List, [], ◌++◌}
 use mathlib.Core.Path.{◌≡◌, refl, sym, ap, ◌∙◌}
 use native.Mathlib.Omega.{arith}
 use lib.Dec.{eqb, leb, ltb}
 use lib.ListN.{length, take, get_or, replicate, length-replicate, get_or-eq_default}
 use borrow.Author.Tests.{eqb-true, leb-true, not-true}
-use Rattle.format.specs.Format.{the_count, format, has_kind, fields_of, has, has_members, names, name_of}
+use Rattle.format.specs.Format.{format, has_kind, fields_of, names, name_of}
 use Rattle.format.proofs.Format.{both, all_rows, kind-tested, no_fields}
 use Rattle.numerals.specs.Laid.{Put}
 use Rattle.numerals.proofs.Laying.{put-short, laid-first}
@@ -17,27 +17,23 @@ use Rattle.words.specs.Reports.{form_for, wants_form}
 use Rattle.words.specs.Words.{is_word}
 use Rattle.words.proofs.Cases.{either}
 use Rattle.words.proofs.Names.{word_same}
-use Rattle.load_text.specs.Forms.{field_words, field_word, fields_form, members_form, kind_form, edition_form, word_form, form_of, FormWords}
+use Rattle.load_text.specs.Forms.{field_words, field_word, fields_form, kind_form, edition_form, word_form, form_of, FormWords}
 use Rattle.load_text.specs.Making.{heading}
-use Rattle.load_text.specs.Parsing.{edition_word, kind_named, without_count, line_fields}
+use Rattle.load_text.specs.Parsing.{edition_word, kind_named}
 
 -- ── the table of forms ──
 -- The form of a kind by its fields: as many words as the line needs, told as it is, the name first, which is not `edition`.
 row-form : ℕ → List ℕ → List ℕ
-row-form k fs = get_or names k [] ++ (fields_form (without_count fs) ++ cond (has the_count fs) members_form [])
-
--- How many words it has.
-abbrev row_words : List ℕ → ℕ
-row_words fs = suc (length (without_count fs) + cond (has the_count fs) 2 0)
+row-form k fs = get_or names k [] ++ fields_form fs
 
 form-test : ℕ → ℕ → List ℕ → Bool
 form-test e k fs =
-    (eqb (length (words_in (row-form k fs))) (row_words fs) && (ltb 0 (length (row-form k fs)) && leb (length (row-form k fs)) 64))
+    (eqb (length (words_in (row-form k fs))) (suc (length fs)) && (ltb 0 (length (row-form k fs)) && leb (length (row-form k fs)) 64))
     && (is_word (first_said (row-form k fs)) (get_or names k []) && not (is_word (get_or names k []) edition_word))
 
 -- What the test says of a kind.
 pub record Formed (k : ℕ) (fs form : List ℕ) : Type 0 where
-  pub count : length (words_in form) ≡ row_words fs
+  pub count : length (words_in form) ≡ suc (length fs)
   pub size : (ltb 0 (length form) && leb (length form) 64) ≡ true
   pub first : first_said form ≡ get_or names k []
   pub apart : is_word (get_or names k []) edition_word ≡ false
@@ -48,29 +44,28 @@ row-formed e k fs t =
     let form = row-form k fs in
     let name = get_or names k [] in
     let size = ltb 0 (length form) && leb (length form) 64 in
-    let a = both (eqb (length (words_in form)) (row_words fs) && size) (is_word (first_said form) name && not (is_word name edition_word)) t in
-    let b = both (eqb (length (words_in form)) (row_words fs)) size a.0 in
+    let a = both (eqb (length (words_in form)) (suc (length fs)) && size) (is_word (first_said form) name && not (is_word name edition_word)) t in
+    let b = both (eqb (length (words_in form)) (suc (length fs))) size a.0 in
     let c = both (is_word (first_said form) name) (not (is_word name edition_word)) a.1 in
     record {
-      count = eqb-true (length (words_in form)) (row_words fs) b.0;
+      count = eqb-true (length (words_in form)) (suc (length fs)) b.0;
       size = b.1;
       first = word_same (first_said form) name c.0;
       apart = not-true (is_word name edition_word) c.1;
     }
 
 forms-pass : all_rows form-test format ≡ true
-unfolding form-test row-form without_count has all_rows format names fields_form field_word field_words is_word first_said said chomped bytes_before words_in parts
+unfolding form-test row-form all_rows format names fields_form field_word field_words is_word first_said said chomped bytes_before words_in parts
 forms-pass = refl
 
 pub formed : (e k : ℕ) → has_kind e k ≡ true → Formed k (fields_of e k) (kind_form e k)
-unfolding kind_form line_fields has_members name_of row-form
+unfolding kind_form name_of row-form
 formed e k h = rw h (row-formed e k (fields_of e k) (kind-tested form-test e k forms-pass h))
 
 size_few : (e k : ℕ) → has_kind e k ≡ true → length (kind_form e k) ≤ 64
 size_few e k h = let n = length (kind_form e k) in leb-true n 64 (both (ltb 0 n) (leb n 64) (formed e k h).size).1
 
 pub form-words : FormWords
-unfolding line_fields has_members
 form-words e k h = ((formed e k h).count, size_few e k h)
 
 -- ── as the code finds them ──
@@ -81,7 +76,7 @@ no-field-word f h = get_or-eq_default field_words [] h
 
 -- A kind that the edition lacks has no form.
 lacking-few : (e k : ℕ) → has_kind e k ≡ false → length (kind_form e k) ≤ 64
-unfolding kind_form line_fields without_count has_members has name_of fields_form
+unfolding kind_form name_of fields_form
 lacking-few e k h = rw (h, no_fields e k h) (omega arith)
 
 module _ (e : ℕ) (w : List ℕ) where

@@ -1,12 +1,9 @@
-pub mod AllSamples
 pub mod Cases
 pub mod Fields
 pub mod Forms
 pub mod Headings
-pub mod LineFields
 pub mod Lines
 pub mod Making
-pub mod MemberWords
 pub mod ReadBack
 pub mod Remaking
 pub mod Showing

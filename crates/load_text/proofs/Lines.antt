@@ -7,27 +7,25 @@ use native.Mathlib.Nat.{pow-suc}
 use native.Mathlib.Omega.{arith}
 use lib.Dec.{ltb, leb, eqb}
 use lib.ListN.{length, get_or, length-append}
-use borrow.Author.Tests.{ne_eqb, lt-ltb, leb-true, ltb-true}
+use borrow.Author.Tests.{ne_eqb, lt-ltb, leb-true}
 use Rattle.numbers.specs.Numbers.{no_space_number}
 use Rattle.numerals.specs.Digits.{digits, width_up_to, width_of, decimal_of, column}
 use Rattle.numerals.specs.Laid.{Put, space_number, lent_out}
 use Rattle.numerals.proofs.Laying.{decimal-length, pair-length, put-short, lent-all, lent_none, lent-known}
 use Rattle.format.specs.declared.Call.{Call}
-use Rattle.format.specs.Records.{Member, Record, record_of}
-use Rattle.format.specs.Format.{the_groups, the_length, field_widths, field_count, field_width, format, known, fields_of, has_kind, total, length_in, member_widths, names, name_of}
+use Rattle.format.specs.Records.{record_of}
+use Rattle.format.specs.Format.{the_groups, field_widths, field_count, field_width, format, known, fields_of, has_kind, total, length_in, names, name_of}
 use Rattle.format.specs.Calls.{value_of}
 use Rattle.format.proofs.Format.{both, all_below, below-passes, all_rows, kind-tested, known-tested, no_fields, length-of, no-width}
-use Rattle.load.specs.Bytes.{members_bytes, record_bytes, call_bytes}
-use Rattle.load.proofs.Bytes.{members-length, record-parts, record-some, call_length}
-use Rattle.numerals.specs.Texts.{bytes, line_feed}
+use Rattle.load.proofs.Bytes.{record-some, call_length}
+use Rattle.numerals.specs.Texts.{line_feed}
 use Rattle.words.proofs.Cases.{either, below}
 use Rattle.load.specs.Reading.{unless_refused}
 use Rattle.load.specs.Writing.{answered_values}
 use Rattle.load_text.specs.declared.print.Printed.{Printed}
 use Rattle.load_text.specs.declared.print.Printed.TheVariants.{Length, Refusal}
 use Rattle.load_text.specs.Answers.{printed_values}
-use Rattle.load_text.specs.Lines.{glyph_of, hex_up_to, word_of, spaced, field_texts, member_text, member_texts, head_of, line_of, word_most, fields_most, Brief, stop_line, header_of, printed, print_values}
-use Rattle.load_text.specs.Parsing.{without_count, line_fields}
+use Rattle.load_text.specs.Lines.{glyph_of, hex_up_to, word_of, fields_text, line_of, word_most, fields_most, Brief, stop_line, header_of, printed, print_values}
 use Rattle.load_text.proofs.Cases.{not-refused}
 
 -- ── hex ──
@@ -81,32 +79,19 @@ word-length f v h =
 
 -- One field after the other: what is left of the bound.
 pub fields-turn : (a b f : ℕ) (fs : List ℕ) (c : Call) → value_of f c < 256 ^ field_width f
-    → a + fields_most (f ∷ fs) ≤ b + length (spaced (field_texts (f ∷ fs) c)) → a + fields_most fs ≤ b + length (spaced (field_texts fs c))
-unfolding spaced fields_most
-fields-turn a b f fs c h l = omega (arith, length-append (word_of f (value_of f c)) (spaced (field_texts fs c)), word-length f (value_of f c) h)
+    → a + fields_most (f ∷ fs) ≤ b + length (fields_text (f ∷ fs) c) → a + fields_most fs ≤ b + length (fields_text fs c)
+unfolding fields_text fields_most
+fields-turn a b f fs c h l = omega (arith, length-append (word_of f (value_of f c)) (fields_text fs c), word-length f (value_of f c) h)
 
--- And one member after the other: three bytes for each of its bytes.
-member-length : (m : Member) → m.groups < 256 ^ field_width the_groups → m.length < 256 ^ field_width the_length → length (member_text m) ≤ 35
-unfolding member_text word_most field_width field_widths
-member-length m g h =
-    let a = word_of the_groups m.groups in
-    let b = word_of the_length m.length in
-    omega (arith, length-append a (bytes ":" ++ b), word-length the_groups m.groups g, word-length the_length m.length h)
+-- A line with these fields is brief.
+line-test : ℕ → List ℕ → Bool
+line-test k fs =
+    let n = length (get_or names k []) + fields_most fs in
+    leb n 68 && leb n (3 * (2 + length_in fs))
 
-pub members-turn : (a b n : ℕ) (m : Member) (ms : List Member) → m.groups < 256 ^ field_width the_groups → m.length < 256 ^ field_width the_length
-    → a + 36 * suc n ≤ b + length (spaced (member_texts (m ∷ ms))) → a + 36 * n ≤ b + length (spaced (member_texts ms))
-unfolding spaced
-members-turn a b n m ms g h l = omega (arith, length-append (member_text m) (spaced (member_texts ms)), member-length m g h)
-
--- A head with these fields is brief.
-head-test : ℕ → List ℕ → Bool
-head-test k fs =
-    let n = length (get_or names k []) + fields_most (without_count fs) in
-    ltb n 68 && ltb n (3 * (2 + length_in fs))
-
-pub head-brief : (e : ℕ) (c : Call) → length (spaced (field_texts (line_fields e c.kind) c)) ≤ fields_most (line_fields e c.kind) → Brief e c
-unfolding head_of name_of spaced head-test line_fields without_count fields_most word_most all_rows format length_in total field_width field_widths names
-head-brief e c h = either (has_kind e k) some none
+pub line-brief : (e : ℕ) (c : Call) → length (fields_text (fields_of e c.kind) c) ≤ fields_most (fields_of e c.kind) → Brief e c
+unfolding line_of name_of fields_text line-test fields_most word_most all_rows format length_in total field_width field_widths names
+line-brief e c h = either (has_kind e k) some none
   where
     k : ℕ
     k = c.kind
@@ -118,26 +103,11 @@ head-brief e c h = either (has_kind e k) some none
     some t =
         let fs = fields_of e k in
         let name = get_or names k [] in
-        let n = length name + fields_most (without_count fs) in
-        let b = both (ltb n 68) (ltb n (3 * (2 + length_in fs))) (kind-tested (λ e k fs. head-test k fs) e k refl t) in
+        let n = length name + fields_most fs in
+        let b = both (leb n 68) (leb n (3 * (2 + length_in fs))) (kind-tested (λ e k fs. line-test k fs) e k refl t) in
         let r = call_length e c t in
-        let l : length (head_of e c) ≤ n = rw t (omega (arith, length-append name (spaced (field_texts (without_count fs) c)), h)) in
-        (omega (arith, l, ltb-true n 68 b.0), omega (arith, l, ltb-true n (3 * (2 + length_in fs)) b.1, r, length-of e k t))
-
--- A line without members has at most 68 bytes, and any line three for each byte of its record.
-pub call-brief : (e : ℕ) (c : Call) → Brief e c → length (line_of e (record_of c)) ≤ 68
-unfolding line_of spaced
-call-brief e c b = omega (arith, length-append (head_of e c) (bytes "\n"), b.0)
-
-pub line-brief : (e : ℕ) (r : Record) → Brief e r.call → length (spaced (member_texts r.members)) ≤ 36 * length r.members
-    → length (line_of e r) ≤ 3 * length (record_bytes e r)
-unfolding line_of member_widths total field_width field_widths
-line-brief e r b m =
-    let h = head_of e r.call in
-    let t = spaced (member_texts r.members) in
-    let p : length (record_bytes e r) ≡ length (call_bytes e r.call) + length (members_bytes r.members) =
-    ap length (record-parts e r) ∙ length-append (call_bytes e r.call) (members_bytes r.members) in
-    omega (arith, length-append h (t ++ bytes "\n"), length-append t (bytes "\n"), b.1, m, p, members-length r.members)
+        let l : length (line_of e c) ≤ n = rw t (omega (arith, length-append name (fields_text fs c), h)) in
+        (omega (arith, l, leb-true n 68 b.0), omega (arith, l, leb-true n (3 * (2 + length_in fs)) b.1, r, length-of e k t))
 
 -- The header of an edition that there is has at most 12.
 pub header-length : (e : ℕ) → known e ≡ true → length (header_of e) ≤ 12

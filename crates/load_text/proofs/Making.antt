@@ -1,6 +1,6 @@
 -- The load of a text line by line: what a line adds, the loop over the lines, the copy into a lent buffer, and that the load reads as the
--- records that the lines say.
-use Prim.Native.Nat.{ℕ, zero, suc, ◌+◌, ◌-◌, ◌^◌, ◌≤◌, ◌<◌}
+-- calls that the lines say.
+use Prim.Native.Nat.{ℕ, zero, suc, ◌+◌, ◌-◌, ◌≤◌, ◌<◌}
 use mathlib.Core.Bool.{not, ◌||◌}
 use mathlib.Core.List.{List, [], ◌∷◌, ◌++◌, map, append-nil}
 use mathlib.Core.Path.{◌≡◌, refl, sym, ap, ◌∙◌}
@@ -10,8 +10,8 @@ use borrow.Author.Tests.{lt-ltb}
 use lib.ListN.{length, take, drop, replicate, length-replicate, length-append}
 use lib.Seq.{take_at, append_snoc}
 use Rattle.numbers.specs.Numbers.{no_space_number}
-use Rattle.numerals.specs.Laid.{behind, laid, Put, space_number, lent_out}
-use Rattle.numerals.proofs.Laying.{laid-append, laid-length, laid_none, laid-first, behind-small, put_as, put_then, lent-all, lent_none, lent-known}
+use Rattle.numerals.specs.Laid.{behind, laid, space_number, lent_out}
+use Rattle.numerals.proofs.Laying.{laid-append, laid-length, laid_none, laid-first, behind-small, lent-all, lent_none, lent-known}
 use Rattle.format.specs.declared.Call.{Call}
 use Rattle.words.specs.Answers.{value_unless}
 use Rattle.words.specs.Parts.{is_feed, place_of, lines_in}
@@ -19,82 +19,62 @@ use Rattle.words.proofs.Cases.{either, below}
 use Rattle.words.proofs.Parts.{lines_cut, lines_end, place-low}
 use Rattle.load.specs.declared.Written.{Written}
 use Rattle.load.specs.declared.Written.TheVariants.{Length, Refusal}
-use Rattle.format.specs.Records.{Member, Record, record_with, TypedRecord, carries}
-use Rattle.load.specs.Bytes.{members_bytes, record_bytes, call_bytes}
+use Rattle.format.specs.Calls.{Typed}
+use Rattle.format.specs.Records.{Record, record_of, records_of, carries}
+use Rattle.load.specs.Bytes.{records_bytes, call_bytes}
 use Rattle.load.specs.Reading.{is_in_place, edition_of, load_number, walk, unless_refused}
 use Rattle.load.specs.Writing.{grown, room_number, grow_number, append_number, append_answer, append_out}
 use Rattle.load.specs.RoundTrip.{Appended}
-use Rattle.load.proofs.Bytes.{record-parts}
 use Rattle.load.proofs.Reading.{or-else, open-known}
 use Rattle.load.proofs.Writing.{append-grow}
 use Rattle.load.proofs.RoundTrip.{written-reads, read-bounded}
 use Rattle.load_text.specs.declared.Made.{Made}
 use Rattle.load_text.specs.declared.Made.TheVariants.{Load, Mistake}
 use Rattle.load_text.specs.declared.Start.{Start}
+use Rattle.load_text.specs.declared.parse.Parsed.{Parsed}
 use Rattle.load_text.specs.declared.parse.Parsed.TheVariants.{Nothing, Said, Bad}
-use Rattle.load_text.specs.Answers.{made_values}
-use Rattle.load_text.specs.Parsing.{line_call, line_members, Line, silent, says, bad, line_says}
-use Rattle.load_text.specs.Making.{Making, whole, wrong, heading, heading_number, said_in, Starts, line_number, line_records, line_bytes, gathered, made_by, answer_on, buffer_on, values_on, made_of, made_out, make_values, Adds, Gathers, records_in, MadeReads}
+use Rattle.load_text.specs.Answers.{made_values, parsed_values}
+use Rattle.load_text.specs.Parsing.{line_says}
+use Rattle.load_text.specs.Making.{Making, whole, wrong, heading, heading_number, said_in, Starts, line_number, line_bytes, gathered, made_by, answer_on, buffer_on, values_on, made_of, made_out, make_values, Adds, Gathers, calls_in, MadeReads}
 use Rattle.load_text.proofs.Cases.{refused, not-refused, was-refused}
-use Rattle.load_text.proofs.MemberWords.{said-counted}
 use Rattle.load_text.proofs.Within.{says_typed, reasons-apart}
 
 -- ── what a line adds ──
--- A record that is taken leaves the load within its bound.
-grow-small : (e n : ℕ) (r : Record) (room : ℕ) → grow_number e n r room ≡ 0 → n + length (record_bytes e r) ≤ 65536
+-- A call that is taken leaves the load within its bound.
+grow-small : (e n : ℕ) (c : Call) (room : ℕ) → grow_number e n (record_of c) room ≡ 0 → n + length (call_bytes e c) ≤ 65536
 unfolding grow_number room_number
-grow-small e n r room h =
-    let w = n + length (record_bytes e r) in
-    either (not (is_in_place r.call.kind n) || not (carries e r)) (λ a. absurd (omega (arith, rw a at h)))
+grow-small e n c room h =
+    let w = n + length (call_bytes e c) in
+    either (not (is_in_place c.kind n) || not (carries e (record_of c))) (λ a. absurd (omega (arith, rw a at h)))
     (λ a. below 65536 w (λ x. absurd (omega (arith, rw (a, lt-ltb 65536 w x) at h))) (λ x. x))
+
+pub said-bytes : (e : ℕ) (c : Call) → line_bytes e (Said c) ≡ call_bytes e c
+unfolding line_bytes records_bytes
+said-bytes e c = append-nil (call_bytes e c)
 
 length-not : (k n : ℕ) → Refusal k ≡ Length n → ⊥
 length-not k n e = let z : ◌≡◌ {A = ℕ} 0 1 = cc in omega arith
 
--- By what the line says.
-abbrev LineAdds : ℕ → ℕ → List ℕ → List ℕ → Written → List ℕ → Type 0
-LineAdds e n o l r q = Adds e n o (line_says e l) r q
+module _ (e n : ℕ) (o : List ℕ) where
+  pub add_nothing : Adds e n o Nothing (Length n) o
+  unfolding line_number line_bytes records_bytes
+  add_nothing = (ap Length (sym (add-zero n)), sym (laid_none o n))
 
-module _ (e n : ℕ) (o l : List ℕ) where
-  pub add_nothing : line_call e l ≡ Nothing → LineAdds e n o l (Length n) o
-  unfolding line_number line_bytes line_says
-  add_nothing i = rw i (ap Length (sym (add-zero n)), sym (laid_none o n))
+  pub add-bad : (k : ℕ) → 101 ≤ k → Adds e n o (Bad k) (Refusal k) o
+  unfolding line_number
+  add-bad zero h = absurd (omega arith)
+  add-bad (suc k) h = (refl, refl)
 
-  pub add-bad : (k : ℕ) → line_call e l ≡ Bad k → LineAdds e n o l (Refusal k) o
-  unfolding line_number line_says
-  add-bad k i = let h = reasons-apart e l k (rw i) in rw i (sym (refused Refusal _ k (λ z. omega arith)), sym (refused (λ j. o) _ k (λ z. omega arith)))
+  module _ (c : Call) (k : ℕ) (g : k ≡ grow_number e n (record_of c) 65536) where
+    pub add-refused : (k ≡ 0 → ⊥) → Adds e n o (Said c) (Refusal k) o
+    unfolding line_number
+    add-refused h = rw (← g) (sym (refused Refusal _ k h), sym (refused (λ i. o) _ k h))
 
-  module _ (c : Call) (i : line_call e l ≡ Said c) where
-    abbrev said : Record
-    said = record_with c (line_members e l)
-
-    -- k is the number that the writer has for the call with as many members as it counts.
-    module _ (k : ℕ) (g : (ms : List Member) → length ms ≡ c.count → k ≡ grow_number e n (record_with c ms) 65536) where
-      number_is : k ≡ grow_number e n said 65536
-      number_is = g (line_members e l) (said-counted e l c i)
-
-      pub add-refused : (k ≡ 0 → ⊥) → LineAdds e n o l (Refusal k) o
-      unfolding line_number line_says
-      add-refused h = rw (i, ← number_is) (sym (refused Refusal _ k h), sym (refused (λ j. o) _ k h))
-
-      add-taken : k ≡ 0 → (r : ℕ) (u : List ℕ) → Put o n (record_bytes e said) r u → LineAdds e n o l (Length r) u
-      unfolding line_number line_bytes line_says
-      add-taken z r u w =
-          let h = grow-small e n said 65536 (sym number_is ∙ z) in
-          rw (i, sym number_is ∙ z) (ap Length (w.next ∙ behind-small n (length (record_bytes e said)) (omega arith)), w.is)
-
-      -- What stands before the members is laid, and then they are, if there are any.
-      module _ (z : k ≡ 0) (m : ℕ) (p : List ℕ) (a : Put o n (call_bytes e c) m p) where
-        pub add-head : c.count ≡ 0 → LineAdds e n o l (Length m) p
-        unfolding members_bytes
-        add-head h = add-taken z m p (put_as _ _ (sym (record-parts e said ∙ ap (λ t. call_bytes e c ++ t) (none (line_members e l) (omega (arith, said-counted e l c i))) ∙ append-nil (call_bytes e c))) a)
-          where
-            none : (ms : List Member) → length ms ≡ 0 → members_bytes ms ≡ []
-            none [] q = refl
-            none (m ∷ ms) q = absurd (omega arith)
-
-        pub add-members : length o < 2 ^ 64 → (r : ℕ) (u : List ℕ) → Put p m (members_bytes (line_members e l)) r u → LineAdds e n o l (Length r) u
-        add-members h r u b = add-taken z r u (put_as _ _ (sym (record-parts e said)) (put_then _ _ _ _ _ _ _ _ h a b))
+    pub add-taken : k ≡ 0 → (r : ℕ) (u : List ℕ) → r ≡ behind n (length (call_bytes e c)) → u ≡ laid o n (call_bytes e c) → Adds e n o (Said c) (Length r) u
+    unfolding line_number
+    add-taken z r u x y =
+        let l = grow-small e n c 65536 (sym g ∙ z) in
+        rw (sym g ∙ z, said-bytes e c) (ap Length (x ∙ behind-small n (length (call_bytes e c)) (omega arith)), y)
 
 -- ── the loop ──
 -- A heading that is wrong.
@@ -134,70 +114,71 @@ module _ (e : ℕ) (text i o₀ o : List ℕ) (b : o₀ ≡ laid i 0 (e ∷ []))
   -- A line: j is where it ends, r the answer on it, q the buffer after it.
   module _ (h : at < length text) (j : ℕ) (f : j ≡ place_of is_feed text at) (r : Written) (q : List ℕ)
       (x : Adds e size o (line_says e (take (j - at) (drop at text))) r q) where
-    abbrev line-says : Line
-    line-says = line_says e (take (j - at) (drop at text))
+    abbrev says : Parsed
+    says = line_says e (take (j - at) (drop at text))
 
-    on : made_by text ≡ unless_refused (line_number e size line-says) (wrong (line + 1)) (gathered e (line + 1) (e ∷ (t.rest ++ line_bytes e line-says)) (map (line_says e) (lines_in (drop (j + 1) text))))
+    on : made_by text ≡ unless_refused (line_number e size says) (wrong (line + 1)) (gathered e (line + 1) (e ∷ (t.rest ++ line_bytes e says)) (map (line_says e) (lines_in (drop (j + 1) text))))
     unfolding gathered
     on = sym t.is ∙ rw (lines_cut text at j h f, t.long)
 
     pub turn_more : (n : ℕ) → r ≡ Length n → Turn e text o₀ q n (j + 1) (line + 1)
     turn_more n z =
-        let a = not-refused Refusal (Length (size + length (line_bytes e line-says))) (line_number e size line-says) (Length n) (λ k. length-not k n) (sym x.0 ∙ z) in
+        let a = not-refused Refusal (Length (size + length (line_bytes e says))) (line_number e size says) (Length n) (λ k. length-not k n) (sym x.0 ∙ z) in
         let l = t.long in
-        let m : size + length (line_bytes e line-says) ≡ n = cc in
+        let m : size + length (line_bytes e says) ≡ n = cc in
         record {
           few = omega (arith, t.few, f, place-low is_feed text at);
-          rest = t.rest ++ line_bytes e line-says;
-          long = omega (arith, length-append t.rest (line_bytes e line-says));
-          lays = (rw a.0 at x.1) ∙ ap (λ y. laid y size (line_bytes e line-says)) t.lays ∙ ap (λ k. laid (laid o₀ 1 t.rest) k (line_bytes e line-says)) (omega arith)
-              ∙ sym (laid-append o₀ 1 t.rest (line_bytes e line-says));
+          rest = t.rest ++ line_bytes e says;
+          long = omega (arith, length-append t.rest (line_bytes e says));
+          lays = (rw a.0 at x.1) ∙ ap (λ y. laid y size (line_bytes e says)) t.lays ∙ ap (λ k. laid (laid o₀ 1 t.rest) k (line_bytes e says)) (omega arith)
+              ∙ sym (laid-append o₀ 1 t.rest (line_bytes e says));
           is = sym (rw a.0 at on);
         }
 
     pub turn-wrong : (n : ℕ) → r ≡ Refusal n → made_by text ≡ wrong (line + 1) n
     turn-wrong n z =
-        let a = was-refused Refusal _ (line_number e size line-says) (Refusal n) (λ y. length-not n _ (sym y)) (sym x.0 ∙ z) in
-        let m : line_number e size line-says ≡ n = cc in
-        on ∙ refused (wrong (line + 1)) _ (line_number e size line-says) a.0 ∙ ap (wrong (line + 1)) m
+        let a = was-refused Refusal _ (line_number e size says) (Refusal n) (λ y. length-not n _ (sym y)) (sym x.0 ∙ z) in
+        let m : line_number e size says ≡ n = cc in
+        on ∙ refused (wrong (line + 1)) _ (line_number e size says) a.0 ∙ ap (wrong (line + 1)) m
 
--- ── a made load reads as its records ──
+-- ── a made load reads as its calls ──
 whole-not : (k n : ℕ) (s : List ℕ) → wrong k n ≡ whole s → ⊥
 whole-not k n s e = let z : ◌≡◌ {A = ℕ} 0 1 = cc in omega arith
 
--- A record that the writer takes where there is room, taken.
-append-more : (e : ℕ) (rs : List Record) (t : List ℕ) (r : Record) (room : ℕ) → Appended e rs (e ∷ t) → TypedRecord r → grow_number e (length (e ∷ t)) r room ≡ 0
-    → Appended e (rs ++ (r ∷ [])) (e ∷ (t ++ record_bytes e r))
+-- A call that the writer takes where there is room, taken.
+append-more : (e : ℕ) (rs : List Record) (t : List ℕ) (c : Call) (room : ℕ) → Appended e rs (e ∷ t) → Typed c → grow_number e (length (e ∷ t)) (record_of c) room ≡ 0
+    → Appended e (rs ++ (record_of c ∷ [])) (e ∷ (t ++ call_bytes e c))
 unfolding append_answer append_out grown
-append-more e rs t r room a h z =
+append-more e rs t c room a h z =
     let s : List ℕ = e ∷ t in
+    let r = record_of c in
     let w = (written-reads e rs s a).0 in
     let out : List ℕ = replicate room 0 in
     let g : append_number s r (length out) ≡ 0 = sym (append-grow s r (length out) 0 (sym w) refl) ∙ rw length-replicate z in
     let l : append_answer s r out ≡ Length (length (grown s r)) = rw g in
-    let f : take (length (grown s r)) (append_out s r out) ≡ s ++ record_bytes e r = rw g (take_at (grown s r) (drop (length (grown s r)) out) (length (grown s r)) refl) in
-    rw f at (Appended.one r out (length (grown s r)) a h l)
+    let f : take (length (grown s r)) (append_out s r out) ≡ s ++ call_bytes e c = rw g (take_at (grown s r) (drop (length (grown s r)) out) (length (grown s r)) refl) in
+    rw f at (Appended.one r out (length (grown s r)) a (h, tt) l)
 
 gathered-reads : (e k : ℕ) (ls : List (List ℕ)) (rs : List Record) (t u : List ℕ) → Appended e rs (e ∷ t) → gathered e k (e ∷ t) (map (line_says e) ls) ≡ whole u
-    → Appended e (rs ++ records_in (map (line_says e) ls)) u × (edition_of u ≡ e)
-unfolding gathered records_in line_number line_records line_bytes
+    → Appended e (rs ++ records_of (calls_in (map (line_says e) ls))) u × (edition_of u ≡ e)
+unfolding gathered calls_in line_number line_bytes records_bytes
 gathered-reads e k [] rs t u a q = let i : e ∷ t ≡ u = cc in (rw (append-nil, ← i) a, ap edition_of (sym i))
 gathered-reads e k (l ∷ ls) rs t u a q =
     let b = not-refused (wrong (k + 1)) _ (line_number e (length (e ∷ t)) (line_says e l)) (whole u) (λ n. whole-not (k + 1) n u) q in
     go (line_says e l) refl b.0 b.1 (λ ds r b. gathered-reads e (k + 1) ls ds r u b)
   where
-    ps : List Line
+    ps : List Parsed
     ps = map (line_says e) ls
 
-    go : (p : Line) → line_says e l ≡ p → line_number e (length (e ∷ t)) p ≡ 0 → gathered e (k + 1) (e ∷ (t ++ line_bytes e p)) ps ≡ whole u
-        → ((ds : List Record) (r : List ℕ) → Appended e ds (e ∷ r) → gathered e (k + 1) (e ∷ r) ps ≡ whole u → Appended e (ds ++ records_in ps) u × (edition_of u ≡ e))
-        → Appended e (rs ++ (line_records p ++ records_in ps)) u × (edition_of u ≡ e)
-    go silent i z q f = f rs t a (rw append-nil at q)
-    go (bad n) i z q f = absurd (omega (arith, reasons-apart e l n i, z))
-    go (says r) i z q f =
-        rw (append_snoc rs r (records_in ps)) at (f (rs ++ (r ∷ [])) (t ++ record_bytes e r) (append-more e rs t r 65536 a (says_typed e l r i) z) q)
+    go : (p : Parsed) → line_says e l ≡ p → line_number e (length (e ∷ t)) p ≡ 0 → gathered e (k + 1) (e ∷ (t ++ line_bytes e p)) ps ≡ whole u
+        → ((ds : List Record) (r : List ℕ) → Appended e ds (e ∷ r) → gathered e (k + 1) (e ∷ r) ps ≡ whole u → Appended e (ds ++ records_of (calls_in ps)) u × (edition_of u ≡ e))
+        → Appended e (rs ++ records_of ((parsed_values p).calls ++ calls_in ps)) u × (edition_of u ≡ e)
+    go Nothing i z q f = f rs t a (rw append-nil at q)
+    go (Bad n) i z q f = absurd (omega (arith, reasons-apart e l n i, (or-else n _ z).0))
+    go (Said c) i z q f =
+        rw (append_snoc rs (record_of c) (records_of (calls_in ps))) at (f (rs ++ (record_of c ∷ [])) (t ++ call_bytes e c) (append-more e rs t c 65536 a (says_typed e l c i) z) (rw (said-bytes e c) at q))
 
-made_ends : (text s : List ℕ) → made_by text ≡ whole s → Appended (heading text).edition (records_in (said_in text)) s × (edition_of s ≡ (heading text).edition)
+made_ends : (text s : List ℕ) → made_by text ≡ whole s → Appended (heading text).edition (records_of (calls_in (said_in text))) s × (edition_of s ≡ (heading text).edition)
 unfolding made_by said_in heading_number
 made_ends text s q =
     let h = heading text in
@@ -246,7 +227,7 @@ unfolding made_of made_out
 made_reads text out n e = go (made_by text) refl e
   where
     go : (m : Making) → made_by text ≡ m → answer_on m out ≡ Load n
-        → (n ≤ length out) × (load_number (take n (buffer_on m out)) ≡ 0) × (walk (take n (buffer_on m out)) 1 ≡ record { records = records_in (said_in text); stop = 0 })
+        → (n ≤ length out) × (load_number (take n (buffer_on m out)) ≡ 0) × (walk (take n (buffer_on m out)) 1 ≡ record { records = records_of (calls_in (said_in text)); stop = 0 })
         × (edition_of (take n (buffer_on m out)) ≡ (heading text).edition)
     go (whole s) i e =
         let q = not-refused (Mistake 0) (Load (length s)) (space_number s out) (Load n) (λ k c. let z : ◌≡◌ {A = ℕ} 0 1 = cc in omega arith) e in

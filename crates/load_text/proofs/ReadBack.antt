@@ -1,25 +1,22 @@
--- The line that a record is printed as says that record: its words are the kind's name, the values of its fields and its members, and these
--- read back.
+-- The line that a call is printed as says that call: its words are the kind's name and the values of its fields, and these read back.
 use Prim.Native.Nat.{ℕ, zero, suc, ◌+◌, ◌-◌, ◌*◌, ◌/◌, ◌%◌, ◌^◌, ◌≤◌, ◌<◌}
 use mathlib.Core.Path.{◌≡◌, refl, sym, ap, ◌∙◌}
 use mathlib.Core.Bool.{Bool, true, false, not, ◌&&◌, ◌||◌, cond, false≢true}
-use mathlib.Core.List.{List, [], ◌∷◌, ◌++◌, map, append_assoc, append-nil}
+use mathlib.Core.List.{List, [], ◌∷◌, ◌++◌, map, append_assoc}
 use native.Mathlib.Nat.{pow-suc, pow-le-pow_right}
 use native.Mathlib.Omega.{arith}
 use lib.Dec.{ltb, leb, eqb}
-use lib.ListN.{length, drop, get_or, length-append, length-map}
-use lib.Seq.{take_at, drop_at}
+use lib.ListN.{length, get_or, length-append}
 use borrow.Author.Tests.{eqb-true, ltb-true, leb-false, leb-true, lt-ltb, le-ltb, le-leb, lt-leb, not-true}
 use Rattle.numbers.specs.Numbers.{edition_number}
 use Rattle.numerals.specs.Digits.{digits, width_up_to, width_of, decimal_of, column}
 use Rattle.format.specs.declared.Call.{Call}
-use Rattle.format.specs.Format.{the_groups, the_length, the_count, field_widths, field_width, format, known, has_kind, names, name_of}
-use Rattle.format.specs.Calls.{numbers, value_of, with_value, bare, filled, values_in, Typed}
-use Rattle.format.specs.Records.{Member, Record, TypedMembers, TypedRecord, carries}
+use Rattle.format.specs.Format.{the_groups, field_width, format, known, fields_of, has_kind, names, name_of}
+use Rattle.format.specs.Calls.{value_of, with_value, bare, filled, call_of, values_in, values_of, keeps, Typed}
+use Rattle.format.specs.Records.{Record, calls_of}
 use Rattle.numerals.specs.Texts.{bytes, space, line_feed}
 use Rattle.words.specs.declared.Field.TheVariants.{Value}
-use Rattle.words.specs.Answers.{word_values}
-use Rattle.words.specs.Parts.{carriage_return, hash, colon, until, since, none, bytes_before, parts, in_front, not_empty, is, is_feed, is_blank, is_joint, is_colon, lines_in, words_in, chomped, said}
+use Rattle.words.specs.Parts.{carriage_return, hash, none, bytes_before, parts, in_front, not_empty, is, is_feed, is_blank, is_joint, lines_in, words_in, chomped, said}
 use Rattle.words.specs.Sets.{is_list, groups_in}
 use Rattle.words.specs.Words.{digit_of, is_no_digit, digits_in, value_in, number_in, is_word, place_in}
 use Rattle.words.proofs.Cases.{either, below}
@@ -28,19 +25,17 @@ use Rattle.words.proofs.Numbers.{digit-ten, digit-upper}
 use Rattle.words.proofs.Reading.{not-empty-cons}
 use Rattle.load.specs.Reading.{edition_of, walk}
 use Rattle.format.proofs.Format.{both, all_rows, kind-tested, known-tested, width-most}
-use Rattle.format.proofs.Calls.{keeps-kind}
+use Rattle.format.proofs.Calls.{keeps-kind, call-of-values}
 use Rattle.load.proofs.Reading.{load-parts, load-known}
-use Rattle.format.proofs.Records.{carries-parts, members-counted}
+use Rattle.format.proofs.Records.{carries-parts, call-carried}
 use Rattle.load.proofs.Loads.{Sound, Loadable, read-loadable}
 use Rattle.load_text.specs.declared.parse.Head.TheVariants.{Edition, Other}
-use Rattle.load_text.specs.declared.parse.Parsed.TheVariants.{Said}
-use Rattle.load_text.specs.Lines.{glyph_of, hex_up_to, word_of, spaced, field_texts, member_text, member_texts, head_of, line_of, lines_of, rest_of, header_of, text_of}
+use Rattle.load_text.specs.declared.parse.Parsed.TheVariants.{Nothing, Said}
+use Rattle.load_text.specs.Lines.{glyph_of, hex_up_to, word_of, fields_text, line_of, lines_of, rest_of, header_of, text_of}
 use Rattle.load_text.specs.Making.{no_heading, heading_in, heading, said_in}
-use Rattle.load_text.specs.Parsing.{field_in, word_as, groups_part, part_of_length, in_two_parts, member_number, member_said, wrong_member, line_fields, most_members, filled_in, kind_of, kind_named, kind_says, call_said, line_call, members_said, line_members, silent, says, line_says, edition_word, edition_or, edition_in, head_in, head_says}
+use Rattle.load_text.specs.Parsing.{field_in, filled_in, kind_of, kind_named, kind_says, call_said, line_says, edition_word, edition_or, edition_in, head_in, head_says}
 use Rattle.load_text.specs.ReadBack.{LineReadBack, TextReadBack}
 use Rattle.load_text.proofs.Fields.{kind-some}
-use Rattle.load_text.proofs.LineFields.{call-again, most-enough}
-use Rattle.load_text.proofs.Within.{field-values}
 
 -- ── parts of a text in front of a byte that ends one ──
 module _ (p : ℕ → Bool) where
@@ -60,28 +55,10 @@ module _ (p : ℕ → Bool) where
   parts_last (b ∷ []) q h = rw (none-cons p b [] h).0
   parts_last (b ∷ c ∷ x) q h = let n = none-cons p b (c ∷ x) h in rw n.0 (ap (in_front b) (parts_last (c ∷ x) (omega arith) n.1))
 
-  module _ (e : ℕ) (l : List ℕ) (k : p e ≡ true) where
-    before-front : (x : List ℕ) → none p x ≡ true → bytes_before p (x ++ e ∷ l) ≡ length x
-    unfolding bytes_before
-    before-front [] h = rw k
-    before-front (b ∷ x) h = let q = none-cons p b x h in rw q.0 (ap suc (before-front x q.1))
-
-    some-front : (x : List ℕ) → none p x ≡ true → none p (x ++ e ∷ l) ≡ false
-    unfolding none
-    some-front [] h = rw k
-    some-front (b ∷ x) h = let q = none-cons p b x h in rw q.0 (some-front x q.1)
-
-    until_front : (x : List ℕ) → none p x ≡ true → until p (x ++ e ∷ l) ≡ x
-    until_front x h = take_at x (e ∷ l) (bytes_before p (x ++ e ∷ l)) (sym (before-front x h))
-
-    since-front : (x : List ℕ) → none p x ≡ true → since p (x ++ e ∷ l) ≡ e ∷ l
-    since-front x h = drop_at x (e ∷ l) (bytes_before p (x ++ e ∷ l)) (sym (before-front x h))
-
 -- ── a line of words with a space between them ──
-spaced-append : (xs ys : List (List ℕ)) → spaced (xs ++ ys) ≡ spaced xs ++ spaced ys
-unfolding spaced
-spaced-append [] ys = refl
-spaced-append (x ∷ xs) ys = ap (λ t. space ∷ (x ++ t)) (spaced-append xs ys) ∙ ap (λ t. space ∷ t) (sym (append_assoc x (spaced xs) (spaced ys)))
+spaced : List ℕ → List (List ℕ) → List ℕ
+spaced w [] = w
+spaced w (v ∷ vs) = w ++ space ∷ spaced v vs
 
 -- A byte that ends a line or what it says, and one that is no part of a word.
 abbrev is_end : ℕ → Bool
@@ -115,18 +92,18 @@ module _ (w : List ℕ) (h : Plain w) where
   no_end : none is_end w ≡ true
   no_end = none-less is_end is_mark (λ b q. (neither (is_blank b) (is_end b) q).1) w h.1
 
-words-spaced : (w : List ℕ) (ws : List (List ℕ)) → Plain w → Plains ws → words_in (w ++ spaced ws) ≡ w ∷ ws
+words-spaced : (w : List ℕ) (ws : List (List ℕ)) → Plain w → Plains ws → words_in (spaced w ws) ≡ w ∷ ws
 unfolding words_in spaced
-words-spaced w [] h hs = rw (append-nil w) (ap not_empty (parts_last is_blank w h.0 (no-blank w h)) ∙ not-empty-cons w [] h.0)
+words-spaced w [] h hs = ap not_empty (parts_last is_blank w h.0 (no-blank w h)) ∙ not-empty-cons w [] h.0
 words-spaced w (v ∷ vs) h (also k ks) =
-    ap not_empty (parts-front is_blank w space (v ++ spaced vs) (no-blank w h) refl)
-    ∙ not-empty-cons w (parts is_blank (v ++ spaced vs)) h.0
+    ap not_empty (parts-front is_blank w space (spaced v vs) (no-blank w h) refl)
+    ∙ not-empty-cons w (parts is_blank (spaced v vs)) h.0
     ∙ ap (λ ws. w ∷ ws) (words-spaced v vs k ks)
 
-none-spaced : (w : List ℕ) (ws : List (List ℕ)) → Plain w → Plains ws → none is_end (w ++ spaced ws) ≡ true
+none-spaced : (w : List ℕ) (ws : List (List ℕ)) → Plain w → Plains ws → none is_end (spaced w ws) ≡ true
 unfolding none spaced
-none-spaced w [] h hs = rw (append-nil w) (no_end w h)
-none-spaced w (v ∷ vs) h (also k ks) = none-append is_end w (space ∷ (v ++ spaced vs)) (no_end w h) (none-spaced v vs k ks)
+none-spaced w [] h hs = no_end w h
+none-spaced w (v ∷ vs) h (also k ks) = none-append is_end w (space ∷ spaced v vs) (no_end w h) (none-spaced v vs k ks)
 
 -- Nothing of such a line is left out.
 said-whole : (l : List ℕ) → none is_end l ≡ true → said l ≡ l
@@ -138,12 +115,12 @@ said-whole l h =
 
 -- A line of plain words in front of other lines, and its words.
 module _ (w : List ℕ) (ws : List (List ℕ)) (h : Plain w) (hs : Plains ws) where
-  line-front : (rest : List ℕ) → lines_in ((w ++ spaced ws) ++ line_feed ∷ rest) ≡ (w ++ spaced ws) ∷ lines_in rest
+  line-front : (rest : List ℕ) → lines_in (spaced w ws ++ line_feed ∷ rest) ≡ spaced w ws ∷ lines_in rest
   unfolding lines_in
-  line-front rest = parts-front is_feed (w ++ spaced ws) line_feed rest (none-less is_feed is_end (λ b q. (neither (is_feed b) _ q).0) _ (none-spaced w ws h hs)) refl
+  line-front rest = parts-front is_feed (spaced w ws) line_feed rest (none-less is_feed is_end (λ b q. (neither (is_feed b) _ q).0) _ (none-spaced w ws h hs)) refl
 
-  line-words : words_in (said (w ++ spaced ws)) ≡ w ∷ ws
-  line-words = ap words_in (said-whole (w ++ spaced ws) (none-spaced w ws h hs)) ∙ words-spaced w ws h hs
+  line-words : words_in (said (spaced w ws)) ≡ w ∷ ws
+  line-words = ap words_in (said-whole (spaced w ws) (none-spaced w ws h hs)) ∙ words-spaced w ws h hs
 
 -- ── words of digits ──
 -- A byte that is no digit is not among digits.
@@ -159,10 +136,6 @@ module _ (base : ℕ) (p : base ≤ 16) (w : List ℕ) (k : digits_in base w ≡
   digits-no-list : none is_joint w ≡ true
   unfolding digit_of
   digits-no-list = none-less is_joint (is_no_digit base) (λ b q. rw (no-is 44 b refl q, no-is 45 b refl q)) w k
-
-  digits-no-colon : none is_colon w ≡ true
-  unfolding digit_of
-  digits-no-colon = none-less is_colon (is_no_digit base) (λ b q. no-is 58 b refl q) w k
 
 value-snoc : (base v : ℕ) (w : List ℕ) (b : ℕ) → value_in base v (w ++ (b ∷ [])) ≡ value_in base v w * base + digit_of b
 unfolding value_in
@@ -223,7 +196,7 @@ module _ (f v : ℕ) (h : v < 256 ^ field_width f) where
   in-word : v < 2 ^ 64
   in-word = let wide : 256 ^ field_width f ≤ 256 ^ 8 = pow-le-pow_right (omega arith) (width-most f) in omega arith
 
-  word-said : Plain (word_of f v) × (field_in f (word_of f v) ≡ Value v) × (none is_colon (word_of f v) ≡ true)
+  word-said : Plain (word_of f v) × (field_in f (word_of f v) ≡ Value v)
   unfolding word_of field_in groups_in is_list decimal_of width_of
   word-said =
       let x = hex_up_to 15 v in
@@ -231,78 +204,33 @@ module _ (f v : ℕ) (h : v < 256 ^ field_width f) where
       let d = decimal_of v in
       let t = decimal-says 19 v (omega (arith, in-word)) in
       either (eqb f the_groups)
-      (λ e. rw e (digits-plain 16 (omega arith) x s.digit s.some, rw (digits-no-list 16 (omega arith) x s.digit) (number-said 16 18446744073709551615 _ _ v x s (omega (arith, in-word))), digits-no-colon 16 (omega arith) x s.digit))
-      (λ e. rw e (digits-plain 10 (omega arith) d t.digit t.some, number-said 10 (256 ^ field_width f - 1) _ _ v d t (omega arith), digits-no-colon 10 (omega arith) d t.digit))
-
-  -- In numbers.
-  word-values : word_as f (word_of f v) ≡ record { number = 0; value = v }
-  word-values = sym (field-values f (word_of f v)) ∙ ap word_values word-said.1
-
--- ── a member as a word ──
-module _ (m : Member) (g : m.groups < 256 ^ field_width the_groups) (h : m.length < 256 ^ field_width the_length) where
-  abbrev groups_word : List ℕ
-  groups_word = word_of the_groups m.groups
-
-  abbrev length_word : List ℕ
-  length_word = word_of the_length m.length
-
-  abbrev word : List ℕ
-  word = groups_word ++ colon ∷ length_word
-
-  groups-part : groups_part word ≡ groups_word
-  groups-part = until_front is_colon colon length_word refl groups_word (word-said the_groups m.groups g).2
-
-  length_part : part_of_length word ≡ length_word
-  length_part = ap (drop 1) (since-front is_colon colon length_word refl groups_word (word-said the_groups m.groups g).2)
-
-  member-plain : Plain (member_text m)
-  unfolding member_text none
-  member-plain =
-      let p = (word-said the_groups m.groups g).0 in (
-        omega (arith, length-append groups_word (colon ∷ length_word)),
-        none-append is_mark groups_word (colon ∷ length_word) p.1 (word-said the_length m.length h).0.1,
-      )
-
-  member_right : member_number (member_text m) ≡ 0
-  unfolding member_text member_number in_two_parts
-  member_right =
-      rw (some-front is_colon colon length_word refl groups_word (word-said the_groups m.groups g).2, length_part, (word-said the_length m.length h).2, groups-part, word-values the_groups m.groups g, word-values the_length m.length h)
-
-  member-again : member_said (member_text m) ≡ m
-  unfolding member_text member_said
-  member-again = rw (groups-part, length_part, word-values the_groups m.groups g, word-values the_length m.length h)
-
-record MembersSaid (ms : List Member) : Type 0 where
-  plain : Plains (member_texts ms)
-  right : wrong_member (member_texts ms) ≡ 0
-  again : map member_said (member_texts ms) ≡ ms
-
-members-said : (ms : List Member) → TypedMembers ms → MembersSaid ms
-unfolding wrong_member
-members-said [] t = record { plain = nil; right = refl; again = refl }
-members-said (m ∷ ms) t =
-    let s = members-said ms t.2 in
-    record {
-      plain = also (member-plain m t.0 t.1) s.plain;
-      right = rw (member_right m t.0 t.1) s.right;
-      again = rw (member-again m t.0 t.1) (ap (λ (x : List Member). m ∷ x) s.again);
-    }
+      (λ e. rw e (digits-plain 16 (omega arith) x s.digit s.some, rw (digits-no-list 16 (omega arith) x s.digit) (number-said 16 18446744073709551615 _ _ v x s (omega (arith, in-word)))))
+      (λ e. rw e (digits-plain 10 (omega arith) d t.digit t.some, number-said 10 (256 ^ field_width f - 1) _ _ v d t (omega arith)))
 
 -- ── the fields of a call ──
-plains-append : (xs ys : List (List ℕ)) → Plains xs → Plains ys → Plains (xs ++ ys)
-plains-append [] ys nil q = q
-plains-append (x ∷ xs) ys (also p ps) q = also p (plains-append xs ys ps q)
+words_of : List ℕ → Call → List (List ℕ)
+words_of [] c = []
+words_of (f ∷ fs) c = word_of f (value_of f c) ∷ words_of fs c
 
 module _ (c : Call) (t : Typed c) where
-  fields-plain : (fs : List ℕ) → Plains (field_texts fs c)
+  fields-plain : (fs : List ℕ) → Plains (words_of fs c)
+  unfolding words_of
   fields-plain [] = nil
   fields-plain (f ∷ fs) = also (word-said f (value_of f c) (t f)).0 (fields-plain fs)
 
-  -- Behind them stand the members.
-  fields-said : (most : ℕ) (ws : List (List ℕ)) (fs : List ℕ) (d : Call) → filled_in most fs (field_texts fs c ++ ws) (Said d) ≡ filled_in most [] ws (Said (filled fs (values_in fs c) d))
-  unfolding filled_in filled
-  fields-said most ws [] d = refl
-  fields-said most ws (f ∷ fs) d = rw (word-said f (value_of f c) (t f)).1 (fields-said most ws fs (with_value f (value_of f c) d))
+  fields-said : (fs : List ℕ) (d : Call) → filled_in fs (words_of fs c) (Said d) ≡ Said (filled fs (values_in fs c) d)
+  unfolding words_of filled_in filled
+  fields-said [] d = refl
+  fields-said (f ∷ fs) d = rw (word-said f (value_of f c) (t f)).1 (fields-said fs (with_value f (value_of f c) d))
+
+fields-spaced : (c : Call) (rest w : List ℕ) (fs : List ℕ) → (w ++ fields_text fs c) ++ rest ≡ spaced w (words_of fs c) ++ line_feed ∷ rest
+unfolding fields_text words_of spaced
+fields-spaced c rest w [] = append_assoc w (bytes "\n") rest
+fields-spaced c rest w (f ∷ fs) =
+    let v = word_of f (value_of f c) in
+    append_assoc w (space ∷ (v ++ fields_text fs c)) rest
+    ∙ ap (λ x. w ++ space ∷ x) (fields-spaced c rest v fs)
+    ∙ sym (append_assoc w (space ∷ spaced v (words_of fs c)) (line_feed ∷ rest))
 
 -- ── the names ──
 -- A name is that of its kind alone, no edition's, and a plain word.
@@ -336,101 +264,44 @@ named e k h = go (kind-tested (λ e k fs. ltb 0 k && name-test k) e k refl h)
         }
 
 -- ── a line ──
--- The words of a record behind its kind's name.
-abbrev texts : ℕ → Record → List (List ℕ)
-texts e r = field_texts (line_fields e r.call.kind) r.call ++ member_texts r.members
-
-line-is : (e : ℕ) (r : Record) (rest : List ℕ) → line_of e r ++ rest ≡ (name_of e r.call.kind ++ spaced (texts e r)) ++ line_feed ∷ rest
-unfolding line_of head_of
-line-is e r rest =
-    let c = r.call in
-    let x = name_of e c.kind in
-    let a = spaced (field_texts (line_fields e c.kind) c) in
-    let b = spaced (member_texts r.members) in
-    append_assoc (x ++ a) (b ++ bytes "\n") rest
-    ∙ ap (λ t. (x ++ a) ++ t) (append_assoc b (bytes "\n") rest)
-    ∙ sym (append_assoc (x ++ a) b (line_feed ∷ rest))
-    ∙ ap (λ t. t ++ line_feed ∷ rest) (append_assoc x a b ∙ ap (λ t. x ++ t) (sym (spaced-append (field_texts (line_fields e c.kind) c) (member_texts r.members))))
-
--- A count is one byte.
-count_small : (c : Call) → Typed c → c.count ≤ 255
-unfolding value_of numbers field_width field_widths
-count_small c t = omega (arith, t the_count)
-
-module _ (e : ℕ) (r : Record) (h : carries e r ≡ true) (t : TypedRecord r) where
-  abbrev call : Call
-  call = r.call
-
-  abbrev kind : ℕ
-  kind = r.call.kind
-
-  abbrev fields : List ℕ
-  fields = line_fields e r.call.kind
-
-  counted : length (member_texts r.members) ≡ call.count
-  counted = let p = carries-parts e r h in length-map r.members member_text ∙ p.1 ∙ members-counted e call p.0
-
-  few : length (member_texts r.members) ≤ most_members e kind
-  few =
-      let p = carries-parts e r h in
-      omega (arith, length-map r.members member_text, p.1, most-enough e kind call.count (count_small call t.0))
-
-  -- Where the fields are filled.
-  filled-says : filled_in (most_members e kind) [] (member_texts r.members) (Said (filled fields (values_in fields call) (bare kind))) ≡ Said call
-  unfolding filled_in
-  filled-says =
-      let p = carries-parts e r h in
-      rw (le-leb (length (member_texts r.members)) (most_members e kind) few, (members-said r.members t.1).right, counted)
-      (ap Said (call-again e call p.0))
-
--- The line of a record, in front of other lines; what it says, and that it is no edition.
-record LineOf (e : ℕ) (r : Record) (rest : List ℕ) : Type 0 where
+-- The line of a call, in front of other lines; what it says, and that it is no edition.
+record Line (e : ℕ) (c : Call) (rest : List ℕ) : Type 0 where
   line : List ℕ
-  front : lines_in (line_of e r ++ rest) ≡ line ∷ lines_in rest
-  says_it : line_says e line ≡ says r
+  front : lines_in (line_of e c ++ rest) ≡ line ∷ lines_in rest
+  says : line_says e line ≡ Said c
   head : head_says line ≡ Other
 
-line-of : (e : ℕ) (r : Record) → carries e r ≡ true → TypedRecord r → (rest : List ℕ) → LineOf e r rest
-unfolding line_says line_call line_members call_said members_said head_says head_in
-line-of e r h t rest =
-    let c = r.call in
+line-of : (e : ℕ) (c : Call) → keeps e c ≡ true → Typed c → (rest : List ℕ) → Line e c rest
+unfolding line_of line_says call_said head_says head_in values_of call_of
+line-of e c h t rest =
     let k = c.kind in
-    let n = named e k (keeps-kind e c (carries-parts e r h).0) in
-    let fs = line_fields e k in
-    let fields = field_texts fs c in
-    let members = member_texts r.members in
-    let m = members-said r.members t.1 in
-    let ps = plains-append fields members (fields-plain c t.0 fs) m.plain in
+    let n = named e k (keeps-kind e c h) in
+    let fs = fields_of e k in
+    let ps = fields-plain c t fs in
     let name = name_of e k in
-    let words = line-words name (fields ++ members) n.word ps in
-    let call : call_said e (words_in (said (name ++ spaced (fields ++ members)))) ≡ Said c =
-    ap (call_said e) words ∙ ap (λ (x : ℕ). kind_says e x (fields ++ members)) n.kind ∙ sym (kind-some e k _ (λ z. omega (arith, n.some)))
-    ∙ fields-said c t.0 (most_members e k) members fs (bare k) ∙ filled-says e r h t in
-    let those : members_said e (words_in (said (name ++ spaced (fields ++ members)))) ≡ r.members =
-    ap (members_said e) words ∙ ap (λ (x : ℕ). map member_said (drop (length (line_fields e x)) (fields ++ members))) n.kind
-    ∙ ap (map member_said) (drop_at fields members (length fs) (length-map fs (λ f. word_of f (value_of f c)))) ∙ m.again in
+    let words = line-words name (words_of fs c) n.word ps in
     record {
-      line = name ++ spaced (fields ++ members);
-      front = ap lines_in (line-is e r rest) ∙ line-front name (fields ++ members) n.word ps rest;
-      says_it = rw (call, those);
+      line = spaced name (words_of fs c);
+      front = ap lines_in (fields-spaced c rest name fs) ∙ line-front name (words_of fs c) n.word ps rest;
+      says = ap (call_said e) words ∙ ap (λ (x : ℕ). kind_says e x (words_of fs c)) n.kind ∙ sym (kind-some e k _ (λ z. omega (arith, n.some))) ∙ fields-said c t fs (bare k) ∙ ap Said (call-of-values e c h);
       head = ap head_in words ∙ rw n.other;
     }
 
 pub line-read-back : LineReadBack
-line-read-back e r h t rest = let l = line-of e r h t rest in ap (map (line_says e)) l.front ∙ ap (λ x. x ∷ map (line_says e) (lines_in rest)) l.says_it
+line-read-back e c h t rest = let l = line-of e c (sym (call-carried e c) ∙ h) t rest in ap (map (line_says e)) l.front ∙ ap (λ x. x ∷ map (line_says e) (lines_in rest)) l.says
 
 -- ── the text of a load ──
-record-read-back : (e : ℕ) (b : Bool) (r : Record) → Sound e b r → (rest : List ℕ) → LineOf e r rest
-record-read-back e b r v rest = line-of e r v.carried v.typed rest
+record-read-back : (e : ℕ) (b : Bool) (r : Record) → Sound e b r → (rest : List ℕ) → Line e r.call rest
+record-read-back e b r v rest = line-of e r.call (carries-parts e r v.carried).0 v.typed.0 rest
 
-lines-read-back : (e k : ℕ) (b : Bool) (rs : List Record) → Loadable e b rs → map (line_says e) (lines_in (lines_of e k rs 0)) ≡ map says rs
+lines-read-back : (e k : ℕ) (b : Bool) (rs : List Record) → Loadable e b rs → map (line_says e) (lines_in (lines_of e k rs 0)) ≡ map Said (calls_of rs)
 unfolding lines_of lines_in parts
 lines-read-back e k b [] Loadable.none = refl
 lines-read-back e k b (r ∷ rs) (Loadable.one v g) =
     let l = record-read-back e b r v (lines_of e (k + 1) rs 0) in
-    rw (l.front, l.says_it) (ap (λ l. says r ∷ l) (lines-read-back e (k + 1) false rs g))
+    rw (l.front, l.says) (ap (λ l. Said r.call ∷ l) (lines-read-back e (k + 1) false rs g))
 
--- Lines of records have no heading.
+-- Lines of calls have no heading.
 lines-unheaded : (e k : ℕ) (b : Bool) (rs : List Record) → Loadable e b rs → (i : ℕ) → heading_in i (map head_says (lines_in (lines_of e k rs 0))) ≡ no_heading
 unfolding lines_of lines_in parts heading_in
 lines-unheaded e k b [] Loadable.none i = refl
@@ -438,26 +309,26 @@ lines-unheaded e k b (r ∷ rs) (Loadable.one v g) i = let l = record-read-back 
 
 -- The header of another edition than 1 says it.
 edition-says : (e : ℕ) → known e ≡ true → (t : List ℕ)
-    → (lines_in (((edition_word ++ bytes " ") ++ column e line_feed) ++ t) ≡ (edition_word ++ spaced (decimal_of e ∷ [])) ∷ lines_in t) × (head_says ((edition_word ++ spaced (decimal_of e ∷ []))) ≡ Edition e)
+    → (lines_in (((edition_word ++ bytes " ") ++ column e line_feed) ++ t) ≡ spaced edition_word (decimal_of e ∷ []) ∷ lines_in t) × (head_says (spaced edition_word (decimal_of e ∷ [])) ≡ Edition e)
 unfolding head_says head_in edition_in column decimal_of width_of spaced is_word is_plain none format all_rows
 edition-says e k t =
     let b = leb-true e 255 (known-tested (λ i. leb i 255) refl e k) in
     let s = decimal-says 19 e (omega arith) in
     let p = plain_word edition_word refl in
     let d : Plain (decimal_of e) = digits-plain 10 (omega arith) (decimal_of e) s.digit s.some in (
-      ap (λ x. lines_in (edition_word ++ space ∷ x)) (append_assoc (decimal_of e) (bytes "\n") t ∙ ap (λ x. x ++ line_feed ∷ t) (sym (append-nil (decimal_of e)))) ∙ line-front edition_word (decimal_of e ∷ []) p (also d nil) t,
+      ap (λ x. lines_in (edition_word ++ space ∷ x)) (append_assoc (decimal_of e) (bytes "\n") t) ∙ line-front edition_word (decimal_of e ∷ []) p (also d nil) t,
       ap head_in (line-words edition_word (decimal_of e ∷ []) p (also d nil)) ∙ ap edition_or (number-said 10 255 edition_number edition_number e (decimal_of e) s b),
     )
 
 text-said : (e : ℕ) (rs : List Record) → known e ≡ true → Loadable e true rs → (t : List ℕ) → t ≡ header_of e ++ lines_of e 1 rs 0
-    → ((heading t).number ≡ 0) × ((heading t).edition ≡ e) × (said_in t ≡ cond (eqb e 1) (silent ∷ []) [] ++ map says rs)
-unfolding heading heading_in said_in header_of head_says head_in line_says line_call call_said lines_in words_in said chomped bytes_before parts
+    → ((heading t).number ≡ 0) × ((heading t).edition ≡ e) × (said_in t ≡ cond (eqb e 1) (Nothing ∷ []) [] ++ map Said (calls_of rs))
+unfolding heading heading_in said_in header_of head_says head_in line_says call_said lines_in words_in said chomped bytes_before parts
 text-said e rs k g t q =
     let rest = lines_of e 1 rs 0 in
     either (eqb e 1) (λ o.
     let i : e ≡ 1 = eqb-true e 1 o in
     let l : lines_in t ≡ bytes "# edition 1" ∷ lines_in rest = ap lines_in (rw o at q) in
-    rw (o, l, lines-unheaded e 1 true rs g 1) (refl, sym i, ap (λ x. silent ∷ x) (ap (λ (x : ℕ). map (line_says x) (lines_in rest)) (sym i) ∙ lines-read-back e 1 true rs g)))
+    rw (o, l, lines-unheaded e 1 true rs g 1) (refl, sym i, ap (λ x. Nothing ∷ x) (ap (λ (x : ℕ). map (line_says x) (lines_in rest)) (sym i) ∙ lines-read-back e 1 true rs g)))
     (λ o. let s = edition-says e k rest in rw (o, ap lines_in (rw o at q) ∙ s.0, s.1) (refl, refl, lines-read-back e 1 true rs g))
 
 pub text-read-back : TextReadBack

@@ -1,33 +1,26 @@
 -- A turn of the loop over a load's records: a line, and the ways out.
-use Prim.Native.Nat.{ℕ, suc, ◌+◌, ◌-◌, ◌*◌, ◌^◌, ◌≤◌, ◌<◌}
-use mathlib.Core.List.{List, [], ◌∷◌, ◌++◌}
+use Prim.Native.Nat.{ℕ, ◌+◌, ◌*◌, ◌^◌, ◌≤◌, ◌<◌}
+use mathlib.Core.List.{List, [], ◌++◌}
 use mathlib.Core.Path.{◌≡◌, sym, ap, ◌∙◌}
 use native.Mathlib.Omega.{arith}
 use mathlib.Core.Bool.{true, false, ◌||◌}
 use lib.Dec.{leb}
 use borrow.Author.Tests.{leb-true, leb-false, le-leb, lt-leb}
-use native.Mathlib.Numerals.{add-one}
-use lib.ListN.{length, drop, get_or, length-append, drop_of_length-le}
-use lib.Seq.{drop-cons}
+use lib.ListN.{length, length-append}
 use Rattle.numerals.specs.Laid.{Put}
 use Rattle.numerals.proofs.Laying.{put_as}
 use Rattle.numerals.proofs.Going.{Going, going_start, going_step, going-none, going-last}
-use Rattle.numerals.specs.Texts.{bytes}
 use Rattle.format.specs.declared.Call.{Call}
-use Rattle.format.specs.Format.{the_groups, the_length, field_width}
-use Rattle.format.specs.Records.{Member, member}
 use Rattle.load.specs.declared.Item.TheVariants as item
 use Rattle.load.specs.declared.Item.TheVariants.{End, Refused, Record}
 use Rattle.words.proofs.Cases.{either}
-use Rattle.load.specs.Bytes.{record_bytes}
-use Rattle.load.specs.Reading.{edition_of, members_at, record_at, item_at, walk, open_number}
-use Rattle.load.proofs.Reading.{walk-record, walk_end, walk_refused, step-refused, step-next, record-size, record-kept, many-at, open-known}
+use Rattle.load.specs.Reading.{edition_of, item_at, walk, open_number}
+use Rattle.load.proofs.Reading.{walk_call, walk_end, walk_refused, step-refused, step-next, call-size, open-known}
 use Rattle.format.proofs.Format.{neither}
-use Rattle.format.proofs.Records.{carried}
-use Rattle.load.proofs.Bytes.{record-length}
-use Rattle.load_text.specs.Lines.{spaced, member_text, member_texts, line_of, stop_line, lines_of, rest_of, header_of, text_of}
+use Rattle.load.proofs.Bytes.{call_length}
+use Rattle.load_text.specs.Lines.{line_of, Brief, stop_line, lines_of, rest_of, header_of, text_of}
 use Rattle.load_text.proofs.Cases.{refused}
-use Rattle.load_text.proofs.Lines.{stop-length, header-length, members-turn}
+use Rattle.load_text.proofs.Lines.{stop-length, header-length}
 
 -- the loop's invariant
 pub record Turn (e : ℕ) (s o₀ : List ℕ) (from : ℕ) (o : List ℕ) (at k n : ℕ) : Type 0 where
@@ -46,23 +39,19 @@ module _ (e : ℕ) (s o₀ : List ℕ) (from : ℕ) (o : List ℕ) (at k n : ℕ
 
   module _ (m : ℕ) (p : List ℕ) where
     -- A line has at most three bytes for each byte of its record.
-    pub turn_more : edition_of s ≡ e → length s ≤ 65536 → (c : Call) (next : ℕ) → item_at s at ≡ item.Record c next
-        → Put o n (line_of e (record_at s at c)) m p × (length (line_of e (record_at s at c)) ≤ 3 * length (record_bytes e (record_at s at c)))
+    pub turn_more : length s ≤ 65536 → edition_of s ≡ e → (c : Call) (next : ℕ) → item_at s at ≡ item.Record c next → Put o n (line_of e c) m p × Brief e c
         → Turn e s o₀ from p next (k + 1) m
     unfolding rest_of lines_of
-    turn_more x l c next i z =
-        let r = record_at s at c in
+    turn_more l x c next i z =
         let j = step-next s at c next i in
-        let w = walk-record s at c next i in
-        let q = record-size s at c next i in
-        let b = record-length (edition_of s) r (carried (edition_of s) c (members_at s at c) (record-kept s at c next i) (many-at s at c)) in
-        let d : length (record_bytes e r) ≡ length (record_bytes (edition_of s) r) = ap (λ (i : ℕ). length (record_bytes i r)) (sym x) in
-        let a = length-append (line_of e r) (rest_of e (k + 1) (walk s next)) in
+        let w = walk_call s at c next i in
+        let q = rw x at (call-size s at c next i) in
+        let a = length-append (line_of e c) (rest_of e (k + 1) (walk s next)) in
         record {
           inside = omega (arith, j.1);
           few = omega (arith, j.0, t.few);
-          going = going_step o₀ from _ o n (line_of e r) _ p m (rw w at t.going) z.0;
-          brief = omega (arith, rw w at t.brief, a, z.1, b, d, q.1);
+          going = going_step o₀ from _ o n (line_of e c) _ p m (rw w at t.going) z.0;
+          brief = omega (arith, rw w at t.brief, a, z.1.1, call_length e c q.0, q.1);
         }
 
     pub turn-refused : (x : ℕ) → item_at s at ≡ Refused x → Put o n (stop_line x k) m p
@@ -73,36 +62,6 @@ module _ (e : ℕ) (s o₀ : List ℕ) (from : ℕ) (o : List ℕ) (at k n : ℕ
           going-last o₀ from _ o n (stop_line x k) p m (rw (walk_refused s at x i, r) at t.going) z,
           omega (arith, t.inside, rw (walk_refused s at x i, r) at t.brief, stop-length x k),
         )
-
--- ── the members of a record ──
--- At place i: those laid so far, with those left, are all of them, and none has over 36 bytes.
-pub record Members (o₀ : List ℕ) (at : ℕ) (ms : List Member) (o : List ℕ) (n i : ℕ) : Type 0 where
-  pub place : i ≤ length ms
-  pub going : Going o₀ at (spaced (member_texts ms)) o n (spaced (member_texts (drop i ms)))
-  pub brief : length (spaced (member_texts ms)) + 36 * (length ms - i) ≤ 36 * length ms + length (spaced (member_texts (drop i ms)))
-
-pub members-start : (o : List ℕ) (at : ℕ) (ms : List Member) → length o < 2 ^ 64 → at < 2 ^ 64 → Members o at ms o at 0
-members-start o at ms h k = record { place = omega arith; going = going_start o at _ h k; brief = omega arith }
-
-module _ (o₀ : List ℕ) (at : ℕ) (ms : List Member) (o : List ℕ) (n i : ℕ) (v : Members o₀ at ms o n i) where
-  pub members-end : length ms ≤ i → Put o₀ at (spaced (member_texts ms)) n o × (length (spaced (member_texts ms)) ≤ 36 * length ms)
-  unfolding spaced
-  members-end h =
-      let e = drop_of_length-le ms {i = i} h in
-      (going-none o₀ at _ o n (rw e at v.going), omega (arith, rw e at v.brief))
-
-  -- g and l are the groups and the length of member i.
-  pub members-next : i < length ms → (g l : ℕ) → g ≡ (get_or ms i (member 0 0)).groups → l ≡ (get_or ms i (member 0 0)).length → g < 256 ^ field_width the_groups → l < 256 ^ field_width the_length
-      → (m : ℕ) (p : List ℕ) → Put o n (bytes " " ++ member_text (member g l)) m p → Members o₀ at ms p m (i + 1)
-  unfolding spaced
-  members-next h g l a b x y m p w =
-      let e : drop i ms ≡ member g l ∷ drop (i + 1) ms = rw (add-one, a, b) (drop-cons ms i (member 0 0) h) in
-      let q : length ms - i ≡ suc (length ms - (i + 1)) = omega arith in
-      record {
-        place = omega arith;
-        going = going_step o₀ at _ o n (bytes " " ++ member_text (member g l)) _ p m (rw e at v.going) w;
-        brief = members-turn (length (spaced (member_texts ms))) (36 * length ms) (length ms - (i + 1)) (member g l) (drop (i + 1) ms) x y (rw (e, q) at v.brief);
-      }
 
 -- ── the whole ──
 abbrev whole : List ℕ → List ℕ

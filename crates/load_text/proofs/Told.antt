@@ -9,8 +9,9 @@ use lib.ListN.{length, get_or, drop}
 use lib.Seq.{get_or-drop}
 use borrow.Author.Tests.{eqb-true}
 use Rattle.numbers.specs.Numbers.{most_bytes, or_else}
+use Rattle.format.specs.declared.Call.{Call}
 use Rattle.format.specs.Format.{has_kind, known}
-use Rattle.format.specs.Records.{Member, Record, carries}
+use Rattle.format.specs.Records.{record_of, carries}
 use Rattle.load.specs.Bytes.{record_bytes}
 use Rattle.load.specs.Reading.{is_in_place, edition_of, open_number, unless_refused}
 use Rattle.load.specs.Writing.{room_number, grow_number}
@@ -26,9 +27,10 @@ use Rattle.load_text.specs.declared.parse.Head.{Head}
 use Rattle.load_text.specs.declared.parse.Head.TheVariants.{Silent, Edition, Other, Misread}
 use Rattle.load_text.specs.declared.parse.Parsed.{Parsed}
 use Rattle.load_text.specs.declared.parse.Parsed.TheVariants.{Nothing, Said, Bad}
+use Rattle.load_text.specs.Answers.{parsed_values}
 use Rattle.load_text.specs.Forms.{word_form, FormsTold}
-use Rattle.load_text.specs.Making.{wrong, Heading, headed, heading_in, heading, heading_number, said_in, line_number, line_bytes, gathered, behind_heading, made_by}
-use Rattle.load_text.specs.Parsing.{edition_word, kind_of, head_in, head_says, kind_named, kind_says, call_said, line_call, line_members, Line, silent, says, bad, line_with, line_says}
+use Rattle.load_text.specs.Making.{wrong, Heading, headed, heading_in, heading, heading_number, said_in, calls_number, line_number, line_bytes, gathered, behind_heading, made_by}
+use Rattle.load_text.specs.Parsing.{edition_word, kind_of, head_in, head_says, kind_named, kind_says, call_said, line_says}
 use Rattle.load_text.proofs.Forms.{edition-form, word-form, form-is, formed}
 use Rattle.load_text.proofs.Tables.{named-by-name}
 
@@ -65,11 +67,12 @@ open-low s =
     either (ltb most_bytes (length s)) (λ t. rw t (omega arith))
     (λ t. rw t (either (eqb (length s) 0) (λ u. rw u (omega arith)) (λ u. rw u (either (known (edition_of s)) (λ v. rw v (omega arith)) (λ v. rw v (omega arith))))))
 
-grow-low : (e n : ℕ) (r : Record) → grow_number e n r 65536 < 102
+calls-low : (e n : ℕ) (cs : List Call) → calls_number e n cs < 102
 unfolding grow_number room_number
-grow-low e n r =
-    let m = n + length (record_bytes e r) in
-    either (not (is_in_place r.call.kind n) || not (carries e r)) (λ t. rw t (omega arith))
+calls-low e n [] = omega arith
+calls-low e n (c ∷ cs) =
+    let m = n + length (record_bytes e (record_of c)) in
+    either (not (is_in_place c.kind n) || not (carries e (record_of c))) (λ t. rw t (omega arith))
     (λ t. rw t (either (ltb most_bytes m) (λ u. rw u (omega arith)) (λ u. rw u (omega arith))))
 
 -- ── the line that is found ──
@@ -106,16 +109,10 @@ heading-names k (t ∷ ts) = go (head_says t) refl (heading-names (k + 1) ts)
     go Other q r = λ e. absurd (false≢true e)
     go (Misread n) q r = λ e. (omega arith, rw (here k t ts) (head-names t n q))
 
--- A record is wrong as its call is.
-wrong-call : (ms : List Member) (p : Parsed) (n : ℕ) → line_with ms p ≡ bad n → p ≡ Bad n
-wrong-call ms Nothing n h = let z : ◌≡◌ {A = ℕ} 0 1 = cc in absurd (omega arith)
-wrong-call ms (Said c) n h = let z : ◌≡◌ {A = ℕ} 0 1 = cc in absurd (omega arith)
-wrong-call ms (Bad k) n h = let z : k ≡ n = cc in ap Bad z
-
 -- Behind it: it begins with the name of a kind.
-line-names : (e : ℕ) (l : List ℕ) (n : ℕ) → line_says e l ≡ bad n → wants_form n ≡ true → 0 < kind_named e (first_said l)
-unfolding line_says line_call call_said first_said
-line-names e l n h i = go (words_in (said l)) (wrong-call (line_members e l) (call_said e (words_in (said l))) n h)
+line-names : (e : ℕ) (l : List ℕ) (n : ℕ) → line_says e l ≡ Bad n → wants_form n ≡ true → 0 < kind_named e (first_said l)
+unfolding line_says call_said first_said
+line-names e l n h i = go (words_in (said l)) h
   where
     named : (k : ℕ) (ws : List (List ℕ)) → kind_says e k ws ≡ Bad n → 0 < k
     named zero ws h = let z : unknown_reason ≡ n = cc in absurd (omega (arith, wants-high n i))
@@ -125,19 +122,18 @@ line-names e l n h i = go (words_in (said l)) (wrong-call (line_members e l) (ca
     go [] h = let z : ◌≡◌ {A = ℕ} 0 1 = cc in absurd (omega arith)
     go (w ∷ ws) h = named (kind_named e w) ws h
 
-says-bad : (e m : ℕ) (p : Line) (n : ℕ) → line_number e m p ≡ n → wants_form n ≡ true → p ≡ bad n
-unfolding line_number
-says-bad e m silent n q i = absurd (omega (arith, wants-high n i))
-says-bad e m (says r) n q i = absurd (omega (arith, wants-high n i, grow-low e m r))
-says-bad e m (bad k) n q i = ap bad q
+says-bad : (p : Parsed) (n : ℕ) → n ≡ (parsed_values p).number → wants_form n ≡ true → p ≡ Bad n
+says-bad Nothing n e i = absurd (omega (arith, wants-high n i))
+says-bad (Said c) n e i = absurd (omega (arith, wants-high n i))
+says-bad (Bad m) n e i = ap Bad (sym e)
 
 module _ (line n : ℕ) (i : wants_form n ≡ true) where
   gathered-names : (e k : ℕ) (s : List ℕ) (ts : List (List ℕ)) → gathered e k s (map (line_says e) ts) ≡ wrong line n → (k < line) × (0 < kind_named e (first_said (line_from k ts line)))
-  unfolding gathered
+  unfolding gathered line_number
   gathered-names e k s [] h = let z : ◌≡◌ {A = ℕ} 0 1 = cc in absurd (omega arith)
   gathered-names e k s (t ∷ ts) h = go (line_number e (length s) (line_says e t)) refl h (gathered-names e (k + 1) (s ++ line_bytes e (line_says e t)) ts)
     where
-      p : Line
+      p : Parsed
       p = line_says e t
 
       go : (m : ℕ) → line_number e (length s) p ≡ m → unless_refused m (wrong (k + 1)) (gathered e (k + 1) (s ++ line_bytes e p) (map (line_says e) ts)) ≡ wrong line n
@@ -147,7 +143,9 @@ module _ (line n : ℕ) (i : wants_form n ≡ true) where
       go (suc m) q h r =
           let a : line ≡ k + 1 = cc in
           let b : n ≡ suc m = cc in
-          (omega (arith, a), rw (a, here k t ts) (line-names e t n (says-bad e (length s) p n (q ∙ sym b) i) i))
+          let c : or_else (parsed_values p).number (calls_number e (length s) (parsed_values p).calls) ≡ n = q ∙ sym b in
+          let d = wants-first (parsed_values p).number (calls_number e (length s) (parsed_values p).calls) (calls-low e (length s) (parsed_values p).calls) (rw c i) in
+          (omega (arith, a), rw (a, here k t ts) (line-names e t n (says-bad p n (sym c ∙ d) i) i))
 
 -- ── every line that wants a form ──
 named-begins : (e : ℕ) (w : List ℕ) → 0 < kind_named e w → BeginsWith w (word_form e w)

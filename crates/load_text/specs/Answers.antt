@@ -12,7 +12,7 @@ use Rattle.load_text.specs.declared.parse.Parsed.TheVariants.{Nothing, Said, Bad
 use Rattle.load_text.specs.declared.print.Printed.{Printed}
 use Rattle.load_text.specs.declared.print.Printed.TheVariants.{Length, Refusal}
 
--- What a line says: the call, where it says one. (Its members stay in the line.)
+-- What a line says: the call, where it says one.
 pub record ParsedValues : Type 0 where
   pub number : ℕ
   pub calls : List Call

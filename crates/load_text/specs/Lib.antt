@@ -4,4 +4,3 @@ pub mod Lines
 pub mod Making
 pub mod Parsing
 pub mod ReadBack
-pub mod Samples

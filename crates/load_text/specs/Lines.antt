@@ -1,11 +1,11 @@
--- Records and loads as text.
-use Rattle.std.specs.Prelude.{ℕ, zero, suc, ◌+◌, ◌-◌, ◌*◌, ◌/◌, ◌%◌, ◌<◌, min, max, cond, List, [], ◌∷◌, ◌++◌, map, ltb, eqb, length}
+-- Calls and loads as text.
+use Rattle.std.specs.Prelude.{ℕ, zero, suc, ◌+◌, ◌-◌, ◌*◌, ◌/◌, ◌%◌, ◌≤◌, min, max, cond, List, [], ◌∷◌, ◌++◌, ltb, eqb, length}
 use Prim.Native.Char.{code}
 use Rattle.numerals.specs.Digits.{decimal_of, column, pair}
 use Rattle.numerals.specs.Laid.{space_number}
 use Rattle.format.specs.declared.Call.{Call}
-use Rattle.format.specs.Records.{Member, Record}
-use Rattle.format.specs.Format.{the_groups, the_length, field_width, name_of}
+use Rattle.format.specs.Records.{Record}
+use Rattle.format.specs.Format.{the_groups, field_width, fields_of, name_of}
 use Rattle.format.specs.Calls.{value_of}
 use Rattle.load.specs.Bytes.{call_bytes}
 use Rattle.numerals.specs.Texts.{bytes, line_feed}
@@ -14,7 +14,6 @@ use Rattle.load.specs.Reading.{edition_of, Walk, walk, open_number, unless_refus
 use Rattle.load.specs.Writing.{answered_values}
 use Rattle.load_text.specs.declared.print.Printed.{Printed}
 use Rattle.load_text.specs.declared.print.Printed.TheVariants.{Length, Refusal}
-use Rattle.load_text.specs.Parsing.{line_fields}
 
 -- the lowest digit of v in base 16: 0 to 9, A to F
 unfoldable pub glyph_of : ℕ → ℕ
@@ -29,40 +28,26 @@ hex_up_to (suc k) v = cond (ltb v 16) (glyph_of v ∷ []) (hex_up_to k (v / 16) 
 unfoldable pub word_of : ℕ → ℕ → List ℕ
 word_of f v = cond (eqb f the_groups) (hex_up_to 15 v) (decimal_of v)
 
--- words, each after a space
-unfoldable pub spaced : List (List ℕ) → List ℕ
-spaced [] = []
-spaced (w ∷ ws) = bytes " " ++ (w ++ spaced ws)
+-- fields of a call, each after a space, and a line feed
+unfoldable pub fields_text : List ℕ → Call → List ℕ
+fields_text [] c = bytes "\n"
+fields_text (f ∷ fs) c = bytes " " ++ (word_of f (value_of f c) ++ fields_text fs c)
 
--- the words of a call's fields, and of its members
-abbrev pub field_texts : List ℕ → Call → List (List ℕ)
-field_texts fs c = map (λ f. word_of f (value_of f c)) fs
-
-unfoldable pub member_text : Member → List ℕ
-member_text m = word_of the_groups m.groups ++ (bytes ":" ++ word_of the_length m.length)
-
-abbrev pub member_texts : List Member → List (List ℕ)
-member_texts ms = map member_text ms
-
--- the kind's name and the fields that a line has words for in edition e, before the members
-unfoldable pub head_of : ℕ → Call → List ℕ
-head_of e c = name_of e c.kind ++ spaced (field_texts (line_fields e c.kind) c)
-
-unfoldable pub line_of : ℕ → Record → List ℕ
-line_of e r = head_of e r.call ++ (spaced (member_texts r.members) ++ bytes "\n")
+-- the kind's name and the fields that it has in edition e
+unfoldable pub line_of : ℕ → Call → List ℕ
+line_of e c = name_of e c.kind ++ fields_text (fields_of e c.kind) c
 
 -- The bytes that a word has at most: 16 in hex; in decimal 20, or three for each byte of the field's width where these are fewer.
 unfoldable pub word_most : ℕ → ℕ
 word_most f = cond (eqb f the_groups) 16 (max 1 (min 20 (3 * field_width f)))
 
 unfoldable pub fields_most : List ℕ → ℕ
-fields_most [] = 0
+fields_most [] = 1
 fields_most (f ∷ fs) = suc (word_most f) + fields_most fs
 
--- What stands before the members has with a line feed at most 68 bytes, and three for each byte of the call in its record. Every call has
--- such a head, if its values go into their fields' widths.
+-- The line has at most 68 bytes, and three for each byte of the call's record. Every call has one, if its values go into their fields' widths.
 abbrev pub Brief : ℕ → Call → Type 0
-Brief e c = (length (head_of e c) < 68) × (length (head_of e c) < 3 * length (call_bytes e c))
+Brief e c = (length (line_of e c) ≤ 68) × (length (line_of e c) ≤ 3 * length (call_bytes e c))
 
 -- the number of a refusal and its record, as a comment
 unfoldable pub stop_line : ℕ → ℕ → List ℕ
@@ -71,7 +56,7 @@ stop_line n k = bytes "# stop " ++ pair n k line_feed
 -- the lines from record k on; none for stop 0, the number of a load that is read to its end
 unfoldable pub lines_of : ℕ → ℕ → List Record → ℕ → List ℕ
 lines_of e k [] stop = unless_refused stop (λ n. stop_line n k) []
-lines_of e k (r ∷ rs) stop = line_of e r ++ lines_of e (k + 1) rs stop
+lines_of e k (r ∷ rs) stop = line_of e r.call ++ lines_of e (k + 1) rs stop
 
 unfoldable pub rest_of : ℕ → ℕ → Walk → List ℕ
 rest_of e k w = lines_of e k w.records w.stop

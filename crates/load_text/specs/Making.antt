@@ -2,10 +2,11 @@
 use Rattle.std.specs.Prelude.{ℕ, ◌+◌, ◌≤◌, List, [], ◌∷◌, ◌++◌, map, ◌≡◌, length, take, drop}
 use Rattle.numbers.specs.Numbers.{or_else}
 use Rattle.numerals.specs.Laid.{laid, space_number, lent_out}
-use Rattle.format.specs.Records.{Record}
+use Rattle.format.specs.declared.Call.{Call}
+use Rattle.format.specs.Records.{record_of, records_of}
 use Rattle.load.specs.declared.Written.{Written}
 use Rattle.load.specs.declared.Written.TheVariants.{Length, Refusal}
-use Rattle.load.specs.Bytes.{record_bytes}
+use Rattle.load.specs.Bytes.{calls_bytes}
 use Rattle.load.specs.Reading.{edition_of, open_number, load_number, walk, unless_refused}
 use Rattle.words.specs.Answers.{TextValues, wrong_at, lent_as}
 use Rattle.words.specs.Parts.{lines_in}
@@ -15,7 +16,9 @@ use Rattle.load_text.specs.declared.Made.TheVariants.{Load, Mistake}
 use Rattle.load_text.specs.declared.Start.{Start}
 use Rattle.load_text.specs.declared.parse.Head.{Head}
 use Rattle.load_text.specs.declared.parse.Head.TheVariants.{Silent, Edition, Other, Misread}
-use Rattle.load_text.specs.Parsing.{Line, silent, says, bad, line_says, head_says}
+use Rattle.load_text.specs.declared.parse.Parsed.{Parsed}
+use Rattle.load_text.specs.Answers.{parsed_values}
+use Rattle.load_text.specs.Parsing.{line_says, head_says}
 
 -- ── the heading ──
 -- A show may begin with its edition, before any call; without it the edition is 1. The heading ends after so many lines, the last of which
@@ -43,7 +46,7 @@ unfoldable pub heading : List ℕ → Heading
 heading text = heading_in 0 (map head_says (lines_in text))
 
 -- What the lines after it say.
-unfoldable pub said_in : List ℕ → List Line
+unfoldable pub said_in : List ℕ → List Parsed
 said_in text = map (line_says (heading text).edition) (drop (heading text).lines (lines_in text))
 
 -- Its number: what is wrong with the line, or 11 where a load of its edition byte alone does not open.
@@ -64,31 +67,26 @@ pub data Making : Type 0 where
   whole : List ℕ → Making
   wrong : ℕ → ℕ → Making
 
--- The number of a line after a load of edition e and n bytes, 0 for one that is not wrong. A record is tested as by the writer, in room for
--- the longest load: 13, then 14.
-unfoldable pub line_number : ℕ → ℕ → Line → ℕ
-line_number e n silent = 0
-line_number e n (says r) = grow_number e n r 65536
-line_number e n (bad k) = k
+-- The number of calls after a load of edition e and n bytes, 0 for none. A call is tested as by the writer, in room for the longest load:
+-- 13, then 14.
+abbrev pub calls_number : ℕ → ℕ → List Call → ℕ
+calls_number e n [] = 0
+calls_number e n (c ∷ cs) = grow_number e n (record_of c) 65536
 
--- The records that it adds, and their bytes.
-unfoldable pub line_records : Line → List Record
-line_records silent = []
-line_records (says r) = r ∷ []
-line_records (bad k) = []
+-- The number of a line after such a load, 0 for one that is not wrong, and the record that it adds.
+unfoldable pub line_number : ℕ → ℕ → Parsed → ℕ
+line_number e n p = or_else (parsed_values p).number (calls_number e n (parsed_values p).calls)
 
-unfoldable pub line_bytes : ℕ → Line → List ℕ
-line_bytes e silent = []
-line_bytes e (says r) = record_bytes e r
-line_bytes e (bad k) = []
+unfoldable pub line_bytes : ℕ → Parsed → List ℕ
+line_bytes e p = calls_bytes e (parsed_values p).calls
 
 -- What lines make of a load s of edition e, after k lines: what the later lines make, unless line k + 1 has a number.
-unfoldable pub gathered : ℕ → ℕ → List ℕ → List Line → Making
+unfoldable pub gathered : ℕ → ℕ → List ℕ → List Parsed → Making
 gathered e k s [] = whole s
 gathered e k s (p ∷ ps) = unless_refused (line_number e (length s) p) (wrong (k + 1)) (gathered e (k + 1) (s ++ line_bytes e p) ps)
 
 -- What a text makes: "Writing begins from the edition byte alone".
-abbrev pub behind_heading : Heading → List Line → Making
+abbrev pub behind_heading : Heading → List Parsed → Making
 behind_heading h ps = gathered h.edition h.lines (h.edition ∷ []) ps
 
 unfoldable pub made_by : List ℕ → Making
@@ -121,7 +119,7 @@ make_values text out = values_on (made_by text) out
 
 -- What the code has in a buffer o of its own: q after a line that says p and a load of edition e and n bytes, with the answer r on the line;
 -- and after a text, whose load is laid over the buffer, or which has a line that is wrong.
-abbrev pub Adds : ℕ → ℕ → List ℕ → Line → Written → List ℕ → Type 0
+abbrev pub Adds : ℕ → ℕ → List ℕ → Parsed → Written → List ℕ → Type 0
 Adds e n o p r q =
     (r ≡ unless_refused (line_number e n p) Refusal (Length (n + length (line_bytes e p))))
     × (q ≡ unless_refused (line_number e n p) (λ k. o) (laid o n (line_bytes e p)))
@@ -131,16 +129,16 @@ Gathers text o (Load n) q = (s : List ℕ) × (made_by text ≡ whole s) × (len
 Gathers text o (Mistake k n) q = made_by text ≡ wrong k n
 
 -- ── what it reads as ──
--- The records that lines say.
-unfoldable pub records_in : List Line → List Record
-records_in [] = []
-records_in (p ∷ ps) = line_records p ++ records_in ps
+-- The calls that lines say.
+unfoldable pub calls_in : List Parsed → List Call
+calls_in [] = []
+calls_in (p ∷ ps) = (parsed_values p).calls ++ calls_in ps
 
--- A load that is answered with its length stands in the buffer's first bytes, and reads as the records that the lines say, to its end;
--- its edition is the show's.
+-- A load that is answered with its length stands in the buffer's first bytes, and reads as the calls that the lines say, to its end; its
+-- edition is the show's.
 -- proofs/Making has the proof: made-reads.
 abbrev pub MadeReads : Type 0
 MadeReads = (text out : List ℕ) (n : ℕ) → made_of text out ≡ Load n
     → (n ≤ length out) × (load_number (take n (made_out text out)) ≡ 0)
-    × (walk (take n (made_out text out)) 1 ≡ record { records = records_in (said_in text); stop = 0 })
+    × (walk (take n (made_out text out)) 1 ≡ record { records = records_of (calls_in (said_in text)); stop = 0 })
     × (edition_of (take n (made_out text out)) ≡ (heading text).edition)

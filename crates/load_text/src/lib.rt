@@ -1,4 +1,4 @@
-// Loads as text, a line for each record: `make` has a text to a load, `report` tells the line that is wrong, `show` has a load to its text,
+// Loads as text, a line for each call: `make` has a text to a load, `report` tells the line that is wrong, `show` has a load to its text,
 // `parse_line` and `put_line` one line. No public function asks anything of its slices. What a line says is defined in specs/Parsing.antt,
 // the load that lines make in specs/Making.antt, the lines of a load in specs/Lines.antt, and the forms of lines in specs/Forms.antt.
 ghost use Rattle.std.specs.Prelude.{◌≡◌, length};
@@ -6,7 +6,6 @@ ghost use Rattle.load_text.specs.Answers.{made_values};
 ghost use Rattle.load_text.specs.Parsing.{line_says};
 ghost use Rattle.load_text.specs.Making.{Starts, Adds, Gathers, made_of, made_out, make_values};
 
-mod members;
 mod parse;
 mod print;
 mod reports;
@@ -88,16 +87,12 @@ fn add(out: &mut [u8], size: usize, edition: u8, line: &[u8]) -> Written
     match parse::parse_line(edition, line) {
         Parsed::Nothing => Written::Length(size),
         Parsed::Said(call) => {
-            let n = load::grow_number(edition, size, call, call.count as usize, 65536);
+            let n = load::grow_number(edition, size, call, 65536);
             if n != 0 {
                 return Written::Refusal(n);
             }
-            let head = load::put_record(out, size, edition, call);
-            if call.count == 0 {
-                return Written::Length(head);
-            }
-            let whole = members::put_members(out, head, edition, line);
-            Written::Length(whole)
+            let r = load::put_record(out, size, edition, call);
+            Written::Length(r)
         }
         Parsed::Bad(n) => Written::Refusal(n),
     }
@@ -139,7 +134,7 @@ fn room() -> [u8; 65536]
     [0; 65536]
 }
 
-// The load that a text makes, at the start of a lent buffer. It reads as the records that the lines say: MadeReads in specs/Making.antt.
+// The load that a text makes, at the start of a lent buffer. It reads as the calls that the lines say: MadeReads in specs/Making.antt.
 // Cost: one pass over the text into a buffer of its own, of 65,536 bytes, and a copy of the load.
 pub fn make(text: &[u8], out: &mut [u8]) -> Made
     ensures answer { result ≡ made_of text.now out.old }

@@ -1,14 +1,12 @@
-// A line of text to a call, and the first line of a show to its edition. What a line says is defined in specs/Parsing.antt. A set's members
-// stay in the line: `members` counts, tests and lays them.
-ghost use Rattle.std.specs.Prelude.{◌≡◌, ◌≤◌, cond, leb, length, drop, get_or};
+// A line of text to a call, and the first line of a show to its edition. What a line says is defined in specs/Parsing.antt.
+ghost use Rattle.std.specs.Prelude.{◌≡◌, drop};
+ghost use Rattle.format.specs.Format.{fields_of};
 ghost use Rattle.format.specs.Calls.{bare};
 ghost use Rattle.words.specs.Parts.{said, words_in};
-ghost use Rattle.words.specs.Reasons.{too_many_reason};
-ghost use Rattle.load_text.specs.declared.parse.Parsed.TheVariants.{Said, Bad};
+ghost use Rattle.load_text.specs.declared.parse.Parsed.TheVariants.{Said};
 ghost use Rattle.load_text.specs.Answers.{parsed_values};
-ghost use Rattle.load_text.specs.Parsing.{edition_in, field_in, filled_in, head_says, line_call, line_fields, most_members, parse_values, with_field, with_members};
+ghost use Rattle.load_text.specs.Parsing.{edition_in, field_in, filled_in, head_says, line_says, parse_values, with_field};
 
-use crate::members::{count_words, wrong_member};
 use crate::texts::kind_named;
 use format::{Call, fields};
 use words::sets::groups_of;
@@ -33,7 +31,7 @@ pub enum Head {
 
 // ---- fields
 // For each field from 0 on the greatest number, and the reason of a word that is none.
-const MOST: [u64; fields::NUMBERS] = [
+const MOST: [u64; fields::COUNT] = [
     255,
     u64::MAX,
     u64::MAX,
@@ -45,10 +43,9 @@ const MOST: [u64; fields::NUMBERS] = [
     255,
     255,
     4294967295,
-    255,
 ];
 
-const NONE: [u8; fields::NUMBERS] = [
+const NONE: [u8; fields::COUNT] = [
     reasons::UNKNOWN,
     reasons::NO_CLOCK,
     reasons::NO_GROUPS,
@@ -60,7 +57,6 @@ const NONE: [u8; fields::NUMBERS] = [
     reasons::NO_RESERVED,
     reasons::NO_LIMIT,
     reasons::NO_GRACE,
-    reasons::UNKNOWN,
 ];
 
 // What a word says as a field.
@@ -70,7 +66,7 @@ fn field_of(field: u8, word: &[u8]) -> Field
     if field == fields::GROUPS {
         return groups_of(word);
     }
-    if fields::NUMBERS <= field as usize {
+    if fields::COUNT <= field as usize {
         return number(word, 10, 0, reasons::UNKNOWN, reasons::TOO_LARGE);
     }
     let most = MOST[field as usize];
@@ -95,67 +91,25 @@ fn with_word(p: Parsed, field: u8, word: &[u8]) -> Parsed
     }
 }
 
-// The field at place i, from 0, of those that a line of a kind has words for; 0 after the last. The count is told by the members.
-pub(crate) fn line_field(edition: u8, kind: u8, i: usize) -> u8
-    ensures { result ≡ get_or (line_fields edition kind) i 0 }
-{
-    let f = format::field_at(edition, kind, i);
-    if f == fields::COUNT {
-        return 0;
-    }
-    f
-}
-
-// The most members that a line of a kind may have.
-fn most_members(edition: u8, kind: u8) -> usize
-    ensures { (result ≡ most_members edition kind) × (result ≤ 255) }
-{
-    if format::has_members(edition, kind) {
-        return 255;
-    }
-    0
-}
-
-// A call of a kind with the words from a place on as its members.
-fn with_members(p: Parsed, edition: u8, kind: u8, said: &[u8], from: usize) -> Parsed
-    ensures { result ≡ cond (leb (length (words_in (drop from said.now))) (most_members edition kind))
-        (with_members (words_in (drop from said.now)) p) (Bad too_many_reason) }
-{
-    let many = count_words(said, from);
-    if most_members(edition, kind) < many {
-        return Parsed::Bad(reasons::TOO_MANY);
-    }
-    match p {
-        Parsed::Nothing => Parsed::Nothing,
-        Parsed::Said(call) => {
-            let n = wrong_member(said, from);
-            if n != 0 {
-                return Parsed::Bad(n);
-            }
-            let c = format::with_value(call, fields::COUNT, many as u64);
-            Parsed::Said(c)
-        }
-        Parsed::Bad(n) => Parsed::Bad(n),
-    }
-}
-
-// The words from a place on put into the fields of a kind, and those left taken for members. How many there are is judged before what they
-// say.
+// The words from a place on put into the fields of a kind. How many there are is judged before what they say.
 fn fill(edition: u8, kind: u8, said: &[u8], from: usize) -> Parsed
-    ensures { result ≡ filled_in (most_members edition kind) (line_fields edition kind) (words_in (drop from said.now)) (Said (bare kind)) }
+    ensures { result ≡ filled_in (fields_of edition kind) (words_in (drop from said.now)) (Said (bare kind)) }
 {
     let c = format::bare(kind);
     let mut p = Parsed::Said(c);
     let mut at = from;
     let mut i: usize = 0;
     loop {
-        let f = line_field(edition, kind, i);
-        if f == 0 {
-            return with_members(p, edition, kind, said, at);
-        }
+        let f = format::field_at(edition, kind, i);
         let w = next_word(said, at);
         let start = w.from;
         let end = w.to;
+        if f == 0 {
+            if end <= start {
+                return p;
+            }
+            return Parsed::Bad(reasons::TOO_MANY);
+        }
         if end <= start {
             return Parsed::Bad(reasons::MISSING);
         }
@@ -166,10 +120,9 @@ fn fill(edition: u8, kind: u8, said: &[u8], from: usize) -> Parsed
 }
 
 // ---- lines
-// A line of a show of an edition, without its line feed: its first word names the call. Cost: one pass over the line; where it has members
-// two more over their words.
+// A line of a show of an edition, without its line feed: its first word names the call.
 pub fn parse_line(edition: u8, line: &[u8]) -> Parsed
-    ensures { (result ≡ line_call edition line.now) × (parsed_values result ≡ parse_values edition line.now) }
+    ensures { (result ≡ line_says edition line.now) × (parsed_values result ≡ parse_values edition line.now) }
 {
     let end = said_end(line);
     let said = &line[..end];

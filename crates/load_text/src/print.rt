@@ -1,16 +1,14 @@
-// Records and refusals as lines. The private functions lay them over a buffer as far as that goes, and so count them on one byte;
+// Calls and refusals as lines. The private functions lay them over a buffer as far as that goes, and so count them on one byte;
 // those for a lent buffer answer 15 and leave it as it is where the whole does not go in.
-ghost use Rattle.std.specs.Prelude.{◌≡◌, ◌||◌, ◌++◌, ◌*◌, ◌≤◌, leb, length};
+ghost use Rattle.std.specs.Prelude.{◌≡◌, ◌||◌, ◌++◌, ◌≤◌, leb, length};
 ghost use Rattle.numerals.specs.Laid.{lent_out, Put};
 ghost use Rattle.numerals.specs.Texts.{bytes};
-ghost use Rattle.format.specs.Records.{member, record_of};
-ghost use Rattle.load.specs.Bytes.{record_bytes};
-ghost use Rattle.load.specs.Reading.{edition_of, members_at, record_at, walk, open_number};
+ghost use Rattle.format.specs.Format.{fields_of};
+ghost use Rattle.load.specs.Reading.{edition_of, walk, open_number};
 ghost use Rattle.load_text.specs.Answers.{printed_values};
-ghost use Rattle.load_text.specs.Lines.{glyph_of, hex_up_to, word_of, spaced, field_texts, member_text, member_texts, head_of, fields_most, line_of, Brief, stop_line, rest_of, header_of, text_of, printed, print_values};
-ghost use Rattle.load_text.specs.Parsing.{line_fields};
+ghost use Rattle.load_text.specs.Lines.{glyph_of, hex_up_to, word_of, fields_text, fields_most, line_of, Brief, stop_line, rest_of, header_of, text_of, printed, print_values};
 
-use crate::parse::line_field;
+use crate::parse;
 use crate::texts::put_name;
 use format::{Call, fields};
 use load::Item;
@@ -55,18 +53,18 @@ fn put_word(out: &mut [u8], at: usize, field: u8, value: u64) -> usize
     numerals::put_decimal(out, m, value)
 }
 
-// The fields that a line of a call has words for.
+// The fields that a call has in an edition, and a line feed.
 fn put_fields(out: &mut [u8], at: usize, edition: u8, call: Call) -> usize
-    ensures laid { Put out.old at (spaced (field_texts (line_fields edition call.kind) call)) result out.new }
-    ensures brief { length (spaced (field_texts (line_fields edition call.kind) call)) ≤ fields_most (line_fields edition call.kind) }
+    ensures laid { Put out.old at (fields_text (fields_of edition call.kind) call) result out.new }
+    ensures brief { length (fields_text (fields_of edition call.kind) call) ≤ fields_most (fields_of edition call.kind) }
 {
     let kind = call.kind;
     let mut n = at;
     let mut i: usize = 0;
     loop {
-        let f = line_field(edition, kind, i);
+        let f = format::field_at(edition, kind, i);
         if f == 0 {
-            return n;
+            return numerals::put_byte(out, n, 10);
         }
         let v = format::value_of(call, f);
         n = put_word(out, n, f, v);
@@ -74,29 +72,20 @@ fn put_fields(out: &mut [u8], at: usize, edition: u8, call: Call) -> usize
     }
 }
 
-// What stands before the members in the line of a call.
-fn put_head(out: &mut [u8], at: usize, edition: u8, call: Call) -> usize
-    ensures laid { Put out.old at (head_of edition call) result out.new }
+// A call as a line of a show of an edition.
+fn put_call(out: &mut [u8], at: usize, edition: u8, call: Call) -> usize
+    ensures laid { Put out.old at (line_of edition call) result out.new }
     ensures brief { Brief edition call }
 {
     let m = put_name(out, at, edition, call.kind);
     put_fields(out, m, edition, call)
 }
 
-// A call without members as a line of a show of an edition.
-fn put_call(out: &mut [u8], at: usize, edition: u8, call: Call) -> usize
-    ensures laid { Put out.old at (line_of edition (record_of call)) result out.new }
-    ensures brief { length (line_of edition (record_of call)) ≤ 68 }
-{
-    let m = put_head(out, at, edition, call);
-    numerals::put_byte(out, m, 10)
-}
-
 // The same at the start of a lent buffer. Cost: the line is counted first.
 pub fn put_line(edition: u8, call: Call, out: &mut [u8]) -> Printed
-    ensures answer { result ≡ printed (line_of edition (record_of call)) out.old }
-    ensures buffer { out.new ≡ lent_out (line_of edition (record_of call)) out.old }
-    ensures values { printed_values result ≡ print_values (line_of edition (record_of call)) out.old }
+    ensures answer { result ≡ printed (line_of edition call) out.old }
+    ensures buffer { out.new ≡ lent_out (line_of edition call) out.old }
+    ensures values { printed_values result ≡ print_values (line_of edition call) out.old }
 {
     let mut scrap = [0u8; 1];
     if out.len() < put_call(&mut scrap, 0, edition, call) {
@@ -104,45 +93,6 @@ pub fn put_line(edition: u8, call: Call, out: &mut [u8]) -> Printed
     }
     let n = put_call(out, 0, edition, call);
     Printed::Length(n)
-}
-
-// A member as a word after a space.
-fn put_member(out: &mut [u8], at: usize, groups: u64, ticks: u32) -> usize
-    ensures { Put out.old at (bytes " " ++ member_text (member groups ticks)) result out.new }
-{
-    let a = put_word(out, at, fields::GROUPS, groups);
-    let b = numerals::put_byte(out, a, b':');
-    numerals::put_decimal(out, b, ticks as u64)
-}
-
-// The members of the record with a call at a position of a load that opens.
-fn put_members(out: &mut [u8], at: usize, load: &[u8], from: usize, call: Call) -> usize
-    requires { open_number load.now ≡ 0 }
-    ensures laid { Put out.old at (spaced (member_texts (members_at load.now from call))) result out.new }
-    ensures brief { length (spaced (member_texts (members_at load.now from call))) ≤ 36 * length (members_at load.now from call) }
-{
-    let many = format::members_of(load[0], call.kind, call.count);
-    let mut n = at;
-    let mut i: usize = 0;
-    while i < many {
-        let groups = load::member_groups(load, from, call, i);
-        let ticks = load::member_length(load, from, call, i);
-        n = put_member(out, n, groups, ticks);
-        i += 1;
-    }
-    n
-}
-
-// That record as a line.
-fn put_record(out: &mut [u8], at: usize, load: &[u8], from: usize, call: Call) -> usize
-    requires { open_number load.now ≡ 0 }
-    ensures laid { Put out.old at (line_of (edition_of load.now) (record_at load.now from call)) result out.new }
-    ensures brief { length (line_of (edition_of load.now) (record_at load.now from call))
-        ≤ 3 * length (record_bytes (edition_of load.now) (record_at load.now from call)) }
-{
-    let head = put_head(out, at, load[0], call);
-    let m = put_members(out, head, load, from, call);
-    numerals::put_byte(out, m, 10)
 }
 
 fn put_stop(out: &mut [u8], at: usize, number: u8, k: u64) -> usize
@@ -158,13 +108,14 @@ fn put_records(out: &mut [u8], from: usize, load: &[u8]) -> usize
     ensures laid { Put out.old from (rest_of (edition_of load.now) 1 (walk load.now 1)) result out.new }
     ensures brief { length (rest_of (edition_of load.now) 1 (walk load.now 1)) ≤ 196654 }
 {
+    let edition = load[0];
     let mut at: usize = 1;
     let mut k: u64 = 1;
     let mut n = from;
     loop {
         match reader::item_at(load, at) {
             Item::Record(call, next) => {
-                n = put_record(out, n, load, at, call);
+                n = put_call(out, n, edition, call);
                 at = next;
                 k += 1;
             }

@@ -2,18 +2,17 @@
 // code's words against specs/Forms.antt.
 ghost use Rattle.std.specs.Prelude.{◌≡◌, ◌≤◌, length};
 ghost use Rattle.numerals.specs.Laid.{Put};
+ghost use Rattle.format.specs.Format.{fields_of};
 ghost use Rattle.words.specs.Reports.{reported};
 ghost use Rattle.load_text.specs.Forms.{field_word, fields_form, form_of, kind_form, word_form};
-ghost use Rattle.load_text.specs.Parsing.{line_fields};
 
 use crate::heading;
-use crate::parse::line_field;
 use crate::texts::{kind_named, put_name};
 use format::fields;
 use words::Reported;
 
 // The word of each field from 0 on, in the first bytes of nine, and its length.
-const WORDS: [[u8; 9]; fields::NUMBERS] = [
+const WORDS: [[u8; 9]; fields::COUNT] = [
     *b"         ",
     *b"CLOCK    ",
     *b"GROUPS   ",
@@ -25,15 +24,14 @@ const WORDS: [[u8; 9]; fields::NUMBERS] = [
     *b"GUARANTEE",
     *b"LIMIT    ",
     *b"TICKS    ",
-    *b"         ",
 ];
 
-const LENGTHS: [usize; fields::NUMBERS] = [0, 5, 6, 6, 6, 4, 5, 4, 9, 5, 5, 0];
+const LENGTHS: [usize; fields::COUNT] = [0, 5, 6, 6, 6, 4, 5, 4, 9, 5, 5];
 
 fn put_field_word(out: &mut [u8], at: usize, field: u8) -> usize
     ensures { Put out.old at (field_word field) result out.new }
 {
-    if fields::NUMBERS <= field as usize {
+    if fields::COUNT <= field as usize {
         return at;
     }
     let word = WORDS[field as usize];
@@ -41,14 +39,14 @@ fn put_field_word(out: &mut [u8], at: usize, field: u8) -> usize
     numerals::put_bytes(out, at, &word[..n])
 }
 
-// The words of the fields that a line of a kind has words for, each after a space.
+// The words of the fields that a kind has in an edition, each after a space.
 fn put_field_words(out: &mut [u8], at: usize, edition: u8, kind: u8) -> usize
-    ensures { Put out.old at (fields_form (line_fields edition kind)) result out.new }
+    ensures { Put out.old at (fields_form (fields_of edition kind)) result out.new }
 {
     let mut n = at;
     let mut i: usize = 0;
     loop {
-        let f = line_field(edition, kind, i);
+        let f = format::field_at(edition, kind, i);
         if f == 0 {
             return n;
         }
@@ -62,11 +60,7 @@ fn put_kind(out: &mut [u8], edition: u8, kind: u8) -> usize
     ensures { Put out.old 0 (kind_form edition kind) result out.new }
 {
     let m = put_name(out, 0, edition, kind);
-    let n = put_field_words(out, m, edition, kind);
-    if format::has_members(edition, kind) {
-        return numerals::put_bytes(out, n, b" GROUPS:LENGTH ..");
-    }
-    n
+    put_field_words(out, m, edition, kind)
 }
 
 // The form of a line by its first word.

@@ -18,7 +18,6 @@ fn name(kind: u8) -> [u8; 8]
         kinds::WITHDRAW => *b"withdraw",
         kinds::CLOCK => *b"clock   ",
         kinds::DECLARATION => *b"desk    ",
-        kinds::SET => *b"set     ",
         kinds::GRACE => *b"grace   ",
         _ => *b"        ",
     }
@@ -34,7 +33,6 @@ fn name_length(kind: u8) -> usize
         kinds::WITHDRAW => 8,
         kinds::CLOCK => 5,
         kinds::DECLARATION => 4,
-        kinds::SET => 3,
         kinds::GRACE => 5,
         _ => 0,
     }
@@ -48,7 +46,7 @@ fn is_name(kind: u8, word: &[u8]) -> bool
     check::same(word, &text[..n])
 }
 
-// The kind that a word names, 0 for none, as for an empty word.
+// The kind that a word names, 0 for none. An empty word is found at 0, and so is never taken for kind 7, which has no name.
 fn kind_of(word: &[u8]) -> u8
     ensures { result ≡ kind_of word.now }
 {

@@ -91,13 +91,6 @@ count_number = 20
 abbrev pub grace_number : ℕ
 grace_number = 21
 
--- "cast: count outside two to eight", "clash: two members share a group" (document 02, P8)
-abbrev pub cast_number : ℕ
-cast_number = 22
-
-abbrev pub clash_number : ℕ
-clash_number = 23
-
 -- "Clocks run from 0 to 1,000,000,000,000."
 abbrev pub most_clock : ℕ
 most_clock = 1000000000000
@@ -125,13 +118,6 @@ most_pending = 64
 -- "Desks 1 to 8" (document 02, P4)
 abbrev pub most_clients : ℕ
 most_clients = 8
-
--- "a set of two to eight claims" (document 02, P8)
-abbrev pub least_members : ℕ
-least_members = 2
-
-abbrev pub most_members : ℕ
-most_members = 8
 
 -- "load over 65,536 bytes"
 abbrev pub most_bytes : ℕ

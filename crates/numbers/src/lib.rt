@@ -41,12 +41,8 @@ pub const COUNT: u8 = 20;
 
 pub const GRACE: u8 = 21;
 
-pub const CAST: u8 = 22;
-
-pub const CLASH: u8 = 23;
-
 // The last clock, the longest length and the longest grace in ticks, how many tickets a table issues, how many claims are pending, how many
-// clients there are, how few and how many claims make a set, the bytes of a load, the claims of a workload.
+// clients there are, the bytes of a load, the claims of a workload.
 pub const MOST_CLOCK: u64 = 1_000_000_000_000;
 
 pub const MOST_LENGTH: u32 = 3_600_000;
@@ -58,10 +54,6 @@ pub const MOST_TICKETS: u16 = 65_535;
 pub const MOST_PENDING: usize = 64;
 
 pub const MOST_CLIENTS: u8 = 8;
-
-pub const LEAST_MEMBERS: usize = 2;
-
-pub const MOST_MEMBERS: usize = 8;
 
 pub const MOST_BYTES: usize = 65_536;
 

@@ -1,17 +1,19 @@
--- Granting: the groups and units that are held, collected claim by claim, and those barred by a set tell who goes on in a packed row. The
--- grants are written front to back, the claims over those of the row, the tickets into a row of their own. Rests on `union-shares` of groups and on `goes-quick` of rules.
+-- Granting: the groups and units that are held, collected claim by claim, tell who goes on in a packed row. The grants are written front to back,
+-- the claims over those of the row, the tickets into a row of their own. Rests on `union-shares` of groups and on `goes-quick` of rules.
 use mathlib.Core.Path.{◌≡◌, refl, sym, ◌∙◌, ap, subst}
 use mathlib.Core.Logic.{⊎_elim}
 use mathlib.Core.Bool.{true, false, ◌||◌, cond, or_assoc, or-false}
 use mathlib.Core.List.{List, [], ◌∷◌, ◌++◌, map}
-use Prim.Native.Nat.{ℕ, ◌+◌, ◌-◌, ◌≤◌, ◌<◌}
+use Prim.Native.Nat.{ℕ, suc, ◌+◌, ◌-◌, ◌≤◌, ◌<◌}
 use native.Mathlib.Omega.{arith}
 use lib.ListN.{length, take, drop, get_or, set, replicate, length-replicate, length-map}
 use lib.Dec.{leb, eqb}
-use lib.Seq.{get_or-set_other}
-use borrow.Author.Tests.{leb-true, le-leb, eqb-true, eq-eqb}
+use lib.Seq.{get_or-set_other, get_or-take, take-suc, split_at}
+use native.Mathlib.Numerals.{add-one}
+use borrow.Author.Tests.{leb-true, le-leb, eqb-true}
 use Rattle.groups.specs.Groups.{shares, union}
 use Rattle.groups.proofs.Groups.{union-shares}
+use Rattle.groups.proofs.Words.{zero-shares}
 use Rattle.rules.specs.declared.Claim.{Claim}
 use Rattle.rules.specs.declared.Phase.TheVariants.{On}
 use Rattle.rules.specs.declared.Setting.{Setting}
@@ -21,14 +23,13 @@ use Rattle.rules.specs.Pool.{held_by, held_units}
 use Rattle.rules.specs.Plans.{Ascending, Sane, StartsFrom}
 use Rattle.rules.specs.Granting.{taken_before, truly_free, goes, granted, grant, grants}
 use Rattle.rules.specs.Tables.{vacant, pad}
-use Rattle.rules.proofs.Bools.{by-test, by_order, clash, both_ways, or-e, or_l, or_r}
+use Rattle.rules.proofs.Bools.{by-test, clash, both_ways, or-e, or_r}
 use Rattle.rules.proofs.Lists.{Each, keep-length, sum-snoc}
 use Rattle.rules.proofs.Granting.{granted-cases, grant-length, goes-at, goes-truly-free, goes-quick, taken-front}
-use Rattle.holds.specs.Rows.{InPlaces, rewritten}
+use Rattle.plan.specs.Rows.{InPlaces, rewritten}
 use Rattle.plan.specs.Holders.{holds, Held, HeldWith, goes_at}
-use Rattle.plan.specs.Sets.{barred_in, BarredGroups}
 use Rattle.rules.proofs.Places.{prefix-end, Storing, store-start, store-more, store_same, store-end, pad-stored}
-use Rattle.holds.proofs.Rows.{row_count, row_step, row-member, row-split, row-front}
+use Rattle.plan.proofs.Rows.{row_count, row_step}
 
 -- ── one claim ──
 module _ (h : ℕ) (c : Claim) where
@@ -38,21 +39,21 @@ module _ (h : ℕ) (c : Claim) where
   pub with-waiting : on c ≡ false → HeldWith h c h
   with-waiting o = record { by_either = λ x. rw o (sym (or-false (shares h x))) }
 
--- ── all claims: h has the groups b and those of the holders but for those of the claims in rest ──
-pub record Holding (b : ℕ) (ps rest : List Claim) (h : ℕ) : Type 0 where
-  pub all : (x : ℕ) → (shares h x || any (holds x) rest) ≡ (shares b x || any (holds x) ps)
+-- ── all claims: h has the groups of the holders but for those of the claims in rest ──
+pub record Holding (ps rest : List Claim) (h : ℕ) : Type 0 where
+  pub all : (x : ℕ) → (shares h x || any (holds x) rest) ≡ any (holds x) ps
 
-module _ {b : ℕ} {ps : List Claim} where
-  pub holding-start : Holding b ps ps b
-  holding-start = record { all = λ x. refl }
+module _ {ps : List Claim} where
+  pub holding-start : Holding ps ps 0
+  holding-start = record { all = λ x. rw (zero-shares x) }
 
-  pub holding-more : {c : Claim} {rest : List Claim} {h r : ℕ} → Holding b ps (c ∷ rest) h → HeldWith h c r → Holding b ps rest r
+  pub holding-more : {c : Claim} {rest : List Claim} {h r : ℕ} → Holding ps (c ∷ rest) h → HeldWith h c r → Holding ps rest r
   unfolding any
   holding-more {c} {rest} {h} p w = record {
     all = λ x. rw (w.by_either x) (or_assoc (shares h x) (holds x c) (any (holds x) rest) ∙ p.all x);
   }
 
-  pub holding-end : {h : ℕ} → Holding b ps [] h → Held b ps h
+  pub holding-end : {h : ℕ} → Holding ps [] h → Held ps h
   unfolding any
   holding-end {h} p = record { by_holders = λ x. sym (or-false (shares h x)) ∙ p.all x }
 
@@ -113,44 +114,41 @@ module _ {v : Setting} {l : List Claim} {n i : ℕ} {new : List Claim} {m : ℕ}
   written-rest = w.rest i (omega arith)
 
   module _ (h : i < n) where
-    -- Of a claim that draws units, those taken before it are those of the places in front of it.
-    before-next : 0 < next.units → at next ≡ v.clock → sum (taken_before (goes v pending) next) pending ≡ sum (taken v pending) (take i pending)
-    before-next z a =
+    -- The claims in front of the next, it, and those behind it.
+    around : pending ≡ take i pending ++ (next ∷ drop (suc i) pending)
+    around =
+        split_at pending i vacant (omega (arith, row_count w.row))
+        ∙ ap (λ (c : Claim). take i pending ++ (c ∷ drop (suc i) pending)) (get_or-take n l i vacant h)
+
+    before-next : at next ≡ v.clock → sum (taken_before (goes v pending) next) pending ≡ sum (taken v pending) (take i pending)
+    before-next a =
         subst
-        (λ (ps : List Claim). Each (Sane v) ps → Ascending ps → sum (taken_before (goes v ps) next) ps ≡ sum (taken v ps) (take i pending)) (sym (row-split w.row i h))
-        (λ s u. taken-front v (take i pending) (drop (i + 1) pending) next s u z a) (λ d j. (w.row.ranges.sized d j).sane) w.row.ranges.ascending
+        (λ (ps : List Claim). Each (Sane v) ps → Ascending ps → sum (taken_before (goes v ps) next) ps ≡ sum (taken v ps) (take i pending)) (sym around)
+        (λ s u. taken-front v (take i pending) (drop (suc i) pending) next s u a) (λ d j. (w.row.ranges.sized d j).sane) w.row.ranges.ascending
 
     -- The units free tell whether its units are truly free.
     free-is : at next ≡ v.clock → truly_free v pending (goes v pending) next ≡ leb next.units free
     unfolding truly_free
     free-is a =
+        let e = before-next a in
         let f = w.spent in
-        by_order next.units 0
-        (λ z. or_l (eqb next.units 0) _ (eq-eqb next.units 0 (omega arith)) ∙ sym (le-leb next.units free (omega arith)))
-        (λ z.
-        let e = before-next z a in
         both_ways _ _
-        (λ y. le-leb next.units free (⊎_elim (λ q. absurd (omega (arith, eqb-true next.units 0 q))) (λ q. omega (arith, leb-true (held_units pending + sum (taken_before (goes v pending) next) pending + next.units) v.pool q)) (or-e (eqb next.units 0) _ y)))
-        (λ y. or_r (eqb next.units 0) _ (le-leb (held_units pending + sum (taken_before (goes v pending) next) pending + next.units) v.pool (omega (arith, leb-true next.units free y)))))
+        (λ z. le-leb next.units free (⊎_elim (λ y. omega (arith, eqb-true next.units 0 y)) (λ y. omega (arith, leb-true (held_units pending + sum (taken_before (goes v pending) next) pending + next.units) v.pool y)) (or-e (eqb next.units 0) _ z)))
+        (λ z. or_r (eqb next.units 0) _ (le-leb (held_units pending + sum (taken_before (goes v pending) next) pending + next.units) v.pool (omega (arith, leb-true next.units free z))))
 
     -- Groups and units tell whether the next claim goes on, as it is read from the row.
-    pub written-goes : {b held : ℕ} → StartsFrom v.clock pending → Held b pending held → BarredGroups v pending b → goes v pending next ≡ goes_at v.clock held free (get_or new i vacant)
-    written-goes {b} {held} low k g =
-        rw written-rest
+    pub written-goes : {held : ℕ} → StartsFrom v.clock pending → Held pending held → goes v pending next ≡ goes_at v.clock held free (get_or new i vacant)
+    written-goes low k =
+        rw (written-rest, k.by_holders next.groups)
         (goes-quick v pending low next
-        ∙ by-test (on next)
-        (λ o. rw o)
-        (λ o.
-        by-test (eqb (at next) v.clock)
-        (λ q.
-        let a = eqb-true _ _ q in
-        let e : barred_in pending next ≡ shares held next.groups = sym (k.by_holders next.groups ∙ g.by_set next (row-member w.row i h) o a) in
-        rw (o, q, free-is a, e))
-        (λ q. rw (o, q))))
+        ∙ by-test (eqb (at next) v.clock) (λ e. rw (e, free-is (eqb-true _ _ e))) (λ e. rw e))
 
     next-taken : sum (taken v pending) (take (i + 1) pending) ≡ sum (taken v pending) (take i pending) + taken v pending next
     next-taken =
-        ap (sum (taken v pending)) (row-front w.row i h) ∙ sum-snoc (taken v pending) (take i pending) next
+        ap (λ (k : ℕ). sum (taken v pending) (take k pending)) (add-one i)
+        ∙ ap (sum (taken v pending)) (take-suc pending i vacant (omega (arith, row_count w.row)))
+        ∙ ap (λ (c : Claim). sum (taken v pending) (take i pending ++ (c ∷ []))) (get_or-take n l i vacant h)
+        ∙ sum-snoc (taken v pending) (take i pending) next
 
     -- What goes on draws no more than is free.
     pub written-covers : goes v pending next ≡ true → next.units ≤ free

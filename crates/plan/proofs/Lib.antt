@@ -1,5 +1,12 @@
-pub mod SetRows
+pub mod Rows
+pub mod Ranges
+pub mod Sorting
+pub mod Events
+pub mod FirstFit
+pub mod Plots
+pub mod Barring
 pub mod LastEnds
 pub mod PackingOrder
+pub mod PlacingLoop
 pub mod PackingLoop
 pub mod GrantingLoop

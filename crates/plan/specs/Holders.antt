@@ -10,9 +10,9 @@ use Rattle.rules.specs.Claims.{on, at}
 abbrev pub holds : ℕ → Claim → Bool
 holds x d = on d && shares d.groups x
 
--- h stands for the groups b and those of the holders: it shares a group with x exactly where b or a holder does.
-pub record Held (b : ℕ) (ps : List Claim) (h : ℕ) : Type 0 where
-  pub by_holders : (x : ℕ) → shares h x ≡ (shares b x || any (holds x) ps)
+-- h stands for the groups of the holders: it shares a group with x exactly where a holder does.
+pub record Held (ps : List Claim) (h : ℕ) : Type 0 where
+  pub by_holders : (x : ℕ) → shares h x ≡ any (holds x) ps
 
 -- r has the groups of h, and those of c if it is on.
 pub record HeldWith (h : ℕ) (c : Claim) (r : ℕ) : Type 0 where

@@ -1,4 +1,8 @@
-pub mod Sets
+pub mod Bounds
+pub mod Rows
+pub mod SortKeys
+pub mod Events
+pub mod Barring
 pub mod LastEnds
 pub mod Holders
 pub mod Parts

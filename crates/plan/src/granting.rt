@@ -2,19 +2,17 @@
 // that go on.
 // What is granted is defined in rules, specs/Granting.antt; that these passes tell it is `goes-quick` of its proofs.
 ghost use Rattle.std.specs.Prelude.{◌≡◌, take};
-ghost use Rattle.holds.specs.Rows.{InPlaces};
+ghost use Rattle.plan.specs.Rows.{InPlaces};
 ghost use Rattle.plan.specs.Holders.{HeldWith, goes_at};
 ghost use Rattle.rules.specs.Pool.{held_by};
 ghost use Rattle.rules.specs.Plans.{StartsFrom};
-ghost use Rattle.holds.specs.Parts.{ruled_in};
-ghost use Rattle.plan.specs.Parts.{granted_in};
-ghost use Rattle.plan.specs.Sets.{BarredGroups};
+ghost use Rattle.plan.specs.Parts.{ruled_in, granted_in};
 
-use holds::{is_on, on_since, start_or_grant};
+use crate::claims::{is_on, on_since, start_or_grant};
 use rules::{Claim, Table};
 
 // The groups `held`, with those of `c` if it is on. Cost: a few instructions.
-pub(crate) fn held_with(held: u64, c: Claim) -> u64
+fn held_with(held: u64, c: Claim) -> u64
     ensures { HeldWith held c result }
 {
     if is_on(c) {
@@ -55,16 +53,15 @@ pub struct Granted {
     pub tickets: [u16; 64],
 }
 
-// Grants what no pending claim precedes, by ticket while units are free, and lists the tickets. The groups `barred`, as `sets::barred` tells
-// them, count as held. The loops stand here, since a table handed on is a table copied. Cost: two passes over the claims.
-pub fn grant(mut t: Table, barred: u64) -> Granted
-    requires { InPlaces (ruled_in t t.clock) t.claims t.count × StartsFrom t.clock (take t.count t.claims)
-        × BarredGroups (ruled_in t t.clock) (take t.count t.claims) barred }
+// Grants what no pending claim precedes, by ticket while units are free, and lists the tickets. The loops stand here, since a table handed
+// on is a table copied. Cost: two passes over the claims.
+pub fn grant(mut t: Table) -> Granted
+    requires { InPlaces (ruled_in t t.clock) t.claims t.count × StartsFrom t.clock (take t.count t.claims) }
     ensures { result ≡ granted_in t }
 {
     let count = t.count;
     let clock = t.clock;
-    let mut held: u64 = barred;
+    let mut held: u64 = 0;
     let mut free = t.pool;
     let mut i: usize = 0;
     if free == 0 {

@@ -10,8 +10,9 @@ use Rattle.rules.specs.declared.Claim.{Claim}
 use Rattle.rules.specs.declared.Standing.TheVariants.{Waits}
 use Rattle.rules.specs.Lists.{◌∈◌, any, Distinct}
 use Rattle.rules.specs.Claims.{on, at}
+use Rattle.rules.specs.Order.{meets}
 use Rattle.rules.specs.Calls.{Model, setting_of, at_ticket, at_chain, Call, step}
-use Rattle.rules.specs.Chains.{chain_tickets, TrueLink, TrueChain, adds}
+use Rattle.rules.specs.Chains.{counts_as as claimCountsAs, chain_tickets, TrueLink, TrueChain, adds}
 use Rattle.rules.proofs.Bools.{by-test, by_order}
 use Rattle.rules.proofs.Lists.{here, there, none, any_none, any_some, ascends_same}
 use Rattle.rules.proofs.Lookup.{lookup-holds}
@@ -19,8 +20,9 @@ use Rattle.rules.proofs.Chains.{chain-absent, chain_held, chain-told, model-chai
 use Rattle.promises.specs.Ledger.{Entry, promised, has_ticket, Ledger}
 use Rattle.promises.specs.Runs.{Told, tells, Start, Begins, ledger_after, told_after}
 use Rattle.promises.specs.Plan.{end_as, end_told}
+use Rattle.promises.specs.WaitsExplained.{in_common}
 use Rattle.promises.specs.Demand3.{Now}
-use Rattle.promises.specs.ChainsTold.{LinkTold, Followed, adds_as, adds_told, chain_of_entries, ChainTold, Chains, ChainsTold}
+use Rattle.promises.specs.ChainsTold.{counts_as, LinkTold, Followed, adds_as, adds_told, chain_of_entries, ChainTold, Chains, ChainsTold}
 use Rattle.promises.proofs.Matching.{Match, m_nil, m-cons, match-sum, partner, partner-of}
 use Rattle.promises.proofs.Demand3.{Tracks, Story, after-calls, demand_3}
 use Rattle.promises.proofs.WaitsExplained.{common-is}
@@ -36,16 +38,21 @@ once_is m_nil d = tt
 once_is (m-cons r m) d = (λ e i q. (let p = partner m i in d.0 p.0 p.1 (r.ticket ∙ q ∙ sym p.2.ticket)), once_is m d.1)
 
 module _ (P : Type 0) (l : Ledger) (m : Model) (st : Story P l m) where
+  -- What two claims have in common, one of them looking for its link.
+  link-common : (c w : Claim) (e f : Entry) → Tracks P c e → Tracks P w f → meets c (claimCountsAs m.pending w) ≡ in_common e (counts_as l.claims f)
+  unfolding claimCountsAs
+  link-common c w e f r t = common-is P c w e f r t
+
   link-is : (c w : Claim) (e f : Entry) → c ∈ m.pending → Tracks P c e → e ∈ l.claims → Tracks P w f → TrueLink (setting_of m) m.pending c w → LinkTold l (tells m) f (at w) e
   link-is c w e f ci r ei t h = record {
     pending = ei;
-    common = sym (common-is P st.match c w e f r t) ∙ h.common;
+    common = sym (link-common c w e f r t) ∙ h.common;
     ends = end_is P l m st c e ci r ∙ h.ends;
     lowest = λ d di less shared ends.
         let p = partner st.match di in
         omega (
           arith,
-          h.lowest p.0 p.1 (sym (end_is P l m st p.0 d p.1 p.2) ∙ ends) (common-is P st.match p.0 w d f p.2 t ∙ shared),
+          h.lowest p.0 p.1 (sym (end_is P l m st p.0 d p.1 p.2) ∙ ends) (link-common p.0 w d f p.2 t ∙ shared),
           p.2.ticket,
           r.ticket,
           less,

@@ -1,7 +1,7 @@
 -- Demand 3 holds of every rig, every pool and every list of calls, whoever is declared. The pending claims and the ledger are kept side by
 -- side, call by call.
 use mathlib.Core.Path.{◌≡◌, refl, sym, ◌∙◌, ap, subst}
-use mathlib.Core.Logic.{◌⊎◌, inl, inr, ⊎_elim, ◌≢◌}
+use mathlib.Core.Logic.{◌⊎◌, inl, inr, ◌≢◌}
 use mathlib.Core.Bool.{Bool, true, false, not, ◌&&◌, cond}
 use mathlib.Core.List.Memᴰ
 use mathlib.Core.List.{List, [], ◌∷◌, ◌++◌, map}
@@ -14,47 +14,45 @@ use Rattle.groups.specs.Groups.{shares}
 use Rattle.rules.specs.declared.Claim.{Claim}
 use Rattle.rules.specs.declared.Request.{Request}
 use Rattle.rules.specs.declared.Phase.TheVariants.{On}
-use Rattle.rules.specs.Lists.{◌∈◌, sum, any, keep, Ascends}
+use Rattle.rules.specs.Lists.{◌∈◌, any, keep, Ascends}
 use Rattle.rules.specs.declared.Setting.{Setting}
 use Rattle.rules.specs.declared.Share.{Share}
 use Rattle.rules.specs.Shares.{share, with_share}
 use Rattle.rules.specs.Claims.{on, at, with_phase, rival, held_until, end_of, remaining}
 use Rattle.rules.specs.Order.{rivals}
 use Rattle.rules.specs.Packing.{packed_start, moved, pack}
-use Rattle.rules.specs.Placing.{place_all, contention, contention_all, bound_all}
+use Rattle.rules.specs.Placing.{place, contention, start_bound}
 use Rattle.rules.specs.Granting.{goes, granted, grant, grants}
 use Rattle.rules.specs.declared.Common.TheVariants.{Unknown}
 use Rattle.rules.specs.declared.Standing.TheVariants.{Waits, Holds}
 use Rattle.rules.specs.Tests.{named}
 use Rattle.rules.specs.declared.Reply.{Reply}
-use Rattle.rules.specs.Calls.{Model, with_grace, ruled, setting_of, Member, asks_of, Call, timed, looks, sets_up, claim, claim_set, release, withdraw, clock, declare, set_grace, is_timed, is_look, Answer, Step, members, unchanged, advance, plain, finish, join, remove, lead_of, disband, fresh, placing, admit, declared, step, blank, standing, standing_of, between, common_of}
+use Rattle.rules.specs.Calls.{Model, with_grace, ruled, setting_of, Call, timed, looks, sets_up, claim, release, withdraw, clock, declare, set_grace, is_timed, is_look, Answer, Step, unchanged, advance, plain, finish, join, remove, fresh, placing, admit, declared, step, blank, new, standing, standing_of, between, common_of}
 use Rattle.rules.specs.Plans.{Ascending, NoOverrunAt}
 use Rattle.rules.specs.Invariants.{IsSpaced, Invariant, IsBooked}
 use Rattle.rules.proofs.Bools.{split, by-test, clash, and_i}
-use Rattle.rules.proofs.Lists.{Each, here, none, map-e, map_each, keep-e, sum-add, named_keep}
+use Rattle.rules.proofs.Lists.{here, none, map-e, keep-e, named_keep}
 use Rattle.rules.proofs.Claims.{end_on}
 use Rattle.rules.proofs.Order.{ascending-same, ascending-keep}
 use Rattle.rules.proofs.Packing.{moved-cases, moved_at, moved-phase, moved-ticket, pack-no-later}
-use Rattle.rules.proofs.StartBound.{places-bound}
+use Rattle.rules.proofs.StartBound.{place-bound}
 use Rattle.rules.proofs.Granting.{goes-wait, granted-cases, granted-at}
 use Rattle.rules.proofs.Invariants.{spaced-packs}
-use Rattle.rules.proofs.Calls.{Clocked, Admissible, Issues, by-claim, by_set, admissible-asks, advance-asks, advance-packed, finish-invariant, advance-same, finish-e, finish-clock, placed, fresh-sane, join-spaced, Leaves, by-release, by-withdraw, by-clock, leaves-no-claim, leaves-no-set, leaves-spaced, leaves-old, leaves-clock, join-old, Idle, looks-untimed, Declarable, Settable, finish-grace, leaves-grace, grace-invariant, step-cases, blank-invariant, new-cases, admit-invariant}
-use Rattle.rules.proofs.Members.{member, member-each, members-sum, Asks}
+use Rattle.rules.proofs.Calls.{Clocked, Admissible, advance-packed, advance-drawn, advance-spare, finish-invariant, advance-same, finish-e, finish-clock, placed, fresh-sane, join-spaced, Leaves, by-release, by-withdraw, by-clock, leaves-spaced, leaves-old, leaves-clock, join-old, Idle, looks-untimed, Declarable, Settable, finish-grace, leaves-grace, grace-invariant, step-cases, blank-invariant, new-cases, admit-invariant}
 use Rattle.rules.proofs.Shares.{first-booked}
 use Rattle.rules.proofs.Booking.{advance-booked, finish-booked, finish-shares, join-booked, leaves-booked, leaves-shares, declare-booked}
 use Rattle.rules.proofs.NoOverrun.{no-overrun-no-later}
 use Rattle.rules.proofs.Lookup.{lookup_absent, none_named, lookup-found, one-named, lookup-waits}
-use Rattle.promises.specs.Ledger.{Turn, turns, table_after, accepted, Entry, promised, Ledger, opening, entered, issues, lacking, lacking_set, lead_in, stay, shares_by, grace_by, hold, marked, noted, noted_all, NoOverrun, NoOverruns, ruled_by, remaining_of, rivals_of, bound_on, bound_on_all}
+use Rattle.promises.specs.Ledger.{Turn, turns, table_after, accepted, Entry, promised, Ledger, opening, issues, lacking, stay, shares_by, grace_by, hold, marked, noted, noted_all, NoOverrun, NoOverruns, ruled_by, remaining_of, rivals_of, bound_on}
 use Rattle.promises.specs.Runs.{tells, Start, newly, Begins, by-new}
-use Rattle.promises.specs.Demand3.{TicketsAscend, Now, NoWaitPast, OfClaim, OfSet, OfGrants, Next, Demand3}
+use Rattle.promises.specs.Demand3.{TicketsAscend, Now, NoWaitPast, OfClaim, OfGrants, Next, Demand3}
 use Rattle.promises.specs.WholeCalls.{WholeCalls}
-use Rattle.promises.proofs.WholeCalls.{and_no, same-made, new-stands, whole_calls}
-use Rattle.promises.proofs.Matching.{Match, m_nil, m-cons, match-map, match-left, match-weaken, match-append, match_none, match-keep, match-length, match-sum, partner, partner-of}
+use Rattle.promises.proofs.WholeCalls.{and_no, claim-whole, whole_calls}
+use Rattle.promises.proofs.Matching.{Match, m_nil, m-cons, match-map, match-left, match-weaken, match-snoc, match_none, match-keep, match-length, match-sum, partner, partner-of}
 
 -- A pending claim and its entry. P: no accepted call so far bore a clock past the promised end of a holder.
 pub record Tracks (P : Type 0) (c : Claim) (e : Entry) : Type 0 where
   pub ticket : c.ticket ≡ e.ticket
-  pub lead : c.lead ≡ e.lead
   pub groups : c.groups ≡ e.asked.groups
   pub length : c.length ≡ e.asked.length
   pub units : c.units ≡ e.asked.units
@@ -76,10 +74,10 @@ pub record Story (P : Type 0) (l : Ledger) (m : Model) : Type 0 where
 
 tracks-weaken : (P Q : Type 0) → (Q → P) → (c : Claim) (e : Entry) → Tracks P c e → Tracks Q c e
 tracks-weaken P Q f c e r =
-    record { ticket = r.ticket; lead = r.lead; groups = r.groups; length = r.length; units = r.units; client = r.client; held = r.held; grant = r.grant; early = λ q. r.early (f q) }
+    record { ticket = r.ticket; groups = r.groups; length = r.length; units = r.units; client = r.client; held = r.held; grant = r.grant; early = λ q. r.early (f q) }
 
 -- ── after any number of calls ──
-pub entries-ascend : (P : Type 0) {ps : List Claim} {l : List Entry} → Match (Tracks P) ps l → Ascending ps → TicketsAscend l
+entries-ascend : (P : Type 0) {ps : List Claim} {l : List Entry} → Match (Tracks P) ps l → Ascending ps → TicketsAscend l
 entries-ascend P m_nil a = tt
 entries-ascend P (m-cons r m) a = (λ f i. (let p = partner m i in omega (arith, a.0 p.0 p.1, p.2.ticket, r.ticket)), entries-ascend P m a.1)
 
@@ -150,7 +148,6 @@ pack-tracks P v ps c e r h =
     moved-cases (λ (x : Claim). Tracks P x e) (packed_start v ps) c (λ o. r)
     (λ o. record {
       ticket = r.ticket;
-      lead = r.lead;
       groups = r.groups;
       length = r.length;
       units = r.units;
@@ -160,7 +157,7 @@ pack-tracks P v ps c e r h =
       early = λ p q. omega (arith, h p o, r.early p o);
     })
 
-pub marked-cases : (Q : Entry → Type 0) (t : ℕ) (ks : List ℕ) (e : Entry) (b : Bool) → any (λ k. eqb k e.ticket) ks ≡ b → Q (cond b (hold e t) e) → Q (marked t ks e)
+marked-cases : (Q : Entry → Type 0) (t : ℕ) (ks : List ℕ) (e : Entry) (b : Bool) → any (λ k. eqb k e.ticket) ks ≡ b → Q (cond b (hold e t) e) → Q (marked t ks e)
 unfolding marked
 marked-cases Q t ks e true h q = rw (h, marked) q
 marked-cases Q t ks e false h q = rw (h, marked) q
@@ -171,7 +168,6 @@ grant-tracks P v ps ks c e r h =
     granted-cases (λ (x : Claim). Tracks P x (marked v.clock ks e)) v ps c
     (λ g. marked-cases (Tracks P (with_phase c (On v.clock))) v.clock ks e true (same ∙ g) (record {
       ticket = r.ticket;
-      lead = r.lead;
       groups = r.groups;
       length = r.length;
       units = r.units;
@@ -186,7 +182,7 @@ grant-tracks P v ps ks c e r h =
     same = ap (λ (x : ℕ). any (λ k. eqb k x) ks) (sym r.ticket) ∙ h
 
 -- Setting the clock and packing: where no holder overruns, no start rises.
-pub advance-match : (P T : Type 0) (l : List Entry) (m : Model) (t : ℕ) → Invariant m → m.clock ≤ t → (T → NoOverrunAt t m.pending) → Match (Tracks P) m.pending l
+advance-match : (P T : Type 0) (l : List Entry) (m : Model) (t : ℕ) → Invariant m → m.clock ≤ t → (T → NoOverrunAt t m.pending) → Match (Tracks P) m.pending l
     → Match (Tracks (P × T)) (advance m t).pending l
 unfolding advance pack
 advance-match P T l m t i h pr ma =
@@ -214,27 +210,16 @@ finish-match P l m r i ma =
 pub match-lacking : (P : Type 0) (k : ℕ) {ps : List Claim} {l : List Entry} → Match (Tracks P) ps l → Match (Tracks P) (keep (λ c. not (named k c)) ps) (lacking k l)
 match-lacking P k ma = match-keep (λ c. not (named k c)) (λ e. not (eqb e.ticket k)) (λ c e _ r. ap (λ (x : ℕ). not (eqb x k)) r.ticket) ma
 
-lead_is : (P : Type 0) (k : ℕ) {ps : List Claim} {l : List Entry} → Match (Tracks P) ps l → lead_of k ps ≡ lead_in k l
-unfolding lead_of lead_in
-lead_is P k m_nil = refl
-lead_is P k (m-cons r m) = cc (r.ticket, r.lead, lead_is P k m)
-
-pub match-lacking-set : (P : Type 0) (k : ℕ) {ps : List Claim} {l : List Entry} → Match (Tracks P) ps l → Match (Tracks P) (keep (λ c. not (eqb c.lead k)) ps) (lacking_set k l)
-match-lacking-set P k ma = match-keep (λ c. not (eqb c.lead k)) (λ e. not (eqb e.lead k)) (λ c e _ r. ap (λ (x : ℕ). not (eqb x k)) r.lead) ma
-
-pub match-disbanded : (P : Type 0) (k : ℕ) {ps : List Claim} {l : List Entry} → Match (Tracks P) ps l → Match (Tracks P) (keep (λ c. not (eqb c.lead (lead_of k ps))) ps) (lacking_set (lead_in k l) l)
-match-disbanded P k {ps} {l} ma = subst (λ (n : ℕ). Match (Tracks P) (keep (λ c. not (eqb c.lead (lead_of k ps))) ps) (lacking_set n l)) (lead_is P k ma) (match-lacking-set P (lead_of k ps) ma)
-
-pub leaves-match : (P : Type 0) (l : List Entry) (a : Answer) {m : Model} {c : Call} {t k : ℕ} {q : Model} → Leaves m c t k q
+leaves-match : (P : Type 0) (l : List Entry) (a : Answer) {m : Model} {c : Call} {t k : ℕ} {q : Model} → Leaves m c t k q
     → Match (Tracks P) (advance m t).pending l → Match (Tracks P) q.pending (stay c l ++ issues c a)
-unfolding remove disband stay issues
-leaves-match P l a (by-release t k h) ma = match_none (match-lacking P k ma)
-leaves-match P l a (by-withdraw t k) ma = match_none (match-disbanded P k ma)
+unfolding remove stay issues
+leaves-match P l a (by-release t k) ma = match_none (match-lacking P k ma)
+leaves-match P l a (by-withdraw t k) ma = match_none (match-lacking P k ma)
 leaves-match P l a (by-clock t) ma = match_none ma
 
 leaves-issued : (a : Answer) {m : Model} {c : Call} {t k : ℕ} {q : Model} → Leaves m c t k q → q.issued ≡ m.issued + length (issues c a)
-unfolding remove disband advance issues
-leaves-issued a (by-release t k h) = omega arith
+unfolding remove advance issues
+leaves-issued a (by-release t k) = omega arith
 leaves-issued a (by-withdraw t k) = omega arith
 leaves-issued a (by-clock t) = omega arith
 
@@ -251,14 +236,14 @@ unfolding finish
 finish-rig m r = refl
 
 leaves-rig : {m : Model} {c : Call} {t k : ℕ} {q : Model} → Leaves m c t k q → q.rig ≡ m.rig
-unfolding remove disband advance
-leaves-rig (by-release t k h) = refl
+unfolding remove advance
+leaves-rig (by-release t k) = refl
 leaves-rig (by-withdraw t k) = refl
 leaves-rig (by-clock t) = refl
 
 leaves-pool : {m : Model} {c : Call} {t k : ℕ} {q : Model} → Leaves m c t k q → q.pool ≡ m.pool
-unfolding remove disband advance
-leaves-pool (by-release t k h) = refl
+unfolding remove advance
+leaves-pool (by-release t k) = refl
 leaves-pool (by-withdraw t k) = refl
 leaves-pool (by-clock t) = refl
 
@@ -341,35 +326,16 @@ remaining-is P v c e r = go (on c) e.held refl r.held
     go true false o q = clash refl q
     go false true o q = clash q refl
 
-rivals-match : (P : Type 0) {ps : List Claim} {l : List Entry} (w : Claim) (ask : Request) → w.groups ≡ ask.groups → Match (Tracks P) ps l → Match (Tracks P) (rivals ps w) (rivals_of l ask)
-rivals-match P w ask g m = match-keep (λ c. rival c w) (λ e. shares e.asked.groups ask.groups) (λ c e _ r. rw (r.groups, g)) m
+bound-is : (P : Type 0) (v : Setting) (ps : List Claim) (l : List Entry) (w : Claim) (ask : Request) → w.groups ≡ ask.groups → w.length ≡ ask.length → Match (Tracks P) ps l
+    → start_bound v ps w ≡ bound_on v l ask
+unfolding start_bound contention bound_on
+bound-is P v ps l w ask g n m =
+    let rs : Match (Tracks P) (rivals ps w) (rivals_of l ask) = match-keep (λ c. rival c w) (λ e. shares e.asked.groups ask.groups) (λ c e _ r. rw (r.groups, g)) m in
+    cc (match-sum (remaining v) (remaining_of v) (λ c e _. remaining-is P v c e) rs, match-length rs, n)
 
-bound-is : (P : Type 0) (v : Setting) (ps : List Claim) (l : List Entry) (L s k : ℕ) (asks : List Request) → Match (Tracks P) ps l → bound_all v ps (members L s k asks) ≡ bound_on_all v l asks
-unfolding bound_all bound_on_all
-bound-is P v ps l L s k asks m =
-    ap (λ (n : ℕ). v.clock + n)
-    (members-sum (λ w. sum (λ c. remaining v c + (w.length - 1)) (rivals ps w)) (λ ask. sum (λ e. remaining_of v e + (ask.length - 1)) (rivals_of l ask)) L s k asks (λ i ask.
-    match-sum (λ c. remaining v c + (ask.length - 1)) (λ e. remaining_of v e + (ask.length - 1)) (λ c e _ r. rw (remaining-is P v c e r)) (rivals-match P (member L s i ask) ask refl m)))
-
--- Of one claim it is document 01's.
-bound-one : (v : Setting) (l : List Entry) (ask : Request) → bound_on_all v l (ask ∷ []) ≡ bound_on v l ask
-unfolding bound_on_all bound_on sum
-bound-one v l ask = omega (arith, sum-add (remaining_of v) (ask.length - 1) (rivals_of l ask))
-
-contention-is : (P : Type 0) (ps : List Claim) (l : List Entry) (L s k : ℕ) (asks : List Request) → Match (Tracks P) ps l
-    → contention_all ps (members L s k asks) ≡ sum (λ ask. length (rivals_of l ask)) asks
-unfolding contention_all contention
-contention-is P ps l L s k asks m =
-    members-sum (λ w. length (rivals ps w)) (λ ask. length (rivals_of l ask)) L s k asks (λ i ask. match-length (rivals-match P (member L s i ask) ask refl m))
-
--- ── new claims and their entries ──
-entered-match : (P : Type 0) (L s k : ℕ) (asks : List Request) → Match (Tracks P) (members L s k asks) (entered L s (suc k) asks)
-unfolding members entered
-entered-match P L s k [] = m_nil
-entered-match P L s k (ask ∷ asks) =
-    let r : Tracks P (member L s (suc k) ask) (record { ticket = suc k; lead = L; asked = ask; first = s; held = false; grant = 0 }) =
-    record { ticket = refl; lead = refl; groups = refl; length = refl; units = refl; client = refl; held = refl; grant = λ q. clash q refl; early = λ p o. omega arith } in
-    m-cons r (entered-match P L s (suc k) asks)
+contention-is : (P : Type 0) (ps : List Claim) (l : List Entry) (w : Claim) (ask : Request) → w.groups ≡ ask.groups → Match (Tracks P) ps l → contention ps w ≡ length (rivals_of l ask)
+unfolding contention
+contention-is P ps l w ask g m = match-length (match-keep (λ c. rival c w) (λ e. shares e.asked.groups ask.groups) (λ c e _ r. rw (r.groups, g)) m)
 
 -- ── grants ──
 tickets_ascend : (l : List Claim) → Ascending l → Ascends (λ (k : ℕ). k) (map (λ c. c.ticket) l)
@@ -401,46 +367,25 @@ grants-from P q rep es ma k i =
 none-granted : (l : Ledger) (c : Call) (m : Model) (n : ℕ) → OfGrants l (record { call = c; answer = (unchanged m n).answer })
 none-granted l c m n = record { grants_ascend = tt; grants_waited = λ k i. none i; others_none = λ z. refl }
 
--- ── what lookup tells of new claims ──
--- A claim and its entry, whether it waits or went on.
-record Stands (c : Claim) (e : Entry) : Type 0 where
-  ticket : c.ticket ≡ e.ticket
-  length : c.length ≡ e.asked.length
-
-entered-stand : (v : Setting) (ps : List Claim) (L s k : ℕ) (asks : List Request) → Match Stands (map (granted v ps) (members L s k asks)) (entered L s (suc k) asks)
-entered-stand v ps L s k asks =
-    match-left (granted v ps) (λ c e _ r. record { ticket = same-made v ps (λ (x : Claim). x.ticket) c refl ∙ r.ticket; length = same-made v ps (λ (x : Claim). x.length) c refl ∙ r.length })
-    (entered-match (Unit {0}) L s k asks)
-
-first_told : (m : Model) → Invariant m → (t : ℕ) (asks : List Request) → Admissible m t asks
-    → (let s : Step = admit (advance m t) asks in
-    (e : Entry) → e ∈ entered s.answer.ticket s.answer.start s.answer.ticket asks
-    → (standing_of e.ticket s.model.pending ≡ Waits s.answer.start) ⊎ (standing_of e.ticket s.model.pending ≡ Holds (s.answer.start + e.asked.length)))
-unfolding admit finish advance
-first_told m i t asks a e ei =
-    let q : Model = advance m t in
-    let s : Step = admit q asks in
-    let p = partner (entered-stand (setting_of q) (q.pending ++ placed q asks) (suc m.issued) s.answer.start m.issued asks) ei in
-    let c : Claim = p.0 in
-    let n = new-stands m i t asks a c p.1 in
-    let up = (admit-invariant q asks (advance-asks m t asks (admissible-asks a)) (advance-packed m t i a.clocked.later)).spaced.ascending in
-    let f : standing_of e.ticket s.model.pending ≡ standing c = ap (λ (k : ℕ). standing_of k s.model.pending) (sym p.2.ticket) ∙ lookup-found s.model.pending up c n.0 in
-    by-test (on c)
-    (λ o. inr (f ∙ ap (λ (b : Bool). cond b (Holds (at c + c.length)) (Waits (at c))) o ∙ ap Holds (omega (arith, n.1, p.2.length))))
-    (λ o. inl (f ∙ ap (λ (b : Bool). cond b (Holds (at c + c.length)) (Waits (at c))) o ∙ ap Waits n.1))
+-- ── what lookup tells of a new claim ──
+first_told : (m : Model) → Invariant m → (t : ℕ) (ask : Request) → Admissible m t ask
+    → (let s : Step = admit (advance m t) ask in
+    (standing_of s.answer.ticket s.model.pending ≡ Waits s.answer.start) ⊎ (standing_of s.answer.ticket s.model.pending ≡ Holds (s.answer.start + ask.length)))
+first_told m i t ask a =
+    let s : Step = admit (advance m t) ask in
+    let c = claim-whole m i t ask a in
+    let up = (admit-invariant (advance m t) ask a.long (advance-drawn m t ask a) (advance-spare m t ask a) (advance-packed m t i a.clocked.later)).spaced.ascending in
+    let j : c.new ∈ s.model.pending = subst (λ (l : List Claim). c.new ∈ l) (sym c.others_same) (Memᴰ.append_right (step m (clock t)).model.pending here) in
+    let e : standing_of s.answer.ticket s.model.pending ≡ standing c.new = ap (λ (k : ℕ). standing_of k s.model.pending) (sym c.ticket) ∙ lookup-found s.model.pending up c.new j in
+    by-test (on c.new)
+    (λ o. inr (e ∙ ap (λ (b : Bool). cond b (Holds (at c.new + c.new.length)) (Waits (at c.new))) o ∙ ap Holds (omega (arith, c.start, c.length))))
+    (λ o. inl (e ∙ ap (λ (b : Bool). cond b (Holds (at c.new + c.new.length)) (Waits (at c.new))) o ∙ ap Waits c.start))
 
 pub same-claim : (Q : ℕ → Request → Type 0) (t u : ℕ) (ask x : Request) → claim t ask ≡ claim u x → Q t ask → Q u x
 same-claim Q t u ask x e h =
     let f : t ≡ u = cc in
     let g : ask ≡ x = cc in
     subst (λ (n : ℕ). Q n x) f (subst (Q t) g h)
-
-pub same_set : (Q : ℕ → ℕ → List Member → Type 0) (t u c d : ℕ) (ms ns : List Member) → claim_set t c ms ≡ claim_set u d ns → Q t c ms → Q u d ns
-same_set Q t u c d ms ns e h =
-    let f : t ≡ u = cc in
-    let g : c ≡ d = cc in
-    let k : ms ≡ ns = cc in
-    subst (λ (n : ℕ). Q n d ns) f (subst (λ (n : ℕ). Q t n ns) g (subst (Q t c) k h))
 
 -- ── one call ──
 abbrev StoryGoesOn : Type 0 → Ledger → Model → Call → Step → Type 0
@@ -473,7 +418,6 @@ module _ (P : Type 0) (l : Ledger) (m : Model) (s : Story P l m) where
       let z = idle-refused c n i in (
         record {
           of_claim = λ t ask q e. clash (and_i (is_timed c) (eqb n 0) (ap is_timed q) (eq-eqb n 0 e)) z;
-          of_set = λ t d ms q e. clash (and_i (is_timed c) (eqb n 0) (ap is_timed q) (eq-eqb n 0 e)) z;
           of_grants = none-granted l c m n;
           never_raised = λ h k x w. rw z (unraised P m.pending m.pending l.claims s.match still k x w);
         },
@@ -511,118 +455,64 @@ module _ (P : Type 0) (l : Ledger) (m : Model) (s : Story P l m) where
       done : Match (Tracks (P × T)) (finish q rep).model.pending (map (marked t (finish q rep).answer.grants) es)
       done = subst (λ (u : ℕ). Match (Tracks (P × T)) (finish q rep).model.pending (map (marked u (finish q rep).answer.grants) es)) cl (finish-match (P × T) es q rep sp ma)
 
-  -- What a call that issues tickets does: a claim, or a set.
-  module _ (t : ℕ) (asks : List Request) (a : Admissible m t asks) (T : Type 0) (tm : T → (e : Entry) → e ∈ l.claims → e.held ≡ true → t ≤ promised e) where
-    abbrev spot : ℕ
-    spot = place_all (ruled m t) (advance m t).pending (fresh (advance m t) asks)
-
-    -- What it enters.
-    abbrev news : List Entry
-    news = entered (suc m.issued) spot (suc m.issued) asks
-
-    asked : Asks (advance m t).issued (advance m t).pool asks
-    asked = advance-asks m t asks (admissible-asks a)
-
-    before-match : Match (Tracks (P × T)) (advance m t).pending l.claims
-    before-match = advance-match P T l.claims m t s.inv a.clocked.later (λ z. prompt t (tm z)) s.match
-
-    pub after-match : Match (Tracks (P × T)) (join (advance m t) (placed (advance m t) asks)).pending (l.claims ++ news)
-    unfolding join advance
-    after-match = match-append before-match (entered-match (P × T) (suc m.issued) spot m.issued asks)
-
-    pub joined-spaced : IsSpaced (join (advance m t) (placed (advance m t) asks))
-    joined-spaced = join-spaced (advance m t) asks asked (advance-packed m t s.inv a.clocked.later).spaced
-
-    told-issue : (let n = admit (advance m t) asks in
-        let es = map (marked t n.answer.grants) (l.claims ++ news) in
-        (T → Unraised m.pending n.model.pending es)
-        × Story (P × T) (record { rig = l.rig; clock = t; pool = l.pool; issued = l.issued + length news; grace = l.grace; shares = l.shares; claims = es }) n.model)
-    unfolding admit join advance
-    told-issue =
-        told-finish t (l.issued + length news) (placing (advance m t) asks) (join (advance m t) (placed (advance m t) asks)) (l.claims ++ news) T
-        a.clocked.later tm joined-spaced (join-booked m t asks a s.booked) s.rig refl s.pool
-        (omega (arith, s.issued, match-length (entered-match (P × T) (suc m.issued) spot m.issued asks))) s.grace s.shares
-        (join-old (advance m t) asks spot) after-match
-
-    issue-grants : (c : Call) → accepted (record { call = c; answer = (admit (advance m t) asks).answer }) ≡ true → stay c l.claims ≡ l.claims
-        → issues c (admit (advance m t) asks).answer ≡ news → OfGrants l (record { call = c; answer = (admit (advance m t) asks).answer })
-    unfolding admit
-    issue-grants c z e f = record {
-      grants_ascend = grants-up (join (advance m t) (placed (advance m t) asks)) (placing (advance m t) asks) joined-spaced;
-      grants_waited = rw (e, f) (grants-from (P × T) (join (advance m t) (placed (advance m t) asks)) (placing (advance m t) asks) (l.claims ++ news) after-match);
-      others_none = λ n. clash z n;
-    }
-
-    issue-bound : bound_all (ruled m t) (advance m t).pending (fresh (advance m t) asks) ≡ bound_on_all (ruled_by l t) l.claims asks
-    unfolding advance
-    issue-bound =
-        bound-is (P × T) (ruled m t) (advance m t).pending l.claims (suc m.issued) t m.issued asks before-match
-        ∙ ap (λ (v : Setting). bound_on_all v l.claims asks) (ruled-is t)
-
-    issue-start : Each (λ b. b.units ≡ 0) asks → spot ≤ bound_on_all (ruled_by l t) l.claims asks
-    unfolding advance
-    issue-start z =
-        omega (
-          arith,
-          places-bound (ruled m t) (advance m t).pending (fresh (advance m t) asks) (fresh-sane (advance m t) asks asked)
-              (member-each (λ (w : Claim). w.units ≡ 0) (suc m.issued) t m.issued asks (λ b i j p q. z b i)),
-          issue-bound,
-        )
-
-    issue-contention : contention_all (advance m t).pending (fresh (advance m t) asks) ≡ sum (λ ask. length (rivals_of l.claims ask)) asks
-    unfolding advance
-    issue-contention = contention-is (P × T) (advance m t).pending l.claims (suc m.issued) t m.issued asks before-match
-
-  told-claim : (t : ℕ) (ask : Request) → Admissible m t (ask ∷ []) → StoryGoesOn P l m (claim t ask) (admit (advance m t) (ask ∷ []))
-  unfolding admit finish join advance entered stay issues shares_by grace_by sum
-  told-claim t ask a =
-      let asks = ask ∷ [] in
-      let n : Step = admit (advance m t) asks in
-      let T = NoOverrun l (record { call = claim t ask; answer = n.answer }) in
-      let r = told-issue t asks a T (λ z. z refl) in
-      let one = bound-one (ruled_by l t) l.claims ask in
-      let claimed : OfClaim l t ask n.answer (tells n.model) = record {
-        ticket_next = omega (arith, s.issued);
-        first_told = first_told m s.inv t asks a _ here;
-        start_bounded = λ z. omega (arith, issue-start t asks a T (λ z. z refl) (λ b i. ⊎_elim (λ q. ap (λ (x : Request). x.units) q ∙ z) none (Memᴰ.cases_cons i)), one);
-        contention_counted = omega (arith, issue-contention t asks a T (λ z. z refl));
-        bound_counted = issue-bound t asks a T (λ z. z refl) ∙ one;
-      } in (
-        record {
-          of_claim = λ t' ask' e _. same-claim (λ u x. OfClaim l u x n.answer (tells n.model)) t t' ask ask' e claimed;
-          of_set = λ u c ms e _. let z : ◌≡◌ {A = ℕ} 0 1 = cc in absurd (omega arith);
-          of_grants = issue-grants t asks a T (λ z. z refl) (claim t ask) refl refl refl;
-          never_raised = r.0;
-        },
-        r.1,
-      )
-
-  told-set : (t c : ℕ) (ms : List Member) → Admissible m t (asks_of c ms) → StoryGoesOn P l m (claim_set t c ms) (admit (advance m t) (asks_of c ms))
+  told-claim : (t : ℕ) (ask : Request) → Admissible m t ask → StoryGoesOn P l m (claim t ask) (admit (advance m t) ask)
   unfolding admit finish join advance stay issues shares_by grace_by
-  told-set t c ms a =
-      let asks = asks_of c ms in
-      let n : Step = admit (advance m t) asks in
-      let T = NoOverrun l (record { call = claim_set t c ms; answer = n.answer }) in
-      let r = told-issue t asks a T (λ z. z refl) in
-      let claimed : OfSet l t c ms n.answer (tells n.model) = record {
-        tickets_next = omega (arith, s.issued);
-        all_told = first_told m s.inv t asks a;
-        set_bounded = issue-start t asks a T (λ z. z refl) (map_each (λ (b : Request). b.units ≡ 0) _ ms (λ p i. refl));
-        pairs_counted = issue-contention t asks a T (λ z. z refl);
-        bound_counted = issue-bound t asks a T (λ z. z refl);
-      } in (
+  told-claim t ask a =
+      let old = join-old (advance m t) (placed (advance m t) ask) refl in
+      let next : suc m.issued ≡ l.issued + 1 = omega (arith, s.issued) in
+      let r =
+      told-finish t (l.issued + 1) (placing (advance m t) w) q _ T
+      a.clocked.later (λ z. z refl) spaced (join-booked m t ask a s.booked) s.rig refl s.pool next s.grace s.shares old (match-snoc _ _ first new) in (
         record {
-          of_claim = λ t' ask' e _. let z : ◌≡◌ {A = ℕ} 0 1 = cc in absurd (omega arith);
-          of_set = λ u c' ms' e _. same_set (λ u x ns. OfSet l u x ns n.answer (tells n.model)) t u c c' ms ms' e claimed;
-          of_grants = issue-grants t asks a T (λ z. z refl) (claim_set t c ms) refl refl refl;
+          of_claim = λ t' ask' e _. same-claim (λ u x. OfClaim l u x (admit (advance m t) ask).answer (tells (admit (advance m t) ask).model)) t t' ask ask' e claimed;
+          of_grants = record {
+            grants_ascend = grants-up q (placing (advance m t) w) spaced;
+            grants_waited = grants-from (P × T) q (placing (advance m t) w) _ (match-snoc _ _ first new);
+            others_none = λ z. clash refl z;
+          };
           never_raised = r.0;
         },
         r.1,
       )
+    where
+      v : Setting
+      v = ruled m t
 
-  told-issued : (c : Call) (t : ℕ) (asks : List Request) → Issues c t asks → Admissible m t asks → StoryGoesOn P l m c (admit (advance m t) asks)
-  told-issued c₀ t₀ asks₀ (by-claim t ask) a = told-claim t ask a
-  told-issued c₀ t₀ asks₀ (by_set t c ms) a = told-set t c ms a
+      ps : List Claim
+      ps = (advance m t).pending
+
+      w : Claim
+      w = fresh (advance m t) ask
+
+      x : ℕ
+      x = place (ruled m t) (advance m t).pending (fresh (advance m t) ask)
+
+      q : Model
+      q = join (advance m t) (placed (advance m t) ask)
+
+      T : Type 0
+      T = NoOverrun l (record { call = claim t ask; answer = (admit (advance m t) ask).answer })
+
+      first : Match (Tracks (P × T)) (advance m t).pending l.claims
+      first = advance-match P T l.claims m t s.inv a.clocked.later (λ z. prompt t (z refl)) s.match
+
+      spaced : IsSpaced (join (advance m t) (placed (advance m t) ask))
+      spaced = join-spaced (advance m t) ask a.long a.drawn a.spare (advance-packed m t s.inv a.clocked.later).spaced
+
+      bound : start_bound (ruled m t) (advance m t).pending (fresh (advance m t) ask) ≡ bound_on (ruled_by l t) l.claims ask
+      bound = bound-is (P × T) v ps l.claims w ask refl refl first ∙ ap (λ (v : Setting). bound_on v l.claims ask) (ruled-is t)
+
+      claimed : OfClaim l t ask (admit (advance m t) ask).answer (tells (admit (advance m t) ask).model)
+      claimed = record {
+        ticket_next = omega (arith, s.issued);
+        first_told = first_told m s.inv t ask a;
+        start_bounded = λ z. omega (arith, place-bound v ps w (fresh-sane (advance m t) ask a.long (advance-drawn m t ask a) (advance-spare m t ask a)) z, bound);
+        contention_counted = contention-is (P × T) ps l.claims w ask refl first;
+        bound_counted = bound;
+      }
+
+      new : Tracks (P × T) (placed (advance m t) ask) (record { ticket = suc m.issued; asked = ask; first = place (ruled m t) (advance m t).pending (fresh (advance m t) ask); held = false; grant = 0 })
+      new = record { ticket = refl; groups = refl; length = refl; units = refl; client = refl; held = refl; grant = λ e. clash e refl; early = λ p o. omega arith }
 
   -- Release, withdraw and clock.
   left : {c : Call} {t k : ℕ} {q : Model} (a : Answer) (T : Type 0) → Leaves m c t k q → Clocked m t → (T → (e : Entry) → e ∈ l.claims → e.held ≡ true → t ≤ promised e)
@@ -643,20 +533,25 @@ module _ (P : Type 0) (l : Ledger) (m : Model) (s : Story P l m) where
     others_none = λ n. clash z n;
   }
 
+  no-claim : {A : Type 0} {c : Call} {t k : ℕ} {q : Model} {u : ℕ} {ask : Request} → Leaves m c t k q → c ≡ claim u ask → A
+  no-claim (by-release t k) e = let z : ◌≡◌ {A = ℕ} 0 1 = cc in absurd (omega arith)
+  no-claim (by-withdraw t k) e = let z : ◌≡◌ {A = ℕ} 0 1 = cc in absurd (omega arith)
+  no-claim (by-clock t) e = let z : ◌≡◌ {A = ℕ} 0 1 = cc in absurd (omega arith)
+
   next : {c : Call} {t k : ℕ} {q : Model} (a : Answer) → Leaves m c t k q
       → (let turn : Turn = record { call = c; answer = a } in
       let n : Model = (finish q (plain k t)).model in
       OfGrants l turn → (NoOverrun l turn → Unraised m.pending n.pending (noted l turn).claims) → Next l turn (tells m) (tells n))
-  next a v g h = record { of_claim = λ u ask e _. absurd (leaves-no-claim v e); of_set = λ u c ms e _. absurd (leaves-no-set v e); of_grants = g; never_raised = h }
+  next a v g h = record { of_claim = λ u ask e _. no-claim v e; of_grants = g; never_raised = h }
 
   told-left : (c : Call) (t k : ℕ) (q : Model) → Clocked m t → Leaves m c t k q → StoryGoesOn P l m c (finish q (plain k t))
   unfolding finish shares_by grace_by
-  told-left c₀ t₀ k₀ q₀ o (by-release t k h) =
+  told-left c₀ t₀ k₀ q₀ o (by-release t k) =
       let a : Answer = (finish (remove (advance m t) k) (plain k t)).answer in
-      let r = left a (NoOverrun l (record { call = release t k; answer = a })) (by-release t k h) o (λ z. z refl) in
-      (next a (by-release t k h) (left-grants a (by-release t k h) o refl refl) r.0, r.1)
+      let r = left a (NoOverrun l (record { call = release t k; answer = a })) (by-release t k) o (λ z. z refl) in
+      (next a (by-release t k) (left-grants a (by-release t k) o refl refl) r.0, r.1)
   told-left c₀ t₀ k₀ q₀ o (by-withdraw t k) =
-      let a : Answer = (finish (disband (advance m t) k) (plain k t)).answer in
+      let a : Answer = (finish (remove (advance m t) k) (plain k t)).answer in
       let r = left a (NoOverrun l (record { call = withdraw t k; answer = a })) (by-withdraw t k) o (λ z. z refl) in
       (next a (by-withdraw t k) (left-grants a (by-withdraw t k) o refl refl) r.0, r.1)
   told-left c₀ t₀ k₀ q₀ o (by-clock t) =
@@ -670,7 +565,6 @@ module _ (P : Type 0) (l : Ledger) (m : Model) (s : Story P l m) where
       let z : is_timed c && eqb 0 0 ≡ false = rw h in
       record {
         of_claim = λ u ask k _. clash (ap is_timed k) h;
-        of_set = λ u d ms k _. clash (ap is_timed k) h;
         of_grants = none-granted l c q 0;
         never_raised = λ n k x w. rw (z, e) (unraised P m.pending m.pending l.claims s.match still k x w);
       }
@@ -710,7 +604,7 @@ module _ (P : Type 0) (l : Ledger) (m : Model) (s : Story P l m) where
   )
 
   pub told : (c : Call) → StoryGoesOn P l m c (step m c)
-  told = step-cases (StoryGoesOn P l m) m told-idle told-issued told-left told-declare told-grace
+  told = step-cases (StoryGoesOn P l m) m told-idle told-claim told-left told-declare told-grace
 
 -- ── the run ──
 story-weaken : (P Q : Type 0) (l : Ledger) (m : Model) → (Q → P) → Story P l m → Story Q l m

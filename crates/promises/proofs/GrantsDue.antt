@@ -1,5 +1,5 @@
 -- Who waits at the clock, and is preceded by nobody, wanted units: `units_wanting` of whole calls, read in the ledger.
-use mathlib.Core.Path.{◌≡◌, refl}
+use mathlib.Core.Path.{◌≡◌, refl, sym}
 use mathlib.Core.Bool.{false}
 use mathlib.Core.List.{List, [], ◌∷◌}
 use Prim.Native.Nat.{ℕ}
@@ -15,7 +15,7 @@ use Rattle.promises.specs.Ledger.{Turn, turns, table_after, Ledger, Entry, noted
 use Rattle.promises.specs.Runs.{tells, Start, Begins}
 use Rattle.promises.specs.WholeCalls.{kept_from as claimKeptFrom}
 use Rattle.promises.specs.GrantsDue.{kept_from, Due, GrantsDue}
-use Rattle.promises.proofs.Matching.{match-sum, partner, partner-of}
+use Rattle.promises.proofs.Matching.{match-sum, partner}
 use Rattle.promises.proofs.WholeCalls.{whole_calls}
 use Rattle.promises.proofs.Demand3.{Tracks, Story, story-after, after-calls}
 use Rattle.promises.proofs.Plan.{precedes-told, waits-at}
@@ -29,9 +29,9 @@ module _ (P Q : Type 0) (l : Ledger) (m : Model) (i : Invariant m) where
       let n : Model = (step m (timed u x)).model in
       let a = partner st.match fi in
       let b = waits-at Q _ n st a.0 f a.1 a.2 u w in
-      let none : (d : Claim) → d ∈ n.pending → precedes n.pending d a.0 ≡ false
-      = λ d di. by-test (precedes n.pending d a.0)
-      (λ p. let e = partner-of st.match di in absurd (free e.0 e.1 (precedes-told Q _ n st d a.0 e.0 f di a.1 e.2 a.2 b.0 p))) (λ p. p) in
+      let up = st.inv.spaced.ascending in
+      let none : (d : Claim) → d ∈ n.pending → precedes d a.0 ≡ false
+      = λ d di. by-test (precedes d a.0) (λ p. absurd (free d.ticket (rw (sym a.2.ticket) (precedes-told n up d a.0 di a.1 b.0 p)))) (λ p. p) in
       let z = ((whole_calls m i).of_timed u x (eqb-true _ 0 h)).0.units_wanting a.0 a.1 b.0 b.1 none in
       omega (
         arith,

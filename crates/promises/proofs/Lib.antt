@@ -14,7 +14,6 @@ pub mod ChainsTold
 pub mod GrantsDue
 pub mod NeverOvertaken
 pub mod StartsHold
-pub mod SetsTogether
 pub mod PoolKept
 pub mod SharesKept
 pub mod TableKept

@@ -33,9 +33,9 @@ module _ {A B : Type 0} {R S : A → B → Type 0} where
   match-weaken h (m-cons {x} {y} r m) = m-cons (h x y r) (match-weaken h m)
 
 module _ {A B : Type 0} {R : A → B → Type 0} where
-  pub match-append : {k k' : List A} {l l' : List B} → Match R k l → Match R k' l' → Match R (k ++ k') (l ++ l')
-  match-append m_nil n = n
-  match-append (m-cons q m) n = m-cons q (match-append m n)
+  pub match-snoc : {k : List A} {l : List B} (x : A) (y : B) → Match R k l → R x y → Match R (k ++ (x ∷ [])) (l ++ (y ∷ []))
+  match-snoc x y m_nil r = m-cons r m_nil
+  match-snoc x y (m-cons q m) r = m-cons q (match-snoc x y m r)
 
   pub match_none : {k : List A} {l : List B} → Match R k l → Match R k (l ++ [])
   match_none m_nil = m_nil

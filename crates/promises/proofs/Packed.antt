@@ -13,25 +13,25 @@ use Rattle.rules.specs.declared.Phase.TheVariants.{On}
 use Rattle.rules.specs.declared.Setting.{Setting}
 use Rattle.rules.specs.declared.Standing.TheVariants.{Waits}
 use Rattle.rules.specs.Lists.{◌∈◌, keep}
-use Rattle.rules.specs.Claims.{on, at, with_phase, end_of}
-use Rattle.rules.specs.Order.{reach_in, bars, before}
+use Rattle.rules.specs.Claims.{on, at, with_phase, rival, end_of}
+use Rattle.rules.specs.Order.{before}
 use Rattle.rules.specs.Packing.{moved, ahead, MayStart, Packs}
 use Rattle.rules.specs.Pool.{covers, units_at, used}
 use Rattle.rules.specs.Calls.{Model, setting_of, at_ticket, standing, standing_of}
 use Rattle.rules.proofs.Lists.{keep-e, keep-i, sum-map}
 use Rattle.rules.proofs.Claims.{end-wait, end-no-overrun}
-use Rattle.rules.proofs.Order.{ends-precedes, precedes-before, precedes-bars}
+use Rattle.rules.proofs.Order.{precedes-before, before-precedes, precedes-conflicts}
 use Rattle.rules.proofs.Packing.{moved-cases, moved_at, moved-phase, moved-ticket, moved-units}
 use Rattle.rules.proofs.Lookup.{lookup-found}
 use Rattle.promises.specs.Ledger.{Entry, Ledger}
 use Rattle.promises.specs.Runs.{tells}
-use Rattle.promises.specs.Plan.{end_as, end_told, bars as barsOf, begins_as, covers_told, planned_use, ahead_told}
+use Rattle.promises.specs.Plan.{end_as, end_told, begins_as, covers_told, planned_use, ahead_told}
 use Rattle.promises.specs.WholeCalls.{Stays}
 use Rattle.promises.specs.StartsPacked.{BehindTold, PackedBehind}
 use Rattle.promises.specs.PackedInTurn.{start_after}
 use Rattle.promises.proofs.Matching.{Match, match-sum, partner, partner-of}
 use Rattle.promises.proofs.Demand3.{Tracks, Story}
-use Rattle.promises.proofs.Plan.{standing-wait, bars-is, begins-is, end-as, waits-at, ahead-match}
+use Rattle.promises.proofs.Plan.{standing-wait, begins-is, end-as, waits-at, ahead-match}
 
 -- A claim x that packing gave, and d, which it is after the call.
 module _ (v : Setting) (x d : Claim) (h : Stays v.clock x d) where
@@ -66,11 +66,10 @@ module _ (v : Setting) (x d : Claim) (h : Stays v.clock x d) where
       go (inr e) = ap (λ (c : Claim). start_after v.clock (standing c)) e.2 ∙ sym e.1
 
 -- Claims ps of the table m before a call, side by side with theirs in the ledger l: packed in turn at clock and grace of the table n after it, and
--- granted there or not. The sets of those that wait are whole: they have the same groups in ps, before the call and after it.
+-- granted there or not.
 module _ (P Q : Type 0) (l l' : Ledger) (m n : Model) (st : Story P l m) (st' : Story Q l' n) (ps : List Claim) (es : List Entry) (ma : Match (Tracks P) ps es)
     (inside : (c : Claim) → c ∈ ps → c ∈ m.pending) (starts : Claim → ℕ) (packs : Packs (setting_of n) ps starts)
-    (stays : (x : Claim) → x ∈ ps → (d : Claim) × d ∈ n.pending × Stays n.clock (moved starts x) d)
-    (whole : (w : Claim) → w ∈ ps → on w ≡ false → (reach_in m.pending w.lead ≡ reach_in ps w.lead) × (reach_in n.pending w.lead ≡ reach_in ps w.lead)) where
+    (stays : (x : Claim) → x ∈ ps → (d : Claim) × d ∈ n.pending × Stays n.clock (moved starts x) d) where
   abbrev v : Setting
   v = setting_of n
 
@@ -105,7 +104,7 @@ module _ (P Q : Type 0) (l l' : Ledger) (m n : Model) (st : Story P l m) (st' : 
     qs = keep (λ c. before c w) ps
 
     abbrev ahead_of : List Entry
-    ahead_of = ahead_told (tells m) (at w) f.lead es
+    ahead_of = ahead_told (tells m) (at w) f.ticket es
 
     matched : Match (Tracks P) qs ahead_of
     matched = ahead-match P l m st w f (inside w wi) t inside ma
@@ -113,12 +112,8 @@ module _ (P Q : Type 0) (l l' : Ledger) (m n : Model) (st : Story P l m) (st' : 
     kept : (c : Claim) → c ∈ qs → c ∈ ps × (before c w ≡ true)
     kept c i = keep-e (λ c. before c w) ps i
 
-    bars-same : (c : Claim) (e : Entry) → Tracks P c e → barsOf l'.claims e f ≡ bars ps c w
-    bars-same c e r = sym (bars-is Q st'.match c w e f r.groups t.lead) ∙ ap (shares c.groups) (whole w wi o).1
-
-    -- What is before w and bars it ends before it starts.
-    ended : (c : Claim) → c ∈ ps → before c w ≡ true → bars ps c w ≡ true → end_of (setting_of m) c ≤ at w
-    ended c i b h = st.inv.spaced.fit.behind c w (inside c i) (inside w wi) o b (ap (shares c.groups) (whole w wi o).0 ∙ h)
+    shared_same : (c : Claim) (e : Entry) → Tracks P c e → shares e.asked.groups f.asked.groups ≡ rival c w
+    shared_same c e r = rw (r.groups, t.groups)
 
     use-after : (y : ℕ) → n.clock ≤ y → used v y (ahead starts ps w) ≡ planned_use l' (tells n) y ahead_of
     unfolding used ahead
@@ -131,9 +126,9 @@ module _ (P Q : Type 0) (l l' : Ledger) (m n : Model) (st : Story P l m) (st' : 
       after = λ e i h.
           let c = partner matched i in
           let k = kept c.0 c.1 in
-          let z = sym (bars-same c.0 e c.2) ∙ h in
-          let first = ends-precedes (setting_of m) ps c.0 w (st.inv.spaced.proper c.0 (inside c.0 k.0)).sane z (ended c.0 k.0 k.1 z) in
-          omega (arith, end_after c.0 k.0 e c.2, b.after c.0 k.0 first);
+          let before = before-precedes (setting_of m) m.pending st.inv.spaced.fit c.0 w (st.inv.spaced.proper c.0 (inside c.0 k.0)).sane (inside c.0 k.0) (inside w wi) o k.1
+          (sym (shared_same c.0 e c.2) ∙ h) in
+          omega (arith, end_after c.0 k.0 e c.2, b.after c.0 k.0 before);
       spare = λ z y p q. omega (arith, b.spare (omega (arith, t.units, z)) y p (omega (arith, t.length, q)), use-after y (omega (arith, b.from_clock, p)), t.units, st'.pool);
     }
 
@@ -141,9 +136,9 @@ module _ (P Q : Type 0) (l l' : Ledger) (m n : Model) (st : Story P l m) (st' : 
     of-told x low b = record {
       from_clock = low;
       after = λ c i h.
-          let first = precedes-before ps c w (st.inv.spaced.proper c (inside c i)).sane h in
+          let first = precedes-before c w (st.inv.spaced.proper c (inside c i)).sane h in
           let e = partner-of matched (keep-i (λ c. before c w) first i) in
-          omega (arith, end_after c i e.0 e.2, b.after e.0 e.1 (bars-same c e.0 e.2 ∙ precedes-bars ps c w h));
+          omega (arith, end_after c i e.0 e.2, b.after e.0 e.1 (shared_same c e.0 e.2 ∙ precedes-conflicts c w h));
       spare = λ z y p q. omega (arith, b.spare (omega (arith, t.units, z)) y p (omega (arith, t.length, q)), use-after y (omega (arith, low, p)), t.units, st'.pool);
     }
 
@@ -155,9 +150,9 @@ module _ (P Q : Type 0) (l l' : Ledger) (m n : Model) (st : Story P l m) (st' : 
     }
 
   pub packed-behind : (f : Entry) → f ∈ es → (s : ℕ) → tells m (at_ticket f.ticket) ≡ Waits s
-      → PackedBehind l' (tells n) (ahead_told (tells m) s f.lead es) f (start_after n.clock (tells n (at_ticket f.ticket)))
+      → PackedBehind l' (tells n) (ahead_told (tells m) s f.ticket es) f (start_after n.clock (tells n (at_ticket f.ticket)))
   packed-behind f i s w =
       let a = partner ma i in
       let b = waits-at P l m st a.0 f (inside a.0 a.1) a.2 s w in
-      subst (PackedBehind l' (tells n) (ahead_told (tells m) s f.lead es) f) (sym (start-after a.0 a.1 f a.2 b.0))
-      (subst (λ (x : ℕ). PackedBehind l' (tells n) (ahead_told (tells m) x f.lead es) f (starts a.0)) b.1 (packed_there a.0 a.1 b.0 f a.2))
+      subst (PackedBehind l' (tells n) (ahead_told (tells m) s f.ticket es) f) (sym (start-after a.0 a.1 f a.2 b.0))
+      (subst (λ (x : ℕ). PackedBehind l' (tells n) (ahead_told (tells m) x f.ticket es) f (starts a.0)) b.1 (packed_there a.0 a.1 b.0 f a.2))

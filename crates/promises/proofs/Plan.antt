@@ -1,32 +1,30 @@
 -- What ledger and lookups tell of a plan is the table's plan.
-use mathlib.Core.Path.{◌≡◌, refl, sym, ◌∙◌, ap}
+use mathlib.Core.Path.{◌≡◌, sym, ◌∙◌, ap}
 use mathlib.Core.Logic.{inl, inr, ⊎_elim}
 use mathlib.Core.Bool.{Bool, true, false, ◌&&◌, ◌||◌, cond}
 use mathlib.Core.List.{List}
 use Prim.Native.Nat.{ℕ, ◌+◌, ◌*◌, ◌<◌}
 use native.Mathlib.Omega.{arith}
 use lib.Dec.{leb, ltb, eqb}
-use borrow.Author.Tests.{le-leb, lt-ltb, le-ltb, eqb-true, eq-eqb, ne_eqb}
-use Rattle.groups.specs.Groups.{shares}
+use borrow.Author.Tests.{le-leb, lt-ltb, le-ltb, eq-eqb, ne_eqb}
 use Rattle.rules.specs.declared.Claim.{Claim}
 use Rattle.rules.specs.declared.Setting.{Setting}
 use Rattle.rules.specs.declared.Standing.{Standing}
 use Rattle.rules.specs.declared.Standing.TheVariants.{Waits, Holds}
 use Rattle.rules.specs.Lists.{◌∈◌, keep}
-use Rattle.rules.specs.Claims.{on, at, held_until, end_of}
-use Rattle.rules.specs.Order.{bars, before, precedes}
+use Rattle.rules.specs.Claims.{on, at, rival, held_until, end_of}
+use Rattle.rules.specs.Order.{before, precedes}
+use Rattle.rules.specs.Plans.{Ascending}
 use Rattle.rules.specs.Pool.{covers, units_at, used}
 use Rattle.rules.specs.Calls.{Model, setting_of, at_ticket, standing, standing_of}
-use Rattle.rules.proofs.Bools.{by-test, by_order, both_ways, clash, and_l, and_r, and_i}
-use Rattle.rules.proofs.Lists.{any-i, any_some}
+use Rattle.rules.proofs.Bools.{by-test, by_order, clash}
 use Rattle.rules.proofs.Claims.{end_on, end-wait}
-use Rattle.rules.proofs.Order.{before_on, ascending-same, precedes-bars, precedes-e, precedes-on, precedes-lt}
-use Rattle.rules.proofs.Reach.{reach-i, reach-e}
-use Rattle.rules.proofs.Lookup.{lookup-found, lookup-waits}
+use Rattle.rules.proofs.Order.{before_on, ascending-same, precedes-conflicts, precedes-e, precedes-on, precedes-lt}
+use Rattle.rules.proofs.Lookup.{lookup-found, lookup-waits, lookup-holds, common-found, shared-rival, rival-shared}
 use Rattle.promises.specs.Ledger.{Ledger, Entry, ruled_by}
 use Rattle.promises.specs.Runs.{tells}
-use Rattle.promises.specs.Plan.{end_as, end_told, bars as barsOf, Precedes, begins_as, covers_told, planned_use, ahead_as, ahead_told}
-use Rattle.promises.proofs.Matching.{Match, match-keep, match-sum, partner, partner-of}
+use Rattle.promises.specs.Plan.{end_as, end_told, Precedes, begins_as, covers_told, planned_use, ahead_as, ahead_told}
+use Rattle.promises.proofs.Matching.{Match, match-keep, match-sum}
 use Rattle.promises.proofs.Demand3.{Tracks, Story, ruled-is}
 
 -- What a lookup told is one thing.
@@ -42,27 +40,48 @@ standing_on c o = ap (λ (b : Bool). cond b (Holds (at c + c.length)) (Waits (at
 pub standing-wait : (c : Claim) → on c ≡ false → standing c ≡ Waits (at c)
 standing-wait c o = ap (λ (b : Bool). cond b (Holds (at c + c.length)) (Waits (at c))) o
 
--- ── sets ──
--- What bars a claim bars its entry: by the groups of the whole set, and by those of its claims one by one.
-pub bars-is : (P : Type 0) {ps : List Claim} {es : List Entry} → Match (Tracks P) ps es → (c w : Claim) (e f : Entry) → c.groups ≡ e.asked.groups → w.lead ≡ f.lead
-    → bars ps c w ≡ barsOf es e f
-bars-is P {ps} {es} ma c w e f r t = both_ways _ _ there back
-  where
-    there : bars ps c w ≡ true → barsOf es e f ≡ true
-    there h =
-        let x = reach-e c.groups w.lead ps h in
-        let p = partner-of ma x.1 in
-        any-i (λ g. eqb g.lead f.lead && shares e.asked.groups g.asked.groups)
-        (and_i (eqb p.0.lead f.lead) _ (eq-eqb _ _ (sym p.2.lead ∙ x.2 ∙ t)) (rw (sym r, sym p.2.groups) x.3)) p.1
+-- ── which precedes which ──
+module _ (m : Model) (up : Ascending m.pending) where
+  pub record Preceding (j k s : ℕ) : Type 0 where
+    pub one : Claim
+    pub other : Claim
+    pub one_in : one ∈ m.pending
+    pub other_in : other ∈ m.pending
+    pub one_is : one.ticket ≡ j
+    pub other_is : other.ticket ≡ k
+    pub waits : on other ≡ false
+    pub start : at other ≡ s
+    pub before : precedes one other ≡ true
 
-    back : barsOf es e f ≡ true → bars ps c w ≡ true
-    back h =
-        let x = any_some (λ g. eqb g.lead f.lead && shares e.asked.groups g.asked.groups) es h in
-        let p = partner ma x.1 in
-        reach-i c.groups w.lead ps p.0 p.1 (p.2.lead ∙ eqb-true _ _ (and_l (eqb x.0.lead f.lead) _ x.2) ∙ sym t)
-        (rw (r, p.2.groups) (and_r (eqb x.0.lead f.lead) _ x.2))
+  pub precedes-of : {j k : ℕ} (p : Precedes (tells m) j k) → Preceding j k p.start
+  precedes-of {j} {k} p =
+      let d = lookup-waits k p.start m.pending p.waits in
+      ⊎_elim
+      (λ h.
+      let c = lookup-holds j h.0 m.pending h.1 in
+      record { one = c.0; other = d.0; one_in = c.1; other_in = d.1; one_is = c.2; other_is = d.2; waits = d.3; start = d.4; before = precedes-on c.0 d.0 (rivals c.0 d.0 c.1 d.1 c.2 d.2) c.3 })
+      (λ w.
+      let c = lookup-waits j w.0 m.pending w.1 in
+      record { one = c.0; other = d.0; one_in = c.1; other_in = d.1; one_is = c.2; other_is = d.2; waits = d.3; start = d.4; before = precedes-lt c.0 d.0 (rivals c.0 d.0 c.1 d.1 c.2 d.2) (omega (arith, c.4, d.4, w.2)) })
+      p.sooner
+    where
+      rivals : (c d : Claim) → c ∈ m.pending → d ∈ m.pending → c.ticket ≡ j → d.ticket ≡ k → rival c d ≡ true
+      rivals c d i i' e e' = shared-rival c d p.group (sym (common-found m.pending up c d i i') ∙ rw (e, e') p.conflict)
 
--- Where a claim begins.
+  pub precedes-told : (c d : Claim) → c ∈ m.pending → d ∈ m.pending → on d ≡ false → precedes c d ≡ true → Precedes (tells m) c.ticket d.ticket
+  precedes-told c d i j o p =
+      let g = rival-shared c d (precedes-conflicts c d p) in
+      record {
+        group = g.0;
+        start = at d;
+        conflict = common-found m.pending up c d i j ∙ g.1;
+        waits = lookup-found m.pending up d j ∙ standing-wait d o;
+        sooner = by-test (on c)
+            (λ h. inl (at c + c.length, lookup-found m.pending up c i ∙ standing_on c h))
+            (λ h. inr (at c, lookup-found m.pending up c i ∙ standing-wait c h, ⊎_elim (λ q. clash q h) (λ q. q) (precedes-e c d p)));
+      }
+
+-- ── ends and units ──
 pub begins-is : (c : Claim) (x : ℕ) → leb (begins_as (standing c)) x ≡ (on c || leb (at c) x)
 begins-is c x =
     by-test (on c)
@@ -70,7 +89,6 @@ begins-is c x =
     (λ o. ap (λ (s : Standing). leb (begins_as s) x) (standing-wait c o) ∙ rw o)
 
 module _ (P : Type 0) (l : Ledger) (m : Model) (st : Story P l m) where
-  -- ── what is told of a claim ──
   pub told_is : (c : Claim) (e : Entry) → c ∈ m.pending → Tracks P c e → tells m (at_ticket e.ticket) ≡ standing c
   told_is c e j r = ap (λ (k : ℕ). standing_of k m.pending) (sym r.ticket) ∙ lookup-found m.pending st.inv.spaced.ascending c j
 
@@ -80,34 +98,6 @@ module _ (P : Type 0) (l : Ledger) (m : Model) (st : Story P l m) where
       let same : d.0 ≡ c = ascending-same m.pending st.inv.spaced.ascending d.0 c d.1 j (d.2 ∙ sym r.ticket) in
       (sym (ap on same) ∙ d.3, sym (ap at same) ∙ d.4)
 
-  -- ── which precedes which ──
-  module _ (c d : Claim) (e f : Entry) (i : c ∈ m.pending) (j : d ∈ m.pending) (r : Tracks P c e) (t : Tracks P d f) where
-    barring : bars m.pending c d ≡ barsOf l.claims e f
-    barring = bars-is P st.match c d e f r.groups t.lead
-
-    pub precedes-of : (p : Precedes l (tells m) e f) → (on d ≡ false) × (at d ≡ p.start) × (precedes m.pending c d ≡ true)
-    precedes-of p =
-        let w = waits-at d f j t p.start p.waits in
-        let b = barring ∙ p.conflict in (
-          w.0,
-          w.1,
-          ⊎_elim
-              (λ h. precedes-on m.pending c d b (by-test (on c) (λ o. o) (λ o. absurd (waits-not-on (at c) h.0 (sym (told_is c e i r ∙ standing-wait c o) ∙ h.1)))))
-              (λ h. let x = waits-at c e i r h.0 h.1 in precedes-lt m.pending c d b (omega (arith, x.1, w.1, h.2)))
-              p.sooner,
-        )
-
-    pub precedes-told : on d ≡ false → precedes m.pending c d ≡ true → Precedes l (tells m) e f
-    precedes-told o p = record {
-      start = at d;
-      conflict = sym barring ∙ precedes-bars m.pending c d p;
-      waits = told_is d f j t ∙ standing-wait d o;
-      sooner = by-test (on c)
-          (λ h. inl (at c + c.length, told_is c e i r ∙ standing_on c h))
-          (λ h. inr (at c, told_is c e i r ∙ standing-wait c h, ⊎_elim (λ q. clash q h) (λ q. q) (precedes-e m.pending c d p)));
-    }
-
-  -- ── ends and units ──
   pub end-as : (c : Claim) (e : Entry) → c.length ≡ e.asked.length → end_as l e (standing c) ≡ end_of (setting_of m) c
   end-as c e r =
       by-test (on c)
@@ -129,7 +119,7 @@ module _ (P : Type 0) (l : Ledger) (m : Model) (st : Story P l m) where
   use-is x ps es h ma = match-sum (units_at (setting_of m) x) (λ e. cond (covers_told l (tells m) x e) e.asked.units 0) (λ c e i r. units-are x c e (h c i) r) ma
 
 -- ── the order of packing ──
--- Start, then first ticket, as one number and as two.
+-- Start, then ticket, as one number and as two.
 key-order : (r j s k : ℕ) → j < 65536 → k < 65536 → ltb (r * 65536 + j) (s * 65536 + k) ≡ (ltb r s || (eqb r s && ltb j k))
 key-order r j s k a b =
     by_order s r
@@ -143,19 +133,16 @@ key-order r j s k a b =
         (λ h. lt-ltb (r * 65536 + j) (s * 65536 + k) (omega arith) ∙ rw (le-ltb r s (omega arith), eq-eqb r s e, lt-ltb j k h))
 
 module _ (P : Type 0) (l : Ledger) (m : Model) (st : Story P l m) (w : Claim) (f : Entry) (wi : w ∈ m.pending) (t : Tracks P w f) where
-  ahead-is : (c : Claim) (e : Entry) → c ∈ m.pending → Tracks P c e → before c w ≡ ahead_as (tells m (at_ticket e.ticket)) e.lead (at w) f.lead
+  ahead-is : (c : Claim) (e : Entry) → c ∈ m.pending → Tracks P c e → before c w ≡ ahead_as (tells m (at_ticket e.ticket)) e.ticket (at w) f.ticket
   unfolding before
   ahead-is c e i r =
       by-test (on c)
-      (λ h. before_on c w h ∙ sym (ap (λ (x : Standing). ahead_as x e.lead (at w) f.lead) (told_is P l m st c e i r ∙ standing_on c h)))
+      (λ h. before_on c w h ∙ sym (ap (λ (x : Standing). ahead_as x e.ticket (at w) f.ticket) (told_is P l m st c e i r ∙ standing_on c h)))
       (λ h.
       rw (told_is P l m st c e i r ∙ standing-wait c h, h)
-      (key-order (at c) c.lead (at w) w.lead (led c i) (led w wi) ∙ rw (r.lead, t.lead) refl))
-    where
-      led : (x : Claim) → x ∈ m.pending → x.lead < 65536
-      led x xi = let p = (st.inv.spaced.proper x xi).sane in omega (arith, p.small, p.led)
+      (key-order (at c) c.ticket (at w) w.ticket (st.inv.spaced.proper c i).sane.small (st.inv.spaced.proper w wi).sane.small ∙ rw (r.ticket, t.ticket)))
 
   -- The claims before w, side by side with theirs in the ledger.
   pub ahead-match : {ps : List Claim} {es : List Entry} → ((c : Claim) → c ∈ ps → c ∈ m.pending) → Match (Tracks P) ps es
-      → Match (Tracks P) (keep (λ c. before c w) ps) (ahead_told (tells m) (at w) f.lead es)
-  ahead-match h ma = match-keep (λ c. before c w) (λ e. ahead_as (tells m (at_ticket e.ticket)) e.lead (at w) f.lead) (λ c e i r. ahead-is c e (h c i) r) ma
+      → Match (Tracks P) (keep (λ c. before c w) ps) (ahead_told (tells m) (at w) f.ticket es)
+  ahead-match h ma = match-keep (λ c. before c w) (λ e. ahead_as (tells m (at_ticket e.ticket)) e.ticket (at w) f.ticket) (λ c e i r. ahead-is c e (h c i) r) ma

@@ -15,7 +15,6 @@ use Rattle.promises.proofs.ChainsTold.{chains_told}
 use Rattle.promises.proofs.NeverOvertaken.{never_overtaken}
 use Rattle.promises.proofs.StartsHold.{starts_hold}
 use Rattle.promises.proofs.GrantsDue.{grants_due}
-use Rattle.promises.proofs.SetsTogether.{sets_together}
 use Rattle.promises.proofs.PoolKept.{pool_kept}
 use Rattle.promises.proofs.SharesKept.{shares_kept}
 use Rattle.promises.proofs.TableKept.{table_kept}
@@ -34,7 +33,6 @@ promises s b calls = record {
   never_overtaken = never_overtaken s b calls;
   grants_due = grants_due s b calls;
   starts_hold = starts_hold s b calls;
-  sets_together = sets_together s b calls;
   pool_kept = pool_kept s b calls;
   shares_kept = shares_kept s b calls;
   table_kept = table_kept s b calls;

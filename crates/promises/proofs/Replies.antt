@@ -9,9 +9,9 @@ use Rattle.rules.specs.declared.Setting.{Setting}
 use Rattle.rules.specs.Invariants.{Invariant}
 use Rattle.rules.specs.Pool.{free_units}
 use Rattle.rules.specs.Calls as rules
-use Rattle.rules.specs.Calls.{Model, setting_of, with_grace, declared, Look, Call, is_timed, Step, unchanged, advance, plain, finish, admit, step}
+use Rattle.rules.specs.Calls.{Model, setting_of, with_grace, declared, Look, Call, claim, is_timed, Step, unchanged, advance, plain, finish, admit, step}
 use Rattle.rules.proofs.Bools.{clash}
-use Rattle.rules.proofs.Calls.{Issues, by-claim, by_set, Leaves, by-release, by-withdraw, by-clock, step-cases, unissued-none}
+use Rattle.rules.proofs.Calls.{Leaves, by-release, by-withdraw, by-clock, step-cases, unissued-none}
 use Rattle.rules.proofs.Chains.{chain-none}
 use Rattle.promises.specs.Ledger.{table_after, Ledger}
 use Rattle.promises.specs.Runs.{tells_of, tells, Start, Begins}
@@ -38,20 +38,19 @@ untimed l m n c k same z = record {
   others_still = λ h q. same q;
 }
 
-claimed : (l : Ledger) (m : Model) {c : Call} {t : ℕ} {asks : List Request} → Issues c t asks → Reply l m c (admit (advance m t) asks)
+claimed : (l : Ledger) (m : Model) (t : ℕ) (ask : Request) → Reply l m (claim t ask) (admit (advance m t) ask)
 unfolding admit finish
-claimed l m (by-claim t ask) = record { three_plain = λ h n. clash refl n; others_plain = λ h. clash refl h; others_still = λ h. clash refl h }
-claimed l m (by_set t c ms) = record { three_plain = λ h n. clash refl n; others_plain = λ h. clash refl h; others_still = λ h. clash refl h }
+claimed l m t ask = record { three_plain = λ h n. clash refl n; others_plain = λ h. clash refl h; others_still = λ h. clash refl h }
 
 left : (l : Ledger) {m : Model} {c : Call} {t k : ℕ} {q : Model} → Leaves m c t k q → Reply l m c (finish q (plain k t))
 unfolding finish
-left l (by-release t k h) = record { three_plain = λ h n. record { ticket_is = refl; start_is = refl; contention_none = refl; bound_none = refl }; others_plain = λ h. clash refl h; others_still = λ h. clash refl h }
+left l (by-release t k) = record { three_plain = λ h n. record { ticket_is = refl; start_is = refl; contention_none = refl; bound_none = refl }; others_plain = λ h. clash refl h; others_still = λ h. clash refl h }
 left l (by-withdraw t k) = record { three_plain = λ h n. record { ticket_is = refl; start_is = refl; contention_none = refl; bound_none = refl }; others_plain = λ h. clash refl h; others_still = λ h. clash refl h }
 left l (by-clock t) = record { three_plain = λ h n. record { ticket_is = refl; start_is = refl; contention_none = refl; bound_none = refl }; others_plain = λ h. clash refl h; others_still = λ h. clash refl h }
 
-pub reply-of : (l : Ledger) (m : Model) → Invariant m → (c : Call) → Reply l m c (step m c)
+reply-of : (l : Ledger) (m : Model) → Invariant m → (c : Call) → Reply l m c (step m c)
 reply-of l m i =
-    step-cases (Reply l m) m (λ c n z. untimed l m m c n (λ q. refl) (idle-refused c n z)) (λ c t asks f a. claimed l m f) (λ c t k q o v. left l v)
+    step-cases (Reply l m) m (λ c n z. untimed l m m c n (λ q. refl) (idle-refused c n z)) (λ t ask a. claimed l m t ask) (λ c t k q o v. left l v)
     (λ c r k d. untimed l m (declared m c r k) _ 0 (λ q. refl) refl)
     (λ n d. untimed l m (with_grace m n) _ 0 (grace-tells m n (unissued-none m i d.unissued)) refl)
 

@@ -2,16 +2,16 @@
 use mathlib.Core.Path.{◌≡◌, refl, sym, subst}
 use mathlib.Core.Logic.{◌≢◌}
 use mathlib.Core.List.{List}
-use Prim.Native.Nat.{◌+◌, ◌≤◌, ◌<◌}
+use Prim.Native.Nat.{◌<◌}
 use native.Mathlib.Omega.{arith}
-use lib.ListN.{length, length-map}
+use lib.ListN.{length-map}
 use Rattle.numbers.specs.Numbers.{full_number}
 use Rattle.rules.specs.declared.Claim.{Claim}
 use Rattle.rules.specs.declared.Share.{Share}
 use Rattle.rules.specs.Shares.{share_of, pending_of}
 use Rattle.rules.specs.Invariants.{Booked}
 use Rattle.rules.specs.Calls.{Model, clients_of, Call, step}
-use Rattle.rules.proofs.Booking.{below-never-full, set_never_full}
+use Rattle.rules.proofs.Booking.{below-never-full}
 use Rattle.promises.specs.Ledger.{Entry, Ledger}
 use Rattle.promises.specs.Runs.{tells, Start, Begins}
 use Rattle.promises.specs.SharesKept.{askers, SharesNow, SharesNext, SharesKept}
@@ -36,9 +36,6 @@ next_of P l m s c = record {
   never_full = λ u ask e h.
       let below : pending_of (clients_of m.pending) ask.client < (share_of m.shares ask.client).reserved = rw (askers-are P s.match, s.shares) h in
       subst (λ (d : Call). (step m d).answer.number ≢ full_number) (sym e) (below-never-full m u ask below);
-  set_never_full = λ u d ms e h.
-      let filled : pending_of (clients_of m.pending) d + length ms ≤ (share_of m.shares d).reserved = rw (askers-are P s.match, s.shares) h in
-      subst (λ (x : Call). (step m x).answer.number ≢ full_number) (sym e) (set_never_full m u d ms filled);
 }
 
 pub shares_kept : (s : Start) → Begins s → (calls : List Call) → SharesKept s calls

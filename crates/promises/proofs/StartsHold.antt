@@ -7,18 +7,16 @@ use Prim.Native.Nat.{ℕ, ◌≤◌, ◌<◌}
 use native.Mathlib.Omega.{arith}
 use Rattle.rules.specs.declared.Claim.{Claim}
 use Rattle.rules.specs.declared.Reply.{Reply}
-use Rattle.rules.specs.declared.Setting.{Setting}
 use Rattle.rules.specs.Lists.{◌∈◌}
 use Rattle.rules.specs.Claims.{on, at}
 use Rattle.rules.specs.Packing.{packed_start, moved, pack}
-use Rattle.rules.specs.Granting.{goes, granted}
 use Rattle.rules.specs.Invariants.{Invariant}
 use Rattle.rules.specs.Calls.{Model, ruled, setting_of, at_ticket, Call, declared, with_grace, advance, plain, finish, admit, step}
-use Rattle.rules.proofs.Bools.{by-test, clash}
+use Rattle.rules.proofs.Bools.{by-test}
 use Rattle.rules.proofs.Order.{ascending-same}
 use Rattle.rules.proofs.Packing.{moved_on}
-use Rattle.rules.proofs.Granting.{goes-wait, granted-stay}
-use Rattle.rules.proofs.Calls.{advance-same, finish-e, join-old, leaves-old, step-cases, step-invariant}
+use Rattle.rules.proofs.Granting.{granted-at}
+use Rattle.rules.proofs.Calls.{advance-same, finish-e, join-old, leaves-old, placed, step-cases}
 use Rattle.rules.proofs.Lookup.{lookup-found, lookup-waits}
 use Rattle.promises.specs.Ledger.{turns, table_after, Ledger, NoOverrun, NoOverruns}
 use Rattle.promises.specs.Runs.{tells, Start, Begins}
@@ -29,41 +27,30 @@ use Rattle.promises.proofs.Demand3.{Story, told, story-after, after-calls}
 use Rattle.promises.proofs.Plan.{standing-wait}
 use Rattle.promises.proofs.NeverOvertaken.{issued-grows, pending-all-along}
 
--- ── who is on stays as it is ──
+-- ── who is on stays so ──
 -- Of a call from m to `finish q`, where each claim of q that is not new is one of those that the first packing gave.
 finish-on : (m q : Model) (t : ℕ) (rep : Reply) → Invariant m → ((x : Claim) → x ∈ q.pending → (x ∈ (advance m t).pending) ⊎ (m.issued < x.ticket))
-    → (c d : Claim) → Becomes m (finish q rep).model c d → on c ≡ true → d ≡ c
+    → (c d : Claim) → Becomes m (finish q rep).model c d → on c ≡ true → at d ≡ at c
 finish-on m q t rep i old c d b o =
     let r = finish-e q rep b.new in
-    let v : Setting = setting_of q in
-    let ps : List Claim = pack v q.pending in
-    let f = packed_start v q.pending in
-    let same : moved f r.0 ≡ c = ap (moved f) (mine r.0 (sym r.2 ∙ b.same) (old r.0 r.1)) ∙ moved_on f c o in
-    r.3.1 ∙ ap (granted v ps) same ∙ granted-stay v ps c (by-test (goes v ps c) (λ g. clash o (goes-wait v ps c g)) (λ g. g))
+    let f = packed_start (setting_of q) q.pending in
+    let same = mine r.0 (sym r.2 ∙ b.same) (old r.0 r.1) in
+    ap at r.3.1 ∙ granted-at (setting_of q) (pack (setting_of q) q.pending) (moved f r.0) ∙ ap (λ (x : Claim). at (moved f x)) same ∙ ap at (moved_on f c o)
   where
     mine : (x : Claim) → x.ticket ≡ c.ticket → (x ∈ (advance m t).pending) ⊎ (m.issued < x.ticket) → x ≡ c
     mine x e (inl j) = advance-same m t i c x b.old j e ∙ moved_on (packed_start (ruled m t) m.pending) c o
     mine x e (inr l) = absurd (omega (arith, (i.spaced.proper c b.old).issued))
 
-pub on-stays : (m : Model) → Invariant m → (c : Call) (x y : Claim) → Becomes m (step m c).model x y → on x ≡ true → y ≡ x
+on-stays : (m : Model) → Invariant m → (c : Call) (x y : Claim) → Becomes m (step m c).model x y → on x ≡ true → at y ≡ at x
 unfolding admit advance
 on-stays m i =
-    step-cases (λ c s. (x y : Claim) → Becomes m s.model x y → on x ≡ true → y ≡ x) m (λ c n z. idle m refl)
-    (λ c t asks f a. finish-on m _ t _ i (join-old (advance m t) asks _))
+    step-cases (λ c s. (x y : Claim) → Becomes m s.model x y → on x ≡ true → at y ≡ at x) m (λ c n z. idle m refl)
+    (λ t ask a. finish-on m _ t _ i (join-old (advance m t) (placed (advance m t) ask) refl))
     (λ c t k q o v. finish-on m q t (plain k t) i (λ x j. inl (leaves-old v x j)))
     (λ c r l d. idle (declared m c r l) refl) (λ n d. idle (with_grace m n) refl)
   where
-    idle : (n : Model) → n.pending ≡ m.pending → (x y : Claim) → Becomes m n x y → on x ≡ true → y ≡ x
-    idle n e x y b o = ascending-same m.pending i.spaced.ascending y x (subst (λ (l : List Claim). y ∈ l) e b.new) b.old b.same
-
-pub on-stays-after : (m : Model) → Invariant m → (cs : List Call) (x y : Claim) → Becomes m (table_after step m cs) x y → on x ≡ true → y ≡ x
-unfolding table_after
-on-stays-after m i [] x y b o = ascending-same m.pending i.spaced.ascending y x b.new b.old b.same
-on-stays-after m i (c ∷ cs) x y b o =
-    let n : Model = (step m c).model in
-    let k = pending-all-along n cs x.ticket (omega (arith, issued-grows m c, (i.spaced.proper x b.old).issued)) (y, b.new, b.same) in
-    let e = on-stays m i c x k.0 (record { old = b.old; new = k.1; same = k.2 }) o in
-    on-stays-after n (step-invariant m c i) cs k.0 y (record { old = k.1; new = b.new; same = b.same ∙ sym k.2 }) (ap on e ∙ o) ∙ e
+    idle : (n : Model) → n.pending ≡ m.pending → (x y : Claim) → Becomes m n x y → on x ≡ true → at y ≡ at x
+    idle n e x y b o = ap at (ascending-same m.pending i.spaced.ascending y x (subst (λ (l : List Claim). y ∈ l) e b.new) b.old b.same)
 
 -- ── nothing is raised ──
 AtMost : Model → Model → Type 0
@@ -76,7 +63,7 @@ one-call P l m st c h x y b =
     let n : Model = (step m c).model in
     let r = told P l m st c in
     let st' = r.1 in
-    by-test (on x) (λ o. omega (arith, ap at (on-stays m st.inv c x y b o))) (λ o.
+    by-test (on x) (λ o. omega (arith, on-stays m st.inv c x y b o)) (λ o.
     let was = lookup-found m.pending st.inv.spaced.ascending x b.old ∙ standing-wait x o in
     let never = r.0.never_raised h x.ticket (at x) was in
     by-test (on y)

@@ -9,7 +9,7 @@ use Rattle.promises.proofs.Matching.{partner, partner-of}
 use Rattle.promises.proofs.Demand3.{Tracks, after-calls}
 
 has : (P : Type 0) (c : Claim) (e : Entry) → Tracks P c e → Has c e
-has P c e r = record { ticket = r.ticket; lead = r.lead; groups = r.groups; length = r.length; units = r.units; client = r.client; held = r.held; grant = r.grant }
+has P c e r = record { ticket = r.ticket; groups = r.groups; length = r.length; units = r.units; client = r.client; held = r.held; grant = r.grant }
 
 pub table_kept : (s : Start) → Begins s → (calls : List Call) → TableKept s calls
 table_kept s b calls =

@@ -1,9 +1,8 @@
 -- Blocking chains, by ledger and lookups alone, after any calls: "For a waiting ticket give the chain of tickets that explains its start, itself
 -- first. Each link goes to the lowest ticket whose end equals this claim's start and which shares a group, or the pool, with it. The chain is
 -- followed link by link until it reaches a claim that is on. Each link is true, the end of the on claim plus the lengths of the waiting claims
--- between make the start, and every waiting claim has a chain. Tickets that aren't pending answer 8, those on 10." (Document 02, P7.) "A chain's
--- link from a waiting member counts the groups of its whole set" (P8). Beside demand 3, by the same ledger and lookup. proofs/ChainsTold has the
--- theorem.
+-- between make the start, and every waiting claim has a chain. Tickets that aren't pending answer 8, those on 10." (Document 02, P7.) Beside
+-- demand 3, by the same ledger and lookup. proofs/ChainsTold has the theorem.
 use Rattle.std.specs.Prelude.{◌≡◌, ◌≢◌, true, List, [], ◌∷◌, map, ℕ, ◌<◌}
 use Rattle.numbers.specs.Numbers.{unknown_number, already_on_number}
 use Rattle.rules.specs.declared.Standing.{Standing}
@@ -17,15 +16,19 @@ use Rattle.promises.specs.Plan.{end_as, end_told}
 use Rattle.promises.specs.WaitsExplained.{in_common}
 
 -- ── links ──
+-- Whom a waiting claim counts as in the search for its link: itself.
+abbrev pub counts_as : List Entry → Entry → Entry
+counts_as es f = f
+
 -- From f, which waits with the start s, to e.
 pub record LinkTold (l : Ledger) (told : Told) (f : Entry) (s : ℕ) (e : Entry) : Type 0 where
   pub pending : e ∈ l.claims
-  -- "which shares a group, or the pool, with it", a group with any of its set.
-  pub common : in_common l.claims e f ≡ true
+  -- "which shares a group, or the pool, with it"
+  pub common : in_common e (counts_as l.claims f) ≡ true
   -- "whose end equals this claim's start"
   pub ends : end_told l told e ≡ s
   -- "the lowest ticket": no lower one does both.
-  pub lowest : (d : Entry) → d ∈ l.claims → d.ticket < e.ticket → in_common l.claims d f ≡ true → end_told l told d ≢ s
+  pub lowest : (d : Entry) → d ∈ l.claims → d.ticket < e.ticket → in_common d (counts_as l.claims f) ≡ true → end_told l told d ≢ s
 
 -- ── chains ──
 -- From f through these claims: "Each link is true", from each waiting claim to the next; "until it reaches a claim that is on": the last is held,

@@ -4,13 +4,13 @@
 use Rattle.std.specs.Prelude.{◌≡◌, ◌⊎◌, ◌≢◌, true, false, List, [], ℕ, ◌+◌, ◌≤◌, length}
 use Rattle.groups.specs.Groups.{common, shares}
 use Rattle.rules.specs.declared.Request.{Request}
-use Rattle.rules.specs.Lists.{◌∈◌, sum, Ascends}
+use Rattle.rules.specs.Lists.{◌∈◌, Ascends}
 use Rattle.rules.specs.declared.Common.{Common}
 use Rattle.rules.specs.declared.Common.TheVariants.{Unknown}
 use Rattle.rules.specs.declared.Standing.{Standing}
 use Rattle.rules.specs.declared.Standing.TheVariants.{NotPending, Waits, Holds}
-use Rattle.rules.specs.Calls.{Member, asks_of, at_ticket, at_two, Call, claim, claim_set, Answer, step, shared}
-use Rattle.promises.specs.Ledger.{Turn, Steps, accepted, Entry, promised, Ledger, issues, after_acting, noted, NoOverrun, ruled_by, rivals_of, bound_on, bound_on_all}
+use Rattle.rules.specs.Calls.{at_ticket, at_two, Call, claim, Answer, step, shared}
+use Rattle.promises.specs.Ledger.{Turn, Steps, accepted, Entry, promised, Ledger, after_acting, noted, NoOverrun, ruled_by, rivals_of, bound_on}
 use Rattle.promises.specs.Runs.{Told, Start, AtAnyTime, WhileNobodyOverruns, AtAnyCall}
 
 -- "Look, asked after any call of the list, says the same: waiting, on with that promised end, or 8."
@@ -54,19 +54,6 @@ pub record OfClaim (l : Ledger) (u : ℕ) (ask : Request) (a : Answer) (after : 
   pub contention_counted : a.contention ≡ length (rivals_of l.claims ask)
   pub bound_counted : a.bound ≡ bound_on (ruled_by l u) l.claims ask
 
--- Of an accepted set of client c (document 02, P8): the same of its members.
-pub record OfSet (l : Ledger) (u c : ℕ) (ms : List Member) (a : Answer) (after : Told) : Type 0 where
-  -- The first member's ticket; the others' follow (`issues`).
-  pub tickets_next : a.ticket ≡ l.issued + 1
-  -- Of each member lookup then gives the start that was answered, or it went on at it.
-  pub all_told : (e : Entry) → e ∈ issues (claim_set u c ms) a
-      → (after (at_ticket e.ticket) ≡ Waits a.start) ⊎ (after (at_ticket e.ticket) ≡ Holds (a.start + e.asked.length))
-  -- "A set's start is promised like that of a single cue, the set's ceiling below standing for each member in place of its own bound."
-  pub set_bounded : a.start ≤ bound_on_all (ruled_by l u) l.claims (asks_of c ms)
-  -- "Crowd counts the pairs of a member and a pending claim sharing a group".
-  pub pairs_counted : a.contention ≡ sum (λ ask. length (rivals_of l.claims ask)) (asks_of c ms)
-  pub bound_counted : a.bound ≡ bound_on_all (ruled_by l u) l.claims (asks_of c ms)
-
 -- Of the grants that an answer names: "those tickets in ascending order".
 pub record OfGrants (l : Ledger) (t : Turn) : Type 0 where
   pub grants_ascend : Ascends (λ (k : ℕ). k) t.answer.grants
@@ -79,7 +66,6 @@ pub record OfGrants (l : Ledger) (t : Turn) : Type 0 where
 -- Of one call, with what lookup told before and tells after it.
 pub record Next (l : Ledger) (t : Turn) (before after : Told) : Type 0 where
   pub of_claim : (u : ℕ) (ask : Request) → t.call ≡ claim u ask → t.answer.number ≡ 0 → OfClaim l u ask t.answer after
-  pub of_set : (u c : ℕ) (ms : List Member) → t.call ≡ claim_set u c ms → t.answer.number ≡ 0 → OfSet l u c ms t.answer after
   pub of_grants : OfGrants l t
   -- A call that bears no clock past a holder's promised end raises no start, whatever clocks came before it. "A call raises it if the claim
   -- waits before the call and after it waits with a greater start, or is on with a grant greater than that start."

@@ -2,8 +2,7 @@
 -- claim precedes it and its units are truly free after the grants before it" (document 02, P3). So who still waits with the clock for its start
 -- after an accepted timed call, and whom no claim precedes, wanted units. All that go on start at the clock, and the grants before it are those of
 -- lower tickets. Of a claim that draws none it is document 01's "Every waiting claim that no pending claim precedes goes on at the call's clock",
--- for its start is then the clock; and so a set goes on as soon as nobody precedes any of it (P8). Beside demand 3, by the same ledger and lookup.
--- proofs/GrantsDue has the theorem.
+-- for its start is then the clock. Beside demand 3, by the same ledger and lookup. proofs/GrantsDue has the theorem.
 use Rattle.std.specs.Prelude.{◌≡◌, true, ◌&&◌, cond, List, ℕ, ◌+◌, ◌<◌, eqb, ltb}
 use Rattle.rules.specs.declared.Standing.TheVariants.{Waits}
 use Rattle.rules.specs.Lists.{◌∈◌, sum, any}
@@ -19,7 +18,7 @@ kept_from grants f e = cond (ltb f.ticket e.ticket && any (λ k. eqb k e.ticket)
 abbrev pub Due : Ledger → Turn → Told → Told → Type 0
 Due l t before after =
     (let now = noted l t in
-    accepted t ≡ true → (f : Entry) → f ∈ now.claims → after (at_ticket f.ticket) ≡ Waits (clock_of t.call) → ((e : Entry) → e ∈ now.claims → Precedes now after e f → ⊥)
+    accepted t ≡ true → (f : Entry) → f ∈ now.claims → after (at_ticket f.ticket) ≡ Waits (clock_of t.call) → ((j : ℕ) → Precedes after j f.ticket → ⊥)
     → now.pool < sum (kept_from t.answer.grants f) now.claims + f.asked.units)
 
 abbrev pub GrantsDueOf : Steps → Start → List Call → Type 0

@@ -1,6 +1,6 @@
 -- What the calls and their answers tell: which claims are pending, which are held since when, the table's clock, and what was set: pool,
 -- shares and grace. Nothing here looks into a table. Quotations are from document 01, "A run of calls".
-use Rattle.std.specs.Prelude.{◌≡◌, Bool, true, false, not, ◌&&◌, cond, List, [], ◌∷◌, ◌++◌, map, ℕ, suc, ◌+◌, ◌-◌, ◌*◌, ◌≤◌, eqb, length}
+use Rattle.std.specs.Prelude.{◌≡◌, Bool, true, false, not, ◌&&◌, cond, List, [], ◌∷◌, ◌++◌, map, ℕ, ◌+◌, ◌-◌, ◌*◌, ◌≤◌, eqb, length}
 use Rattle.groups.specs.Groups.{shares}
 use Rattle.rules.specs.declared.Request.{Request}
 use Rattle.rules.specs.Lists.{◌∈◌, sum, any, keep}
@@ -8,7 +8,7 @@ use Rattle.rules.specs.declared.Setting.{Setting}
 use Rattle.rules.specs.declared.Share.{Share}
 use Rattle.rules.specs.Shares.{share, first_shares, with_share}
 use Rattle.rules.specs.Claims.{held_until}
-use Rattle.rules.specs.Calls.{Model, asks_of, claims, claims_set, releases, withdraws, moves_clock, declares, sets_grace, Call, timed, looks, sets_up, is_timed, clock_of, Answer, Step}
+use Rattle.rules.specs.Calls.{Model, claims, releases, withdraws, moves_clock, declares, sets_grace, Call, timed, looks, sets_up, is_timed, clock_of, Answer, Step}
 
 -- A call with its answer.
 pub record Turn : Type 0 where
@@ -34,11 +34,9 @@ abbrev pub accepted : Turn → Bool
 accepted t = is_timed t.call && eqb t.answer.number 0
 
 -- A pending claim. "Its first planned start is the start which that issuing call answers." Held: "on, or held, and a holder"; its grant
--- counts from then on, and "its promised end [is] grant + length". Lead: the first ticket of its set, which the issuing call answered; a single
--- claim is a set of its own (document 02, P8).
+-- counts from then on, and "its promised end [is] grant + length".
 pub record Entry : Type 0 where
   pub ticket : ℕ
-  pub lead : ℕ
   pub asked : Request
   pub first : ℕ
   pub held : Bool
@@ -68,40 +66,23 @@ opening g k alone a =
     let made = eqb a.number 0 in
     record { rig = cond made g 0; clock = 0; pool = cond made k 0; issued = 0; grace = 0; shares = first_shares alone; claims = [] }
 
--- What is asked for, entered with one lead, one start and tickets from k on: "Members get successive tickets" (document 02, P8).
-unfoldable pub entered : ℕ → ℕ → ℕ → List Request → List Entry
-entered lead s k [] = []
-entered lead s k (ask ∷ asks) = record { ticket = k; lead = lead; asked = ask; first = s; held = false; grant = 0 } ∷ entered lead s (suc k) asks
-
 -- "A claim is pending from the accepted call that issued its ticket": what an accepted call issued.
 unfoldable pub issues : Call → Answer → List Entry
-issues (timed t (claims ask)) a = entered a.ticket a.start a.ticket (ask ∷ [])
-issues (timed t (claims_set c ms)) a = entered a.ticket a.start a.ticket (asks_of c ms)
+issues (timed t (claims ask)) a = record { ticket = a.ticket; asked = ask; first = a.start; held = false; grant = 0 } ∷ []
 issues (timed t (releases k)) a = []
 issues (timed t (withdraws k)) a = []
 issues (timed t moves_clock) a = []
 issues (looks q) a = []
 issues (sets_up p) a = []
 
--- The claims but that of ticket k; and but those of the set with the first ticket k.
+-- "until an accepted release or withdrawal takes it away": what an accepted call leaves of the pending claims.
 abbrev pub lacking : ℕ → List Entry → List Entry
 lacking k l = keep (λ e. not (has_ticket k e)) l
 
-abbrev pub lacking_set : ℕ → List Entry → List Entry
-lacking_set k l = keep (λ e. not (eqb e.lead k)) l
-
--- The first ticket of the set of ticket k.
-unfoldable pub lead_in : ℕ → List Entry → ℕ
-lead_in k [] = 0
-lead_in k (e ∷ l) = cond (has_ticket k e) e.lead (lead_in k l)
-
--- "until an accepted release or withdrawal takes it away": what an accepted call leaves of the pending claims. Members "release singly"; "One
--- waiting member's withdrawal withdraws the set" (document 02, P8).
 unfoldable pub stay : Call → List Entry → List Entry
 stay (timed t (claims ask)) l = l
-stay (timed t (claims_set c ms)) l = l
 stay (timed t (releases k)) l = lacking k l
-stay (timed t (withdraws k)) l = lacking_set (lead_in k l) l
+stay (timed t (withdraws k)) l = lacking k l
 stay (timed t moves_clock) l = l
 stay (looks q) l = l
 stay (sets_up p) l = l
@@ -126,7 +107,7 @@ grace_by (sets_up (sets_grace n)) g = n
 
 -- "from the call whose answer names its ticket as granted, that call included .. Its grant is that call's clock"
 abbrev pub hold : Entry → ℕ → Entry
-hold e t = record { ticket = e.ticket; lead = e.lead; asked = e.asked; first = e.first; held = true; grant = t }
+hold e t = record { ticket = e.ticket; asked = e.asked; first = e.first; held = true; grant = t }
 
 unfoldable pub marked : ℕ → List ℕ → Entry → Entry
 marked t ks e = elim (any (λ k. eqb k e.ticket) ks) [ true ↦ hold e t | false ↦ e ]
@@ -169,8 +150,3 @@ rivals_of l ask = keep (λ e. shares e.asked.groups ask.groups) l
 
 unfoldable pub bound_on : Setting → List Entry → Request → ℕ
 bound_on v l ask = v.clock + sum (remaining_of v) (rivals_of l ask) + length (rivals_of l ask) * (ask.length - 1)
-
--- That of a set: "ceiling is clock plus, for each [pair of a member and a pending claim sharing a group], remaining time + the member's length − 1"
--- (document 02, P8).
-unfoldable pub bound_on_all : Setting → List Entry → List Request → ℕ
-bound_on_all v l asks = v.clock + sum (λ ask. sum (λ e. remaining_of v e + (ask.length - 1)) (rivals_of l ask)) asks

@@ -1,40 +1,23 @@
 -- "Each number only on its condition": in every list of calls the number of every answer is that of the first of the call's tests that fails,
 -- each asked of what the calls so far and their answers tell; 0 where none does. Beside demand 3, by the same ledger. proofs/NumbersTested
 -- has the theorem.
-use Rattle.std.specs.Prelude.{◌≡◌, Bool, ◌&&◌, List, [], ◌∷◌, ◌++◌, map, ℕ, suc, length}
-use Rattle.rules.specs.declared.Request.{Request}
-use Rattle.rules.specs.declared.Share.{Share}
+use Rattle.std.specs.Prelude.{◌≡◌, Bool, ◌&&◌, List, [], ◌∷◌, ℕ, length}
 use Rattle.rules.specs.Lists.{any}
 use Rattle.rules.specs.Shares.{share_of, pending_of, unfilled_by_others}
-use Rattle.rules.specs.Tests.{Test, first_number, late, backward, dark, stranger, nothing_asked, off_rig, spots, bad_length, cast, some_dark, some_off_rig, some_bad_length, clashes, full_for, over, ticketless, unknown, not_yet_on, already_on}
-use Rattle.rules.specs.Calls.{asks_of, Action, claims, claims_set, releases, withdraws, moves_clock, Call, timed, looks, sets_up, Step, look_tests, setup_tests, step, new}
+use Rattle.rules.specs.Tests.{Test, first_number, late, backward, dark, stranger, nothing_asked, off_rig, spots, bad_length, full_for, over, ticketless, unknown, not_yet_on, already_on}
+use Rattle.rules.specs.Calls.{Action, claims, releases, withdraws, moves_clock, Call, timed, looks, sets_up, Step, look_tests, setup_tests, step, new}
 use Rattle.promises.specs.Ledger.{Turn, Steps, has_ticket, Ledger}
 use Rattle.promises.specs.Runs.{Told, Start, AtAnyCall}
 use Rattle.promises.specs.SharesKept.{askers}
 
--- 6 and 18 of a claim of client c, by the shares and by the clients of the pending claims.
-abbrev pub full_by : List Share → List ℕ → ℕ → Test
-full_by ss ks c = full_for (share_of ss c) (pending_of ks c) (length ks) (unfilled_by_others ss ks c)
-
-abbrev pub over_by : List Share → List ℕ → ℕ → Test
-over_by ss ks c = over (share_of ss c) (pending_of ks c)
-
--- 6, 18 and 7 of what is asked for, where n tickets are issued: "members come in turn, those before counted as taken, and the first that meets one
--- decides" (document 02, P8).
-unfoldable pub in_turn_by : List Share → List ℕ → ℕ → List Request → List Test
-in_turn_by ss ks n [] = []
-in_turn_by ss ks n (ask ∷ asks) = full_by ss ks ask.client ∷ over_by ss ks ask.client ∷ ticketless n ∷ in_turn_by ss (ks ++ (ask.client ∷ [])) (suc n) asks
-
--- The tests of the rules (`action_tests`), of the ledger in place of a table. Of a set "the whole order is 5, 4, 22, 17, 1, 2, 3, 23, 6, 18, 7" (P8):
--- 1, 2 and 3 where any member meets them.
+-- The tests of the rules (`action_tests`), of the ledger in place of a table.
 abbrev pub action_tests_by : Ledger → Action → List Test
 action_tests_by l (claims ask) =
-    stranger (share_of l.shares ask.client) ∷ nothing_asked ask.groups ask.units ∷ off_rig l.rig ask.groups
-    ∷ spots l.pool ask.units ∷ bad_length ask.length ∷ in_turn_by l.shares (askers l.claims) l.issued (ask ∷ [])
-action_tests_by l (claims_set c ms) =
-    let gs = map (λ (a : Request). a.groups) (asks_of c ms) in
-    cast (length (asks_of c ms)) ∷ stranger (share_of l.shares c) ∷ some_dark gs ∷ some_off_rig l.rig gs
-    ∷ some_bad_length (map (λ (a : Request). a.length) (asks_of c ms)) ∷ clashes gs ∷ in_turn_by l.shares (askers l.claims) l.issued (asks_of c ms)
+    let ks = askers l.claims in
+    let s = share_of l.shares ask.client in
+    stranger s ∷ nothing_asked ask.groups ask.units ∷ off_rig l.rig ask.groups ∷ spots l.pool ask.units ∷ bad_length ask.length
+    ∷ full_for s (pending_of ks ask.client) (length l.claims) (unfilled_by_others l.shares ks ask.client)
+    ∷ over s (pending_of ks ask.client) ∷ ticketless l.issued ∷ []
 action_tests_by l (releases k) = unknown (has_ticket k) l.claims ∷ not_yet_on (has_ticket k) (λ e. e.held) l.claims ∷ []
 action_tests_by l (withdraws k) = unknown (has_ticket k) l.claims ∷ already_on (has_ticket k) (λ e. e.held) l.claims ∷ []
 action_tests_by l moves_clock = []

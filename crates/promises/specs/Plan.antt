@@ -1,13 +1,13 @@
 -- The plan as ledger and lookups tell it: when a pending claim ends, which precedes which, and the units that are planned in use. Nothing here
 -- looks into a table.
 use Rattle.std.specs.Prelude.{◌≡◌, ◌⊎◌, Bool, true, false, ◌&&◌, ◌||◌, cond, List, ℕ, ◌+◌, ◌≤◌, ◌<◌, leb, ltb, eqb}
-use Rattle.groups.specs.Groups.{shares}
 use Rattle.rules.specs.declared.Request.{Request}
+use Rattle.rules.specs.declared.Common.TheVariants.{Shared}
 use Rattle.rules.specs.declared.Standing.{Standing}
 use Rattle.rules.specs.declared.Standing.TheVariants.{NotPending, Waits, Holds}
-use Rattle.rules.specs.Lists.{sum, any, keep}
+use Rattle.rules.specs.Lists.{sum, keep}
 use Rattle.rules.specs.Claims.{held_until}
-use Rattle.rules.specs.Calls.{at_ticket}
+use Rattle.rules.specs.Calls.{at_ticket, at_two}
 use Rattle.promises.specs.Ledger.{Entry, Ledger, ruled_by}
 use Rattle.promises.specs.Runs.{Told}
 
@@ -21,17 +21,14 @@ end_as l e (Holds p) = held_until (ruled_by l l.clock) p
 abbrev pub end_told : Ledger → Told → Entry → ℕ
 end_told l told e = end_as l e (told (at_ticket e.ticket))
 
--- e conflicts with f or with another claim of its set: what starts together waits for all that any of it has to wait for (document 02, P8).
-abbrev pub bars : List Entry → Entry → Entry → Bool
-bars es e f = any (λ g. eqb g.lead f.lead && shares e.asked.groups g.asked.groups) es
-
 -- "An on claim precedes every waiting claim it conflicts with. Of two conflicting waiting claims the one with the smaller planned start
--- precedes." f waits with this start. What precedes one claim of a set precedes all of it.
-pub record Precedes (l : Ledger) (told : Told) (e f : Entry) : Type 0 where
+-- precedes." Of the claims of two tickets, by lookups alone: the second waits with this start.
+pub record Precedes (told : Told) (j k : ℕ) : Type 0 where
+  pub group : ℕ
   pub start : ℕ
-  pub conflict : bars l.claims e f ≡ true
-  pub waits : told (at_ticket f.ticket) ≡ Waits start
-  pub sooner : ((p : ℕ) × (told (at_ticket e.ticket) ≡ Holds p)) ⊎ ((r : ℕ) × (told (at_ticket e.ticket) ≡ Waits r) × (r < start))
+  pub conflict : told (at_two j k) ≡ Shared group
+  pub waits : told (at_ticket k) ≡ Waits start
+  pub sooner : ((p : ℕ) × (told (at_ticket j) ≡ Holds p)) ⊎ ((r : ℕ) × (told (at_ticket j) ≡ Waits r) × (r < start))
 
 -- ── the pool ──
 -- A holder is planned in use up to its end, a waiting claim from its planned start on; x is not below the clock.
@@ -53,12 +50,12 @@ abbrev pub SpareTold : Ledger → Told → List Entry → Request → ℕ → Ty
 SpareTold l told es ask x = 0 < ask.units → (y : ℕ) → x ≤ y → y < x + ask.length → planned_use l told y es + ask.units ≤ l.pool
 
 -- ── the order of packing ──
--- "Packing takes waiting claims by start, then ticket", behind those that are on; a set as one, by its first ticket: a claim of lead j that stands
--- so comes before one of lead k that waits with the start s. Of the claims of a set none comes before another.
+-- "Packing takes waiting claims by start, then ticket", behind those that are on: a claim of ticket j that stands so comes before one of ticket k
+-- that waits with the start s.
 abbrev pub ahead_as : Standing → ℕ → ℕ → ℕ → Bool
 ahead_as NotPending j s k = false
 ahead_as (Waits r) j s k = ltb r s || (eqb r s && ltb j k)
 ahead_as (Holds p) j s k = true
 
 abbrev pub ahead_told : Told → ℕ → ℕ → List Entry → List Entry
-ahead_told told s k es = keep (λ e. ahead_as (told (at_ticket e.ticket)) e.lead s k) es
+ahead_told told s k es = keep (λ e. ahead_as (told (at_ticket e.ticket)) e.ticket s k) es

@@ -15,7 +15,6 @@ use Rattle.promises.specs.ChainsTold.{ChainsTold}
 use Rattle.promises.specs.NeverOvertaken.{NeverOvertaken}
 use Rattle.promises.specs.StartsHold.{StartsHold}
 use Rattle.promises.specs.GrantsDue.{GrantsDue}
-use Rattle.promises.specs.SetsTogether.{SetsTogether}
 use Rattle.promises.specs.PoolKept.{PoolKept}
 use Rattle.promises.specs.SharesKept.{SharesKept}
 use Rattle.promises.specs.TableKept.{TableKept}
@@ -35,7 +34,6 @@ pub record Promises (s : Start) (calls : List Call) : Type 0 where
   pub never_overtaken : NeverOvertaken s calls
   pub grants_due : GrantsDue s calls
   pub starts_hold : StartsHold s calls
-  pub sets_together : SetsTogether s calls
   pub pool_kept : PoolKept s calls
   pub shares_kept : SharesKept s calls
   pub table_kept : TableKept s calls

@@ -62,13 +62,11 @@ WhileNobodyOverruns step s calls Q =
     (before rest : List Call) → before ++ rest ≡ calls → NoOverruns s.ledger (turns step s.table before)
     → Q (ledger_after step s before) (told_after step s before)
 
--- At any time and any later one: Q of the ledger and of what lookups tell, then and later.
-abbrev pub AtAnyLater : Steps → Start → List Call → (Ledger → Told → Ledger → Told → Type 0) → Type 0
+-- At any time and any later one: Q of what lookups tell, then and later.
+abbrev pub AtAnyLater : Steps → Start → List Call → (Told → Told → Type 0) → Type 0
 AtAnyLater step s calls Q =
     (before between rest : List Call) → before ++ (between ++ rest) ≡ calls
-    → (let m = table_after step s.table before in
-    let l = ledger_after step s before in
-    Q l (tells m) (noted_all l (turns step m between)) (tells (table_after step m between)))
+    → (let m = table_after step s.table before in Q (tells m) (tells (table_after step m between)))
 
 -- Of each call: Q of the ledger before it, of the call with its answer, and of what lookups tell before and after it.
 abbrev pub AtAnyCall : Steps → Start → List Call → (Ledger → Turn → Told → Told → Type 0) → Type 0

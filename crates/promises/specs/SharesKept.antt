@@ -6,7 +6,7 @@ use Rattle.std.specs.Prelude.{◌≡◌, ◌≢◌, List, map, ℕ, ◌+◌, ◌
 use Rattle.numbers.specs.Numbers.{full_number, most_pending}
 use Rattle.rules.specs.declared.Request.{Request}
 use Rattle.rules.specs.Shares.{share_of, pending_of, unfilled_in_all}
-use Rattle.rules.specs.Calls.{Member, Call, claim, claim_set, step}
+use Rattle.rules.specs.Calls.{Call, claim, step}
 use Rattle.promises.specs.Ledger.{Turn, Steps, Entry, Ledger}
 use Rattle.promises.specs.Runs.{Told, Start, AtAnyTime, AtAnyCall}
 
@@ -23,9 +23,6 @@ pub record SharesNow (l : Ledger) (told : Told) : Type 0 where
 pub record SharesNext (l : Ledger) (t : Turn) (before after : Told) : Type 0 where
   pub never_full : (u : ℕ) (ask : Request) → t.call ≡ claim u ask
       → pending_of (askers l.claims) ask.client < (share_of l.shares ask.client).reserved → t.answer.number ≢ full_number
-  -- Nor does a set that does not take its client past the guarantee.
-  pub set_never_full : (u c : ℕ) (ms : List Member) → t.call ≡ claim_set u c ms
-      → pending_of (askers l.claims) c + length ms ≤ (share_of l.shares c).reserved → t.answer.number ≢ full_number
 
 pub record SharesKeptOf (step : Steps) (s : Start) (calls : List Call) : Type 0 where
   pub at_any_time : AtAnyTime step s calls SharesNow

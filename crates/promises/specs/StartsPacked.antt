@@ -1,19 +1,19 @@
 -- "Each gets the least start, not below the clock, that comes after the conflicting claims preceding it and leaves units enough beside the on
 -- claims and those already packed" (document 02, P3): of every waiting claim after any calls, whoever overruns, by what ledger and lookups tell.
--- "Packing gives the set the greatest start that any member needs" (P8): the least that comes after what conflicts with any of it.
 -- "Packing takes waiting claims by start, then ticket": by the starts that they then have (by those before the call: `PackedInTurn`). Beside
 -- demand 3. proofs/StartsPacked has the theorem.
 use Rattle.std.specs.Prelude.{◌≡◌, true, List, ℕ, ◌≤◌}
+use Rattle.groups.specs.Groups.{shares}
 use Rattle.rules.specs.declared.Standing.TheVariants.{Waits}
 use Rattle.rules.specs.Lists.{◌∈◌}
 use Rattle.rules.specs.Calls.{at_ticket, Call, step}
 use Rattle.promises.specs.Ledger.{Steps, Entry, Ledger}
 use Rattle.promises.specs.Runs.{Told, Start, AtAnyTime}
-use Rattle.promises.specs.Plan.{end_told, bars, SpareTold, ahead_told}
+use Rattle.promises.specs.Plan.{end_told, SpareTold, ahead_told}
 
--- f, with its set, may start at x behind these claims.
+-- f may start at x behind these claims.
 pub record BehindTold (l : Ledger) (told : Told) (es : List Entry) (f : Entry) (x : ℕ) : Type 0 where
-  pub after : (e : Entry) → e ∈ es → bars l.claims e f ≡ true → end_told l told e ≤ x
+  pub after : (e : Entry) → e ∈ es → shares e.asked.groups f.asked.groups ≡ true → end_told l told e ≤ x
   pub spare : SpareTold l told es f.asked x
 
 -- s is its packed start behind them.
@@ -24,7 +24,7 @@ pub record PackedBehind (l : Ledger) (told : Told) (es : List Entry) (f : Entry)
 
 -- f, one of these claims, waits with the start s.
 abbrev pub PackedAt : Ledger → Told → List Entry → Entry → ℕ → Type 0
-PackedAt l told es f s = PackedBehind l told (ahead_told told s f.lead es) f s
+PackedAt l told es f s = PackedBehind l told (ahead_told told s f.ticket es) f s
 
 -- So do all of these that wait; and all that are pending.
 abbrev pub Packed : Ledger → Told → List Entry → Type 0

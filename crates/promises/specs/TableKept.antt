@@ -1,6 +1,6 @@
 -- The table has what the calls told it, after any number of them: rig, clock, pool, grace, shares, tickets issued, and of each pending claim what
--- was asked for, with whom it starts, whether it is held, and since when. Planned starts alone, and the order of the claims in the list, are the
--- table's own. proofs/TableKept has the theorem.
+-- was asked for, whether it is held, and since when. Planned starts alone, and the order of the claims in the list, are the table's own.
+-- proofs/TableKept has the theorem.
 use Rattle.std.specs.Prelude.{◌≡◌, true, List}
 use Rattle.rules.specs.declared.Claim.{Claim}
 use Rattle.rules.specs.Lists.{◌∈◌}
@@ -11,7 +11,6 @@ use Rattle.promises.specs.Runs.{Start, ledger_after}
 
 pub record Has (c : Claim) (e : Entry) : Type 0 where
   pub ticket : c.ticket ≡ e.ticket
-  pub lead : c.lead ≡ e.lead
   pub groups : c.groups ≡ e.asked.groups
   pub length : c.length ≡ e.asked.length
   pub units : c.units ≡ e.asked.units

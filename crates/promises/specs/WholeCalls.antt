@@ -1,7 +1,7 @@
--- The sentences of document 01, "What each call does", and of document 02, P3 and P8, on order, packing, placing and granting, of whole calls: of the
+-- The sentences of document 01, "What each call does", and of document 02, P3, on order, packing, placing and granting, of whole calls: of the
 -- table m before a timed call that is accepted and the table after it. (What is answered beside, what lookups tell and what a refused call leaves
 -- is said of runs.) proofs/WholeCalls has them for every table that calls can make.
-use Rattle.std.specs.Prelude.{◌≡◌, ◌⊎◌, Bool, true, false, not, ◌&&◌, cond, List, [], ◌∷◌, ◌++◌, map, ℕ, suc, ◌+◌, ◌-◌, ◌*◌, ◌≤◌, ◌<◌, ltb, eqb, length as count}
+use Rattle.std.specs.Prelude.{◌≡◌, ◌⊎◌, ◌≢◌, true, false, ◌&&◌, cond, List, [], ◌∷◌, ◌++◌, map, ℕ, ◌+◌, ◌-◌, ◌*◌, ◌≤◌, ◌<◌, ltb, eqb, length as count}
 use Rattle.rules.specs.declared.Claim.{Claim}
 use Rattle.rules.specs.declared.Phase.TheVariants.{On}
 use Rattle.rules.specs.declared.Request.{Request}
@@ -11,8 +11,7 @@ use Rattle.rules.specs.Order.{precedes, rivals}
 use Rattle.rules.specs.Packing.{moved, Packs}
 use Rattle.rules.specs.Plans.{Fits}
 use Rattle.rules.specs.Pool.{held_by}
-use Rattle.rules.specs.Tests.{named}
-use Rattle.rules.specs.Calls.{Model, ruled, setting_of, Member, Action, claims, claims_set, releases, withdraws, moves_clock, timed, clock, Step, advance, lead_of, step}
+use Rattle.rules.specs.Calls.{Model, ruled, setting_of, Action, claims, releases, withdraws, moves_clock, timed, clock, Step, advance, remove, step}
 use Rattle.promises.specs.Ledger.{Steps}
 
 -- The claim c of the table m is the claim d of the table n: tickets tell.
@@ -35,17 +34,17 @@ pub record TimedCall (m : Model) (t : ℕ) (s : Step) : Type 0 where
   -- For a claim that draws no units that is document 01's: "Each waiting claim's planned start becomes the greatest of the clock and the ends
   -- of the claims that precede it."
   pub starts_documented : (w : Claim) → w ∈ s.model.pending → on w ≡ false → w.units ≡ 0
-      → at w ≡ greatest (end_of (setting_of s.model)) t (keep (λ c. precedes s.model.pending c w) s.model.pending)
+      → at w ≡ greatest (end_of (setting_of s.model)) t (keep (λ c. precedes c w) s.model.pending)
   -- "Of two conflicting waiting claims the one with the smaller planned start precedes. Packing never changes this", and granting neither:
   -- what precedes a waiting claim w before the call precedes it after, for as long as both are pending, and w still waits.
-  pub none_overtaken : (d d' w w' : Claim) → Becomes m s.model d d' → Becomes m s.model w w' → on w ≡ false → precedes m.pending d w ≡ true
-      → (on w' ≡ false) × (precedes s.model.pending d' w' ≡ true)
+  pub none_overtaken : (d d' w w' : Claim) → Becomes m s.model d d' → Becomes m s.model w w' → on w ≡ false → precedes d w ≡ true
+      → (on w' ≡ false) × (precedes d' w' ≡ true)
   -- "a claim goes on when its start is the clock, no claim precedes it and its units are truly free after the grants before it": all that go
   -- on start at the clock, so the grants before it are those of lower tickets. Who stays where nobody precedes it wanted units.
-  pub units_wanting : (w : Claim) → w ∈ s.model.pending → on w ≡ false → at w ≡ t → ((d : Claim) → d ∈ s.model.pending → precedes s.model.pending d w ≡ false)
+  pub units_wanting : (w : Claim) → w ∈ s.model.pending → on w ≡ false → at w ≡ t → ((d : Claim) → d ∈ s.model.pending → precedes d w ≡ false)
       → s.model.pool < sum (kept_from s.answer.grants w) s.model.pending + w.units
   -- For a claim that draws none that is document 01's: "Every waiting claim that no pending claim precedes goes on at the call's clock."
-  pub grants_documented : (w : Claim) → w ∈ s.model.pending → on w ≡ false → w.units ≡ 0 → (d : Claim) × d ∈ s.model.pending × (precedes s.model.pending d w ≡ true)
+  pub grants_documented : (w : Claim) → w ∈ s.model.pending → on w ≡ false → w.units ≡ 0 → (d : Claim) × d ∈ s.model.pending × (precedes d w ≡ true)
 
 -- "first sets the clock and packs the waiting claims": what the other records call `advance m t`. "Packing takes waiting claims by start,
 -- then ticket": by the starts that they have in m.
@@ -68,9 +67,8 @@ pub record ClaimCall (step : Steps) (m : Model) (t : ℕ) (ask : Request) (s : S
   pub length : new.length ≡ ask.length
   pub units : new.units ≡ ask.units
   pub client : new.client ≡ ask.client
-  -- "The answer is ticket, start, ..": it waits at that start, or was granted at it. It is a set of its own.
+  -- "The answer is ticket, start, ..": it waits at that start, or was granted at it.
   pub ticket : new.ticket ≡ s.answer.ticket
-  pub lead : new.lead ≡ s.answer.ticket
   pub start : at new ≡ s.answer.start
   -- "The planned start is the least s, not below the clock, such that for each conflicting on claim s ≥ its end, and for each conflicting
   -- waiting claim either s ≥ its end or s + length ≤ its planned start", with "units enough beside all planned holds": of all numbers, and
@@ -86,55 +84,26 @@ pub record ClaimCall (step : Steps) (m : Model) (t : ℕ) (ask : Request) (s : S
   -- It pushes none back: the others stand as after a call that only sets the clock.
   pub others_same : s.model.pending ≡ (step m (clock t)).model.pending ++ (new ∷ [])
 
--- The claims of a client's members, in turn, with tickets from k on.
-unfoldable pub MadeOf : ℕ → ℕ → List Member → List Claim → Type 0
-MadeOf c k [] [] = Unit {0}
-MadeOf c k [] (w ∷ ws) = ⊥
-MadeOf c k (p ∷ ms) [] = ⊥
-MadeOf c k (p ∷ ms) (w ∷ ws) =
-    ((w.groups ≡ p.groups) × (w.length ≡ p.length) × (w.units ≡ 0) × (w.client ≡ c) × (w.ticket ≡ k)) × MadeOf c (suc k) ms ws
-
--- An accepted set of client c (document 02, P8).
-pub record SetCall (step : Steps) (m : Model) (t c : ℕ) (ms : List Member) (s : Step) : Type 0 where
-  -- The new claims, as they stand after the call: "Members get successive tickets", the first of which is answered.
-  pub new : List Claim
-  pub made : MadeOf c s.answer.ticket ms new
-  pub led : (w : Claim) → w ∈ new → w.lead ≡ s.answer.ticket
-  -- All wait at the start that is answered, or all were granted at it.
-  pub start : (w : Claim) → w ∈ new → at w ≡ s.answer.start
-  pub together : (w x : Claim) → w ∈ new → x ∈ new → on w ≡ on x
-  -- "the least start that fits every member by the ordinary rule"
-  pub from_clock : t ≤ s.answer.start
-  pub fits : (w : Claim) → w ∈ new → Fits (ruled m t) (advance m t).pending w s.answer.start
-  pub least : (x : ℕ) → t ≤ x → ((w : Claim) → w ∈ new → Fits (ruled m t) (advance m t).pending w x) → s.answer.start ≤ x
-  -- "Crowd counts the pairs of a member and a pending claim sharing a group; ceiling is clock plus, for each, remaining time + the member's
-  -- length − 1."
-  pub contention_counted : s.answer.contention ≡ sum (λ w. count (rivals (advance m t).pending w)) new
-  pub bound_counted : s.answer.bound ≡ t + sum (λ w. sum (λ d. remaining (ruled m t) d + (w.length - 1)) (rivals (advance m t).pending w)) new
-  -- It pushes none back.
-  pub others_same : s.model.pending ≡ (step m (clock t)).model.pending ++ new
-
--- An accepted release or withdrawal, by which those leave that pass `goes`.
-pub record LeaveCall (m : Model) (t : ℕ) (goes : Claim → Bool) (s : Step) : Type 0 where
-  -- "packs again": those that stay, by the starts that the first packing gave, then ticket. So what is set free is theirs who stand first.
+-- An accepted release or withdrawal of ticket k.
+pub record LeaveCall (m : Model) (t k : ℕ) (s : Step) : Type 0 where
+  -- "packs again": by the starts that the first packing gave, then ticket. So what is set free is theirs who stand first.
   pub starts : Claim → ℕ
-  pub packs : Packs (ruled m t) (keep (λ c. not (goes c)) (advance m t).pending) starts
-  pub pulled_forward : (x : Claim) → x ∈ (advance m t).pending → goes x ≡ false → on x ≡ false → starts x ≤ at x
-  -- All that do not leave stay, at those starts, or granted there; and nobody else is pending.
-  pub all_stay : (x : Claim) → x ∈ (advance m t).pending → goes x ≡ false → (d : Claim) × d ∈ s.model.pending × Stays t (moved starts x) d
-  pub none_else : (d : Claim) → d ∈ s.model.pending → (x : Claim) × x ∈ (advance m t).pending × (goes x ≡ false) × Stays t (moved starts x) d
+  pub packs : Packs (ruled m t) (remove (advance m t) k).pending starts
+  pub pulled_forward : (x : Claim) → x ∈ (advance m t).pending → x.ticket ≢ k → on x ≡ false → starts x ≤ at x
+  -- All but ticket k stay, at those starts, or granted there; and nobody else is pending.
+  pub all_stay : (x : Claim) → x ∈ (advance m t).pending → x.ticket ≢ k → (d : Claim) × d ∈ s.model.pending × Stays t (moved starts x) d
+  pub none_else : (d : Claim) → d ∈ s.model.pending → (x : Claim) × x ∈ (advance m t).pending × (x.ticket ≢ k) × Stays t (moved starts x) d
 
 -- A clock call: all stay where the first packing put them, or are granted there.
 pub record ClockCall (m : Model) (t : ℕ) (s : Step) : Type 0 where
   pub all_stay : (x : Claim) → x ∈ (advance m t).pending → (d : Claim) × d ∈ s.model.pending × Stays t x d
   pub none_else : (d : Claim) → d ∈ s.model.pending → (x : Claim) × x ∈ (advance m t).pending × Stays t x d
 
--- "then acts". Members "release singly"; "One waiting member's withdrawal withdraws the set" (document 02, P8).
+-- "then acts"
 abbrev pub Acts : Steps → Model → ℕ → Action → Step → Type 0
 Acts step m t (claims ask) s = ClaimCall step m t ask s
-Acts step m t (claims_set c ms) s = SetCall step m t c ms s
-Acts step m t (releases k) s = LeaveCall m t (named k) s
-Acts step m t (withdraws k) s = LeaveCall m t (λ c. eqb c.lead (lead_of k m.pending)) s
+Acts step m t (releases k) s = LeaveCall m t k s
+Acts step m t (withdraws k) s = LeaveCall m t k s
 Acts step m t moves_clock s = ClockCall m t s
 
 -- Of a table and every timed call of it, by `step`.

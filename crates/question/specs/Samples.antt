@@ -1,10 +1,9 @@
--- Questions about the table of document 01's plot S, about a set, and about loads that end early, with their answers, as one table. proofs/AllSamples has
+-- Questions about the table of document 01's plot S, and about loads that end early, with their answers, as one table. proofs/AllSamples has
 -- the theorem that covers it.
-use Rattle.std.specs.Prelude.{List, [], ◌∷◌, ◌++◌, ℕ}
+use Rattle.std.specs.Prelude.{List, [], ◌∷◌, ℕ}
 use Rattle.numerals.specs.Texts.{bytes}
-use Rattle.format.specs.Calls.{rig, rig_with, claim, claim_with, release, withdraw, clock, declaration, grace, claim_from}
-use Rattle.format.specs.Records.{Record, member, record_of, set_record}
-use Rattle.load.specs.Bytes.{load_bytes, load_of}
+use Rattle.format.specs.Calls.{rig, rig_with, claim, claim_with, release, clock, declaration, grace, claim_from}
+use Rattle.load.specs.Bytes.{load_of}
 use Rattle.question.specs.Questions.{question_of}
 use Rattle.question.specs.Answers.{text_of}
 
@@ -32,13 +31,6 @@ abbrev pub overrun : ℕ → List ℕ
 overrun n =
     load_of 3 (rig_with 0xF 0 ∷ grace n ∷ declaration 1 64 64 ∷ claim_from 0 0x8 10 0 1 ∷ claim_from 0 0xC 10 0 1 ∷ claim_from 0 0x6 11 0 1 ∷ clock 12 ∷ [])
 
--- Claims on groups 0 and 1 that are on until 10 and 20; a set of tickets 3 and 4, each behind one of them, both from 20 on; a claim behind
--- ticket 4; and calls after them.
-abbrev pub together : List Record → List ℕ
-together rs =
-    load_bytes 3 ((record_of (rig_with 0xF 0) ∷ record_of (declaration 1 64 64) ∷ record_of (claim_from 0 0x1 10 0 1) ∷ record_of (claim_from 0 0x2 20 0 1)
-    ∷ set_record 0 1 (member 0x1 5 ∷ member 0x6 7 ∷ []) ∷ record_of (claim_from 0 0x4 30 0 1) ∷ []) ++ rs)
-
 unfoldable pub samples : List Sample
 samples =
     sample plot (bytes "lookup 3") (bytes "ticket 3 waits, start 20\n")
@@ -51,13 +43,6 @@ samples =
     ∷ sample pooled (bytes "why 2") (bytes "ticket 2 waits for 1 until 10, 1 is on until 10\n")
     ∷ sample (overrun 5) (bytes "why 3") (bytes "ticket 3 waits for 2 until 27, 2 waits for 1 until 17, 1 is on until 17\n")
     ∷ sample (overrun 0) (bytes "why 2") (bytes "ticket 2 waits for 1 until 12, 1 is on until 12\n")
-    -- the members of a set, whose links count the groups of both
-    ∷ sample (together []) (bytes "lookup 3") (bytes "ticket 3 waits, start 20\n")
-    ∷ sample (together []) (bytes "lookup 4") (bytes "ticket 4 waits, start 20\n")
-    ∷ sample (together []) (bytes "common 3 4") (bytes "tickets 3 and 4 share no group\n")
-    ∷ sample (together []) (bytes "why 3") (bytes "ticket 3 waits for 2 until 20, 2 is on until 20\n")
-    ∷ sample (together []) (bytes "why 5") (bytes "ticket 5 waits for 4 until 27, 4 waits for 2 until 20, 2 is on until 20\n")
-    ∷ sample (together (record_of (withdraw 1 4) ∷ [])) (bytes "lookup 3") (bytes "ticket 3 is not pending\n")
     ∷ sample plot (bytes "common 2 3") (bytes "tickets 2 and 3 share group 2\n")
     ∷ sample plot (bytes "common 1 3") (bytes "tickets 1 and 3 share no group\n")
     ∷ sample plot (bytes "common 9 8") (bytes "ticket 9 is not pending\n")

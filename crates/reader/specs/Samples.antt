@@ -1,39 +1,24 @@
 -- The loads of case 15 of document 01's "Plots to try", those of document 02's editions 2 and 3 and some more, as one table of what a reader
 -- opened on each gives. proofs/AllSamples has the theorem that covers the table, and the law of a load that is too long to be written out.
-use Rattle.std.specs.Prelude.{ℕ, ◌<◌, List, [], ◌∷◌, ◌++◌, ◌≡◌, length, take, replicate}
+use Rattle.std.specs.Prelude.{ℕ, ◌<◌, List, [], ◌∷◌, ◌++◌, ◌≡◌, length}
 use Rattle.format.specs.declared.Call.{Call}
 use Rattle.load.specs.declared.Item.{Item}
-use Rattle.load.specs.declared.Item.TheVariants as item
-use Rattle.load.specs.declared.Item.TheVariants.{End, Refused}
-use Rattle.format.specs.Calls.{rig, claim, release, clock, rig_with, claim_with, claim_from, declaration, grace, set_call}
-use Rattle.format.specs.Records.{Record, member, record_of, records_of, set_record}
-use Rattle.load.specs.Bytes.{record_bytes, call_bytes, load_of}
+use Rattle.load.specs.declared.Item.TheVariants.{Record, End, Refused}
+use Rattle.format.specs.Calls.{rig, claim, release, clock, rig_with, claim_with, claim_from, declaration, grace}
+use Rattle.format.specs.Records.{records_of}
+use Rattle.load.specs.Bytes.{call_bytes, load_of}
 use Rattle.load.specs.Reading.{Walk, reading}
 use Rattle.reader.specs.Items.{item_of}
 
--- A load; what `next` answers first; the records that the reader gives, and the number at which it stops, 0 at the end.
+-- A load; what `next` answers first; the calls that the reader gives, and the number at which it stops, 0 at the end.
 pub record Sample : Type 0 where
   pub load : List ℕ
   pub first : Item
-  pub records : List Record
+  pub calls : List Call
   pub stop : ℕ
 
--- Of calls without members.
 abbrev pub sample : List ℕ → Item → List Call → ℕ → Sample
-sample load first calls stop = record { load = load; first = first; records = records_of calls; stop = stop }
-
--- Bytes behind the rig of a load of edition 3, and the record that the reader gives of them, if any.
-abbrev pub behind_rig : List ℕ → List Record → ℕ → Sample
-behind_rig bytes records stop =
-    record { load = load_of 3 (rig_with 0xF 3 ∷ []) ++ bytes; first = item.Record (rig_with 0xF 3) 14; records = record_of (rig_with 0xF 3) ∷ records; stop = stop }
-
--- The bytes of a member with one group, for 10 ticks.
-abbrev pub small : List ℕ
-small = 0x00 ∷ 0x00 ∷ 0x00 ∷ 0x00 ∷ 0x00 ∷ 0x00 ∷ 0x00 ∷ 0x01 ∷ 0x00 ∷ 0x00 ∷ 0x00 ∷ 0x0A ∷ []
-
--- Kind 7, clock 1, desk 2.
-abbrev pub set_head : List ℕ
-set_head = 0x07 ∷ 0x00 ∷ 0x00 ∷ 0x00 ∷ 0x00 ∷ 0x00 ∷ 0x00 ∷ 0x00 ∷ 0x01 ∷ 0x02 ∷ []
+sample load first calls stop = record { load = load; first = first; calls = calls; stop = stop }
 
 unfoldable pub samples : List Sample
 samples =
@@ -51,77 +36,61 @@ samples =
     ∷ sample (0xFF ∷ call_bytes 1 (rig 0xF)) (Refused 11) [] 11
     ∷ sample (0xFE ∷ call_bytes 1 (rig 0xF) ++ call_bytes 1 (clock 1)) (Refused 11) [] 11
     -- "Reader and writer pass fields on without judging them": a dark rig
-    ∷ sample (load_of 1 (rig 0 ∷ clock 1 ∷ [])) (item.Record (rig 0) 12) (rig 0 ∷ clock 1 ∷ []) 0
+    ∷ sample (load_of 1 (rig 0 ∷ clock 1 ∷ [])) (Record (rig 0) 12) (rig 0 ∷ clock 1 ∷ []) 0
     -- "The first record is the rig and no other is"
     ∷ sample (load_of 1 (clock 1 ∷ [])) (Refused 13) [] 13
-    ∷ sample (load_of 1 (rig 0xF ∷ rig 0xF ∷ clock 1 ∷ [])) (item.Record (rig 0xF) 12) (rig 0xF ∷ []) 13
+    ∷ sample (load_of 1 (rig 0xF ∷ rig 0xF ∷ clock 1 ∷ [])) (Record (rig 0xF) 12) (rig 0xF ∷ []) 13
     -- a kind that the edition lacks, and a record that is cut off
-    ∷ sample (load_of 1 (rig 0xF ∷ []) ++ (0x00 ∷ 0x01 ∷ 0x06 ∷ [])) (item.Record (rig 0xF) 12) (rig 0xF ∷ []) 13
-    ∷ sample (load_of 1 (rig 0xF ∷ []) ++ (0x00 ∷ 0x09 ∷ 0x05 ∷ [])) (item.Record (rig 0xF) 12) (rig 0xF ∷ []) 12
+    ∷ sample (load_of 1 (rig 0xF ∷ []) ++ (0x00 ∷ 0x01 ∷ 0x06 ∷ [])) (Record (rig 0xF) 12) (rig 0xF ∷ []) 13
+    ∷ sample (load_of 1 (rig 0xF ∷ []) ++ (0x00 ∷ 0x09 ∷ 0x05 ∷ [])) (Record (rig 0xF) 12) (rig 0xF ∷ []) 12
     -- the load whose listing the paper prints
-    ∷ sample (load_of 1 (rig 0xF ∷ claim 0 0x8 10 ∷ claim 0 0xC 10 ∷ claim 0 0x6 11 ∷ claim 0 0x3 20 ∷ release 4 1 ∷ [])) (item.Record (rig 0xF) 12)
+    ∷ sample (load_of 1 (rig 0xF ∷ claim 0 0x8 10 ∷ claim 0 0xC 10 ∷ claim 0 0x6 11 ∷ claim 0 0x3 20 ∷ release 4 1 ∷ [])) (Record (rig 0xF) 12)
     (rig 0xF ∷ claim 0 0x8 10 ∷ claim 0 0xC 10 ∷ claim 0 0x6 11 ∷ claim 0 0x3 20 ∷ release 4 1 ∷ []) 0
     -- editions 2 and 3 alone, and no edition after them
     ∷ sample (0x02 ∷ []) End [] 0
     ∷ sample (0x03 ∷ []) End [] 0
     ∷ sample (0x04 ∷ []) (Refused 11) [] 11
     -- "two bytes of k at the end of the rig (length 11)": each edition has its own length alone
-    ∷ sample (0x02 ∷ 0x00 ∷ 0x0B ∷ 0x01 ∷ 0x00 ∷ 0x00 ∷ 0x00 ∷ 0x00 ∷ 0x00 ∷ 0x00 ∷ 0x00 ∷ 0x0F ∷ 0x01 ∷ 0x02 ∷ []) (item.Record (rig_with 0xF 258) 14) (rig_with 0xF 258 ∷ []) 0
+    ∷ sample (0x02 ∷ 0x00 ∷ 0x0B ∷ 0x01 ∷ 0x00 ∷ 0x00 ∷ 0x00 ∷ 0x00 ∷ 0x00 ∷ 0x00 ∷ 0x00 ∷ 0x0F ∷ 0x01 ∷ 0x02 ∷ []) (Record (rig_with 0xF 258) 14) (rig_with 0xF 258 ∷ []) 0
     ∷ sample (0x02 ∷ call_bytes 1 (rig 0xF)) (Refused 13) [] 13
     ∷ sample (0x01 ∷ call_bytes 2 (rig_with 0xF 3)) (Refused 13) [] 13
     -- "and two of units at that of the claim (length 23)"
-    ∷ sample (load_of 2 (rig_with 0xF 3 ∷ claim_with 0 0x8 10 2 ∷ release 4 1 ∷ clock 5 ∷ [])) (item.Record (rig_with 0xF 3) 14)
+    ∷ sample (load_of 2 (rig_with 0xF 3 ∷ claim_with 0 0x8 10 2 ∷ release 4 1 ∷ clock 5 ∷ [])) (Record (rig_with 0xF 3) 14)
     (rig_with 0xF 3 ∷ claim_with 0 0x8 10 2 ∷ release 4 1 ∷ clock 5 ∷ []) 0
-    ∷ sample (load_of 2 (rig_with 0xF 3 ∷ []) ++ call_bytes 1 (claim 0 0x8 10)) (item.Record (rig_with 0xF 3) 14) (rig_with 0xF 3 ∷ []) 13
-    ∷ sample (load_of 1 (rig 0xF ∷ []) ++ call_bytes 2 (claim_with 0 0x8 10 2)) (item.Record (rig 0xF) 12) (rig 0xF ∷ []) 13
+    ∷ sample (load_of 2 (rig_with 0xF 3 ∷ []) ++ call_bytes 1 (claim 0 0x8 10)) (Record (rig_with 0xF 3) 14) (rig_with 0xF 3 ∷ []) 13
+    ∷ sample (load_of 1 (rig 0xF ∷ []) ++ call_bytes 2 (claim_with 0 0x8 10 2)) (Record (rig 0xF) 12) (rig 0xF ∷ []) 13
     -- "edition 1 reads as 0 for both"
-    ∷ sample (load_of 1 (rig_with 0xF 0 ∷ claim_with 0 0x8 10 0 ∷ [])) (item.Record (rig 0xF) 12) (rig 0xF ∷ claim 0 0x8 10 ∷ []) 0
+    ∷ sample (load_of 1 (rig_with 0xF 0 ∷ claim_with 0 0x8 10 0 ∷ [])) (Record (rig 0xF) 12) (rig 0xF ∷ claim 0 0x8 10 ∷ []) 0
     -- "a kind 6 record of desk, guarantee and limit, a byte each (length 4)"; the table judges them
-    ∷ sample (load_of 3 (rig_with 0xF 3 ∷ []) ++ (0x00 ∷ 0x04 ∷ 0x06 ∷ 0x02 ∷ 0x0A ∷ 0x40 ∷ [])) (item.Record (rig_with 0xF 3) 14) (rig_with 0xF 3 ∷ declaration 2 10 64 ∷ []) 0
-    ∷ sample (load_of 3 (rig_with 0xF 3 ∷ declaration 0 255 255 ∷ [])) (item.Record (rig_with 0xF 3) 14) (rig_with 0xF 3 ∷ declaration 0 255 255 ∷ []) 0
-    ∷ sample (load_of 3 (rig_with 0xF 3 ∷ []) ++ (0x00 ∷ 0x03 ∷ 0x06 ∷ 0x02 ∷ 0x0A ∷ [])) (item.Record (rig_with 0xF 3) 14) (rig_with 0xF 3 ∷ []) 13
+    ∷ sample (load_of 3 (rig_with 0xF 3 ∷ []) ++ (0x00 ∷ 0x04 ∷ 0x06 ∷ 0x02 ∷ 0x0A ∷ 0x40 ∷ [])) (Record (rig_with 0xF 3) 14) (rig_with 0xF 3 ∷ declaration 2 10 64 ∷ []) 0
+    ∷ sample (load_of 3 (rig_with 0xF 3 ∷ declaration 0 255 255 ∷ [])) (Record (rig_with 0xF 3) 14) (rig_with 0xF 3 ∷ declaration 0 255 255 ∷ []) 0
+    ∷ sample (load_of 3 (rig_with 0xF 3 ∷ []) ++ (0x00 ∷ 0x03 ∷ 0x06 ∷ 0x02 ∷ 0x0A ∷ [])) (Record (rig_with 0xF 3) 14) (rig_with 0xF 3 ∷ []) 13
     -- "a desk byte at the end of the claim (length 24)"
-    ∷ sample (load_of 3 (rig_with 0xF 3 ∷ declaration 2 10 64 ∷ claim_from 0 0x8 10 2 2 ∷ release 4 1 ∷ clock 5 ∷ [])) (item.Record (rig_with 0xF 3) 14)
+    ∷ sample (load_of 3 (rig_with 0xF 3 ∷ declaration 2 10 64 ∷ claim_from 0 0x8 10 2 2 ∷ release 4 1 ∷ clock 5 ∷ [])) (Record (rig_with 0xF 3) 14)
     (rig_with 0xF 3 ∷ declaration 2 10 64 ∷ claim_from 0 0x8 10 2 2 ∷ release 4 1 ∷ clock 5 ∷ []) 0
-    ∷ sample (load_of 3 (rig_with 0xF 3 ∷ []) ++ call_bytes 2 (claim_with 0 0x8 10 2)) (item.Record (rig_with 0xF 3) 14) (rig_with 0xF 3 ∷ []) 13
-    ∷ sample (load_of 2 (rig_with 0xF 3 ∷ []) ++ call_bytes 3 (claim_from 0 0x8 10 2 2)) (item.Record (rig_with 0xF 3) 14) (rig_with 0xF 3 ∷ []) 13
+    ∷ sample (load_of 3 (rig_with 0xF 3 ∷ []) ++ call_bytes 2 (claim_with 0 0x8 10 2)) (Record (rig_with 0xF 3) 14) (rig_with 0xF 3 ∷ []) 13
+    ∷ sample (load_of 2 (rig_with 0xF 3 ∷ []) ++ call_bytes 3 (claim_from 0 0x8 10 2 2)) (Record (rig_with 0xF 3) 14) (rig_with 0xF 3 ∷ []) 13
     -- "kind 8, the grace in four bytes (length 5)"; the table judges it
-    ∷ sample (load_of 3 (rig_with 0xF 3 ∷ []) ++ (0x00 ∷ 0x05 ∷ 0x08 ∷ 0x00 ∷ 0x00 ∷ 0xEA ∷ 0x60 ∷ [])) (item.Record (rig_with 0xF 3) 14) (rig_with 0xF 3 ∷ grace 60000 ∷ []) 0
-    ∷ sample (load_of 3 (rig_with 0xF 3 ∷ []) ++ (0x00 ∷ 0x05 ∷ 0x08 ∷ 0xFF ∷ 0xFF ∷ 0xFF ∷ 0xFF ∷ [])) (item.Record (rig_with 0xF 3) 14) (rig_with 0xF 3 ∷ grace 4294967295 ∷ []) 0
-    ∷ sample (load_of 3 (rig_with 0xF 3 ∷ grace 5 ∷ declaration 2 10 64 ∷ grace 0 ∷ clock 5 ∷ [])) (item.Record (rig_with 0xF 3) 14)
+    ∷ sample (load_of 3 (rig_with 0xF 3 ∷ []) ++ (0x00 ∷ 0x05 ∷ 0x08 ∷ 0x00 ∷ 0x00 ∷ 0xEA ∷ 0x60 ∷ [])) (Record (rig_with 0xF 3) 14) (rig_with 0xF 3 ∷ grace 60000 ∷ []) 0
+    ∷ sample (load_of 3 (rig_with 0xF 3 ∷ []) ++ (0x00 ∷ 0x05 ∷ 0x08 ∷ 0xFF ∷ 0xFF ∷ 0xFF ∷ 0xFF ∷ [])) (Record (rig_with 0xF 3) 14) (rig_with 0xF 3 ∷ grace 4294967295 ∷ []) 0
+    ∷ sample (load_of 3 (rig_with 0xF 3 ∷ grace 5 ∷ declaration 2 10 64 ∷ grace 0 ∷ clock 5 ∷ [])) (Record (rig_with 0xF 3) 14)
     (rig_with 0xF 3 ∷ grace 5 ∷ declaration 2 10 64 ∷ grace 0 ∷ clock 5 ∷ []) 0
     -- of another length, cut off, and "after the rig"
-    ∷ sample (load_of 3 (rig_with 0xF 3 ∷ []) ++ (0x00 ∷ 0x04 ∷ 0x08 ∷ 0x00 ∷ 0xEA ∷ 0x60 ∷ [])) (item.Record (rig_with 0xF 3) 14) (rig_with 0xF 3 ∷ []) 13
-    ∷ sample (load_of 3 (rig_with 0xF 3 ∷ []) ++ (0x00 ∷ 0x06 ∷ 0x08 ∷ 0x00 ∷ 0x00 ∷ 0x00 ∷ 0xEA ∷ 0x60 ∷ [])) (item.Record (rig_with 0xF 3) 14) (rig_with 0xF 3 ∷ []) 13
-    ∷ sample (load_of 3 (rig_with 0xF 3 ∷ []) ++ (0x00 ∷ 0x05 ∷ 0x08 ∷ 0x00 ∷ 0x00 ∷ 0xEA ∷ [])) (item.Record (rig_with 0xF 3) 14) (rig_with 0xF 3 ∷ []) 12
+    ∷ sample (load_of 3 (rig_with 0xF 3 ∷ []) ++ (0x00 ∷ 0x04 ∷ 0x08 ∷ 0x00 ∷ 0xEA ∷ 0x60 ∷ [])) (Record (rig_with 0xF 3) 14) (rig_with 0xF 3 ∷ []) 13
+    ∷ sample (load_of 3 (rig_with 0xF 3 ∷ []) ++ (0x00 ∷ 0x06 ∷ 0x08 ∷ 0x00 ∷ 0x00 ∷ 0x00 ∷ 0xEA ∷ 0x60 ∷ [])) (Record (rig_with 0xF 3) 14) (rig_with 0xF 3 ∷ []) 13
+    ∷ sample (load_of 3 (rig_with 0xF 3 ∷ []) ++ (0x00 ∷ 0x05 ∷ 0x08 ∷ 0x00 ∷ 0x00 ∷ 0xEA ∷ [])) (Record (rig_with 0xF 3) 14) (rig_with 0xF 3 ∷ []) 12
     ∷ sample (load_of 3 (grace 60000 ∷ [])) (Refused 13) [] 13
-    -- "kind 7: clock 8, desk 1, count 1, then groups 8 and length 4 for each member (length 11 + 12 × count)"; the table judges the count
-    ∷ behind_rig (0x00 ∷ 0x0B ∷ set_head ++ (0x00 ∷ [])) (set_record 1 2 [] ∷ []) 0
-    ∷ behind_rig (0x00 ∷ 0x17 ∷ set_head ++ (0x01 ∷ small)) (set_record 1 2 (member 0x1 10 ∷ []) ∷ []) 0
-    ∷ behind_rig
-    (0x00 ∷ 0x23 ∷ set_head ++ (0x02 ∷ 0x01 ∷ 0x02 ∷ 0x03 ∷ 0x04 ∷ 0x05 ∷ 0x06 ∷ 0x07 ∷ 0x08 ∷ 0x00 ∷ 0x00 ∷ 0xEA ∷ 0x60 ∷ small) ++ call_bytes 3 (clock 5))
-    (set_record 1 2 (member 0x0102030405060708 60000 ∷ member 0x1 10 ∷ []) ∷ record_of (clock 5) ∷ []) 0
-    ∷ behind_rig (record_bytes 3 (set_record 1 2 (replicate 255 (member 0x1 10)))) (set_record 1 2 (replicate 255 (member 0x1 10)) ∷ []) 0
-    -- of another length than its count asks for, cut off, and shorter than 11
-    ∷ behind_rig (0x00 ∷ 0x17 ∷ set_head ++ (0x02 ∷ small)) [] 13
-    ∷ behind_rig (0x00 ∷ 0x17 ∷ set_head ++ (0x00 ∷ small)) [] 13
-    ∷ behind_rig (0x00 ∷ 0x16 ∷ set_head ++ (0x01 ∷ take 11 small)) [] 13
-    ∷ behind_rig (0x00 ∷ 0x17 ∷ set_head ++ (0x01 ∷ take 11 small)) [] 12
-    ∷ behind_rig (0x00 ∷ 0x0A ∷ set_head) [] 13
-    ∷ behind_rig (0x00 ∷ 0x0A ∷ set_head ++ (0x00 ∷ [])) [] 13
-    ∷ behind_rig (0x00 ∷ 0x01 ∷ 0x07 ∷ []) [] 13
-    ∷ sample (0x03 ∷ 0x00 ∷ 0x0B ∷ set_head ++ (0x00 ∷ [])) (Refused 13) [] 13
-    -- older editions have no kinds 6 to 8, and edition 3 none after 8
-    ∷ sample (load_of 1 (rig 0xF ∷ []) ++ call_bytes 3 (declaration 1 64 64)) (item.Record (rig 0xF) 12) (rig 0xF ∷ []) 13
-    ∷ sample (load_of 2 (rig_with 0xF 3 ∷ []) ++ call_bytes 3 (declaration 1 64 64)) (item.Record (rig_with 0xF 3) 14) (rig_with 0xF 3 ∷ []) 13
-    ∷ sample (load_of 1 (rig 0xF ∷ []) ++ call_bytes 3 (grace 60000)) (item.Record (rig 0xF) 12) (rig 0xF ∷ []) 13
-    ∷ sample (load_of 2 (rig_with 0xF 3 ∷ []) ++ call_bytes 3 (grace 60000)) (item.Record (rig_with 0xF 3) 14) (rig_with 0xF 3 ∷ []) 13
-    ∷ sample (load_of 1 (rig 0xF ∷ []) ++ call_bytes 3 (set_call 1 1 0)) (item.Record (rig 0xF) 12) (rig 0xF ∷ []) 13
-    ∷ sample (load_of 2 (rig_with 0xF 3 ∷ []) ++ call_bytes 3 (set_call 1 1 0)) (item.Record (rig_with 0xF 3) 14) (rig_with 0xF 3 ∷ []) 13
-    ∷ sample (load_of 3 (rig_with 0xF 3 ∷ []) ++ (0x00 ∷ 0x05 ∷ 0x09 ∷ 0x00 ∷ 0x00 ∷ 0xEA ∷ 0x60 ∷ [])) (item.Record (rig_with 0xF 3) 14) (rig_with 0xF 3 ∷ []) 13
+    -- older editions have no kinds 6 and 8, and edition 3 no kind 7 and none after 8
+    ∷ sample (load_of 1 (rig 0xF ∷ []) ++ call_bytes 3 (declaration 1 64 64)) (Record (rig 0xF) 12) (rig 0xF ∷ []) 13
+    ∷ sample (load_of 2 (rig_with 0xF 3 ∷ []) ++ call_bytes 3 (declaration 1 64 64)) (Record (rig_with 0xF 3) 14) (rig_with 0xF 3 ∷ []) 13
+    ∷ sample (load_of 1 (rig 0xF ∷ []) ++ call_bytes 3 (grace 60000)) (Record (rig 0xF) 12) (rig 0xF ∷ []) 13
+    ∷ sample (load_of 2 (rig_with 0xF 3 ∷ []) ++ call_bytes 3 (grace 60000)) (Record (rig_with 0xF 3) 14) (rig_with 0xF 3 ∷ []) 13
+    ∷ sample (load_of 3 (rig_with 0xF 3 ∷ []) ++ (0x00 ∷ 0x01 ∷ 0x07 ∷ [])) (Record (rig_with 0xF 3) 14) (rig_with 0xF 3 ∷ []) 13
+    ∷ sample (load_of 3 (rig_with 0xF 3 ∷ []) ++ (0x00 ∷ 0x05 ∷ 0x07 ∷ 0x00 ∷ 0x00 ∷ 0xEA ∷ 0x60 ∷ [])) (Record (rig_with 0xF 3) 14) (rig_with 0xF 3 ∷ []) 13
+    ∷ sample (load_of 3 (rig_with 0xF 3 ∷ []) ++ (0x00 ∷ 0x05 ∷ 0x09 ∷ 0x00 ∷ 0x00 ∷ 0xEA ∷ 0x60 ∷ [])) (Record (rig_with 0xF 3) 14) (rig_with 0xF 3 ∷ []) 13
     -- a claim of older editions is desk 1's
-    ∷ sample (load_of 1 (rig 0xF ∷ claim 0 0x8 10 ∷ [])) (item.Record (rig 0xF) 12) (rig 0xF ∷ claim_from 0 0x8 10 0 1 ∷ []) 0
-    ∷ sample (load_of 2 (rig 0xF ∷ claim_with 0 0x8 10 2 ∷ [])) (item.Record (rig 0xF) 14) (rig 0xF ∷ claim_from 0 0x8 10 2 1 ∷ []) 0
+    ∷ sample (load_of 1 (rig 0xF ∷ claim 0 0x8 10 ∷ [])) (Record (rig 0xF) 12) (rig 0xF ∷ claim_from 0 0x8 10 0 1 ∷ []) 0
+    ∷ sample (load_of 2 (rig 0xF ∷ claim_with 0 0x8 10 2 ∷ [])) (Record (rig 0xF) 14) (rig 0xF ∷ claim_from 0 0x8 10 2 1 ∷ []) 0
     ∷ []
 
 -- What the reader gives, and what the table says.
@@ -129,7 +98,7 @@ abbrev pub given : Sample → Item × Walk
 given x = (item_of x.load 1, reading x.load)
 
 abbrev pub expected : Sample → Item × Walk
-expected x = (x.first, record { records = x.records; stop = x.stop })
+expected x = (x.first, record { records = records_of x.calls; stop = x.stop })
 
 -- 14: "load over 65,536 bytes", wherever the reader stands.
 abbrev pub OverlongRefused : Type 0

@@ -1,8 +1,6 @@
 // The tests of a call in code, each on what it looks at; its number stands with it in rules, specs/Tests.antt. A comparison or two each.
-ghost use Rattle.std.specs.Prelude.{◌≡◌, ◌≤◌};
-ghost use Rattle.rules.specs.Tables.{members_of};
-ghost use Rattle.rules.specs.Tests.{first_number, late, backward, dark, stranger, no_client, nothing_asked, off_rig, spots, bad_length, full, full_for, over, begun, overbooked, bad_grace, ticketless, cast};
-ghost use Rattle.refusals.specs.Members.{set_tests, member_tests, earlier};
+ghost use Rattle.std.specs.Prelude.{◌≡◌};
+ghost use Rattle.rules.specs.Tests.{late, backward, dark, stranger, no_client, nothing_asked, off_rig, spots, bad_length, full, full_for, over, begun, overbooked, bad_grace, ticketless};
 
 use rules::Share;
 
@@ -133,67 +131,4 @@ pub fn ticketless(issued: u16) -> bool
     ensures { result ≡ (ticketless issued).fails }
 {
     numbers::MOST_TICKETS <= issued
-}
-
-// The tests of a set of claims.
-pub fn cast(count: usize) -> bool
-    ensures { result ≡ (cast count).fails }
-{
-    if count < numbers::LEAST_MEMBERS {
-        return true;
-    }
-    numbers::MOST_MEMBERS < count
-}
-
-// The number of a member by itself: 1, 2, 3, and 23 where it shares a group with those before, whose groups are `taken`; 0 for none.
-fn member_number(rig: u64, taken: u64, groups: u64, length: u32) -> u8
-    ensures { result ≡ first_number (member_tests rig taken groups length) }
-{
-    if dark(groups) {
-        return numbers::DARK;
-    }
-    if off_rig(rig, groups) {
-        return numbers::OFF_RIG;
-    }
-    if bad_length(length) {
-        return numbers::BAD_LENGTH;
-    }
-    if groups::shares(taken, groups) {
-        return numbers::CLASH;
-    }
-    0
-}
-
-// Of two of these numbers the one that comes first in the order of the tests; 0 is none.
-fn earlier(a: u8, b: u8) -> u8
-    ensures { result ≡ earlier a b }
-{
-    if a == 0 {
-        return b;
-    }
-    if b == 0 {
-        return a;
-    }
-    if b < a {
-        return b;
-    }
-    a
-}
-
-// The first of the tests 1, 2, 3 and 23 that the first `count` members fail, or 0. Not the first member that fails one decides, but the first
-// test that any member fails. Cost: one pass, a few comparisons and the union with the groups before for each member.
-pub fn members_number(rig: u64, count: usize, groups: &[u64; 8], lengths: &[u32; 8]) -> u8
-    requires { count ≤ 8 }
-    ensures { result ≡ first_number (set_tests rig (members_of count groups.now lengths.now)) }
-{
-    let mut number: u8 = 0;
-    let mut taken: u64 = 0;
-    let mut i: usize = 0;
-    while i < count {
-        let g = groups[i];
-        number = earlier(number, member_number(rig, taken, g, lengths[i]));
-        taken = groups::union(taken, g);
-        i += 1;
-    }
-    number
 }

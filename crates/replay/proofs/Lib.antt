@@ -1,5 +1,3 @@
-pub mod Handing
-pub mod Issuing
 pub mod RecordKinds
 pub mod Records
 pub mod Replaying

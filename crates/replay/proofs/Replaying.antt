@@ -13,10 +13,11 @@ use Rattle.table.specs.Valid.{Valid}
 use Rattle.table.specs.Outcomes.{outcome}
 use Rattle.table.proofs.Promised.{outcome-model, valid-whole}
 use Rattle.format.specs.declared.Call.{Call}
+use Rattle.format.specs.Records.{record_of}
 use Rattle.load.specs.declared.Item.TheVariants as item
 use Rattle.load.specs.declared.Item.TheVariants.{End, Refused}
-use Rattle.load.specs.Reading.{item_at, record_at, walk, open_number}
-use Rattle.load.proofs.Reading.{walk-record, walk_end, walk_refused, step-refused}
+use Rattle.load.specs.Reading.{item_at, walk, open_number}
+use Rattle.load.proofs.Reading.{walk_call, walk_end, walk_refused, step-refused}
 use Rattle.replay.specs.declared.Replayed.{Replayed}
 use Rattle.replay.specs.Records.{alone_in, step_of, ending, unrigged}
 use Rattle.replay.specs.Replay.{Replay, stopped_at, stopped_or, replay_from, replay_in, replay_of, replayed}
@@ -40,14 +41,14 @@ module _ (s : List ℕ) (alone : Bool) (at : ℕ) (m : Model) (k : ℕ) where
   unfolding replay_in replay_from
   replay-refused n e = rw (walk_refused s at n e) (stopped-some n k m _ (λ z. omega (arith, step-refused s at n e)))
 
-  module _ (c : Call) (next : ℕ) (e : item_at s at ≡ item.Record c next) (o : Outcome) (p : o ≡ outcome (step_of alone m (record_at s at c))) (n : ℕ) (q : n ≡ ending k o.number) where
+  module _ (c : Call) (next : ℕ) (e : item_at s at ≡ item.Record c next) (o : Outcome) (p : o ≡ outcome (step_of alone m (record_of c))) (n : ℕ) (q : n ≡ ending k o.number) where
     replay-stop : (n ≡ 0 → ⊥) → replay_in alone k m (walk s at) ≡ stopped_at n k m
     unfolding replay_in replay_from
-    replay-stop z = rw (walk-record s at c next e, sym (ends_as alone m (record_at s at c) o p k n q)) (stopped-some n k m _ z)
+    replay-stop z = rw (walk_call s at c next e, sym (ends_as alone m (record_of c) o p k n q)) (stopped-some n k m _ z)
 
     replay-record : n ≡ 0 → replay_in alone k m (walk s at) ≡ replay_in alone (k + 1) (model o.table) (walk s next)
     unfolding replay_in replay_from
-    replay-record z = rw (walk-record s at c next e, sym (ends_as alone m (record_at s at c) o p k n q), outcome-model o (step_of alone m (record_at s at c)) p) (stopped_none n k m _ z)
+    replay-record z = rw (walk_call s at c next e, sym (ends_as alone m (record_of c) o p k n q), outcome-model o (step_of alone m (record_of c)) p) (stopped_none n k m _ z)
 
 -- ── the loop's invariant ──
 pub record Replaying (s : List ℕ) (alone : Bool) (t : Table) (at k : ℕ) : Type 0 where
@@ -74,7 +75,7 @@ module _ (s : List ℕ) (alone : Bool) (t : Table) (at k : ℕ) (w : Replaying s
   pub replayed-refused : (n : ℕ) → item_at s at ≡ Refused n → (built t n k ≡ replayed (replay_in alone 1 unrigged (walk s 1))) × Valid t
   replayed-refused n e = ends_so n k (replay-refused s alone at (model t) k n e)
 
-  module _ (c : Call) (next : ℕ) (e : item_at s at ≡ item.Record c next) (o : Outcome) (p : o ≡ outcome (step_of alone (model t) (record_at s at c))) (n : ℕ) (q : n ≡ ending k o.number) where
+  module _ (c : Call) (next : ℕ) (e : item_at s at ≡ item.Record c next) (o : Outcome) (p : o ≡ outcome (step_of alone (model t) (record_of c))) (n : ℕ) (q : n ≡ ending k o.number) where
     pub replayed-stop : (n ≡ 0 → ⊥) → (built t n k ≡ replayed (replay_in alone 1 unrigged (walk s 1))) × Valid t
     replayed-stop z = ends_so n k (replay-stop s alone at (model t) k c next e o p n q z)
 

@@ -2,11 +2,11 @@
 -- `says_call`, and `act` in the code, take no kind but a clock's for a clock call, though their last case stands for all that are left.
 use Rattle.std.specs.Prelude.{◌≡◌, List, [], ◌∷◌, ℕ}
 use Rattle.rules.specs.Lists.{◌∈◌}
-use Rattle.rules.specs.Calls.{Call as TableCall, claim, claim_set, release, withdraw, clock, declare, set_grace}
+use Rattle.rules.specs.Calls.{Call as TableCall, claim, release, withdraw, clock, declare, set_grace}
 use Rattle.format.specs.Records.{Record}
-use Rattle.format.specs.Format.{rig_kind, claim_kind, release_kind, withdraw_kind, clock_kind, declaration_kind, set_kind, grace_kind}
+use Rattle.format.specs.Format.{rig_kind, claim_kind, release_kind, withdraw_kind, clock_kind, declaration_kind, grace_kind}
 use Rattle.load.specs.Reading.{walk}
-use Rattle.replay.specs.Records.{set_members, says_call}
+use Rattle.replay.specs.Records.{says_call}
 
 -- A record says the call of its kind. There is no case for the rig, and none for a number that is no kind.
 pub data Says (r : Record) : TableCall → Type 0 where
@@ -15,7 +15,6 @@ pub data Says (r : Record) : TableCall → Type 0 where
   says-withdrawal : r.call.kind ≡ withdraw_kind → Says r (withdraw r.call.clock r.call.ticket)
   says-clock : r.call.kind ≡ clock_kind → Says r (clock r.call.clock)
   says-declaration : r.call.kind ≡ declaration_kind → Says r (declare r.call.client r.call.reserved r.call.limit)
-  says-set : r.call.kind ≡ set_kind → Says r (claim_set r.call.clock r.call.client (set_members r.members))
   says-grace : r.call.kind ≡ grace_kind → Says r (set_grace r.call.grace)
 
 -- No records; or the rig, and behind it records that each say the call of their kind.

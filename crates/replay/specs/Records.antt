@@ -1,22 +1,14 @@
 -- What the records of a load do to a table: as the load format reads them (load, Reading) they are calls of the rules (rules, Calls).
 -- Quotations are from document 01, and from document 02 where a request is named.
-use Rattle.std.specs.Prelude.{Bool, true, ◌&&◌, ◌||◌, cond, List, map, ℕ, ltb, leb, eqb}
+use Rattle.std.specs.Prelude.{Bool, true, ◌&&◌, ◌||◌, cond, List, ℕ, ltb, leb, eqb}
 use Rattle.numbers.specs.Numbers.{dark_number, edition_number, overlong_number}
-use Rattle.rules.specs.Calls.{Model, Step, Call as TableCall, Member as SetMember, claim, claim_set, release, withdraw, clock, declare, set_grace, step, blank, new}
-use Rattle.format.specs.Records.{Member, Record}
-use Rattle.format.specs.Format.{rig_kind, claim_kind, release_kind, withdraw_kind, declaration_kind, set_kind, grace_kind}
+use Rattle.rules.specs.Calls.{Model, Step, Call as TableCall, claim, release, withdraw, clock, declare, set_grace, step, blank, new}
+use Rattle.format.specs.Records.{Record}
+use Rattle.format.specs.Format.{rig_kind, claim_kind, release_kind, withdraw_kind, declaration_kind, grace_kind}
 use Rattle.load.specs.Reading.{edition_of}
 
--- A record's members as those of a set: all of them, in their order.
-abbrev pub set_member : Member → SetMember
-set_member p = record { groups = p.groups; length = p.length }
-
-unfoldable pub set_members : List Member → List SetMember
-set_members ps = map set_member ps
-
 -- The call of the table that a record says: "2 claim", "3 release", "4 withdraw", "5 clock", "a kind 6 record of desk, guarantee and limit"
--- (P4), "kind 7: clock 8, desk 1, count 1, then groups 8 and length 4 for each member" (P8), and "kind 8, the grace in four bytes" (P6). (The
--- reader gives no other kind: specs/RecordKinds.)
+-- (P4), and "kind 8, the grace in four bytes" (P6). (The reader gives no other kind: specs/RecordKinds.)
 unfoldable pub says_call : Record → TableCall
 says_call r =
     let c = r.call in
@@ -24,9 +16,8 @@ says_call r =
     (cond (eqb c.kind release_kind) (release c.clock c.ticket)
     (cond (eqb c.kind withdraw_kind) (withdraw c.clock c.ticket)
     (cond (eqb c.kind declaration_kind) (declare c.client c.reserved c.limit)
-    (cond (eqb c.kind set_kind) (claim_set c.clock c.client (set_members r.members))
     (cond (eqb c.kind grace_kind) (set_grace c.grace)
-    (clock c.clock))))))
+    (clock c.clock)))))
 
 -- The table before the rig. No call is made on it.
 abbrev pub unrigged : Model

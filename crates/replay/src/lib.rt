@@ -3,11 +3,11 @@ ghost use Rattle.std.specs.Prelude.{◌≡◌, ◌≤◌, length};
 ghost use Rattle.numbers.specs.Numbers.{most_bytes};
 ghost use Rattle.rules.specs.Tables.{model};
 ghost use Rattle.numerals.specs.Laid.{Put};
-ghost use Rattle.load.specs.Reading.{edition_of, members_at, record_at, walk};
+ghost use Rattle.format.specs.Records.{record_of};
+ghost use Rattle.load.specs.Reading.{walk};
 ghost use Rattle.table.specs.Valid.{Valid};
 ghost use Rattle.table.specs.Outcomes.{outcome};
 ghost use Rattle.replay.specs.Records.{alone_in, step_of, ending, unrigged};
-ghost use Rattle.replay.specs.Handing.{handed};
 ghost use Rattle.replay.specs.Replay.{replay_in, replay_of, replayed};
 ghost use Rattle.replay.specs.StopLine.{stop_line};
 
@@ -16,63 +16,13 @@ use load::Item;
 use rules::{Request, Table};
 use table::Outcome;
 
-// ── the edition ──
-
-// The edition of a load; 0 for one without bytes.
-fn edition_of(load: &[u8]) -> u8
-    ensures { result ≡ edition_of load.now }
-{
-    if load.len() == 0 {
-        return 0;
-    }
-    load[0]
-}
-
-// Whether a load is of an edition without declarations, in which client 1 alone is declared.
-pub fn alone_in(load: &[u8]) -> bool
-    ensures { result ≡ alone_in load.now }
-{
-    edition_of(load) < 3
-}
-
-// ── the members of a set ──
-
-// They are handed to the table as two arrays: how many there are, and the groups and the lengths of the first eight.
-#[derive(Drop)]
-pub struct Handed {
-    pub count: usize,
-    pub groups: [u64; 8],
-    pub lengths: [u32; 8],
-}
-
-// The members of the record with a call at a position. Cost: eight reads of groups and of lengths, however many there are.
-pub fn members_at(load: &[u8], at: usize, call: Call) -> Handed
-    ensures { result ≡ handed (members_at load.now at call) }
-{
-    let mut groups = [0u64; 8];
-    let mut lengths = [0u32; 8];
-    let mut i: usize = 0;
-    while i < 8 {
-        groups[i] = load::member_groups(load, at, call, i);
-        lengths[i] = load::member_length(load, at, call, i);
-        i += 1;
-    }
-    let edition = edition_of(load);
-    let count = format::members_of(edition, call.kind, call.count);
-    Handed {
-        count: count,
-        groups: groups,
-        lengths: lengths,
-    }
-}
-
 // ── a record ──
 
-// What the record with a call at a position of a load does to a table, by its kind: the call of the table that it says. `alone` is for the rig:
-// client 1 alone is declared. Release and withdrawal are one call site: the compiler then makes no copy of the table for either.
-pub fn act(t: Table, alone: bool, load: &[u8], at: usize, call: Call) -> Outcome
+// What a record does to a table, by its kind: the call of the table that it says. `alone` is for the rig: client 1 alone is declared. Release
+// and withdrawal are one call site: the compiler then makes no copy of the table for either.
+pub fn act(t: Table, alone: bool, call: Call) -> Outcome
     requires { Valid t }
-    ensures { (result ≡ outcome (step_of alone (model t) (record_at load.now at call))) × Valid result.table }
+    ensures { (result ≡ outcome (step_of alone (model t) (record_of call))) × Valid result.table }
 {
     let kind = call.kind;
     match kind {
@@ -93,15 +43,19 @@ pub fn act(t: Table, alone: bool, load: &[u8], at: usize, call: Call) -> Outcome
             call.ticket,
         ),
         kinds::DECLARATION => table::declare(t, call.client, call.reserved, call.limit),
-        kinds::SET => {
-            let set = members_at(load, at, call);
-            let groups = set.groups;
-            let lengths = set.lengths;
-            table::claim_set(t, call.clock, call.client, set.count, groups, lengths)
-        }
         kinds::GRACE => table::set_grace(t, call.grace),
         _ => table::clock(t, call.clock),
     }
+}
+
+// Whether a load is of an edition without declarations, in which client 1 alone is declared.
+pub fn alone_in(load: &[u8]) -> bool
+    ensures { result ≡ alone_in load.now }
+{
+    if load.len() == 0 {
+        return true;
+    }
+    load[0] < 3
 }
 
 // ── the stop ──
@@ -156,7 +110,7 @@ fn replay_records(load: &[u8]) -> Replayed
     loop {
         match load::record_at(load, at) {
             Item::Record(call, next) => {
-                let o = act(t, alone, load, at, call);
+                let o = act(t, alone, call);
                 let stop = ending_of(nth, o.number);
                 if stop != 0 {
                     return Replayed {

@@ -1,12 +1,11 @@
 -- Every call keeps the shares booked. Packing and granting leave each claim its client, so only a claim, a leave and a declaration matter.
 use mathlib.Core.Path.{◌≡◌, refl, sym, ◌∙◌, ap, subst}
 use mathlib.Core.Logic.{inl, inr, ◌≢◌}
-use mathlib.Core.Bool.{true, false, not}
-use mathlib.Core.List.{List, [], ◌∷◌, ◌++◌, map, map-append, append-nil, append_assoc}
-use Prim.Native.Nat.{ℕ, suc, ◌+◌, ◌≤◌, ◌<◌}
+use mathlib.Core.Bool.{false, not}
+use mathlib.Core.List.{List, [], ◌∷◌, ◌++◌, map}
+use Prim.Native.Nat.{ℕ, ◌<◌}
 use native.Mathlib.Omega.{arith}
-use lib.Dec.{eqb}
-use lib.ListN.{length, length-map, length-append}
+use lib.ListN.{length, length-map}
 use Rattle.numbers.specs.Numbers.{full_number, most_pending}
 use Rattle.rules.specs.declared.Claim.{Claim}
 use Rattle.rules.specs.declared.Request.{Request}
@@ -15,20 +14,23 @@ use Rattle.rules.specs.declared.Setting.{Setting}
 use Rattle.rules.specs.Packing.{packed_start, moved, pack}
 use Rattle.rules.specs.Granting.{granted, grant}
 use Rattle.rules.specs.Shares.{share_of, pending_of, unfilled_by_others, with_share, share}
-use Rattle.rules.specs.Tests.{first_number, full_for, named}
-use Rattle.rules.specs.Calls.{Model, setting_of, clients_of, full_to, members, starting, taken, in_turn, lead_of, disband, ruled, Call, claim, claim_set, Member, asks_of, tests, advance, plain, finish, join, remove, admit, declared, step}
+use Rattle.rules.specs.Tests.{full_for, named}
+use Rattle.rules.specs.Calls.{Model, setting_of, clients_of, ruled, Call, claim, tests, advance, plain, finish, join, remove, admit, declared, step}
 use Rattle.rules.specs.Invariants.{Invariant, Booked, IsBooked}
-use Rattle.rules.proofs.Lists.{Each, here, there, map_each}
-use Rattle.rules.proofs.Tests.{Never, never}
+use Rattle.rules.proofs.Tests.{never}
 use Rattle.rules.proofs.Packing.{moved-cases}
 use Rattle.rules.proofs.Granting.{granted-cases}
-use Rattle.rules.proofs.Shares.{claim-books, leaving-books, declare-books, pending-more, below-not-full}
-use Rattle.rules.proofs.Calls.{Admissible, turned, step-number, Declarable, placed, Leaves, by-release, by-withdraw, by-clock, unissued-none, step-cases}
+use Rattle.rules.proofs.Shares.{claim-books, leaving-books, declare-books, claim-room, below-not-full}
+use Rattle.rules.proofs.Calls.{Admissible, step-number, Declarable, placed, Leaves, by-release, by-withdraw, by-clock, unissued-none, step-cases}
 
 -- ── each claim keeps its client ──
 clients-map : (f : Claim → Claim) → ((c : Claim) → (f c).client ≡ c.client) → (ps : List Claim) → clients_of (map f ps) ≡ clients_of ps
 clients-map f h [] = refl
 clients-map f h (c ∷ ps) = rw (h c, clients-map f h ps)
+
+clients-snoc : (ps : List Claim) (w : Claim) → clients_of (ps ++ (w ∷ [])) ≡ clients_of ps ++ (w.client ∷ [])
+clients-snoc [] w = refl
+clients-snoc (c ∷ ps) w = ap (λ (ks : List ℕ). c.client ∷ ks) (clients-snoc ps w)
 
 pub pack-clients : (v : Setting) (ps : List Claim) → clients_of (pack v ps) ≡ clients_of ps
 unfolding pack
@@ -60,13 +62,9 @@ pub remove-booked : (m : Model) (k : ℕ) → IsBooked m → IsBooked (remove m 
 unfolding remove
 remove-booked m k b = leaving-books (λ c. c.client) (λ c. not (named k c)) m.pending m.shares b
 
-pub disband-booked : (m : Model) (k : ℕ) → IsBooked m → IsBooked (disband m k)
-unfolding disband
-disband-booked m k b = leaving-books (λ c. c.client) (λ c. not (eqb c.lead (lead_of k m.pending))) m.pending m.shares b
-
 pub leaves-booked : {m : Model} {c : Call} {t k : ℕ} {q : Model} → Leaves m c t k q → IsBooked (advance m t) → IsBooked q
-leaves-booked {m} (by-release t k h) b = remove-booked (advance m t) k b
-leaves-booked {m} (by-withdraw t k) b = disband-booked (advance m t) k b
+leaves-booked {m} (by-release t k) b = remove-booked (advance m t) k b
+leaves-booked {m} (by-withdraw t k) b = remove-booked (advance m t) k b
 leaves-booked (by-clock t) b = b
 
 pub finish-shares : (m : Model) (r : Reply) → (finish m r).model.shares ≡ m.shares
@@ -74,67 +72,44 @@ unfolding finish
 finish-shares m r = refl
 
 pub leaves-shares : {m : Model} {c : Call} {t k : ℕ} {q : Model} → Leaves m c t k q → q.shares ≡ m.shares
-unfolding remove disband advance
-leaves-shares (by-release t k h) = refl
+unfolding remove advance
+leaves-shares (by-release t k) = refl
 leaves-shares (by-withdraw t k) = refl
 leaves-shares (by-clock t) = refl
 
 -- What the test for 6 says, of the clients.
-room_of : (m : Model) (ask : Request) → (full_to m ask.client).fails ≡ false
+room_of : (m : Model) (t : ℕ) (ask : Request) → Admissible m t ask
     → (let ks = clients_of m.pending in
     (full_for (share_of m.shares ask.client) (pending_of ks ask.client) (length ks) (unfilled_by_others m.shares ks ask.client)).fails ≡ false)
-room_of m ask a =
+room_of m t ask a =
     let ks = clients_of m.pending in
     ap (λ n. (full_for (share_of m.shares ask.client) (pending_of ks ask.client) n (unfilled_by_others m.shares ks ask.client)).fails)
-    (length-map m.pending (λ c. c.client)) ∙ a
+    (length-map m.pending (λ c. c.client)) ∙ a.room
 
--- The clients of new claims.
-abbrev pub askers : List Request → List ℕ
-askers asks = map (λ (a : Request). a.client) asks
-
-members-clients : (L s k : ℕ) (asks : List Request) → clients_of (members L s k asks) ≡ askers asks
-unfolding members
-members-clients L s k [] = refl
-members-clients L s k (ask ∷ asks) = ap (λ (ks : List ℕ). ask.client ∷ ks) (members-clients L s (suc k) asks)
-
-taken-clients : (m : Model) (ask : Request) → clients_of (taken m ask).pending ≡ clients_of m.pending ++ (ask.client ∷ [])
-unfolding join members
-taken-clients m ask = map-append (λ (c : Claim). c.client) m.pending (starting m (ask ∷ []) m.clock)
-
--- Each that comes in its turn is booked; and finds a place.
-turns-book : (m : Model) (asks : List Request) → Each (λ a. (share_of m.shares a.client).declared ≡ true) asks → first_number (in_turn m asks) ≡ 0 → IsBooked m
-    → Booked m.shares (clients_of m.pending ++ askers asks)
+join-clients : (m : Model) (t : ℕ) (ask : Request)
+    → clients_of (join (advance m t) (placed (advance m t) ask)).pending ≡ clients_of m.pending ++ (ask.client ∷ [])
 unfolding join
-turns-book m [] known e b = subst (Booked m.shares) (sym (append-nil (clients_of m.pending))) b
-turns-book m (ask ∷ asks) known e b =
-    let r = turned m ask asks e in
-    let one : IsBooked (taken m ask) =
-    subst (Booked m.shares) (sym (taken-clients m ask)) (claim-books m.shares (clients_of m.pending) ask.client b (known ask here) (room_of m ask r.room) r.limited) in
-    subst (Booked m.shares) (ap (λ (ks : List ℕ). ks ++ askers asks) (taken-clients m ask) ∙ append_assoc (clients_of m.pending) (ask.client ∷ []) (askers asks))
-    (turns-book (taken m ask) asks (λ a i. known a (there i)) r.next one)
-
-join-clients : (m : Model) (t : ℕ) (asks : List Request) → clients_of (join (advance m t) (placed (advance m t) asks)).pending ≡ clients_of m.pending ++ askers asks
-unfolding join
-join-clients m t asks =
+join-clients m t ask =
     let q : Model = advance m t in
-    map-append (λ (c : Claim). c.client) q.pending (placed q asks) ∙ ap (λ (ks : List ℕ). ks ++ clients_of (placed q asks)) (advance-clients m t)
-    ∙ ap (λ (ks : List ℕ). clients_of m.pending ++ ks) (members-clients (suc q.issued) _ q.issued asks)
+    clients-snoc q.pending (placed q ask) ∙ ap (λ (ks : List ℕ). ks ++ (ask.client ∷ [])) (advance-clients m t)
 
-pub admit-clients : (m : Model) (t : ℕ) (asks : List Request) → clients_of (admit (advance m t) asks).model.pending ≡ clients_of m.pending ++ askers asks
+pub admit-clients : (m : Model) (t : ℕ) (ask : Request) → clients_of (admit (advance m t) ask).model.pending ≡ clients_of m.pending ++ (ask.client ∷ [])
 unfolding admit
-admit-clients m t asks = finish-clients (join (advance m t) (placed (advance m t) asks)) _ ∙ join-clients m t asks
+admit-clients m t ask = finish-clients (join (advance m t) (placed (advance m t) ask)) _ ∙ join-clients m t ask
 
-pub admit-shares : (m : Model) (t : ℕ) (asks : List Request) → (admit (advance m t) asks).model.shares ≡ m.shares
+pub admit-shares : (m : Model) (t : ℕ) (ask : Request) → (admit (advance m t) ask).model.shares ≡ m.shares
 unfolding admit join advance finish
-admit-shares m t asks = refl
+admit-shares m t ask = refl
 
-pub join-booked : (m : Model) (t : ℕ) (asks : List Request) → Admissible m t asks → IsBooked m → IsBooked (join (advance m t) (placed (advance m t) asks))
+pub join-booked : (m : Model) (t : ℕ) (ask : Request) → Admissible m t ask → IsBooked m → IsBooked (join (advance m t) (placed (advance m t) ask))
 unfolding join advance
-join-booked m t asks a b = subst (Booked m.shares) (sym (join-clients m t asks)) (turns-book m asks a.known a.turns b)
+join-booked m t ask a b =
+    subst (Booked m.shares) (sym (join-clients m t ask))
+    (claim-books m.shares (clients_of m.pending) ask.client b a.known (room_of m t ask a) a.limited)
 
-admit-booked : (m : Model) (t : ℕ) (asks : List Request) → Admissible m t asks → IsBooked m → IsBooked (admit (advance m t) asks).model
+admit-booked : (m : Model) (t : ℕ) (ask : Request) → Admissible m t ask → IsBooked m → IsBooked (admit (advance m t) ask).model
 unfolding admit
-admit-booked m t asks a b = finish-booked (join (advance m t) (placed (advance m t) asks)) _ (join-booked m t asks a b)
+admit-booked m t ask a b = finish-booked (join (advance m t) (placed (advance m t) ask)) _ (join-booked m t ask a b)
 
 pub declare-booked : (m : Model) → Invariant m → (c r l : ℕ) → Declarable m c r l → IsBooked m → IsBooked (declared m c r l)
 declare-booked m i c r l d b =
@@ -143,20 +118,14 @@ declare-booked m i c r l d b =
 
 pub step-booked : (m : Model) (c : Call) → Invariant m → IsBooked m → IsBooked (step m c).model
 step-booked m c i b =
-    step-cases (λ d s. IsBooked s.model) m (λ d n z. b) (λ d t asks f a. admit-booked m t asks a b)
+    step-cases (λ d s. IsBooked s.model) m (λ d n z. b) (λ t ask a. admit-booked m t ask a b)
     (λ d t k q o v. finish-booked q (plain k t) (leaves-booked v (advance-booked m t b)))
     (λ d r l e. declare-booked m i d r l e b) (λ n e. b) c
 
--- Claims that are accepted find a place each.
-pub room-left : (m : Model) (t : ℕ) (asks : List Request) → Admissible m t asks → IsBooked m → length m.pending + length asks ≤ most_pending
-room-left m t asks a b =
-    omega (
-      arith,
-      (turns-book m asks a.known a.turns b).room,
-      length-append (clients_of m.pending) (askers asks),
-      length-map m.pending (λ (c : Claim). c.client),
-      length-map asks (λ (a : Request). a.client),
-    )
+-- A claim that is accepted finds a place.
+pub room-left : (m : Model) (t : ℕ) (ask : Request) → Admissible m t ask → IsBooked m → length m.pending < most_pending
+room-left m t ask a b =
+    omega (arith, claim-room m.shares (clients_of m.pending) ask.client b (room_of m t ask a), length-map m.pending (λ (c : Claim). c.client))
 
 -- "A desk below its guarantee never meets 6."
 pub below-never-full : (m : Model) (t : ℕ) (ask : Request) → pending_of (clients_of m.pending) ask.client < (share_of m.shares ask.client).reserved
@@ -188,38 +157,3 @@ below-never-full m t ask h e =
       ),
     )
     (sym (step-number m (claim t ask)) ∙ e)
-
--- Nor does a set that it fills with.
-turns-never-full : (m : Model) (c : ℕ) (asks : List Request) → Each (λ a. a.client ≡ c) asks
-    → pending_of (clients_of m.pending) c + length asks ≤ (share_of m.shares c).reserved → Never full_number (in_turn m asks)
-unfolding in_turn join
-turns-never-full m c [] own h = λ z. omega arith
-turns-never-full m c (ask ∷ asks) own h =
-    let ks = clients_of m.pending in
-    let s = share_of m.shares c in
-    let e = own ask here in
-    let more : pending_of (clients_of (taken m ask).pending) c ≡ pending_of ks c + 1 =
-    ap (λ (l : List ℕ). pending_of l c) (taken-clients m ask) ∙ ap (λ (k : ℕ). pending_of (ks ++ (k ∷ [])) c) e ∙ pending-more ks c in (
-      inl (ap (λ (k : ℕ). (full_to m k).fails) e ∙ below-not-full s (pending_of ks c) (length m.pending) (unfilled_by_others m.shares ks c) (omega arith)),
-      (inr (λ z. omega arith), (inr (λ z. omega arith), turns-never-full (taken m ask) c asks (λ a i. own a (there i)) (omega arith))),
-    )
-
-pub set_never_full : (m : Model) (t c : ℕ) (ms : List Member) → pending_of (clients_of m.pending) c + length ms ≤ (share_of m.shares c).reserved
-    → (step m (claim_set t c ms)).answer.number ≢ full_number
-unfolding tests
-set_never_full m t c ms h e =
-    let n : length (asks_of c ms) ≡ length ms = length-map ms _ in
-    never full_number (tests m (claim_set t c ms)) (
-      inr (λ z. omega arith),
-      (
-        inr (λ z. omega arith),
-        (
-          inr (λ z. omega arith),
-          (
-            inr (λ z. omega arith),
-            (inr (λ z. omega arith), (inr (λ z. omega arith), (inr (λ z. omega arith), (inr (λ z. omega arith), turns-never-full m c (asks_of c ms) (map_each (λ (a : Request). a.client ≡ c) _ ms (λ p i. refl)) (omega arith))))),
-          ),
-        ),
-      ),
-    )
-    (sym (step-number m (claim_set t c ms)) ∙ e)

@@ -15,12 +15,12 @@ use Rattle.rules.specs.declared.Claim.{Claim}
 use Rattle.rules.specs.declared.Setting.{Setting}
 use Rattle.rules.specs.Lists.{◌∈◌, sum, any, keep, Distinct}
 use Rattle.rules.specs.Claims.{on, at, end_of}
-use Rattle.rules.specs.Order.{reach_in, meets}
+use Rattle.rules.specs.Order.{meets}
 use Rattle.rules.specs.Plans.{Ascending, HeldUp}
 use Rattle.rules.specs.Invariants.{Settled, Invariant}
 use Rattle.rules.specs.Tests.{first_number, named, unknown, already_on}
 use Rattle.rules.specs.Calls.{Model, setting_of, at_chain, looks, tests, step}
-use Rattle.rules.specs.Chains.{links, link, chain_within, chain, ChainValues, chain_refused, chain_tickets, chain_of, TrueLink, TrueChain, adds, Chained}
+use Rattle.rules.specs.Chains.{counts_as, links, link, chain_within, chain, ChainValues, chain_refused, chain_tickets, chain_of, TrueLink, TrueChain, adds, Explains, Chained}
 use Rattle.rules.proofs.Bools.{and_l, and_r, and_i, clash, by-test}
 use Rattle.rules.proofs.Lists.{Each, none, any-i, any_none, any_false, any_some, first-e, ascends-first, keep-lt, keep-length}
 use Rattle.rules.proofs.Claims.{end-wait, end_ge}
@@ -28,16 +28,17 @@ use Rattle.rules.proofs.Order.{ascending-same}
 use Rattle.rules.proofs.Lookup.{none_named, one-named, look-number}
 
 -- ── links ──
-pub links-e : (v : Setting) (ps : List Claim) (c w : Claim) → links v ps c w ≡ true → (end_of v c ≡ at w) × (meets (reach_in ps w.lead) c w ≡ true)
+pub links-e : (v : Setting) (ps : List Claim) (c w : Claim) → links v ps c w ≡ true → (end_of v c ≡ at w) × (meets c (counts_as ps w) ≡ true)
 unfolding links
 links-e v ps c w h = (eqb-true _ _ (and_l (eqb (end_of v c) (at w)) _ h), and_r (eqb (end_of v c) (at w)) _ h)
 
-pub links-i : (v : Setting) (ps : List Claim) (c w : Claim) → end_of v c ≡ at w → meets (reach_in ps w.lead) c w ≡ true → links v ps c w ≡ true
+pub links-i : (v : Setting) (ps : List Claim) (c w : Claim) → end_of v c ≡ at w → meets c (counts_as ps w) ≡ true → links v ps c w ≡ true
 unfolding links
 links-i v ps c w e h = and_i (eqb (end_of v c) (at w)) _ (eq-eqb _ _ e) h
 
 -- What holds a claim up is linked to.
 held-up-links : (v : Setting) (ps : List Claim) (w : Claim) → HeldUp v ps w → (c : Claim) × c ∈ ps × (links v ps c w ≡ true)
+unfolding counts_as
 held-up-links v ps w h = (h.0, h.1, links-i v ps h.0 w h.3 h.2)
 
 -- A chain ends at a claim that is on.

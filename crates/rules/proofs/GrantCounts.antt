@@ -1,13 +1,11 @@
 -- How many tickets a call names as granted: no more than are then pending, and over calls no more than were issued, since a claim is
 -- granted once.
-use mathlib.Core.Path.{◌≡◌, refl, ap}
+use mathlib.Core.Path.{◌≡◌, refl}
 use mathlib.Core.Bool.{Bool, not, cond}
 use mathlib.Core.List.{List, [], ◌∷◌, ◌++◌, map}
-use Prim.Native.Nat.{ℕ, suc, ◌+◌, ◌-◌, ◌≤◌}
+use Prim.Native.Nat.{ℕ, ◌+◌, ◌-◌, ◌≤◌}
 use native.Mathlib.Omega.{arith}
-use lib.Dec.{eqb}
 use lib.ListN.{length, length-map}
-use Rattle.numbers.specs.Numbers.{most_members}
 use Rattle.rules.specs.declared.Claim.{Claim}
 use Rattle.rules.specs.declared.Request.{Request}
 use Rattle.rules.specs.Lists.{sum, keep}
@@ -15,16 +13,14 @@ use Rattle.rules.specs.declared.Setting.{Setting}
 use Rattle.rules.specs.Claims.{on}
 use Rattle.rules.specs.Packing.{packed_start, moved, pack}
 use Rattle.rules.specs.Granting.{goes, granted, grant, grants}
-use Rattle.rules.specs.Placing.{place_all}
 use Rattle.rules.specs.Tests.{named}
 use Rattle.rules.specs.declared.Reply.{Reply}
-use Rattle.rules.specs.Calls.{Model, setting_of, ruled, claims, claims_set, releases, withdraws, moves_clock, Call, timed, looks, sets_up, Step, unchanged, advance, declared, with_grace, plain, finish, join, fresh, remove, lead_of, disband, admit, step, blank, new}
+use Rattle.rules.specs.Calls.{Model, setting_of, ruled, Call, Step, unchanged, advance, declared, with_grace, plain, finish, join, remove, admit, step, blank, new}
 use Rattle.rules.proofs.Bools.{by-test}
-use Rattle.rules.proofs.Lists.{keep-length, sum-append}
+use Rattle.rules.proofs.Lists.{keep-length}
 use Rattle.rules.proofs.Packing.{moved-phase}
 use Rattle.rules.proofs.Granting.{goes-wait, granted-cases}
-use Rattle.rules.proofs.Members.{asks-length, members-length}
-use Rattle.rules.proofs.Calls.{placed, Leaves, by-release, by-withdraw, by-clock, Issues, by-claim, by_set, step-cases, new-cases}
+use Rattle.rules.proofs.Calls.{placed, Leaves, by-release, by-withdraw, by-clock, step-cases, new-cases}
 
 -- 1 for a claim that waits.
 abbrev waits : Claim → ℕ
@@ -55,14 +51,10 @@ unfolding waiting_in sum keep
 waiting-keep p [] = omega arith
 waiting-keep p (c ∷ ps) = let h = waiting-keep p ps in by-test (p c) (λ e. rw e (omega arith)) (λ e. rw e (omega arith))
 
-waiting_few : (ws : List Claim) → waiting_in ws ≤ length ws
+waiting-snoc : (ps : List Claim) (w : Claim) → waiting_in (ps ++ (w ∷ [])) ≤ waiting_in ps + 1
 unfolding waiting_in sum
-waiting_few [] = omega arith
-waiting_few (w ∷ ws) = let h = waiting_few ws in by-test (on w) (λ e. rw e (omega arith)) (λ e. rw e (omega arith))
-
-waiting-append : (ps ws : List Claim) → waiting_in (ps ++ ws) ≤ waiting_in ps + length ws
-unfolding waiting_in
-waiting-append ps ws = omega (arith, sum-append waits ps ws, waiting_few ws)
+waiting-snoc [] w = by-test (on w) (λ e. rw e (omega arith)) (λ e. rw e (omega arith))
+waiting-snoc (c ∷ ps) w = omega (arith, waiting-snoc ps w)
 
 -- What goes on waits no longer.
 waiting-grant : (v : Setting) (qs ps : List Claim) → length (keep (goes v qs) ps) + waiting_in (map (granted v qs) ps) ≤ waiting_in ps
@@ -79,33 +71,11 @@ pub record Counted (m : Model) (s : Step) : Type 0 where
   pub few : length s.answer.grants ≤ length s.model.pending
   -- Those named, and those that still wait, waited before or were issued by the call.
   pub once : length s.answer.grants + waiting s.model ≤ waiting m + (s.model.issued - m.issued)
-  -- A call issues eight tickets at most.
-  pub issues_few : s.model.issued - m.issued ≤ most_members
-
--- How many tickets a call asks for.
-abbrev pub tickets_asked : Call → ℕ
-tickets_asked (timed t (claims ask)) = 1
-tickets_asked (timed t (claims_set c ms)) = length ms
-tickets_asked (timed t (releases k)) = 0
-tickets_asked (timed t (withdraws k)) = 0
-tickets_asked (timed t moves_clock) = 0
-tickets_asked (looks q) = 0
-tickets_asked (sets_up p) = 0
-
-issues-asked : {c : Call} {t : ℕ} {asks : List Request} → Issues c t asks → length asks ≤ tickets_asked c
-issues-asked (by-claim t ask) = omega arith
-issues-asked (by_set t c ms) = omega (arith, asks-length c ms)
-
-finish-issued : (q : Model) (r : Reply) → (finish q r).model.issued ≡ q.issued
-unfolding finish
-finish-issued q r = refl
+  -- A call issues one ticket at most.
+  pub issues_few : s.model.issued - m.issued ≤ 1
 
 module _ (m : Model) where
-  admit-issued : (t : ℕ) (asks : List Request) → (admit (advance m t) asks).model.issued ≡ m.issued + length asks
-  unfolding admit finish join advance
-  admit-issued t asks = ap (λ (n : ℕ). m.issued + n) (members-length (suc m.issued) (place_all (setting_of (advance m t)) (advance m t).pending (fresh (advance m t) asks)) m.issued asks)
-
-  finish-counted : (q : Model) (r : Reply) → waiting q ≤ waiting m + (q.issued - m.issued) → q.issued - m.issued ≤ most_members → Counted m (finish q r)
+  finish-counted : (q : Model) (r : Reply) → waiting q ≤ waiting m + (q.issued - m.issued) → q.issued - m.issued ≤ 1 → Counted m (finish q r)
   unfolding waiting finish grant grants
   finish-counted q r h i =
       let v = setting_of q in
@@ -122,17 +92,16 @@ module _ (m : Model) where
   waiting-advance t = waiting-pack (ruled m t) m.pending
 
   waiting-left : {c : Call} {t k : ℕ} {q : Model} → Leaves m c t k q → (waiting q ≤ waiting m) × (q.issued ≡ m.issued)
-  unfolding waiting advance remove disband
-  waiting-left (by-release t k h) = (omega (arith, waiting-keep (λ c. not (named k c)) (advance m t).pending, waiting-advance t), refl)
-  waiting-left (by-withdraw t k) = (omega (arith, waiting-keep (λ c. not (eqb c.lead (lead_of k (advance m t).pending))) (advance m t).pending, waiting-advance t), refl)
+  unfolding waiting advance remove
+  waiting-left (by-release t k) = (omega (arith, waiting-keep (λ c. not (named k c)) (advance m t).pending, waiting-advance t), refl)
+  waiting-left (by-withdraw t k) = (omega (arith, waiting-keep (λ c. not (named k c)) (advance m t).pending, waiting-advance t), refl)
   waiting-left (by-clock t) = (omega (arith, waiting-advance t), refl)
 
-  admit-counted : (t : ℕ) (asks : List Request) → length asks ≤ most_members → Counted m (admit (advance m t) asks)
+  admit-counted : (t : ℕ) (ask : Request) → Counted m (admit (advance m t) ask)
   unfolding waiting admit join advance
-  admit-counted t asks few =
+  admit-counted t ask =
       let q = advance m t in
-      let l = members-length (suc q.issued) (place_all (setting_of q) q.pending (fresh q asks)) q.issued asks in
-      finish-counted (join q (placed q asks)) _ (omega (arith, waiting-append q.pending (placed q asks), waiting-advance t, l)) (omega (arith, l))
+      finish-counted (join q (placed q ask)) _ (omega (arith, waiting-snoc q.pending (placed q ask), waiting-advance t)) (omega arith)
 
   declare-counted : (c r l : ℕ) → Counted m (unchanged (declared m c r l) 0)
   unfolding waiting
@@ -146,18 +115,9 @@ module _ (m : Model) where
   step-counted c =
       step-cases (λ d s. Counted m s) m
       (λ d n z. record { few = omega arith; once = omega arith; issues_few = omega arith })
-      (λ d t asks f a. admit-counted t asks a.few)
+      (λ t ask a. admit-counted t ask)
       (λ d t k q o v. let l = waiting-left v in finish-counted q (plain k t) (omega (arith, l.0)) (omega (arith, l.1)))
       (λ c r l d. declare-counted c r l) (λ n d. grace-counted n) c
-
-  -- It issues no more tickets than it asks for.
-  pub step-asked : (c : Call) → (step m c).model.issued - m.issued ≤ tickets_asked c
-  step-asked c =
-      step-cases (λ d s. s.model.issued - m.issued ≤ tickets_asked d) m
-      (λ d n z. omega arith)
-      (λ d t asks f a. omega (arith, admit-issued t asks, issues-asked f))
-      (λ d t k q o v. omega (arith, (waiting-left v).1, finish-issued q (plain k t)))
-      (λ c r l d. omega arith) (λ n d. omega arith) c
 
   -- A new table has nothing pending.
   pub new-counted : (g k : ℕ) (alone : Bool) → Counted m (new g k alone)

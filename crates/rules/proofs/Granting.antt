@@ -4,34 +4,31 @@ use mathlib.Core.Path.{◌≡◌, refl, sym, ◌∙◌, ap, subst}
 use mathlib.Core.Logic.{◌⊎◌, inl, inr, ⊎_elim, ◌≢◌}
 use mathlib.Core.Bool.{Bool, true, false, not, ◌&&◌, ◌||◌, cond}
 use mathlib.Core.List.Memᴰ
-use mathlib.Core.List.{List, ◌∷◌, ◌++◌, map, map-append}
+use mathlib.Core.List.{List, [], ◌∷◌, ◌++◌, map, map-append}
 use Prim.Native.Nat.{ℕ, zero, suc, ◌+◌, ◌≤◌, ◌<◌}
 use native.Mathlib.Omega.{arith}
 use lib.ListN.{length, length-map}
 use lib.Dec.{ltb, leb, eqb}
 use borrow.Author.Tests.{ltb-true, ltb-false, lt-ltb, le-ltb, leb-true, leb-false, eqb-true, eqb-false, eq-eqb, not-true}
-use Rattle.groups.specs.Groups.{shares}
 use Rattle.rules.specs.declared.Claim.{Claim}
 use Rattle.rules.specs.declared.Phase.TheVariants.{On}
 use Rattle.rules.specs.Lists.{◌∈◌, any, sum, keep}
 use Rattle.rules.specs.declared.Setting.{Setting}
 use Rattle.rules.specs.Claims.{on, at, with_phase, rival, end_of}
-use Rattle.rules.specs.Order.{key, before, reach_in, bars, precedes, meets}
+use Rattle.rules.specs.Order.{key, before, precedes, meets}
 use Rattle.rules.specs.Pool.{units_at, used, held_by, held_units}
 use Rattle.rules.specs.Granting.{taken_before, truly_free, goes_within, goes, granted, grant}
-use Rattle.rules.specs.Plans.{Ascending, Sane, Mates, Sets, Apart, Separated, StartsFrom, HeldUp, Tight, Blocked, Behind, Earliest}
+use Rattle.rules.specs.Plans.{Ascending, Sane, Apart, Separated, StartsFrom, HeldUp, Tight, Blocked, Behind, Earliest}
 use Rattle.rules.proofs.Bools.{by-test, by_order, clash, and_l, and_r, and_i, or-e, or_l, or-fl, or-fr, both_ways, same?}
-use Rattle.rules.proofs.Lists.{Each, here, there, any_none, any_some, any-cong, keep-e, keep-i, append-each, map-i, map_each, map-each2, map-cong, sum-le, sum-zero, sum-cong, sum_both, sum-map, sum-keep, sum-gap, sum-but, sum-append, ascends-around}
+use Rattle.rules.proofs.Lists.{Each, here, there, any_none, any_some, any-cong, keep-e, keep-i, snoc-each, map-i, map_each, map-each2, map-cong, sum-le, sum-zero, sum-cong, sum_both, sum-map, sum-keep, sum-gap, sum-but, sum-snoc, sum-append, ascends-around}
 use Rattle.rules.proofs.Claims.{conflicts-sym, end-wait, end-clock, end-no-overrun}
-use Rattle.rules.proofs.Order.{before_on, before-key, before-lt, alike-before, bars-own, keys-differ, either-before, by_key, last_of, meets-shares, meets-units, meets-none, before-precedes, precedes-bars, precedes-e, precedes-on, precedes-before, ends-precedes, ascending-same}
+use Rattle.rules.proofs.Order.{before_on, before-key, before-lt, keys-differ, either-before, by_key, last_of, meets-rival, meets-units, meets-none, before-precedes, precedes-conflicts, precedes-e, precedes-on, precedes-before, ends-precedes, ascending-same}
 use Rattle.rules.proofs.Pool.{units-is, units_mono}
-use Rattle.rules.proofs.Reach.{reach-map, reach-left}
-use Rattle.rules.proofs.Packing.{member_of}
 
 -- ── who goes on ──
 -- What goes on at its turn: its start is the clock, nothing precedes it, and by p its units are free.
 abbrev pub turn : Setting → List Claim → (Claim → Bool) → Claim → Bool
-turn v ps p w = (not (on w) && eqb (at w) v.clock) && (not (any (λ d. precedes ps d w) ps) && truly_free v ps p w)
+turn v ps p w = (not (on w) && eqb (at w) v.clock) && (not (any (λ d. precedes d w) ps) && truly_free v ps p w)
 
 within_on : (j : ℕ) (v : Setting) (ps : List Claim) (c : Claim) → on c ≡ true → goes_within j v ps c ≡ false
 unfolding goes_within
@@ -61,7 +58,7 @@ free-cong v ps p q w h =
 
 pub turn-cong : (v : Setting) (ps : List Claim) (p q : Claim → Bool) (w : Claim) → Each (λ c. before c w ≡ true → p c ≡ q c) ps → turn v ps p w ≡ turn v ps q w
 turn-cong v ps p q w h =
-    ap (λ (b : Bool). (not (on w) && eqb (at w) v.clock) && (not (any (λ d. precedes ps d w) ps) && b)) (free-cong v ps p q w h)
+    ap (λ (b : Bool). (not (on w) && eqb (at w) v.clock) && (not (any (λ d. precedes d w) ps) && b)) (free-cong v ps p q w h)
 
 enough : (j k : ℕ) (v : Setting) (ps : List Claim) (w : Claim) → key w < j → key w < k → goes_within j v ps w ≡ goes_within k v ps w
 unfolding goes_within
@@ -90,7 +87,7 @@ module _ (v : Setting) (ps : List Claim) (c : Claim) (e : goes v ps c ≡ true) 
   goes-due : (not (on c) && eqb (at c) v.clock) ≡ true
   goes-due = and_l (not (on c) && eqb (at c) v.clock) _ (sym (goes-eq v ps c) ∙ e)
 
-  goes-open : (not (any (λ d. precedes ps d c) ps) && truly_free v ps (goes v ps) c) ≡ true
+  goes-open : (not (any (λ d. precedes d c) ps) && truly_free v ps (goes v ps) c) ≡ true
   goes-open = and_r (not (on c) && eqb (at c) v.clock) _ (sym (goes-eq v ps c) ∙ e)
 
   pub goes-wait : on c ≡ false
@@ -100,11 +97,11 @@ module _ (v : Setting) (ps : List Claim) (c : Claim) (e : goes v ps c ≡ true) 
   pub goes-at : at c ≡ v.clock
   goes-at = eqb-true _ _ (and_r (not (on c)) _ goes-due)
 
-  pub goes-free : (d : Claim) → d ∈ ps → precedes ps d c ≡ false
-  goes-free d m = any_none (λ x. precedes ps x c) (not-true (any (λ x. precedes ps x c) ps) (and_l (not (any (λ x. precedes ps x c) ps)) _ goes-open)) m
+  pub goes-free : (d : Claim) → d ∈ ps → precedes d c ≡ false
+  goes-free d m = any_none (λ x. precedes x c) (not-true (any (λ x. precedes x c) ps) (and_l (not (any (λ x. precedes x c) ps)) _ goes-open)) m
 
   pub goes-truly-free : truly_free v ps (goes v ps) c ≡ true
-  goes-truly-free = and_r (not (any (λ x. precedes ps x c) ps)) _ goes-open
+  goes-truly-free = and_r (not (any (λ x. precedes x c) ps)) _ goes-open
 
   -- Its units are free beside those held and those of the grants before it.
   pub goes-spare : 0 < c.units → held_units ps + sum (taken_before (goes v ps) c) ps + c.units ≤ v.pool
@@ -117,15 +114,15 @@ module _ (v : Setting) (ps : List Claim) (c : Claim) (e : goes v ps c ≡ true) 
 
 -- Why a claim whose start is the clock stays.
 pub data Stays (v : Setting) (ps : List Claim) (w : Claim) : Type 0 where
-  preceded : (d : Claim) → d ∈ ps → precedes ps d w ≡ true → Stays v ps w
+  preceded : (d : Claim) → d ∈ ps → precedes d w ≡ true → Stays v ps w
   unspared : 0 < w.units → v.pool < held_units ps + sum (taken_before (goes v ps) w) ps + w.units → Stays v ps w
 
 pub stays : (v : Setting) (ps : List Claim) (w : Claim) → goes v ps w ≡ false → on w ≡ false → at w ≡ v.clock → Stays v ps w
 unfolding truly_free
 stays v ps w e o c =
-    let f : (not (any (λ d. precedes ps d w) ps) && truly_free v ps (goes v ps) w) ≡ false = simp (o, eq-eqb (at w) v.clock c) at (sym (goes-eq v ps w) ∙ e) in
-    by-test (any (λ d. precedes ps d w) ps)
-    (λ q. let r = any_some (λ x. precedes ps x w) ps q in preceded r.0 r.1 r.2)
+    let f : (not (any (λ d. precedes d w) ps) && truly_free v ps (goes v ps) w) ≡ false = simp (o, eq-eqb (at w) v.clock c) at (sym (goes-eq v ps w) ∙ e) in
+    by-test (any (λ d. precedes d w) ps)
+    (λ q. let r = any_some (λ x. precedes x w) ps q in preceded r.0 r.1 r.2)
     (λ q.
     let h : (eqb w.units 0 || leb (held_units ps + sum (taken_before (goes v ps) w) ps + w.units) v.pool) ≡ false = rw q at f in
     let z = eqb-false w.units 0 (or-fl (eqb w.units 0) _ h) in
@@ -146,9 +143,6 @@ granted-cases P v ps c f g = by-test (goes v ps c) (λ e. rw (granted-go v ps c 
 pub granted-ticket : (v : Setting) (ps : List Claim) (c : Claim) → (granted v ps c).ticket ≡ c.ticket
 granted-ticket v ps c = granted-cases (λ (x : Claim). x.ticket ≡ c.ticket) v ps c (λ p. refl) (λ p. refl)
 
-pub granted-lead : (v : Setting) (ps : List Claim) (c : Claim) → (granted v ps c).lead ≡ c.lead
-granted-lead v ps c = granted-cases (λ (x : Claim). x.lead ≡ c.lead) v ps c (λ p. refl) (λ p. refl)
-
 -- Granting leaves the number beside a claim: what goes on had the clock for its start.
 pub granted-at : (v : Setting) (ps : List Claim) (c : Claim) → at (granted v ps c) ≡ at c
 granted-at v ps c = granted-cases (λ (x : Claim). at x ≡ at c) v ps c (λ g. sym (goes-at v ps c g)) (λ g. refl)
@@ -157,24 +151,11 @@ pub grant-length : (v : Setting) (ps : List Claim) → length (grant v ps) ≡ l
 unfolding grant
 grant-length v ps = length-map ps (granted v ps)
 
--- Sets are led by the same tickets, and have the same groups.
-pub reach-granted : (v : Setting) (ps : List Claim) (k : ℕ) → reach_in (grant v ps) k ≡ reach_in ps k
-unfolding grant
-reach-granted v ps k =
-    reach-map (granted v ps) (λ c. granted-cases (λ (x : Claim). x.lead ≡ c.lead) v ps c (λ g. refl) (λ g. refl))
-    (λ c. granted-cases (λ (x : Claim). x.groups ≡ c.groups) v ps c (λ g. refl) (λ g. refl)) ps k
-
-pub bars-granted : (v : Setting) (ps : List Claim) (c w : Claim) → bars (grant v ps) c w ≡ bars ps c w
-bars-granted v ps c w = ap (shares c.groups) (reach-granted v ps w.lead)
-
 -- What precedes a waiting claim still does, and the claim still waits.
-pub grant-precedes : (v : Setting) (ps : List Claim) (c w : Claim) → c ∈ ps → precedes ps c w ≡ true → (granted v ps w ≡ w) × (precedes (grant v ps) (granted v ps c) w ≡ true)
-unfolding precedes
+pub grant-precedes : (v : Setting) (ps : List Claim) (c w : Claim) → c ∈ ps → precedes c w ≡ true → (granted v ps w ≡ w) × (precedes (granted v ps c) w ≡ true)
 grant-precedes v ps c w m p = (
   granted-cases (λ (x : Claim). x ≡ w) v ps w (λ g. clash p (goes-free v ps w g c m)) (λ g. refl),
-  granted-cases (λ (x : Claim). precedes (grant v ps) x w ≡ true) v ps c
-      (λ g. precedes-on (grant v ps) (with_phase c (On v.clock)) w (bars-granted v ps c w ∙ precedes-bars ps c w p) refl)
-      (λ g. ap (λ (n : ℕ). shares c.groups n && (on c || ltb (at c) (at w))) (reach-granted v ps w.lead) ∙ p),
+  granted-cases (λ (x : Claim). precedes x w ≡ true) v ps c (λ g. precedes-on (with_phase c (On v.clock)) w (precedes-conflicts c w p) refl) (λ g. p),
 )
 
 -- Its end is not changed by going on.
@@ -198,38 +179,30 @@ unfolding grant used
 grant-uses v ps x l = sum-map (units_at v x) (granted v ps) ps ∙ sum-cong (λ c. units_at v x (granted v ps c)) (units_at v x) ps (λ c m. granted-uses v ps x l c)
 
 -- ── who goes on, in the order of tickets ──
--- All that go on start at the clock, so those that draw units and are before w, which draws units and starts there too, are those of smaller
--- tickets.
-pub taken-ticket : (v : Setting) (ps : List Claim) (w c : Claim) → Sane v c → Sane v w → 0 < w.units → at w ≡ v.clock
+-- All that go on start at the clock, so those before w, which starts there too, are those of smaller tickets.
+pub taken-ticket : (v : Setting) (ps : List Claim) (w c : Claim) → Sane v c → Sane v w → at w ≡ v.clock
     → taken_before (goes v ps) w c ≡ cond (goes v ps c && ltb c.ticket w.ticket) c.units 0
-taken-ticket v ps w c s r z a =
+taken-ticket v ps w c s r a =
     by-test (goes v ps c)
     (λ g.
     let q = goes-at v ps c g in
-    let e = r.single z in
-    by_order c.units 0
-    (λ n. by-test (ltb c.ticket w.ticket)
-    (λ l. rw (g, l) (by-test (before c w) (λ b. taken-before (goes v ps) w c b ∙ rw g) (λ b. omega (arith, taken-after (goes v ps) w c b))))
-    (λ l. rw (g, l) (by-test (before c w) (λ b. let t : taken_before (goes v ps) w c ≡ c.units = taken-before (goes v ps) w c b ∙ rw g in omega arith) (λ b. taken-after (goes v ps) w c b))))
-    (λ n.
-    let f = s.single n in
     by-test (ltb c.ticket w.ticket)
     (λ l. rw (g, l) (taken-before (goes v ps) w c (before-key c w (omega (arith, ltb-true c.ticket w.ticket l))) ∙ rw g))
     (λ l. rw (g, l) (by-test (before c w)
     (λ b. absurd (omega (arith, before-lt c w b (goes-wait v ps c g), ltb-false c.ticket w.ticket l)))
-    (λ b. taken-after (goes v ps) w c b)))))
+    (λ b. taken-after (goes v ps) w c b))))
     (λ g. rw g (by-test (before c w) (λ b. taken-before (goes v ps) w c b ∙ rw g) (λ b. taken-after (goes v ps) w c b)))
 
 -- So among claims in ascending order of ticket they are those in front of it.
 pub taken-front : (v : Setting) (front back : List Claim) (w : Claim)
     → (let ps = front ++ (w ∷ back) in
-    Each (Sane v) ps → Ascending ps → 0 < w.units → at w ≡ v.clock → sum (taken_before (goes v ps) w) ps ≡ sum (λ c. cond (goes v ps c) c.units 0) front)
+    Each (Sane v) ps → Ascending ps → at w ≡ v.clock → sum (taken_before (goes v ps) w) ps ≡ sum (λ c. cond (goes v ps c) c.units 0) front)
 unfolding sum
-taken-front v front back w sane ascending z a =
+taken-front v front back w sane ascending a =
     let ps = front ++ (w ∷ back) in
     let r = ascends-around (λ (c : Claim). c.ticket) front back w ascending in
     let at-ticket : (c : Claim) → c ∈ ps → taken_before (goes v ps) w c ≡ cond (goes v ps c && ltb c.ticket w.ticket) c.units 0
-    = λ c m. taken-ticket v ps w c (sane c m) (sane w (Memᴰ.append_right front here)) z a in
+    = λ c m. taken-ticket v ps w c (sane c m) (sane w (Memᴰ.append_right front here)) a in
     omega (
       arith,
       sum-append (taken_before (goes v ps) w) front (w ∷ back),
@@ -251,109 +224,106 @@ taken-front v front back w sane ascending z a =
 -- ── who goes on in a packed plan ──
 module _ (v : Setting) (ps : List Claim) (low : StartsFrom v.clock ps) where
   -- A claim that starts at the clock is preceded only by holders. So one pass over them tells of all what precedes it.
-  pub preceded-quick : (c : Claim) → at c ≡ v.clock → any (λ d. precedes ps d c) ps ≡ any (λ d. on d && bars ps d c) ps
-  preceded-quick c a = any-cong (λ d. precedes ps d c) (λ d. on d && bars ps d c) ps (λ d k. both_ways _ _ (there' d k) (back d))
+  pub preceded-quick : (c : Claim) → at c ≡ v.clock → any (λ d. precedes d c) ps ≡ any (λ d. on d && rival d c) ps
+  preceded-quick c a = any-cong (λ d. precedes d c) (λ d. on d && rival d c) ps (λ d k. both_ways _ _ (there' d k) (back d))
     where
-      there' : (d : Claim) → d ∈ ps → precedes ps d c ≡ true → (on d && bars ps d c) ≡ true
+      there' : (d : Claim) → d ∈ ps → precedes d c ≡ true → (on d && rival d c) ≡ true
       there' d k p =
           by-test (on d)
-          (λ q. and_i (on d) _ q (precedes-bars ps d c p))
-          (λ q. ⊎_elim (λ z. clash z q) (λ z. absurd (omega (arith, low d k q))) (precedes-e ps d c p))
+          (λ q. and_i (on d) _ q (precedes-conflicts d c p))
+          (λ q. ⊎_elim (λ z. clash z q) (λ z. absurd (omega (arith, low d k q))) (precedes-e d c p))
 
-      back : (d : Claim) → (on d && bars ps d c) ≡ true → precedes ps d c ≡ true
-      back d z = precedes-on ps d c (and_r (on d) _ z) (and_l (on d) _ z)
+      back : (d : Claim) → (on d && rival d c) ≡ true → precedes d c ≡ true
+      back d z = precedes-on d c (and_r (on d) _ z) (and_l (on d) _ z)
 
   pub goes-quick : (c : Claim)
-      → goes v ps c ≡ (not (on c) && (eqb (at c) v.clock && (not (any (λ d. on d && bars ps d c) ps) && truly_free v ps (goes v ps) c)))
+      → goes v ps c ≡ (not (on c) && (eqb (at c) v.clock && (not (any (λ d. on d && rival d c) ps) && truly_free v ps (goes v ps) c)))
   goes-quick c =
       goes-eq v ps c
       ∙ by-test (on c)
       (λ o. rw o)
       (λ o. by-test (eqb (at c) v.clock) (λ e. rw (o, e, preceded-quick c (eqb-true _ _ e))) (λ e. rw (o, e)))
 
-  -- More waiting claims, at the clock or later and with first tickets above the others', change nothing for them.
-  pub grant-append : (ws : List Claim) → Each (λ w. (on w ≡ false) × (v.clock ≤ at w) × Each (λ c. c.lead < w.lead) ps) ws
-      → grant v (ps ++ ws) ≡ grant v ps ++ map (granted v (ps ++ ws)) ws
-  unfolding grant truly_free held_units precedes
-  grant-append ws new =
-      map-append (granted v (ps ++ ws)) ps ws
-      ∙ ap (λ (l : List Claim). l ++ map (granted v (ps ++ ws)) ws) (map-cong (granted v (ps ++ ws)) (granted v ps) ps (λ c m. same c (alike c m)))
+  -- One waiting claim more, at the clock or later and with a ticket above the others', changes nothing for them.
+  pub grant-snoc : Each (Sane v) ps → (w : Claim) → on w ≡ false → v.clock ≤ at w → Each (λ c. c.ticket < w.ticket) ps
+      → grant v (ps ++ (w ∷ [])) ≡ grant v ps ++ (granted v (ps ++ (w ∷ [])) w ∷ [])
+  unfolding grant truly_free held_units
+  grant-snoc sane w o h above =
+      map-append (granted v (ps ++ (w ∷ []))) ps (w ∷ [])
+      ∙ ap (λ (l : List Claim). l ++ (granted v (ps ++ (w ∷ [])) w ∷ [])) (map-cong (granted v (ps ++ (w ∷ []))) (granted v ps) ps (λ c m. same c (alike c m)))
     where
-      -- The new claims neither precede one that starts at the clock nor go before it, and hold nothing.
-      same_turn : (c : Claim) → c ∈ ps → ((d : Claim) → d ∈ ps → before d c ≡ true → goes v (ps ++ ws) d ≡ goes v ps d)
-          → at c ≡ v.clock → (not (any (λ d. precedes (ps ++ ws) d c) (ps ++ ws)) && truly_free v (ps ++ ws) (goes v (ps ++ ws)) c)
-          ≡ (not (any (λ d. precedes ps d c) ps) && truly_free v ps (goes v ps) c)
+      -- The new claim neither precedes one that starts at the clock nor goes before it, and holds nothing.
+      same_turn : (c : Claim) → c ∈ ps → ((d : Claim) → d ∈ ps → before d c ≡ true → goes v (ps ++ (w ∷ [])) d ≡ goes v ps d)
+          → at c ≡ v.clock → (not (any (λ d. precedes d c) (ps ++ (w ∷ []))) && truly_free v (ps ++ (w ∷ [])) (goes v (ps ++ (w ∷ []))) c)
+          ≡ (not (any (λ d. precedes d c) ps) && truly_free v ps (goes v ps) c)
       same_turn c m ih a = rw (one, two)
         where
-          never : Each (λ w. precedes ps w c ≡ false) ws
-          never w k = by-test (precedes ps w c) (λ q. ⊎_elim (λ z. clash z (new w k).0) (λ z. absurd (omega (arith, (new w k).1))) (precedes-e ps w c q)) (λ q. q)
+          never : precedes w c ≡ false
+          never = by-test (precedes w c) (λ q. ⊎_elim (λ z. clash z o) (λ z. absurd (omega arith)) (precedes-e w c q)) (λ q. q)
 
-          alike-precedes : (d : Claim) → precedes (ps ++ ws) d c ≡ precedes ps d c
-          alike-precedes d = ap (λ (n : ℕ). shares d.groups n && (on d || ltb (at d) (at c))) (reach-left ps ws c.lead (λ w k e. omega (arith, (new w k).2 c m)))
+          one : any (λ d. precedes d c) (ps ++ (w ∷ [])) ≡ any (λ d. precedes d c) ps
+          one = both_ways _ _
+              (λ e. let r = any_some (λ d. precedes d c) (ps ++ (w ∷ [])) e in by-test (any (λ d. precedes d c) ps) (λ z. z) (λ z. clash r.2 (snoc-each (λ (d : Claim). precedes d c ≡ false) ps w (λ d k. any_none (λ d. precedes d c) z k) never r.0 r.1)))
+              (λ e. let r = any_some (λ d. precedes d c) ps e in by-test (any (λ d. precedes d c) (ps ++ (w ∷ []))) (λ z. z) (λ z. clash r.2 (any_none (λ d. precedes d c) z (Memᴰ.append_left (w ∷ []) r.1))))
 
-          one : any (λ d. precedes (ps ++ ws) d c) (ps ++ ws) ≡ any (λ d. precedes ps d c) ps
-          one = any-cong (λ d. precedes (ps ++ ws) d c) (λ d. precedes ps d c) (ps ++ ws) (λ d k. alike-precedes d) ∙ both_ways _ _
-              (λ e. let r = any_some (λ d. precedes ps d c) (ps ++ ws) e in by-test (any (λ d. precedes ps d c) ps) (λ z. z) (λ z. clash r.2 (append-each (λ (d : Claim). precedes ps d c ≡ false) ps ws (λ d k. any_none (λ d. precedes ps d c) z k) never r.0 r.1)))
-              (λ e. let r = any_some (λ d. precedes ps d c) ps e in by-test (any (λ d. precedes ps d c) (ps ++ ws)) (λ z. z) (λ z. clash r.2 (any_none (λ d. precedes ps d c) z (Memᴰ.append_left ws r.1))))
+          after : before w c ≡ false
+          after = by-test (before w c) (λ b. absurd (omega (arith, before-lt w c b o, above c m))) (λ b. b)
 
-          after : Each (λ w. before w c ≡ false) ws
-          after w k = by-test (before w c) (λ b. absurd (omega (arith, before-lt w c b (new w k).0, (new w k).1, (new w k).2 c m))) (λ b. b)
-
-          two : (eqb c.units 0 || leb (sum held_by (ps ++ ws) + sum (taken_before (goes v (ps ++ ws)) c) (ps ++ ws) + c.units) v.pool)
+          two : (eqb c.units 0 || leb (sum held_by (ps ++ (w ∷ [])) + sum (taken_before (goes v (ps ++ (w ∷ []))) c) (ps ++ (w ∷ [])) + c.units) v.pool)
               ≡ (eqb c.units 0 || leb (sum held_by ps + sum (taken_before (goes v ps) c) ps + c.units) v.pool)
           two =
-              let x = sum-zero held_by ws (λ w k. rw (new w k).0) in
-              let y = sum-zero (taken_before (goes v (ps ++ ws)) c) ws (λ w k. taken-after (goes v (ps ++ ws)) c w (after w k)) in
-              let s = sum-append held_by ps ws in
-              let t = sum-append (taken_before (goes v (ps ++ ws)) c) ps ws in
-              let u = sum-cong (taken_before (goes v (ps ++ ws)) c) (taken_before (goes v ps) c) ps (λ d k. taken-cong (goes v (ps ++ ws)) (goes v ps) c d (ih d k)) in
-              let e : sum held_by (ps ++ ws) + sum (taken_before (goes v (ps ++ ws)) c) (ps ++ ws) ≡ sum held_by ps + sum (taken_before (goes v ps) c) ps = omega arith in
+              let x : held_by w ≡ 0 = rw o in
+              let y = taken-after (goes v (ps ++ (w ∷ []))) c w after in
+              let s = sum-snoc held_by ps w in
+              let t = sum-snoc (taken_before (goes v (ps ++ (w ∷ []))) c) ps w in
+              let u = sum-cong (taken_before (goes v (ps ++ (w ∷ []))) c) (taken_before (goes v ps) c) ps (λ d k. taken-cong (goes v (ps ++ (w ∷ []))) (goes v ps) c d (ih d k)) in
+              let e : sum held_by (ps ++ (w ∷ [])) + sum (taken_before (goes v (ps ++ (w ∷ []))) c) (ps ++ (w ∷ [])) ≡ sum held_by ps + sum (taken_before (goes v ps) c) ps = omega arith in
               ap (λ (n : ℕ). eqb c.units 0 || leb (n + c.units) v.pool) e
 
-      waits : (c : Claim) → c ∈ ps → on c ≡ false → goes v (ps ++ ws) c ≡ goes v ps c
-      waits = by_key (λ (c : Claim). goes v (ps ++ ws) c ≡ goes v ps c) ps (λ c m q ih.
-          goes-eq v (ps ++ ws) c
+      waits : (c : Claim) → c ∈ ps → on c ≡ false → goes v (ps ++ (w ∷ [])) c ≡ goes v ps c
+      waits = by_key (λ (c : Claim). goes v (ps ++ (w ∷ [])) c ≡ goes v ps c) ps (λ c m q ih.
+          goes-eq v (ps ++ (w ∷ [])) c
           ∙ by-test (eqb (at c) v.clock)
-          (λ e. rw (q, e) (same_turn c m (λ d k b. by-test (on d) (λ z. goes_on v (ps ++ ws) d z ∙ sym (goes_on v ps d z)) (λ z. ih d k z b)) (eqb-true _ _ e)))
+          (λ e. rw (q, e) (same_turn c m (λ d k b. by-test (on d) (λ z. goes_on v (ps ++ (w ∷ [])) d z ∙ sym (goes_on v ps d z)) (λ z. ih d k z b)) (eqb-true _ _ e)))
           (λ e. rw (q, e))
           ∙ sym (goes-eq v ps c))
 
-      alike : (c : Claim) → c ∈ ps → goes v (ps ++ ws) c ≡ goes v ps c
-      alike c m = by-test (on c) (λ q. goes_on v (ps ++ ws) c q ∙ sym (goes_on v ps c q)) (waits c m)
+      alike : (c : Claim) → c ∈ ps → goes v (ps ++ (w ∷ [])) c ≡ goes v ps c
+      alike c m = by-test (on c) (λ q. goes_on v (ps ++ (w ∷ [])) c q ∙ sym (goes_on v ps c q)) (waits c m)
 
-      same : (c : Claim) → goes v (ps ++ ws) c ≡ goes v ps c → granted v (ps ++ ws) c ≡ granted v ps c
+      same : (c : Claim) → goes v (ps ++ (w ∷ [])) c ≡ goes v ps c → granted v (ps ++ (w ∷ [])) c ≡ granted v ps c
       same c e =
-          granted-cases (λ (x : Claim). x ≡ granted v ps c) v (ps ++ ws) c
+          granted-cases (λ (x : Claim). x ≡ granted v ps c) v (ps ++ (w ∷ [])) c
           (λ g. sym (granted-go v ps c (sym e ∙ g)))
           (λ g. sym (granted-stay v ps c (sym e ∙ g)))
 
 -- Of a claim that draws no units, in a packed plan: "Every waiting claim that no pending claim precedes goes on at the call's clock."
 pub goes-documented : (v : Setting) (ps : List Claim) → Tight v ps → Each (Sane v) ps → (c : Claim) → c ∈ ps → c.units ≡ 0
-    → goes v ps c ≡ (not (on c) && not (any (λ d. precedes ps d c) ps))
+    → goes v ps c ≡ (not (on c) && not (any (λ d. precedes d c) ps))
 unfolding truly_free
 goes-documented v ps tight sane c m z = goes-eq v ps c ∙ both_ways _ _ there' back
   where
     free : truly_free v ps (goes v ps) c ≡ true
     free = or_l (eqb c.units 0) _ (eq-eqb c.units 0 z)
 
-    there' : turn v ps (goes v ps) c ≡ true → (not (on c) && not (any (λ d. precedes ps d c) ps)) ≡ true
+    there' : turn v ps (goes v ps) c ≡ true → (not (on c) && not (any (λ d. precedes d c) ps)) ≡ true
     there' e =
         and_i (not (on c)) _
         (and_l (not (on c)) _ (and_l (not (on c) && eqb (at c) v.clock) _ e))
-        (and_l (not (any (λ d. precedes ps d c) ps)) _ (and_r (not (on c) && eqb (at c) v.clock) _ e))
+        (and_l (not (any (λ d. precedes d c) ps)) _ (and_r (not (on c) && eqb (at c) v.clock) _ e))
 
-    back : (not (on c) && not (any (λ d. precedes ps d c) ps)) ≡ true → turn v ps (goes v ps) c ≡ true
+    back : (not (on c) && not (any (λ d. precedes d c) ps)) ≡ true → turn v ps (goes v ps) c ≡ true
     back e =
         let q = and_l (not (on c)) _ e in
         let o = not-true (on c) q in
         let n = and_r (not (on c)) _ e in
         let a : at c ≡ v.clock = ⊎_elim (λ p. p)
-        (λ h. clash (ends-precedes v ps h.0 c (sane h.0 h.1) (meets-none (reach_in ps c.lead) h.0 c z h.2) (omega (arith, h.3))) (any_none (λ d. precedes ps d c) (not-true (any (λ d. precedes ps d c) ps) n) h.1))
+        (λ h. clash (ends-precedes v h.0 c (sane h.0 h.1) (meets-none h.0 c z h.2) (omega (arith, h.3))) (any_none (λ d. precedes d c) (not-true (any (λ d. precedes d c) ps) n) h.1))
         (tight c m o) in
-        and_i (not (on c) && eqb (at c) v.clock) _ (and_i (not (on c)) _ q (eq-eqb (at c) v.clock a)) (and_i (not (any (λ d. precedes ps d c) ps)) _ n free)
+        and_i (not (on c) && eqb (at c) v.clock) _ (and_i (not (on c)) _ q (eq-eqb (at c) v.clock a)) (and_i (not (any (λ d. precedes d c) ps)) _ n free)
 
 -- ── granting keeps within the pool ──
-module _ (v : Setting) (ps : List Claim) (sane : Each (Sane v) ps) (ascending : Ascending ps) (sets : Sets ps) where
+module _ (v : Setting) (ps : List Claim) (sane : Each (Sane v) ps) (ascending : Ascending ps) where
   -- Look at the last, in the order of granting, that goes on and draws units.
   pub grant-stock : held_units ps ≤ v.pool → held_units (grant v ps) ≤ v.pool
   unfolding grant held_units
@@ -385,9 +355,8 @@ module _ (v : Setting) (ps : List Claim) (sane : Each (Sane v) ps) (ascending : 
       other w m h c k n =
           by-test (drawing c)
           (λ e.
+          let z = keys-differ c w (sane c k) (sane w m) n in
           let y = h c k e in
-          let u = ltb-true 0 c.units (and_r (goes v ps c) _ e) in
-          let z = keys-differ c w (sane c k) (sane w m) (λ q. omega (arith, (sets c w k m q).undrawn n)) in
           omega (arith, taken-before (goes v ps) w c (before-key c w (omega arith))))
           (λ e. omega (arith, idle c e))
 
@@ -408,21 +377,21 @@ module _ (v : Setting) (ps : List Claim) (sane : Each (Sane v) ps) (ascending : 
 pub grant-earliest : (v : Setting) (ps : List Claim) → Earliest v ps → Earliest v (grant v ps)
 unfolding grant used
 grant-earliest v ps early w m o s l k =
-    map_each (λ (x : Claim). on x ≡ false → Behind v (reach_in ps x.lead) (keep (λ c. before c x) (map (granted v ps) ps)) x s → at x ≤ s) (granted v ps) ps
-    (λ c i. granted-cases (λ (x : Claim). on x ≡ false → Behind v (reach_in ps x.lead) (keep (λ c. before c x) (map (granted v ps) ps)) x s → at x ≤ s) v ps c (λ g q. clash refl q) (λ g q b. early c i q s l (fewer c b)))
-    w m o (subst (λ (g : ℕ). Behind v g (keep (λ c. before c w) (map (granted v ps) ps)) w s) (reach-granted v ps w.lead) k)
+    map_each (λ (x : Claim). on x ≡ false → Behind v (keep (λ c. before c x) (map (granted v ps) ps)) x s → at x ≤ s) (granted v ps) ps
+    (λ c i. granted-cases (λ (x : Claim). on x ≡ false → Behind v (keep (λ c. before c x) (map (granted v ps) ps)) x s → at x ≤ s) v ps c (λ g q. clash refl q) (λ g q b. early c i q s l (fewer c b)))
+    w m o k
   where
     first : (c w : Claim) → before c w ≡ true → before (granted v ps c) w ≡ true
     first c w b = granted-cases (λ (x : Claim). before x w ≡ true) v ps c (λ g. before_on (with_phase c (On v.clock)) w refl) (λ g. b)
 
-    fewer : (w : Claim) → Behind v (reach_in ps w.lead) (keep (λ c. before c w) (map (granted v ps) ps)) w s → Behind v (reach_in ps w.lead) (keep (λ c. before c w) ps) w s
+    fewer : (w : Claim) → Behind v (keep (λ c. before c w) (map (granted v ps) ps)) w s → Behind v (keep (λ c. before c w) ps) w s
     fewer w b = record {
       after = λ c i p.
           let r = keep-e (λ c. before c w) ps i in
           omega (
             arith,
             granted-cases (λ (x : Claim). end_of v x ≡ end_of v c) v ps c (λ g. end-granted v ps c g) (λ g. refl),
-            b.after (granted v ps c) (keep-i (λ c. before c w) (first c w r.1) (map-i (granted v ps) r.0)) (granted-cases (λ (x : Claim). bars ps x w ≡ true) v ps c (λ g. p) (λ g. p)),
+            b.after (granted v ps c) (keep-i (λ c. before c w) (first c w r.1) (map-i (granted v ps) r.0)) (granted-cases (λ (x : Claim). rival x w ≡ true) v ps c (λ g. p) (λ g. p)),
           );
       spare = λ z x a e.
           omega (
@@ -443,38 +412,9 @@ grant-earliest v ps early w m o s l k =
                   by-test (before c w) (λ b. rw (b, first c w b) (omega (arith, granted-uses v ps x l c))) (λ b. rw b (omega arith))),
             )
 
--- ── granting keeps sets together ──
-module _ (v : Setting) (ps : List Claim) (ascending : Ascending ps) (sets : Sets ps) where
-  -- The claims of a set go on together.
-  pub goes-mates : (c d : Claim) → c ∈ ps → d ∈ ps → c.lead ≡ d.lead → goes v ps c ≡ goes v ps d
-  unfolding precedes truly_free
-  goes-mates c d m k e =
-      ⊎_elim (λ q. ap (goes v ps) (ascending-same ps ascending c d m k q))
-      (λ q.
-      let a = sets c d m k e in
-      let u = eq-eqb c.units 0 (a.undrawn q) in
-      let w = eq-eqb d.units 0 ((sets d c k m (sym e)).undrawn (λ z. q (sym z))) in
-      let p : any (λ x. precedes ps x c) ps ≡ any (λ x. precedes ps x d) ps = any-cong (λ x. precedes ps x c) (λ x. precedes ps x d) ps (λ x i.
-      ap (λ (n : ℕ). shares x.groups (reach_in ps n) && (on x || ltb (at x) (at c))) e ∙ ap (λ (n : ℕ). shares x.groups (reach_in ps d.lead) && (on x || ltb (at x) n)) a.start) in
-      let f : truly_free v ps (goes v ps) c ≡ true = or_l (eqb c.units 0) _ u in
-      let g : truly_free v ps (goes v ps) d ≡ true = or_l (eqb d.units 0) _ w in
-      let t : turn v ps (goes v ps) c ≡ turn v ps (goes v ps) d = cc (p, f, g, a.phase, a.start) in
-      goes-eq v ps c ∙ t ∙ sym (goes-eq v ps d))
-      (same? c.ticket d.ticket)
-
-  pub grant-sets : Sets (grant v ps)
-  unfolding grant
-  grant-sets =
-      map-each2 (λ (c d : Claim). c.lead ≡ d.lead → Mates c d) (granted v ps) ps
-      (λ c d m k. granted-cases (λ (x : Claim). x.lead ≡ (granted v ps d).lead → Mates x (granted v ps d)) v ps c
-      (λ p. granted-cases (λ (y : Claim). c.lead ≡ y.lead → Mates (with_phase c (On v.clock)) y) v ps d
-      (λ q e. let a = sets c d m k e in record { phase = refl; start = refl; apart = a.apart; undrawn = a.undrawn })
-      (λ q e. clash (sym (goes-mates c d m k e) ∙ p) q))
-      (λ p. granted-cases (λ (y : Claim). c.lead ≡ y.lead → Mates c y) v ps d (λ q e. clash (goes-mates c d m k e ∙ q) p) (λ q. sets c d m k)))
-
 -- ── granting what is packed ──
 module _ (v : Setting) (ps : List Claim) (holders : Apart v ps) (fit : Separated v ps) (low : StartsFrom v.clock ps) (tight : Tight v ps) (sane : Each (Sane v) ps)
-    (ascending : Ascending ps) (sets : Sets ps) where
+    (ascending : Ascending ps) where
   -- Where no holder of units is due, units are free as planned.
   none-due : (w : Claim) → w ∈ ps → on w ≡ false → at w ≡ v.clock → Each (λ c. on c ≡ true → 0 < c.units → v.clock < end_of v c) ps
       → held_units ps + sum (taken_before (goes v ps) w) ps + w.units ≤ v.pool
@@ -518,9 +458,9 @@ module _ (v : Setting) (ps : List Claim) (holders : Apart v ps) (fit : Separated
   pub stays-held : (w : Claim) → w ∈ ps → goes v ps w ≡ false → on w ≡ false → HeldUp v ps w
   stays-held w m g o = ⊎_elim (λ e. why e (stays v ps w g o e)) (λ h. h) (tight w m o)
     where
-      at-clock : (d : Claim) → d ∈ ps → at w ≡ v.clock → precedes ps d w ≡ true → end_of v d ≡ at w
+      at-clock : (d : Claim) → d ∈ ps → at w ≡ v.clock → precedes d w ≡ true → end_of v d ≡ at w
       at-clock d k e p =
-          let h = fit.behind d w k m o (precedes-before ps d w (sane d k) p) (precedes-bars ps d w p) in
+          let h = fit.behind d w k m o (precedes-before d w (sane d k) p) (precedes-conflicts d w p) in
           by-test (on d) (λ q. omega (arith, end-clock v d q)) (λ q. absurd (omega (arith, end-wait v d q, low d k q, (sane d k).long)))
 
       -- A holder of units whose end has come.
@@ -531,7 +471,7 @@ module _ (v : Setting) (ps : List Claim) (holders : Apart v ps) (fit : Separated
       not-due c e q z = leb-false _ _ (simp (q, lt-ltb 0 c.units z) at e)
 
       why : at w ≡ v.clock → Stays v ps w → HeldUp v ps w
-      why e (preceded d k p) = (d, k, meets-shares (reach_in ps w.lead) d w (precedes-bars ps d w p), at-clock d k e p)
+      why e (preceded d k p) = (d, k, meets-rival d w (precedes-conflicts d w p), at-clock d k e p)
       why e (unspared z l) =
           by-test (any due ps)
           (λ q.
@@ -540,25 +480,17 @@ module _ (v : Setting) (ps : List Claim) (holders : Apart v ps) (fit : Separated
           let y = and_r (on c) _ r.2 in (
             c,
             r.1,
-            meets-units (reach_in ps w.lead) c w (ltb-true 0 c.units (and_l (ltb 0 c.units) _ y)) z,
+            meets-units c w (ltb-true 0 c.units (and_l (ltb 0 c.units) _ y)) z,
             omega (arith, leb-true (end_of v c) v.clock (and_r (ltb 0 c.units) _ y), end-clock v c (and_l (on c) _ r.2)),
           ))
           (λ q. absurd (omega (arith, none-due w m o e (λ c k. not-due c (any_none due q k)))))
 
-  -- Of a claim that goes on, and another set that waits for it and stays, the one that goes on is before.
-  goes_first : (c d : Claim) → c ∈ ps → d ∈ ps → goes v ps c ≡ true → on d ≡ false → c.lead ≢ d.lead → bars ps c d ≡ true → before c d ≡ true
+  -- Of two conflicting waiting claims the one that goes on is before.
+  goes_first : (c d : Claim) → c ∈ ps → d ∈ ps → goes v ps c ≡ true → on d ≡ false → c.ticket ≢ d.ticket → rival c d ≡ true → before c d ≡ true
   goes_first c d m k g o n h =
       ⊎_elim (λ b. b)
-      (λ b.
-      let r = member_of sets c d m k o h in
-      clash
-      (before-precedes v ps fit r.mate c (sane r.mate r.is) r.is m (goes-wait v ps c g) (alike-before r.mate d c r.waits r.keyed b o) r.barring)
-      (goes-free v ps c g r.mate r.is))
+      (λ b. clash (before-precedes v ps fit d c (sane d k) k m (goes-wait v ps c g) b (conflicts-sym c d h)) (goes-free v ps c g d k))
       (either-before c d (sane c m) (sane d k) n)
-
-  -- Two that conflict are not of one set.
-  rivals-apart : (c d : Claim) → c ∈ ps → d ∈ ps → c.ticket ≢ d.ticket → rival c d ≡ true → c.lead ≢ d.lead
-  rivals-apart c d m k n h = λ e. clash h ((sets c d m k e).apart n)
 
   pub grant-apart : Apart v (grant v ps)
   unfolding grant
@@ -567,33 +499,31 @@ module _ (v : Setting) (ps : List Claim) (holders : Apart v ps) (fit : Separated
         map-each2 (λ (c d : Claim). c.ticket ≢ d.ticket → rival c d ≡ true → on c ≡ true → on d ≡ true → ⊥) (granted v ps) ps
         (λ c d m k. granted-cases (λ (x : Claim). x.ticket ≢ (granted v ps d).ticket → rival x (granted v ps d) ≡ true → on x ≡ true → on (granted v ps d) ≡ true → ⊥) v ps c
         (λ p. granted-cases (λ (y : Claim). c.ticket ≢ y.ticket → rival c y ≡ true → true ≡ true → on y ≡ true → ⊥) v ps d
-        (λ q n h a b.
-        let s = bars-own ps c d k h in
-        clash (before-precedes v ps fit c d (sane c m) m k (goes-wait v ps d q) (goes_first c d m k p (goes-wait v ps d q) (rivals-apart c d m k n h) s) s) (goes-free v ps d q c m))
-        (λ q n h a b. clash (precedes-on ps d c (bars-own ps d c m (conflicts-sym c d h)) b) (goes-free v ps c p d k)))
+        (λ q n h a b. clash (before-precedes v ps fit c d (sane c m) m k (goes-wait v ps d q) (goes_first c d m k p (goes-wait v ps d q) n h) h) (goes-free v ps d q c m))
+        (λ q n h a b. clash (precedes-on d c (conflicts-sym c d h) b) (goes-free v ps c p d k)))
         (λ p. granted-cases (λ (y : Claim). c.ticket ≢ y.ticket → rival c y ≡ true → on c ≡ true → on y ≡ true → ⊥) v ps d
-        (λ q n h a b. clash (precedes-on ps c d (bars-own ps c d k h) a) (goes-free v ps d q c m))
+        (λ q n h a b. clash (precedes-on c d h a) (goes-free v ps d q c m))
         (λ q. holders.apart c d m k)));
-    stock = grant-stock v ps sane ascending sets holders.stock;
+    stock = grant-stock v ps sane ascending holders.stock;
   }
 
   pub grant-separates : Separated v (grant v ps)
   unfolding grant used
   grant-separates = record {
     behind = λ c w mc mw o b p.
-        map-each2 (λ (c w : Claim). on w ≡ false → before c w ≡ true → bars ps c w ≡ true → end_of v c ≤ at w) (granted v ps) ps
-        (λ c w m k. granted-cases (λ (y : Claim). on y ≡ false → before (granted v ps c) y ≡ true → bars ps (granted v ps c) y ≡ true → end_of v (granted v ps c) ≤ at y) v ps w
+        map-each2 (λ (c w : Claim). on w ≡ false → before c w ≡ true → rival c w ≡ true → end_of v c ≤ at w) (granted v ps) ps
+        (λ c w m k. granted-cases (λ (y : Claim). on y ≡ false → before (granted v ps c) y ≡ true → rival (granted v ps c) y ≡ true → end_of v (granted v ps c) ≤ at y) v ps w
         (λ p q. clash refl q)
-        (λ p q. granted-cases (λ (x : Claim). before x w ≡ true → bars ps x w ≡ true → end_of v x ≤ at w) v ps c
-        (λ a b e. rw (end-granted v ps c a) (more c w m k a p q e (same? c.lead w.lead)))
+        (λ p q. granted-cases (λ (x : Claim). before x w ≡ true → rival x w ≡ true → end_of v x ≤ at w) v ps c
+        (λ a b e. rw (end-granted v ps c a) (more c w m k a p q e (same? c.ticket w.ticket)))
         (λ a b e. fit.behind c w m k q b e)))
-        c w mc mw o b (sym (bars-granted v ps c w) ∙ p);
+        c w mc mw o b p;
     supplied = λ x l. omega (arith, fit.supplied x l, grant-uses v ps x l);
   }
     where
-      more : (c w : Claim) → c ∈ ps → w ∈ ps → goes v ps c ≡ true → goes v ps w ≡ false → on w ≡ false → bars ps c w ≡ true
-          → (c.lead ≡ w.lead) ⊎ (c.lead ≢ w.lead) → end_of v c ≤ at w
-      more c w m k a p q h (inl e) = clash (sym (goes-mates v ps ascending sets c w m k e) ∙ a) p
+      more : (c w : Claim) → c ∈ ps → w ∈ ps → goes v ps c ≡ true → goes v ps w ≡ false → on w ≡ false → rival c w ≡ true
+          → (c.ticket ≡ w.ticket) ⊎ (c.ticket ≢ w.ticket) → end_of v c ≤ at w
+      more c w m k a p q h (inl e) = clash (subst (λ (x : Claim). goes v ps x ≡ true) (ascending-same ps ascending c w m k e) a) p
       more c w m k a p q h (inr n) = fit.behind c w m k q (goes_first c w m k a q n h) h
 
   pub grant-starts : StartsFrom v.clock (grant v ps)
@@ -608,13 +538,10 @@ module _ (v : Setting) (ps : List Claim) (holders : Apart v ps) (fit : Separated
       map_each (λ (x : Claim). on x ≡ false → HeldUp v (map (granted v ps) ps) x) (granted v ps) ps
       (λ w m. granted-cases (λ (x : Claim). on x ≡ false → HeldUp v (map (granted v ps) ps) x) v ps w (λ p q. clash refl q) (λ p q. hold w (stays-held w m p q)))
     where
-      same : (w : Claim) (h : HeldUp v ps w) → meets (reach_in (map (granted v ps) ps) w.lead) h.0 w ≡ true
-      same w h = ap (λ (g : ℕ). meets g h.0 w) (reach-granted v ps w.lead) ∙ h.2
-
       hold : (w : Claim) → HeldUp v ps w → HeldUp v (map (granted v ps) ps) w
       hold w h = (
         granted v ps h.0,
         map-i (granted v ps) h.1,
-        granted-cases (λ (x : Claim). meets (reach_in (map (granted v ps) ps) w.lead) x w ≡ true) v ps h.0 (λ g. same w h) (λ g. same w h),
+        granted-cases (λ (x : Claim). meets x w ≡ true) v ps h.0 (λ g. h.2) (λ g. h.2),
         granted-cases (λ (x : Claim). end_of v x ≡ at w) v ps h.0 (λ g. end-granted v ps h.0 g ∙ h.3) (λ g. h.3),
       )

@@ -4,7 +4,7 @@ use mathlib.Core.Path.{◌≡◌, refl, sym, ◌∙◌, ap}
 use mathlib.Core.Bool.{Bool, true}
 use mathlib.Core.List.{List, [], ◌∷◌, map}
 use mathlib.Core.Logic.{◌⊎◌, inl, inr, ⊎_elim}
-use Prim.Native.Nat.{ℕ, zero, suc, ◌+◌, ◌-◌, ◌≤◌}
+use Prim.Native.Nat.{ℕ, zero, suc, ◌≤◌}
 use native.Mathlib.Omega.{arith}
 use borrow.Author.Tests.{le-ltb}
 use Rattle.numbers.specs.Numbers.{most_grace}
@@ -16,24 +16,22 @@ use Rattle.rules.specs.Claims.{on, rival, end_of, remaining}
 use Rattle.rules.specs.Order.{rivals}
 use Rattle.rules.specs.Pool.{units_at, used}
 use Rattle.rules.specs.Packing.{packed_start, moved, ahead, pack, MayStart, Packs}
-use Rattle.rules.specs.Placing.{place_all, bound_all}
+use Rattle.rules.specs.Placing.{place, start_bound}
 use Rattle.rules.specs.Granting.{truly_free, goes_within, goes, granted, grant, grants}
-use Rattle.rules.specs.Tests.{Test, first_number, ticketless}
-use Rattle.rules.specs.Lists.{◌∈◌, sum}
-use Rattle.rules.specs.Plans.{Sane, Sets, PromptAt, NoOverrunAt, Spare, Fits}
+use Rattle.rules.specs.Tests.{first_number}
+use Rattle.rules.specs.Plans.{Ascending, Sane, PromptAt, NoOverrunAt, Spare, Fits}
 use Rattle.rules.specs.Invariants.{IsSpaced, Invariant}
-use Rattle.rules.specs.Calls.{Model, with_clock, with_pending, with_grace, ruled, setting_of, claims, releases, withdraws, moves_clock, declares, sets_grace, Call, timed, looks, sets_up, set_grace, is_timed, clock_of, Answer, Step, tests, unchanged, advance, plain, granting, finish, join, remove, fresh, admit, act, unless, step, blank, after, answers, claims_set, asks_of, full_to, over_of, taken, in_turn, disband}
+use Rattle.rules.specs.Calls.{Model, with_clock, with_pending, with_grace, ruled, setting_of, claims, releases, withdraws, moves_clock, declares, sets_grace, Call, timed, looks, sets_up, set_grace, is_timed, clock_of, Answer, Step, tests, unchanged, advance, plain, granting, finish, join, remove, fresh, admit, act, unless, step, blank, after, answers}
 use Rattle.rules.specs.InTime.{NoOverrunsFrom, GraceIndifferent}
 use Rattle.rules.proofs.Bools.{by-test, clash}
-use Rattle.rules.proofs.Lists.{Each, keep-e, map_each, map-cong, keep-cong, append-each, sum-cong}
+use Rattle.rules.proofs.Lists.{Each, keep-e, map_each, map-cong, keep-cong, snoc-each, sum-cong}
 use Rattle.rules.proofs.Claims.{setting, end-wait, end-no-overrun}
 use Rattle.rules.proofs.Pool.{units-same}
 use Rattle.rules.proofs.Packing.{moved-cases, moved-cong, ahead-e, Untied, separated-untied, pack-as-documented, pack-unique}
-use Rattle.rules.proofs.Placing.{places-low, places-fit, places-least}
+use Rattle.rules.proofs.Placing.{place-low, place-fits, place-least}
 use Rattle.rules.proofs.Granting.{turn-cong}
 use Rattle.rules.proofs.Invariants.{later-sane}
-use Rattle.rules.proofs.Members.{member-each}
-use Rattle.rules.proofs.Calls.{clock-passes, admissible, set-admissible, Admissible, admissible-asks, advance-asks, advance-held, released-on, advance-packed, placed, fresh-sane, join-spaced, remove-spaced, disband-spaced, step-number, step-invariant, blank-invariant}
+use Rattle.rules.proofs.Calls.{clock-passes, admissible, Admissible, advance-packed, advance-drawn, advance-spare, placed, fresh-sane, join-spaced, remove-spaced, step-number, step-invariant, blank-invariant}
 
 -- ── two graces at one clock ──
 module _ (t k d e : ℕ) where
@@ -74,7 +72,7 @@ module _ (t k d e : ℕ) (ps : List Claim) (p : NoOverrunAt t ps) where
   packs-alike : (f : Claim → ℕ) → Packs (setting t k d) ps f → Packs (setting t k e) ps f
   packs-alike f h w m o = let r = h w m o in (may-alike t k d e ps p f w (f w) r.0, λ s q. r.1 s (may-alike t k e d ps p f w s q))
 
-  pack-alike : Each (Sane (setting t k d)) ps → Sets ps → Untied ps → pack (setting t k e) ps ≡ pack (setting t k d) ps
+  pack-alike : Each (Sane (setting t k d)) ps → Ascending ps → Untied ps → pack (setting t k e) ps ≡ pack (setting t k d) ps
   unfolding pack
   pack-alike sane asc untied =
       let f = packed_start (setting t k d) ps in
@@ -82,21 +80,19 @@ module _ (t k d e : ℕ) (ps : List Claim) (p : NoOverrunAt t ps) where
       sym (map-cong (moved f) (moved (packed_start (setting t k e) ps)) ps (λ c m. moved-cong f (packed_start (setting t k e) ps) c (λ o.
       pack-unique (setting t k e) ps sane' asc untied f (packs-alike f (pack-as-documented (setting t k d) ps sane asc untied)) c m o)))
 
-  place-alike : (ws : List Claim) → Each (Sane (setting t k d)) ws → place_all (setting t k e) ps ws ≡ place_all (setting t k d) ps ws
-  place-alike ws s =
-      let s' : Each (Sane (setting t k e)) ws = λ w m. later-sane (record { later = omega arith; same = refl }) (s w m) in
+  place-alike : (w : Claim) → Sane (setting t k d) w → place (setting t k e) ps w ≡ place (setting t k d) ps w
+  place-alike w s =
+      let s' : Sane (setting t k e) w = later-sane (record { later = omega arith; same = refl }) s in
       omega (
         arith,
-        places-least (setting t k e) ps ws s' (place_all (setting t k d) ps ws) (places-low (setting t k d) ps ws) (λ w m. fits-alike t k d e ps p w _ (places-fit (setting t k d) ps ws s w m)),
-        places-least (setting t k d) ps ws s (place_all (setting t k e) ps ws) (places-low (setting t k e) ps ws) (λ w m. fits-alike t k e d ps p w _ (places-fit (setting t k e) ps ws s' w m)),
+        place-least (setting t k e) ps w s' (place (setting t k d) ps w) (place-low (setting t k d) ps w) (fits-alike t k d e ps p w _ (place-fits (setting t k d) ps w s)),
+        place-least (setting t k d) ps w s (place (setting t k e) ps w) (place-low (setting t k e) ps w) (fits-alike t k e d ps p w _ (place-fits (setting t k e) ps w s')),
       )
 
-  bound-alike : (ws : List Claim) → bound_all (setting t k e) ps ws ≡ bound_all (setting t k d) ps ws
-  unfolding bound_all remaining
-  bound-alike ws =
-      ap (λ (n : ℕ). t + n)
-      (sum-cong (λ (w : Claim). sum (λ c. remaining (setting t k e) c + (w.length - 1)) (rivals ps w)) (λ (w : Claim). sum (λ c. remaining (setting t k d) c + (w.length - 1)) (rivals ps w)) ws (λ w i.
-      sum-cong (λ (c : Claim). remaining (setting t k e) c + (w.length - 1)) (λ (c : Claim). remaining (setting t k d) c + (w.length - 1)) (rivals ps w) (λ c m. rw (end-alike t k e d c (p c (keep-e (λ c. rival c w) ps m).0)))))
+  bound-alike : (w : Claim) → start_bound (setting t k e) ps w ≡ start_bound (setting t k d) ps w
+  unfolding start_bound remaining
+  bound-alike w =
+      rw (sum-cong (remaining (setting t k e)) (remaining (setting t k d)) (rivals ps w) (λ c m. rw (end-alike t k e d c (p c (keep-e (λ c. rival c w) ps m).0))))
 
 -- Granting does not look at the grace.
 module _ (t k d e : ℕ) (ps : List Claim) where
@@ -127,23 +123,22 @@ module _ (d : ℕ) where
   unfolding advance
   advance-alike m t i l p =
       ap (λ (ps : List Claim). with_pending (with_grace (with_clock m t) d) ps)
-      (pack-alike t m.pool m.grace d m.pending p (λ c k. later-sane (record { later = l; same = refl }) (i.spaced.proper c k).sane) i.spaced.sets
-      (separated-untied (setting_of m) m.pending (λ c k. (i.spaced.proper c k).sane) i.spaced.sets i.spaced.fit))
+      (pack-alike t m.pool m.grace d m.pending p (λ c k. later-sane (record { later = l; same = refl }) (i.spaced.proper c k).sane) i.spaced.ascending
+      (separated-untied (setting_of m) m.pending (λ c k. (i.spaced.proper c k).sane) i.spaced.fit))
 
   finish-alike : (m : Model) (r : Reply) → IsSpaced m → NoOverrunAt m.clock m.pending → finish (with_grace m d) r ≡ regraced d (finish m r)
   unfolding finish
   finish-alike m r i p =
       let sane : Each (Sane (setting_of m)) m.pending = λ c k. (i.proper c k).sane in
-      ap (granting (with_grace m d) r) (pack-alike m.clock m.pool m.grace d m.pending p sane i.sets (separated-untied (setting_of m) m.pending sane i.sets i.fit))
+      ap (granting (with_grace m d) r) (pack-alike m.clock m.pool m.grace d m.pending p sane i.ascending (separated-untied (setting_of m) m.pending sane i.fit))
       ∙ rw (grant-alike m.clock m.pool m.grace d (pack (setting_of m) m.pending), grants-alike m.clock m.pool m.grace d (pack (setting_of m) m.pending))
 
-  admit-alike : (m : Model) (asks : List Request) → Each (Sane (setting_of m)) (fresh m asks) → IsSpaced (join m (placed m asks)) → NoOverrunAt m.clock m.pending
-      → admit (with_grace m d) asks ≡ regraced d (admit m asks)
+  admit-alike : (m : Model) (ask : Request) → Sane (setting_of m) (fresh m ask) → IsSpaced (join m (placed m ask)) → NoOverrunAt m.clock m.pending
+      → admit (with_grace m d) ask ≡ regraced d (admit m ask)
   unfolding admit join
-  admit-alike m asks s i p =
-      rw (place-alike m.clock m.pool m.grace d m.pending p (fresh m asks) s, bound-alike m.clock m.pool m.grace d m.pending p (fresh m asks))
-      (finish-alike (join m (placed m asks)) _ i (append-each (PromptAt m.clock) m.pending (placed m asks) p
-      (member-each (PromptAt m.clock) (suc m.issued) _ m.issued asks (λ a j n x y o. clash o refl))))
+  admit-alike m ask s i p =
+      rw (place-alike m.clock m.pool m.grace d m.pending p (fresh m ask) s, bound-alike m.clock m.pool m.grace d m.pending p (fresh m ask))
+      (finish-alike (join m (placed m ask)) _ i (snoc-each (PromptAt m.clock) m.pending (placed m ask) p (λ o. clash o refl)))
 
   remove-alike : (m : Model) (j : ℕ) → remove (with_grace m d) j ≡ with_grace (remove m j) d
   unfolding remove
@@ -153,23 +148,9 @@ module _ (d : ℕ) where
   unfolding remove
   remove-prompt m j p c k = p c (keep-e _ m.pending k).0
 
-  disband-alike : (m : Model) (j : ℕ) → disband (with_grace m d) j ≡ with_grace (disband m j) d
-  unfolding disband
-  disband-alike m j = refl
-
-  disband-prompt : (m : Model) (j : ℕ) → NoOverrunAt m.clock m.pending → NoOverrunAt (disband m j).clock (disband m j).pending
-  unfolding disband
-  disband-prompt m j p c k = p c (keep-e _ m.pending k).0
-
-  turns-alike : (m : Model) (asks : List Request) → in_turn (with_grace m d) asks ≡ in_turn m asks
-  unfolding in_turn join
-  turns-alike m [] = refl
-  turns-alike m (ask ∷ asks) = ap (λ (ts : List Test). full_to m ask.client ∷ over_of m ask.client ∷ ticketless m.issued ∷ ts) (turns-alike (taken m ask) asks)
-
   tests-alike : (m : Model) (c : Call) → tests (with_grace m d) c ≡ tests m c
   unfolding tests
   tests-alike m (timed t (claims ask)) = refl
-  tests-alike m (timed t (claims_set c ms)) = rw (turns-alike m (asks_of c ms))
   tests-alike m (timed t (releases j)) = refl
   tests-alike m (timed t (withdraws j)) = refl
   tests-alike m (timed t moves_clock) = refl
@@ -185,35 +166,29 @@ module _ (d : ℕ) where
     unfolding advance
     advance-prompt t p = pack-prompt (ruled m t) t m.pending p
 
-    withdraw-alike : (t j : ℕ) → m.clock ≤ t → NoOverrunAt t m.pending
-        → finish (disband (advance (with_grace m d) t) j) (plain j t) ≡ regraced d (finish (disband (advance m t) j) (plain j t))
-    withdraw-alike t j l p =
-        ap (λ (n : Model). finish (disband n j) (plain j t)) (advance-alike m t i l p) ∙ ap (λ (n : Model). finish n (plain j t)) (disband-alike (advance m t) j)
-        ∙ finish-alike (disband (advance m t) j) (plain j t) (disband-spaced (advance m t) j (advance-packed m t i l).spaced) (disband-prompt (advance m t) j (advance-prompt t p))
-
-    leave-alike : (t j : ℕ) → ((c : Claim) → c ∈ m.pending → c.ticket ≡ j → on c ≡ true) → m.clock ≤ t → NoOverrunAt t m.pending
+    leave-alike : (t j : ℕ) → m.clock ≤ t → NoOverrunAt t m.pending
         → finish (remove (advance (with_grace m d) t) j) (plain j t) ≡ regraced d (finish (remove (advance m t) j) (plain j t))
-    leave-alike t j h l p =
+    leave-alike t j l p =
         ap (λ (n : Model). finish (remove n j) (plain j t)) (advance-alike m t i l p) ∙ ap (λ (n : Model). finish n (plain j t)) (remove-alike (advance m t) j)
-        ∙ finish-alike (remove (advance m t) j) (plain j t) (remove-spaced (advance m t) j (advance-held m t j h) (advance-packed m t i l).spaced) (remove-prompt (advance m t) j (advance-prompt t p))
+        ∙ finish-alike (remove (advance m t) j) (plain j t) (remove-spaced (advance m t) j (advance-packed m t i l).spaced) (remove-prompt (advance m t) j (advance-prompt t p))
 
     clock-alike : (t : ℕ) → m.clock ≤ t → NoOverrunAt t m.pending → finish (advance (with_grace m d) t) (plain 0 t) ≡ regraced d (finish (advance m t) (plain 0 t))
     clock-alike t l p =
         ap (λ (n : Model). finish n (plain 0 t)) (advance-alike m t i l p) ∙ finish-alike (advance m t) (plain 0 t) (advance-packed m t i l).spaced (advance-prompt t p)
 
-    claim-alike : (t : ℕ) (asks : List Request) → Admissible m t asks → NoOverrunAt t m.pending → admit (advance (with_grace m d) t) asks ≡ regraced d (admit (advance m t) asks)
-    claim-alike t asks a p =
+    claim-alike : (t : ℕ) (ask : Request) → Admissible m t ask → NoOverrunAt t m.pending → admit (advance (with_grace m d) t) ask ≡ regraced d (admit (advance m t) ask)
+    claim-alike t ask a p =
         let q : Model = advance m t in
-        let h = advance-asks m t asks (admissible-asks a) in
-        ap (λ (n : Model). admit n asks) (advance-alike m t i a.clocked.later p)
-        ∙ admit-alike q asks (fresh-sane q asks h) (join-spaced q asks h (advance-packed m t i a.clocked.later).spaced) (advance-prompt t p)
+        let drawn = advance-drawn m t ask a in
+        let spare = advance-spare m t ask a in
+        ap (λ (n : Model). admit n ask) (advance-alike m t i a.clocked.later p)
+        ∙ admit-alike q ask (fresh-sane q ask a.long drawn spare) (join-spaced q ask a.long drawn spare (advance-packed m t i a.clocked.later).spaced) (advance-prompt t p)
 
     act-alike : (c : Call) → first_number (tests m c) ≡ 0 → (is_timed c ≡ true → NoOverrunAt (clock_of c) m.pending) → Alike (act (with_grace m d) c) (act m c)
     unfolding act tests
-    act-alike (timed t (claims ask)) e p = inl (claim-alike t (ask ∷ []) (admissible m t ask e) (p refl))
-    act-alike (timed t (claims_set c ms)) e p = inl (claim-alike t (asks_of c ms) (set-admissible m t c ms e) (p refl))
-    act-alike (timed t (releases j)) e p = inl (leave-alike t j (released-on m t j e) (clock-passes m t _ e).0.later (p refl))
-    act-alike (timed t (withdraws j)) e p = inl (withdraw-alike t j (clock-passes m t _ e).0.later (p refl))
+    act-alike (timed t (claims ask)) e p = inl (claim-alike t ask (admissible m t ask e) (p refl))
+    act-alike (timed t (releases j)) e p = inl (leave-alike t j (clock-passes m t _ e).0.later (p refl))
+    act-alike (timed t (withdraws j)) e p = inl (leave-alike t j (clock-passes m t _ e).0.later (p refl))
     act-alike (timed t moves_clock) e p = inl (clock-alike t (clock-passes m t _ e).0.later (p refl))
     act-alike (looks q) e p = inl refl
     act-alike (sets_up (declares c r l)) e p = inl refl

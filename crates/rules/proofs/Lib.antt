@@ -4,7 +4,6 @@ pub mod Lists
 pub mod Places
 pub mod Tests
 pub mod Claims
-pub mod Reach
 pub mod Order
 pub mod Pool
 pub mod Seeking
@@ -16,7 +15,6 @@ pub mod StartBound
 pub mod Granting
 pub mod Repacking
 pub mod Invariants
-pub mod Members
 pub mod Shares
 pub mod Calls
 pub mod Booking
@@ -26,8 +24,6 @@ pub mod NoOverrun
 pub mod Lookup
 pub mod Chains
 pub mod NoUnits
-pub mod Sets
-pub mod Followers
 pub mod OneClient
 pub mod NoGrace
 pub mod InTime

@@ -210,10 +210,7 @@ module _ {A : Type 0} where
       let r = first-e p d h m in
       by-test (p y) (λ e. rw e (here, e)) (λ e. rw e (there r.0, r.1))
 
-  -- ── one element, and one more ──
-  pub one_each : (P : A → Type 0) (x : A) → P x → Each P (x ∷ [])
-  one_each P x h y m = subst P (sym (Memᴰ.eq_of_singleton m)) h
-
+  -- ── one element more ──
   pub snoc-each : (P : A → Type 0) (l : List A) (w : A) → Each P l → P w → Each P (l ++ (w ∷ []))
   snoc-each P l w h k x m = ⊎_elim (h x) (λ i. subst P (sym (Memᴰ.eq_of_singleton i)) k) (Memᴰ.append_cases l m)
 
@@ -222,14 +219,6 @@ module _ {A : Type 0} where
       snoc-each (λ (z : A). R z y) l w
       (λ z i. snoc-each (R z) l w (λ u j. h z u i j) (f z i) y n)
       (snoc-each (R w) l w g k y n) x m
-
-  -- ── more elements ──
-  pub append-each : (P : A → Type 0) (l k : List A) → Each P l → Each P k → Each P (l ++ k)
-  append-each P l k h g x m = ⊎_elim (h x) (g x) (Memᴰ.append_cases l m)
-
-  pub append-each2 : (R : A → A → Type 0) (l k : List A) → Each2 R l → ((x y : A) → x ∈ l → y ∈ k → R x y) → ((x y : A) → x ∈ k → y ∈ l → R x y) → Each2 R k → Each2 R (l ++ k)
-  append-each2 R l k h f g i x y m n =
-      append-each (λ (z : A). R z y) l k (λ z p. append-each (R z) l k (λ u q. h z u p q) (λ u q. f z u p q) y n) (λ z p. append-each (R z) l k (λ u q. g z u p q) (λ u q. i z u p q) y n) x m
 
   pub map-id : (f : A → A) (l : List A) → Each (λ x. f x ≡ x) l → map f l ≡ l
   map-id f [] h = refl
@@ -272,6 +261,11 @@ module _ {A B : Type 0} where
   unfolding sum
   sum-map f g [] = refl
   sum-map f g (x ∷ l) = omega (arith, sum-map f g l)
+
+  pub greatest-map : (g : B → ℕ) (f : A → B) (b : ℕ) (l : List A) → greatest g b (map f l) ≡ greatest (λ x. g (f x)) b l
+  unfolding greatest
+  greatest-map g f b [] = refl
+  greatest-map g f b (x ∷ l) = rw (greatest-map g f b l)
 
 -- ── the least that passes ──
 pub least-le : (p : ℕ → Bool) (d : ℕ) {n : ℕ} {l : List ℕ} → n ∈ l → p n ≡ true → least p d l ≤ n
@@ -346,10 +340,6 @@ module _ {A : Type 0} (f : A → ℕ) where
   pub ascends-snoc : (l : List A) (w : A) → Ascends f l → Each (λ x. f x < f w) l → Ascends f (l ++ (w ∷ []))
   ascends-snoc [] w u h = (λ y m. none m, tt)
   ascends-snoc (x ∷ l) w u h = (snoc-each (λ (y : A). f x < f y) l w u.0 (h x here), ascends-snoc l w u.1 (λ y m. h y (there m)))
-
-  pub ascends-append : (l k : List A) → Ascends f l → Ascends f k → ((x y : A) → x ∈ l → y ∈ k → f x < f y) → Ascends f (l ++ k)
-  ascends-append [] k u w h = w
-  ascends-append (x ∷ l) k u w h = (append-each (λ (y : A). f x < f y) l k u.0 (λ y m. h x y here m), ascends-append l k u.1 w (λ y z m n. h y z (there m) n))
 
 -- Elements that change one by one, and keep their numbers.
 pub ascends-map : {A B : Type 0} (f : A → ℕ) (g : B → ℕ) (h : A → B) (l : List A) → ((x : A) → g (h x) ≡ f x) → Ascends f l → Ascends g (map h l)

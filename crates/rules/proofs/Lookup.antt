@@ -135,7 +135,7 @@ values_first n k ps = record { number = n; start = value_at (λ c. cond (on c) 0
 values-first : (k : ℕ) (ps : List Claim) → standing_values (standing_of k ps) ≡ values_first (cond (not (any (named k) ps)) 8 0) k ps
 unfolding any standing_of value_at
 values-first k [] = refl
-values-first k (c ∷ ps) = by-test (named k c) (λ e. rw e (by-test (on c) (λ o. rw o refl) (λ o. rw o refl))) (λ e. rw e (values-first k ps))
+values-first k (c ∷ ps) = by-test (named k c) (λ e. rw e (by-test (on c) (λ o. rw o) (λ o. rw o))) (λ e. rw e (values-first k ps))
 
 pub lookup-told : (m : Model) (k : ℕ) (s : Standing) → s ≡ standing_of k m.pending → (s ≡ standing_of k m.pending) × (standing_values s ≡ lookup_gives m k)
 unfolding tests first_number

@@ -17,7 +17,7 @@ ends-as-ever m z t c o = end_on (ruled m t) c o ∙ held-documented (ruled m t) 
 step-grace : (m : Model) (c : Call) → ((step m c).answer.number ≡ 0 → CallSetsNoGrace c) → m.grace ≡ 0 → (step m c).model.grace ≡ 0
 step-grace m c d z =
     step-cases (λ c s. (s.answer.number ≡ 0 → CallSetsNoGrace c) → s.model.grace ≡ 0) m (λ c n i d. z)
-    (λ c t asks f a d. admit-grace m t asks ∙ z)
+    (λ t ask a d. admit-grace m t ask ∙ z)
     (λ c t k q o v d. finish-grace q (plain k t) ∙ leaves-grace v ∙ z)
     (λ c r l e d. z) (λ n e d. d refl) c d
 

@@ -4,9 +4,7 @@
 -- tables.
 use mathlib.Core.Path.{◌≡◌, refl, sym, ◌∙◌, ap}
 use mathlib.Core.Bool.{Bool, false}
-use mathlib.Core.List.Memᴰ
 use mathlib.Core.List.{List, [], ◌∷◌, map}
-use mathlib.Core.Logic.{⊎_elim}
 use Prim.Native.Nat.{ℕ, zero, suc}
 use native.Mathlib.Omega.{arith}
 use borrow.Author.Tests.{le-ltb, eq-eqb}
@@ -17,24 +15,23 @@ use Rattle.rules.specs.declared.Reply.{Reply}
 use Rattle.rules.specs.declared.Setting.{Setting}
 use Rattle.rules.specs.Lists.{◌∈◌, greatest, least, all, keep}
 use Rattle.rules.specs.Claims.{on, held_until, end_of, remaining}
-use Rattle.rules.specs.Order.{key, before, reach_in, precedes}
+use Rattle.rules.specs.Order.{key, before, precedes}
 use Rattle.rules.specs.Seeking.{candidates, seek}
 use Rattle.rules.specs.Packing.{ready, start_for, moved, ahead, start_within, packed_start, pack, Packs}
-use Rattle.rules.specs.Placing.{clear, fits, fits_all, place_all, bound_all}
+use Rattle.rules.specs.Placing.{clear, fits, place, start_bound}
 use Rattle.rules.specs.Granting.{truly_free, goes_within, goes, granted, grant, grants}
 use Rattle.rules.specs.Shares.{share_of}
-use Rattle.rules.specs.Tests.{Test, first_number, late, backward, stranger, dark, nothing_asked, off_rig, spots, ticketless}
-use Rattle.rules.specs.Calls.{Model, with_clock, with_pending, ruled, setting_of, claims, releases, withdraws, moves_clock, declares, sets_grace, Call, timed, looks, sets_up, claim, Answer, Step, tests, advance, plain, granting, finish, join, remove, fresh, admit, act, unless, step, blank, after, answers, Member, claims_set, asks_of, full_to, over_of, starting, taken, in_turn, disband}
+use Rattle.rules.specs.Tests.{first_number, late, backward, stranger, dark, nothing_asked, off_rig, spots}
+use Rattle.rules.specs.Calls.{Model, with_clock, with_pending, ruled, setting_of, claims, releases, withdraws, moves_clock, declares, sets_grace, Call, timed, looks, sets_up, claim, Answer, Step, tests, advance, plain, granting, finish, join, remove, fresh, admit, act, unless, step, blank, after, answers}
 use Rattle.rules.specs.NoUnits.{documented_start, documented_fits, undrawn_tests, CallDrawsNone, DrawsNone, with_pool}
 use Rattle.rules.proofs.Bools.{and_l, and_i, both_ways}
-use Rattle.rules.proofs.Lists.{Each, here, there, none, greatest-base, greatest-ge, greatest-le, keep-e, keep-i, keep-cong, map_each, map-cong, append-each}
+use Rattle.rules.proofs.Lists.{Each, none, greatest-base, greatest-ge, greatest-le, keep-e, keep-i, keep-cong, map_each, map-cong, snoc-each}
 use Rattle.rules.proofs.Tests.{front, skipped, swapped}
 use Rattle.rules.proofs.Claims.{setting}
 use Rattle.rules.proofs.Pool.{spare-none}
 use Rattle.rules.proofs.Packing.{moved-cong, moved-units}
 use Rattle.rules.proofs.Granting.{granted-cases}
-use Rattle.rules.proofs.Members.{member-each}
-use Rattle.rules.proofs.Calls.{placed, Issues, by-claim, by_set, leaves-old, step-cases}
+use Rattle.rules.proofs.Calls.{placed, leaves-old, step-cases}
 
 -- ── a claim that draws none ──
 -- It asks for nothing where it asks for no group.
@@ -49,12 +46,12 @@ module _ (v : Setting) (ps : List Claim) (w : Claim) (undrawn : w.units ≡ 0) w
       omega (
         arith,
         r.1 (documented_start v ps f w) (record {
-          from_clock = greatest-base (λ c. end_of v (moved f c)) v.clock (keep (λ c. precedes ps c w) ps);
-          after = λ c k p. greatest-ge (λ c. end_of v (moved f c)) v.clock (keep-i (λ c. precedes ps c w) p k);
+          from_clock = greatest-base (λ c. end_of v (moved f c)) v.clock (keep (λ c. precedes c w) ps);
+          after = λ c k p. greatest-ge (λ c. end_of v (moved f c)) v.clock (keep-i (λ c. precedes c w) p k);
           spare = λ z. absurd (omega arith);
         }),
-        greatest-le (λ c. end_of v (moved f c)) v.clock (keep (λ c. precedes ps c w) ps) (f w) r.0.from_clock (λ c k.
-            let e = keep-e (λ c. precedes ps c w) ps k in r.0.after c e.0 e.1),
+        greatest-le (λ c. end_of v (moved f c)) v.clock (keep (λ c. precedes c w) ps) (f w) r.0.from_clock (λ c k.
+            let e = keep-e (λ c. precedes c w) ps k in r.0.after c e.0 e.1),
       )
 
   -- A start is tested against the conflicting claims alone.
@@ -76,14 +73,9 @@ unfolding least
 least-cong p q h d [] = refl
 least-cong p q h d (n ∷ l) = rw (h n, least-cong p q h d l)
 
-pub seek-cong : (v : Setting) (p q : ℕ → Bool) → ((n : ℕ) → p n ≡ q n) → (ps : List Claim) → seek v p ps ≡ seek v q ps
+seek-cong : (v : Setting) (p q : ℕ → Bool) → ((n : ℕ) → p n ≡ q n) → (ps : List Claim) → seek v p ps ≡ seek v q ps
 unfolding seek
 seek-cong v p q h ps = least-cong p q h (greatest (end_of v) v.clock ps) (candidates v ps)
-
-all-cong : {A : Type 0} (p q : A → Bool) (l : List A) → Each (λ x. p x ≡ q x) l → all p l ≡ all q l
-unfolding all
-all-cong p q [] h = refl
-all-cong p q (x ∷ l) h = rw (h x here, all-cong p q l (λ y m. h y (there m)))
 
 -- ── two pools at one clock ──
 -- No claim of the list draws units.
@@ -95,20 +87,20 @@ module _ (t d j k : ℕ) where
   unfolding seek end_of held_until
   seek-pool p ps = refl
 
-  ready-pool : (g : ℕ) (qs : List Claim) (w : Claim) → w.units ≡ 0 → (s : ℕ) → ready (setting t j d) g qs w s ≡ ready (setting t k d) g qs w s
+  ready-pool : (qs : List Claim) (w : Claim) → w.units ≡ 0 → (s : ℕ) → ready (setting t j d) qs w s ≡ ready (setting t k d) qs w s
   unfolding ready end_of held_until
-  ready-pool g qs w z s = rw (spare-none (setting t j d) qs w z s, spare-none (setting t k d) qs w z s)
+  ready-pool qs w z s = rw (spare-none (setting t j d) qs w z s, spare-none (setting t k d) qs w z s)
 
-  for-pool : (g : ℕ) (qs : List Claim) (w : Claim) → w.units ≡ 0 → start_for (setting t j d) g qs w ≡ start_for (setting t k d) g qs w
+  for-pool : (qs : List Claim) (w : Claim) → w.units ≡ 0 → start_for (setting t j d) qs w ≡ start_for (setting t k d) qs w
   unfolding start_for
-  for-pool g qs w z = seek-cong (setting t j d) _ (ready (setting t k d) g qs w) (ready-pool g qs w z) qs ∙ seek-pool (ready (setting t k d) g qs w) qs
+  for-pool qs w z = seek-cong (setting t j d) _ (ready (setting t k d) qs w) (ready-pool qs w z) qs ∙ seek-pool (ready (setting t k d) qs w) qs
 
   within-pool : (n : ℕ) (ps : List Claim) → Undrawn ps → (w : Claim) → w ∈ ps → start_within n (setting t j d) ps w ≡ start_within n (setting t k d) ps w
   unfolding start_within ahead
   within-pool zero ps u w m = refl
   within-pool (suc n) ps u w m =
-      for-pool (reach_in ps w.lead) _ w (u w m)
-      ∙ ap (λ (l : List Claim). start_for (setting t k d) (reach_in ps w.lead) l w)
+      for-pool _ w (u w m)
+      ∙ ap (λ (l : List Claim). start_for (setting t k d) l w)
       (map-cong _ (moved (λ c. start_within n (setting t k d) ps c)) (keep (λ c. before c w) ps) (λ c i.
       moved-cong _ (λ c. start_within n (setting t k d) ps c) c (λ o. within-pool n ps u c (keep-e (λ c. before c w) ps i).0)))
 
@@ -116,19 +108,15 @@ module _ (t d j k : ℕ) where
   unfolding pack packed_start
   pack-pool ps u = map-cong _ (moved (packed_start (setting t k d) ps)) ps (λ c m. moved-cong _ (packed_start (setting t k d) ps) c (λ o. within-pool (suc (key c)) ps u c m))
 
-  fits-pool : (ps : List Claim) (w : Claim) → w.units ≡ 0 → (s : ℕ) → fits (setting t j d) ps w s ≡ fits (setting t k d) ps w s
-  unfolding clear end_of held_until
-  fits-pool ps w z s = fits-documented (setting t j d) ps w z s ∙ sym (fits-documented (setting t k d) ps w z s)
+  place-pool : (ps : List Claim) (w : Claim) → w.units ≡ 0 → place (setting t j d) ps w ≡ place (setting t k d) ps w
+  unfolding place clear end_of held_until
+  place-pool ps w z =
+      seek-cong (setting t j d) _ (fits (setting t k d) ps w) (λ s. fits-documented (setting t j d) ps w z s ∙ sym (fits-documented (setting t k d) ps w z s)) ps
+      ∙ seek-pool (fits (setting t k d) ps w) ps
 
-  place-pool : (ps ws : List Claim) → Undrawn ws → place_all (setting t j d) ps ws ≡ place_all (setting t k d) ps ws
-  unfolding place_all fits_all
-  place-pool ps ws z =
-      seek-cong (setting t j d) _ (fits_all (setting t k d) ps ws) (λ s. all-cong _ (λ w. fits (setting t k d) ps w s) ws (λ w m. fits-pool ps w (z w m) s)) ps
-      ∙ seek-pool (fits_all (setting t k d) ps ws) ps
-
-  bound-pool : (ps ws : List Claim) → bound_all (setting t j d) ps ws ≡ bound_all (setting t k d) ps ws
-  unfolding bound_all remaining end_of held_until
-  bound-pool ps ws = refl
+  bound-pool : (ps : List Claim) (w : Claim) → start_bound (setting t j d) ps w ≡ start_bound (setting t k d) ps w
+  unfolding start_bound remaining end_of held_until
+  bound-pool ps w = refl
 
   goes-pool : (ps : List Claim) (w : Claim) → w.units ≡ 0 → goes (setting t j d) ps w ≡ goes (setting t k d) ps w
   unfolding goes goes_within truly_free
@@ -168,40 +156,22 @@ remove-undrawn : (m : Model) (i : ℕ) → IsUndrawn m → IsUndrawn (remove m i
 unfolding remove
 remove-undrawn m i u c k = u c (keep-e _ m.pending k).0
 
-disband-undrawn : (m : Model) (i : ℕ) → IsUndrawn m → IsUndrawn (disband m i)
-unfolding disband
-disband-undrawn m i u c k = u c (keep-e _ m.pending k).0
-
-starting-undrawn : (m : Model) (asks : List Request) (s : ℕ) → Each (λ a. a.units ≡ 0) asks → Undrawn (starting m asks s)
-starting-undrawn m asks s z = member-each (λ (w : Claim). w.units ≡ 0) (suc m.issued) s m.issued asks (λ a i j p q. z a i)
-
-join-undrawn : (m : Model) (ws : List Claim) → Undrawn ws → IsUndrawn m → IsUndrawn (join m ws)
+join-undrawn : (m : Model) (w : Claim) → w.units ≡ 0 → IsUndrawn m → IsUndrawn (join m w)
 unfolding join
-join-undrawn m ws z u = append-each (λ (c : Claim). c.units ≡ 0) m.pending ws u z
+join-undrawn m w z u = snoc-each (λ (c : Claim). c.units ≡ 0) m.pending w u z
 
 finish-undrawn : (m : Model) (r : Reply) → IsUndrawn m → IsUndrawn (finish m r).model
 unfolding finish
 finish-undrawn m r u = grant-undrawn (setting_of m) _ (pack-undrawn (setting_of m) m.pending u)
 
-admit-undrawn : (m : Model) (asks : List Request) → Each (λ a. a.units ≡ 0) asks → IsUndrawn m → IsUndrawn (admit m asks).model
+admit-undrawn : (m : Model) (ask : Request) → ask.units ≡ 0 → IsUndrawn m → IsUndrawn (admit m ask).model
 unfolding admit
-admit-undrawn m asks z u = finish-undrawn (join m (placed m asks)) _ (join-undrawn m (placed m asks) (starting-undrawn m asks _ z) u)
-
--- What a call that draws none asks for.
-one-undrawn : (ask : Request) → ask.units ≡ 0 → Each (λ a. a.units ≡ 0) (ask ∷ [])
-one-undrawn ask z a i = ⊎_elim (λ e. ap (λ (x : Request). x.units) e ∙ z) none (Memᴰ.cases_cons i)
-
-set-undrawn : (c : ℕ) (ms : List Member) → Each (λ a. a.units ≡ 0) (asks_of c ms)
-set-undrawn c ms = map_each (λ (a : Request). a.units ≡ 0) _ ms (λ p i. refl)
-
-issues-undrawn : {c : Call} {t : ℕ} {asks : List Request} → Issues c t asks → CallDrawsNone c → Each (λ a. a.units ≡ 0) asks
-issues-undrawn (by-claim t ask) d = one-undrawn ask d
-issues-undrawn (by_set t c ms) d = set-undrawn c ms
+admit-undrawn m ask z u = finish-undrawn (join m (placed m ask)) _ (join-undrawn m (placed m ask) z u)
 
 step-undrawn : (m : Model) (c : Call) → CallDrawsNone c → IsUndrawn m → IsUndrawn (step m c).model
 step-undrawn m c d u =
     step-cases (λ c s. CallDrawsNone c → IsUndrawn s.model) m (λ c n i d. u)
-    (λ c t asks f a d. admit-undrawn (advance m t) asks (issues-undrawn f d) (advance-undrawn m t u))
+    (λ t ask a d. admit-undrawn (advance m t) ask d (advance-undrawn m t u))
     (λ c t k q o l d. finish-undrawn q (plain k t) (λ y i. advance-undrawn m t u y (leaves-old l y i)))
     (λ c r l d e. u) (λ n d e. u) c d
 
@@ -228,15 +198,11 @@ module _ (k : ℕ) where
       ap (granting (with_pool k m) r) (pack-pool m.clock m.grace k m.pool m.pending u)
       ∙ granting-pool m r (pack (setting_of m) m.pending) (pack-undrawn (setting_of m) m.pending u)
 
-  disband-pool : (m : Model) (i : ℕ) → disband (with_pool k m) i ≡ with_pool k (disband m i)
-  unfolding disband
-  disband-pool m i = refl
-
-  admit-pool : (m : Model) (asks : List Request) → Each (λ a. a.units ≡ 0) asks → IsUndrawn m → admit (with_pool k m) asks ≡ repooled k (admit m asks)
+  admit-pool : (m : Model) (ask : Request) → ask.units ≡ 0 → IsUndrawn m → admit (with_pool k m) ask ≡ repooled k (admit m ask)
   unfolding admit join
-  admit-pool m asks z u =
-      rw (place-pool m.clock m.grace k m.pool m.pending (fresh m asks) (starting-undrawn m asks m.clock z), bound-pool m.clock m.grace k m.pool m.pending (fresh m asks))
-      (finish-pool (join m (placed m asks)) _ (join-undrawn m (placed m asks) (starting-undrawn m asks _ z) u))
+  admit-pool m ask z u =
+      rw (place-pool m.clock m.grace k m.pool m.pending (fresh m ask) z, bound-pool m.clock m.grace k m.pool m.pending (fresh m ask))
+      (finish-pool (join m (placed m ask)) _ (join-undrawn m (placed m ask) z u))
 
   leave-pool : (m : Model) (t i : ℕ) → IsUndrawn m → finish (remove (advance (with_pool k m) t) i) (plain i t) ≡ repooled k (finish (remove (advance m t) i) (plain i t))
   leave-pool m t i u =
@@ -244,32 +210,19 @@ module _ (k : ℕ) where
       ∙ ap (λ (n : Model). finish n (plain i t)) (remove-pool (advance m t) i)
       ∙ finish-pool (remove (advance m t) i) (plain i t) (remove-undrawn (advance m t) i (advance-undrawn m t u))
 
-  withdraw-pool : (m : Model) (t i : ℕ) → IsUndrawn m → finish (disband (advance (with_pool k m) t) i) (plain i t) ≡ repooled k (finish (disband (advance m t) i) (plain i t))
-  withdraw-pool m t i u =
-      ap (λ (n : Model). finish (disband n i) (plain i t)) (advance-pool m t u)
-      ∙ ap (λ (n : Model). finish n (plain i t)) (disband-pool (advance m t) i)
-      ∙ finish-pool (disband (advance m t) i) (plain i t) (disband-undrawn (advance m t) i (advance-undrawn m t u))
-
   act-pool : (m : Model) (c : Call) → CallDrawsNone c → IsUndrawn m → act (with_pool k m) c ≡ repooled k (act m c)
   unfolding act
-  act-pool m (timed t (claims ask)) d u = ap (λ (n : Model). admit n (ask ∷ [])) (advance-pool m t u) ∙ admit-pool (advance m t) (ask ∷ []) (one-undrawn ask d) (advance-undrawn m t u)
-  act-pool m (timed t (claims_set c ms)) d u = ap (λ (n : Model). admit n (asks_of c ms)) (advance-pool m t u) ∙ admit-pool (advance m t) (asks_of c ms) (set-undrawn c ms) (advance-undrawn m t u)
+  act-pool m (timed t (claims ask)) d u = ap (λ (n : Model). admit n ask) (advance-pool m t u) ∙ admit-pool (advance m t) ask d (advance-undrawn m t u)
   act-pool m (timed t (releases i)) d u = leave-pool m t i u
-  act-pool m (timed t (withdraws i)) d u = withdraw-pool m t i u
+  act-pool m (timed t (withdraws i)) d u = leave-pool m t i u
   act-pool m (timed t moves_clock) d u = ap (λ (n : Model). finish n (plain 0 t)) (advance-pool m t u) ∙ finish-pool (advance m t) (plain 0 t) (advance-undrawn m t u)
   act-pool m (looks q) d u = refl
   act-pool m (sets_up (declares c r l)) d u = refl
   act-pool m (sets_up (sets_grace n)) d u = refl
 
-  turns-pool : (m : Model) (asks : List Request) → in_turn (with_pool k m) asks ≡ in_turn m asks
-  unfolding in_turn join
-  turns-pool m [] = refl
-  turns-pool m (ask ∷ asks) = ap (λ (ts : List Test). full_to m ask.client ∷ over_of m ask.client ∷ ticketless m.issued ∷ ts) (turns-pool (taken m ask) asks)
-
   tests-pool : (m : Model) (c : Call) → CallDrawsNone c → first_number (tests (with_pool k m) c) ≡ first_number (tests m c)
   unfolding tests first_number
   tests-pool m (timed t (claims ask)) d = rw (le-ltb k ask.units (omega arith), le-ltb m.pool ask.units (omega arith))
-  tests-pool m (timed t (claims_set c ms)) d = rw (turns-pool m (asks_of c ms))
   tests-pool m (timed t (releases i)) d = refl
   tests-pool m (timed t (withdraws i)) d = refl
   tests-pool m (timed t moves_clock) d = refl

@@ -17,12 +17,12 @@ use Rattle.rules.specs.Tests.{first_number, late, backward, stranger, nothing_as
 use Rattle.rules.specs.Calls.{Model, clients_of, full_to, over_of, Call, claim, tests, Step, plain, advance, finish, admit, step, new, after}
 use Rattle.rules.specs.OneClient.{DeclaresNone, CallDeclaresNone, documented_tests, pooled_tests, Alone, TestsAsEver}
 use Rattle.rules.proofs.Bools.{by-test, clash, same?}
-use Rattle.rules.proofs.Lists.{none, append-each, map-e, map-i, map_each}
+use Rattle.rules.proofs.Lists.{none, snoc-each, map-e, map-i}
 use Rattle.rules.proofs.Tests.{front, skipped, stops, swapped, never}
 use Rattle.rules.proofs.Shares.{alone-full, alone-over, alone-stranger}
 use Rattle.rules.proofs.NoUnits.{undrawn-dark}
 use Rattle.rules.proofs.Calls.{Admissible, step-number, Leaves, leaves-old, step-cases, new-cases}
-use Rattle.rules.proofs.Booking.{askers, advance-clients, finish-clients, admit-clients, admit-shares, finish-shares, leaves-shares}
+use Rattle.rules.proofs.Booking.{advance-clients, finish-clients, admit-clients, admit-shares, finish-shares, leaves-shares}
 
 -- ── a table of client 1 alone ──
 clients-own : (ps : List Claim) → ((c : Claim) → c ∈ ps → c.client ≡ 1) → (k : ℕ) → k ∈ clients_of ps → k ≡ 1
@@ -90,7 +90,7 @@ tests-as-ever m a = record {
 step-alone : (m : Model) (c : Call) → ((step m c).answer.number ≡ 0 → CallDeclaresNone c) → Alone m → Alone (step m c).model
 step-alone m c d a =
     step-cases (λ c s. (s.answer.number ≡ 0 → CallDeclaresNone c) → Alone s.model) m (λ c n z d. a)
-    (λ c t asks f p d. record { declared = admit-shares m t asks ∙ a.declared; own = of-clients _ (admitted t asks p) })
+    (λ t ask p d. record { declared = admit-shares m t ask ∙ a.declared; own = of-clients _ (admitted t ask p) })
     (λ c t k q o v d. record { declared = finish-shares q (plain k t) ∙ leaves-shares v ∙ a.declared; own = of-clients _ (left c t k q v) })
     (λ c r l e d. absurd (d refl)) (λ n e d. record { declared = a.declared; own = a.own }) c d
   where
@@ -101,11 +101,10 @@ step-alone m c d a =
     one k e (inl q) = q
     one k e (inr q) = clash e (ap (λ (ss : List Share). (share_of ss k).declared) a.declared ∙ alone-stranger k q)
 
-    admitted : (t : ℕ) (asks : List Request) → Admissible m t asks → (k : ℕ) → k ∈ clients_of (admit (advance m t) asks).model.pending → k ≡ 1
-    admitted t asks p k i =
-        append-each (λ (k : ℕ). k ≡ 1) (clients_of m.pending) (askers asks) (clients-own m.pending a.own)
-        (map_each (λ (k : ℕ). k ≡ 1) (λ (b : Request). b.client) asks (λ b j. one b.client (p.known b j) (same? b.client 1)))
-        k (subst (λ (ks : List ℕ). k ∈ ks) (admit-clients m t asks) i)
+    admitted : (t : ℕ) (ask : Request) → Admissible m t ask → (k : ℕ) → k ∈ clients_of (admit (advance m t) ask).model.pending → k ≡ 1
+    admitted t ask p k i =
+        snoc-each (λ (k : ℕ). k ≡ 1) (clients_of m.pending) ask.client (clients-own m.pending a.own) (one ask.client p.known (same? ask.client 1))
+        k (subst (λ (ks : List ℕ). k ∈ ks) (admit-clients m t ask) i)
 
     left : (c : Call) (t k : ℕ) (q : Model) → Leaves m c t k q → (j : ℕ) → j ∈ clients_of (finish q (plain k t)).model.pending → j ≡ 1
     left c t k q v j i =

@@ -1,9 +1,9 @@
 -- Which claim comes before which; tickets; induction in the order of packing.
-use mathlib.Core.Path.{◌≡◌, refl, ◌∙◌, ap}
+use mathlib.Core.Path.{◌≡◌, ◌∙◌, ap}
 use mathlib.Core.Logic.{◌⊎◌, inl, inr, ⊎_elim, ◌≢◌}
-use mathlib.Core.Bool.{Bool, true, false, ◌||◌}
+use mathlib.Core.Bool.{Bool, true, false}
 use mathlib.Core.List.Memᴰ
-use mathlib.Core.List.{List, [], ◌∷◌, map}
+use mathlib.Core.List.{List, [], ◌∷◌, ◌++◌, map}
 use lib.Dec.{ltb}
 use Prim.Native.Nat.{ℕ, zero, suc, ◌≤◌, ◌<◌}
 use native.Mathlib.Omega.{arith}
@@ -12,13 +12,11 @@ use Rattle.rules.specs.declared.Claim.{Claim}
 use Rattle.rules.specs.Lists.{◌∈◌, keep}
 use Rattle.rules.specs.declared.Setting.{Setting}
 use Rattle.rules.specs.Claims.{on, at, rival, end_of}
-use Rattle.rules.specs.Order.{key, before, bars, precedes, meets}
-use Rattle.rules.specs.Plans.{Ascending, Sane, Mates, Separated}
+use Rattle.rules.specs.Order.{key, before, precedes, meets}
+use Rattle.rules.specs.Plans.{Ascending, Sane, Separated}
 use Rattle.rules.proofs.Bools.{and_l, and_r, and_i, or-e, or_l, or_r, or-fl, or-fr, clash, by-test, by_order}
-use Rattle.rules.proofs.Lists.{Each, here, there, none, ascends_same, ascends-map, ascends-keep}
+use Rattle.rules.proofs.Lists.{Each, here, there, none, ascends_same, ascends-map, ascends-keep, ascends-snoc}
 use Rattle.rules.proofs.Claims.{end-wait}
-use Rattle.rules.proofs.Reach.{reach-i}
-use Rattle.groups.specs.Groups.{shares}
 
 -- ── before ──
 pub before_on : (c w : Claim) → on c ≡ true → before c w ≡ true
@@ -37,24 +35,12 @@ pub before-not : (c w : Claim) → before c w ≡ false → (on c ≡ false) × 
 unfolding before
 before-not c w e = (or-fl (on c) _ e, ltb-false (key c) (key w) (or-fr (on c) _ e))
 
-pub keys-differ : {v : Setting} (c d : Claim) → Sane v c → Sane v d → c.lead ≢ d.lead → key c ≢ key d
-keys-differ c d s r n = λ e. n (omega (arith, s.small, s.led, r.small, r.led))
+pub keys-differ : {v : Setting} (c d : Claim) → Sane v c → Sane v d → c.ticket ≢ d.ticket → key c ≢ key d
+keys-differ c d s r n = λ e. n (omega (arith, s.small, r.small))
 
--- Of two claims of different sets, the second waiting, one is before the other.
-pub either-before : {v : Setting} (c d : Claim) → Sane v c → Sane v d → c.lead ≢ d.lead → (before c d ≡ true) ⊎ (before d c ≡ true)
+-- Of two claims, the second waiting, one is before the other.
+pub either-before : {v : Setting} (c d : Claim) → Sane v c → Sane v d → c.ticket ≢ d.ticket → (before c d ≡ true) ⊎ (before d c ≡ true)
 either-before c d s r n = by-test (before c d) inl (λ b. let z = keys-differ c d s r n in inr (before-key d c (omega (arith, (before-not c d b).1))))
-
--- Claims with one key stand before, and behind, the same claims.
-pub before-alike : (c w x : Claim) → key w ≡ key x → before c w ≡ before c x
-unfolding before
-before-alike c w x e = ap (λ (n : ℕ). on c || ltb (key c) n) e
-
-pub alike-before : (c d w : Claim) → on c ≡ false → key c ≡ key d → before d w ≡ true → on d ≡ false → before c w ≡ true
-alike-before c d w o e b q = before-key c w (omega (arith, before-lt d w b q))
-
--- Claims of one set have one key.
-pub mates-key : (c d : Claim) → c.lead ≡ d.lead → Mates c d → key c ≡ key d
-mates-key c d l m = omega (arith, m.start)
 
 -- Strong induction in the order of packing.
 pub by_key : (P : Claim → Type 0) (ps : List Claim)
@@ -88,54 +74,49 @@ last_of p (c ∷ l) =
     first : (w : Claim) → key c ≤ key w → ((d : Claim) → d ∈ l → p d ≡ true → key d ≤ key w) → (d : Claim) → d ∈ (c ∷ l) → p d ≡ true → key d ≤ key w
     first w k h d m e = ⊎_elim (λ q. omega (arith, ap key q)) (λ i. h d i e) (Memᴰ.cases_cons m)
 
--- ── bars, meets ──
--- What conflicts with a claim bars it.
-pub bars-own : (ps : List Claim) (c w : Claim) → w ∈ ps → rival c w ≡ true → bars ps c w ≡ true
-bars-own ps c w m h = reach-i c.groups w.lead ps w m refl h
+-- ── meets ──
+pub meets-rival : (c w : Claim) → rival c w ≡ true → meets c w ≡ true
+meets-rival c w h = or_l (rival c w) _ h
 
-pub meets-shares : (g : ℕ) (c w : Claim) → shares c.groups g ≡ true → meets g c w ≡ true
-meets-shares g c w h = or_l (shares c.groups g) _ h
+pub meets-units : (c w : Claim) → 0 < c.units → 0 < w.units → meets c w ≡ true
+meets-units c w h k = or_r (rival c w) _ (and_i (ltb 0 c.units) _ (lt-ltb 0 c.units h) (lt-ltb 0 w.units k))
 
-pub meets-units : (g : ℕ) (c w : Claim) → 0 < c.units → 0 < w.units → meets g c w ≡ true
-meets-units g c w h k = or_r (shares c.groups g) _ (and_i (ltb 0 c.units) _ (lt-ltb 0 c.units h) (lt-ltb 0 w.units k))
-
--- A claim that draws no units meets only those that conflict with it or its set.
-pub meets-none : (g : ℕ) (c w : Claim) → w.units ≡ 0 → meets g c w ≡ true → shares c.groups g ≡ true
-meets-none g c w z e =
-    ⊎_elim (λ h. h) (λ h. absurd (omega (arith, ltb-true 0 w.units (and_r (ltb 0 c.units) _ h)))) (or-e (shares c.groups g) _ e)
+-- A claim that draws no units meets only those that it conflicts with.
+pub meets-none : (c w : Claim) → w.units ≡ 0 → meets c w ≡ true → rival c w ≡ true
+meets-none c w z e =
+    ⊎_elim (λ h. h) (λ h. absurd (omega (arith, ltb-true 0 w.units (and_r (ltb 0 c.units) _ h)))) (or-e (rival c w) _ e)
 
 -- ── precedes ──
-module _ (ps : List Claim) where
-  pub precedes-bars : (c w : Claim) → precedes ps c w ≡ true → bars ps c w ≡ true
-  unfolding precedes
-  precedes-bars c w e = and_l (bars ps c w) _ e
+pub precedes-conflicts : (c w : Claim) → precedes c w ≡ true → rival c w ≡ true
+unfolding precedes
+precedes-conflicts c w e = and_l (rival c w) _ e
 
-  pub precedes-e : (c w : Claim) → precedes ps c w ≡ true → (on c ≡ true) ⊎ (at c < at w)
-  unfolding precedes
-  precedes-e c w e = ⊎_elim inl (λ p. inr (ltb-true (at c) (at w) p)) (or-e (on c) _ (and_r (bars ps c w) _ e))
+pub precedes-e : (c w : Claim) → precedes c w ≡ true → (on c ≡ true) ⊎ (at c < at w)
+unfolding precedes
+precedes-e c w e = ⊎_elim inl (λ p. inr (ltb-true (at c) (at w) p)) (or-e (on c) _ (and_r (rival c w) _ e))
 
-  pub precedes-on : (c w : Claim) → bars ps c w ≡ true → on c ≡ true → precedes ps c w ≡ true
-  unfolding precedes
-  precedes-on c w h o = and_i (bars ps c w) _ h (or_l (on c) _ o)
+pub precedes-on : (c w : Claim) → rival c w ≡ true → on c ≡ true → precedes c w ≡ true
+unfolding precedes
+precedes-on c w h o = and_i (rival c w) _ h (or_l (on c) _ o)
 
-  pub precedes-lt : (c w : Claim) → bars ps c w ≡ true → at c < at w → precedes ps c w ≡ true
-  unfolding precedes
-  precedes-lt c w h l = and_i (bars ps c w) _ h (or_r (on c) _ (lt-ltb (at c) (at w) l))
+pub precedes-lt : (c w : Claim) → rival c w ≡ true → at c < at w → precedes c w ≡ true
+unfolding precedes
+precedes-lt c w h l = and_i (rival c w) _ h (or_r (on c) _ (lt-ltb (at c) (at w) l))
 
-  pub precedes-before : {v : Setting} (c w : Claim) → Sane v c → precedes ps c w ≡ true → before c w ≡ true
-  precedes-before c w s e = ⊎_elim (before_on c w) (λ l. before-key c w (omega (arith, s.small, s.led))) (precedes-e c w e)
+pub precedes-before : {v : Setting} (c w : Claim) → Sane v c → precedes c w ≡ true → before c w ≡ true
+precedes-before c w s e = ⊎_elim (before_on c w) (λ l. before-key c w (omega (arith, s.small))) (precedes-e c w e)
 
--- What ends as w starts, or sooner, is before it, and precedes it where it bars it.
+-- What ends as w starts, or sooner, is before it, and precedes it where they conflict.
 pub ends-before : (v : Setting) (c w : Claim) → Sane v c → end_of v c ≤ at w → before c w ≡ true
-ends-before v c w s l = by-test (on c) (before_on c w) (λ o. before-key c w (omega (arith, end-wait v c o, s.long, s.small, s.led)))
+ends-before v c w s l = by-test (on c) (before_on c w) (λ o. before-key c w (omega (arith, end-wait v c o, s.long, s.small)))
 
-pub ends-precedes : (v : Setting) (ps : List Claim) (c w : Claim) → Sane v c → bars ps c w ≡ true → end_of v c ≤ at w → precedes ps c w ≡ true
-ends-precedes v ps c w s h l = by-test (on c) (precedes-on ps c w h) (λ o. precedes-lt ps c w h (omega (arith, end-wait v c o, s.long)))
+pub ends-precedes : (v : Setting) (c w : Claim) → Sane v c → rival c w ≡ true → end_of v c ≤ at w → precedes c w ≡ true
+ends-precedes v c w s h l = by-test (on c) (precedes-on c w h) (λ o. precedes-lt c w h (omega (arith, end-wait v c o, s.long)))
 
--- Where nobody overlaps, a claim before w that bars it precedes it.
+-- Where nobody overlaps, a conflicting claim before w precedes it.
 pub before-precedes : (v : Setting) (ps : List Claim) → Separated v ps → (c w : Claim) → Sane v c → c ∈ ps → w ∈ ps → on w ≡ false → before c w ≡ true
-    → bars ps c w ≡ true → precedes ps c w ≡ true
-before-precedes v ps f c w s m k o b h = ends-precedes v ps c w s h (f.behind c w m k o b h)
+    → rival c w ≡ true → precedes c w ≡ true
+before-precedes v ps f c w s m k o b h = ends-precedes v c w s h (f.behind c w m k o b h)
 
 -- ── tickets ──
 abbrev ticket_of : Claim → ℕ
@@ -149,3 +130,6 @@ ascending-map f l h = ascends-map ticket_of ticket_of f l h
 
 pub ascending-keep : (p : Claim → Bool) (l : List Claim) → Ascending l → Ascending (keep p l)
 ascending-keep p l = ascends-keep ticket_of p l
+
+pub ascending-snoc : (l : List Claim) (w : Claim) → Ascending l → Each (λ c. c.ticket < w.ticket) l → Ascending (l ++ (w ∷ []))
+ascending-snoc l w = ascends-snoc ticket_of l w

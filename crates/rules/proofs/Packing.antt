@@ -9,23 +9,20 @@ use native.Mathlib.Omega.{arith}
 use lib.Dec.{ltb}
 use lib.ListN.{length, length-map}
 use borrow.Author.Tests.{ltb-true, ltb-false, not-true}
-use Rattle.groups.specs.Groups.{shares}
 use Rattle.rules.specs.declared.Claim.{Claim}
 use Rattle.rules.specs.declared.Phase.TheVariants.{Waiting}
 use Rattle.rules.specs.Lists.{◌∈◌, sum, keep}
 use Rattle.rules.specs.declared.Setting.{Setting}
 use Rattle.rules.specs.Claims.{on, at, with_phase, rival, end_of}
-use Rattle.rules.specs.Order.{key, before, reach_in, bars, precedes, meets}
+use Rattle.rules.specs.Order.{key, before, precedes, meets}
 use Rattle.rules.specs.Pool.{units_at, used, held_by, held_units}
 use Rattle.rules.specs.Packing.{start_for, moved, ahead, start_within, packed_start, pack, MayStart, Packs}
-use Rattle.rules.specs.Plans.{Ascending, Sane, Mates, Sets, Apart, Separated, StartsFrom, HeldUp, Tight, Behind, Earliest}
-pub use Rattle.rules.specs.Plans.{Untied}
+use Rattle.rules.specs.Plans.{Ascending, Sane, Apart, Separated, StartsFrom, HeldUp, Tight, Behind, Earliest}
 use Rattle.rules.proofs.Bools.{by-test, by_order, clash, and_l, and_r, same?}
-use Rattle.rules.proofs.Lists.{Each, here, there, keep-e, keep-i, keep-cong, map-id, map-e, map-i, map_each, map-each2, sum-le, sum-cong, sum-map, sum-keep, sum-gap, sum-but}
+use Rattle.rules.proofs.Lists.{Each, Each2, here, there, keep-e, keep-i, map-id, map-e, map-i, map_each, map-each2, sum-le, sum-cong, sum-map, sum-keep, sum-gap, sum-but}
 use Rattle.rules.proofs.Claims.{conflicts-sym, waiting-is, end-wait}
-use Rattle.rules.proofs.Order.{before_on, before-key, before-lt, before-not, before-alike, alike-before, mates-key, bars-own, keys-differ, either-before, by_key, last_of, ends-before, precedes-bars, precedes-on, precedes-lt, precedes-before, ascending-same}
+use Rattle.rules.proofs.Order.{before_on, before-key, before-lt, before-not, keys-differ, either-before, by_key, last_of, ends-before, precedes-conflicts, precedes-on, precedes-lt, precedes-before, ascending-same}
 use Rattle.rules.proofs.Pool.{units-le, units-is, units-cover, units_mono}
-use Rattle.rules.proofs.Reach.{reach-e, reach-map}
 use Rattle.rules.proofs.Starts.{for-low, for-behind, for-least, for-is}
 
 -- ── a claim at a new start ──
@@ -50,28 +47,14 @@ moved_at f c o = moved-cases (λ (x : Claim). at x ≡ f c) f c (λ q. clash q o
 pub moved-phase : (f : Claim → ℕ) (c : Claim) → on (moved f c) ≡ on c
 moved-phase f c = moved-cases (λ (x : Claim). on x ≡ on c) f c (λ q. refl) (λ q. sym q)
 
-pub moved-bars : (ps : List Claim) (f : Claim → ℕ) (c w : Claim) → bars ps (moved f c) w ≡ bars ps c w
-moved-bars ps f c w = moved-cases (λ (x : Claim). bars ps x w ≡ bars ps c w) f c (λ q. refl) (λ q. refl)
-
-pub moved-groups : (f : Claim → ℕ) (c : Claim) → (moved f c).groups ≡ c.groups
-moved-groups f c = moved-cases (λ (x : Claim). x.groups ≡ c.groups) f c (λ q. refl) (λ q. refl)
-
-pub moved-lead : (f : Claim → ℕ) (c : Claim) → (moved f c).lead ≡ c.lead
-moved-lead f c = moved-cases (λ (x : Claim). x.lead ≡ c.lead) f c (λ q. refl) (λ q. refl)
-
--- Sets are led by the same tickets, and have the same groups.
-pub reach-moved : (f : Claim → ℕ) (ps : List Claim) (k : ℕ) → reach_in (map (moved f) ps) k ≡ reach_in ps k
-reach-moved f ps k = reach-map (moved f) (moved-lead f) (moved-groups f) ps k
-
--- What bars a claim does so at any starts.
-pub bars-moved : (f : Claim → ℕ) (ps : List Claim) (c w : Claim) → bars (map (moved f) ps) c w ≡ bars ps c w
-bars-moved f ps c w = ap (shares c.groups) (reach-moved f ps w.lead)
+pub moved-conflicts : (f : Claim → ℕ) (c w : Claim) → rival (moved f c) w ≡ rival c w
+moved-conflicts f c w = moved-cases (λ (x : Claim). rival x w ≡ rival c w) f c (λ q. refl) (λ q. refl)
 
 pub moved-units : (f : Claim → ℕ) (c : Claim) → (moved f c).units ≡ c.units
 moved-units f c = moved-cases (λ (x : Claim). x.units ≡ c.units) f c (λ q. refl) (λ q. refl)
 
 pub moved-sane : {v : Setting} (f : Claim → ℕ) (c : Claim) → Sane v c → Sane v (moved f c)
-moved-sane {v} f c s = moved-cases (Sane v) f c (λ q. s) (λ q. record { long = s.long; small = s.small; drawn = s.drawn; led = s.led; single = s.single; lit = s.lit })
+moved-sane {v} f c s = moved-cases (Sane v) f c (λ q. s) (λ q. record { long = s.long; small = s.small; drawn = s.drawn })
 
 pub moved-cong : (f g : Claim → ℕ) (c : Claim) → (on c ≡ false → f c ≡ g c) → moved f c ≡ moved g c
 moved-cong f g c h =
@@ -117,15 +100,15 @@ unfolding start_within
 enough zero k v ps w p q = absurd (omega arith)
 enough (suc j) zero v ps w p q = absurd (omega arith)
 enough (suc j) (suc k) v ps w p q =
-    ap (λ (l : List Claim). start_for v (reach_in ps w.lead) l w)
+    ap (λ (l : List Claim). start_for v l w)
     (ahead-cong (λ c. start_within j v ps c) (λ c. start_within k v ps c) ps w
     (λ c m o e. let l = before-lt c w e o in enough j k v ps c (omega arith) (omega arith)))
 
 -- A packed start is the start behind the claims before it, at their packed starts.
-pub start-eq : (v : Setting) (ps : List Claim) (w : Claim) → packed_start v ps w ≡ start_for v (reach_in ps w.lead) (ahead (packed_start v ps) ps w) w
+pub start-eq : (v : Setting) (ps : List Claim) (w : Claim) → packed_start v ps w ≡ start_for v (ahead (packed_start v ps) ps w) w
 unfolding packed_start start_within
 start-eq v ps w =
-    ap (λ (l : List Claim). start_for v (reach_in ps w.lead) l w)
+    ap (λ (l : List Claim). start_for v l w)
     (ahead-cong (λ c. start_within (key w) v ps c) (packed_start v ps) ps w
     (λ c m o e. enough (key w) (suc (key c)) v ps c (before-lt c w e o) (omega arith)))
 
@@ -137,58 +120,42 @@ ahead-used v x f ps w =
     sum-map (units_at v x) (moved f) (keep (λ c. before c w) ps) ∙ sum-keep (λ c. units_at v x (moved f c)) (λ c. before c w) ps
 
 -- ── packing is what the papers say ──
--- What bars w conflicts with one of its set, which stands where w stands.
-pub record Member (ps : List Claim) (c w : Claim) : Type 0 where
-  pub mate : Claim
-  pub is : mate ∈ ps
-  pub led : mate.lead ≡ w.lead
-  pub waits : on mate ≡ false
-  pub keyed : key mate ≡ key w
-  pub start : at mate ≡ at w
-  -- So the mate conflicts with c, and bars it.
-  pub barring : bars ps mate c ≡ true
-  pub rivals : rival c mate ≡ true
+-- No two conflicting waiting claims have the same start.
+abbrev pub Untied : List Claim → Type 0
+Untied ps = Each2 (λ c w. on c ≡ false → on w ≡ false → c.ticket ≢ w.ticket → rival c w ≡ true → at c ≢ at w) ps
 
-pub member_of : {ps : List Claim} → Sets ps → (c w : Claim) → c ∈ ps → w ∈ ps → on w ≡ false → bars ps c w ≡ true → Member ps c w
-member_of {ps} sets c w k m o h =
-    let r = reach-e c.groups w.lead ps h in
-    let q = sets r.0 w r.1 m r.2 in
-    record { mate = r.0; is = r.1; led = r.2; waits = q.phase ∙ o; keyed = mates-key r.0 w r.2 q; start = q.start; barring = bars-own ps r.0 c k (conflicts-sym c r.0 r.3); rivals = r.3 }
-
-pub separated-untied : (v : Setting) (ps : List Claim) → Each (Sane v) ps → Sets ps → Separated v ps → Untied ps
-separated-untied v ps sane sets f c w m k oc ow n h e = go (either-before c w (sane c m) (sane w k) n)
+pub separated-untied : (v : Setting) (ps : List Claim) → Each (Sane v) ps → Separated v ps → Untied ps
+separated-untied v ps sane f c w m k oc ow n h e = go (either-before c w (sane c m) (sane w k) n)
   where
     go : (before c w ≡ true) ⊎ (before w c ≡ true) → ⊥
     go (inl b) = omega (arith, f.behind c w m k ow b h, end-wait v c oc, (sane c m).long)
-    go (inr b) =
-        let r = member_of sets c w m k ow h in
-        omega (arith, f.behind r.mate c r.is m oc (alike-before r.mate w c r.waits r.keyed b ow) r.barring, end-wait v r.mate r.waits, (sane r.mate r.is).long, r.start)
+    go (inr b) = omega (arith, f.behind w c k m oc b (conflicts-sym c w h), end-wait v w ow, (sane w k).long)
 
-module _ (v : Setting) (ps : List Claim) (sane : Each (Sane v) ps) (sets : Sets ps) (untied : Untied ps) where
-  first-precedes : (c w : Claim) → c ∈ ps → w ∈ ps → on w ≡ false → before c w ≡ true → bars ps c w ≡ true → precedes ps c w ≡ true
+module _ (v : Setting) (ps : List Claim) (sane : Each (Sane v) ps) (ascending : Ascending ps) (untied : Untied ps) where
+  first-precedes : (c w : Claim) → c ∈ ps → w ∈ ps → on w ≡ false → before c w ≡ true → rival c w ≡ true → precedes c w ≡ true
   first-precedes c w m k o b h =
-      by-test (on c) (precedes-on ps c w h)
+      by-test (on c) (precedes-on c w h)
       (λ q.
       let l = before-lt c w b q in
       ⊎_elim
-      (λ e. absurd (omega (arith, mates-key c w e (sets c w m k e))))
-      (λ n. by_order (at w) (at c) (λ x. absurd (untied c w m k q o n h (omega (arith, (sane c m).small, (sane c m).led, (sane w k).small, (sane w k).led)))) (precedes-lt ps c w h))
-      (same? c.lead w.lead))
+      (λ e. absurd (omega (arith, ap key (ascending-same ps ascending c w m k e))))
+      (λ n. by_order (at w) (at c) (λ x. absurd (untied c w m k q o n h (omega (arith, (sane c m).small, (sane w k).small)))) (precedes-lt c w h))
+      (same? c.ticket w.ticket))
 
   -- At any starts f: behind the claims ahead of w is after those that precede it.
-  may-behind : (f : Claim → ℕ) (w : Claim) → w ∈ ps → on w ≡ false → (s : ℕ) → MayStart v ps f w s → Behind v (reach_in ps w.lead) (ahead f ps w) w s
+  may-behind : (f : Claim → ℕ) (w : Claim) → w ∈ ps → on w ≡ false → (s : ℕ) → MayStart v ps f w s → Behind v (ahead f ps w) w s
   may-behind f w k o s h = record {
     after = λ d i q.
         let a = ahead-e f ps w i in
-        let r : bars ps a.0 w ≡ true = sym (moved-bars ps f a.0 w) ∙ sym (ap (λ (x : Claim). bars ps x w) a.3) ∙ q in
+        let r : rival a.0 w ≡ true = sym (moved-conflicts f a.0 w) ∙ sym (ap (λ (x : Claim). rival x w) a.3) ∙ q in
         omega (arith, ap (end_of v) a.3, h.after a.0 a.1 (first-precedes a.0 w a.1 k o a.2 r));
     spare = h.spare;
   }
 
-  behind-may : (f : Claim → ℕ) (w : Claim) (s : ℕ) → v.clock ≤ s → Behind v (reach_in ps w.lead) (ahead f ps w) w s → MayStart v ps f w s
+  behind-may : (f : Claim → ℕ) (w : Claim) (s : ℕ) → v.clock ≤ s → Behind v (ahead f ps w) w s → MayStart v ps f w s
   behind-may f w s l h = record {
     from_clock = l;
-    after = λ c m p. h.after (moved f c) (ahead-i f ps w m (precedes-before ps c w (sane c m) p)) (moved-bars ps f c w ∙ precedes-bars ps c w p);
+    after = λ c m p. h.after (moved f c) (ahead-i f ps w m (precedes-before c w (sane c m) p)) (moved-conflicts f c w ∙ precedes-conflicts c w p);
     spare = h.spare;
   }
 
@@ -196,8 +163,8 @@ module _ (v : Setting) (ps : List Claim) (sane : Each (Sane v) ps) (sets : Sets 
   pack-as-documented w m o =
       let f = packed_start v ps in
       let a = ahead f ps w in (
-        subst (MayStart v ps f w) (sym (start-eq v ps w)) (behind-may f w (start_for v (reach_in ps w.lead) a w) (for-low v (reach_in ps w.lead) a w) (for-behind v (reach_in ps w.lead) a w (sane w m))),
-        λ s h. rw (start-eq v ps w) (for-least v (reach_in ps w.lead) a w (sane w m) s h.from_clock (may-behind f w m o s h)),
+        subst (MayStart v ps f w) (sym (start-eq v ps w)) (behind-may f w (start_for v a w) (for-low v a w) (for-behind v a w (sane w m))),
+        λ s h. rw (start-eq v ps w) (for-least v a w (sane w m) s h.from_clock (may-behind f w m o s h)),
       )
 
   -- No other starts are so.
@@ -205,13 +172,12 @@ module _ (v : Setting) (ps : List Claim) (sane : Each (Sane v) ps) (sets : Sets 
   pack-unique f p = by_key (λ (w : Claim). f w ≡ packed_start v ps w) ps (λ w m o ih.
       let a = ahead f ps w in
       let h = p w m o in
-      let g = reach_in ps w.lead in
-      let e : start_for v g a w ≡ packed_start v ps w = ap (λ (l : List Claim). start_for v g l w) (ahead-cong f (packed_start v ps) ps w ih) ∙ sym (start-eq v ps w) in
+      let e : start_for v a w ≡ packed_start v ps w = ap (λ (l : List Claim). start_for v l w) (ahead-cong f (packed_start v ps) ps w ih) ∙ sym (start-eq v ps w) in
       omega (
         arith,
         e,
-        h.1 (start_for v g a w) (behind-may f w (start_for v g a w) (for-low v g a w) (for-behind v g a w (sane w m))),
-        for-least v g a w (sane w m) (f w) h.0.from_clock (may-behind f w m o (f w) h.0),
+        h.1 (start_for v a w) (behind-may f w (start_for v a w) (for-low v a w) (for-behind v a w (sane w m))),
+        for-least v a w (sane w m) (f w) h.0.from_clock (may-behind f w m o (f w) h.0),
       ))
 
 -- ── what packing gives ──
@@ -220,7 +186,7 @@ module _ (v : Setting) (ps : List Claim) where
   new c = with_phase c (Waiting (packed_start v ps c))
 
   start-low : (w : Claim) → v.clock ≤ packed_start v ps w
-  start-low w = rw (start-eq v ps w) (for-low v (reach_in ps w.lead) (ahead (packed_start v ps) ps w) w)
+  start-low w = rw (start-eq v ps w) (for-low v (ahead (packed_start v ps) ps w) w)
 
   pub pack-length : length (pack v ps) ≡ length ps
   unfolding pack
@@ -251,15 +217,15 @@ module _ (v : Setting) (ps : List Claim) where
   }
 
   module _ (sane : Each (Sane v) ps) where
-    pub start-behind : (w : Claim) → w ∈ ps → Behind v (reach_in ps w.lead) (ahead (packed_start v ps) ps w) w (packed_start v ps w)
-    start-behind w k = subst (Behind v (reach_in ps w.lead) (ahead (packed_start v ps) ps w) w) (sym (start-eq v ps w)) (for-behind v (reach_in ps w.lead) (ahead (packed_start v ps) ps w) w (sane w k))
+    pub start-behind : (w : Claim) → w ∈ ps → Behind v (ahead (packed_start v ps) ps w) w (packed_start v ps w)
+    start-behind w k = subst (Behind v (ahead (packed_start v ps) ps w) w) (sym (start-eq v ps w)) (for-behind v (ahead (packed_start v ps) ps w) w (sane w k))
 
-    start-on : (c w : Claim) → c ∈ ps → w ∈ ps → bars ps c w ≡ true → on c ≡ true → end_of v c ≤ packed_start v ps w
+    start-on : (c w : Claim) → c ∈ ps → w ∈ ps → rival c w ≡ true → on c ≡ true → end_of v c ≤ packed_start v ps w
     start-on c w m k p o =
         (start-behind w k).after c (subst (λ (x : Claim). x ∈ ahead (packed_start v ps) ps w) (moved_on (packed_start v ps) c o) (ahead-i (packed_start v ps) ps w m (before_on c w o))) p
 
-    -- Order is kept: what was before w, and conflicts with it or its set, ends at its new start or sooner.
-    pub pack-keeps-order : (c w : Claim) → c ∈ ps → w ∈ ps → bars ps c w ≡ true → on c ≡ false → before c w ≡ true → packed_start v ps c + c.length ≤ packed_start v ps w
+    -- Order is kept: what was before w, and conflicts with it, ends at its new start or sooner.
+    pub pack-keeps-order : (c w : Claim) → c ∈ ps → w ∈ ps → rival c w ≡ true → on c ≡ false → before c w ≡ true → packed_start v ps c + c.length ≤ packed_start v ps w
     unfolding new
     pack-keeps-order c w m k p o b =
         omega (
@@ -269,87 +235,47 @@ module _ (v : Setting) (ps : List Claim) where
         )
 
     -- What precedes a waiting claim still does.
-    pub pack-precedes : (c w : Claim) → c ∈ ps → w ∈ ps → on w ≡ false → precedes ps c w ≡ true
-        → precedes (pack v ps) (moved (packed_start v ps) c) (moved (packed_start v ps) w) ≡ true
-    unfolding pack
+    pub pack-precedes : (c w : Claim) → c ∈ ps → w ∈ ps → on w ≡ false → precedes c w ≡ true
+        → precedes (moved (packed_start v ps) c) (moved (packed_start v ps) w) ≡ true
     pack-precedes c w m k o p =
         by-test (on c)
-        (λ q. precedes-on (pack v ps) _ _ h (moved-phase (packed_start v ps) c ∙ q))
+        (λ q. precedes-on _ _ h (moved-phase (packed_start v ps) c ∙ q))
         (λ q.
-        precedes-lt (pack v ps) _ _ h
+        precedes-lt _ _ h
         (omega (
           arith,
           moved_at (packed_start v ps) c q,
           moved_at (packed_start v ps) w o,
-          pack-keeps-order c w m k (precedes-bars ps c w p) q (precedes-before ps c w (sane c m) p),
+          pack-keeps-order c w m k (precedes-conflicts c w p) q (precedes-before c w (sane c m) p),
           (sane c m).long,
         )))
       where
-        h : bars (map (moved (packed_start v ps)) ps) (moved (packed_start v ps) c) (moved (packed_start v ps) w) ≡ true
+        h : rival (moved (packed_start v ps) c) (moved (packed_start v ps) w) ≡ true
         h =
-            moved-bars (map (moved (packed_start v ps)) ps) (packed_start v ps) c (moved (packed_start v ps) w) ∙ bars-moved (packed_start v ps) ps c (moved (packed_start v ps) w)
-            ∙ ap (λ (k : ℕ). shares c.groups (reach_in ps k)) (moved-lead (packed_start v ps) w) ∙ precedes-bars ps c w p
+            moved-conflicts (packed_start v ps) c (moved (packed_start v ps) w)
+            ∙ moved-cases (λ (x : Claim). rival c x ≡ rival c w) (packed_start v ps) w (λ q. refl) (λ q. refl)
+            ∙ precedes-conflicts c w p
 
     pub pack-tight : Tight v (pack v ps)
     unfolding pack
     pack-tight =
         map_each (λ (x : Claim). on x ≡ false → (at x ≡ v.clock) ⊎ HeldUp v (pack v ps) x) (moved (packed_start v ps)) ps
         (λ w m. moved-cases (λ (x : Claim). on x ≡ false → (at x ≡ v.clock) ⊎ HeldUp v (pack v ps) x) (packed_start v ps) w (λ p q. clash p q)
-        (λ p q. subst (λ (s : ℕ). (s ≡ v.clock) ⊎ HeldUp v (pack v ps) (with_phase w (Waiting s))) (sym (start-eq v ps w)) (go w (for-is v (reach_in ps w.lead) (ahead (packed_start v ps) ps w) w (sane w m)))))
+        (λ p q. subst (λ (s : ℕ). (s ≡ v.clock) ⊎ HeldUp v (pack v ps) (with_phase w (Waiting s))) (sym (start-eq v ps w)) (go w (for-is v (ahead (packed_start v ps) ps w) w (sane w m)))))
       where
-        first : Claim → ℕ
-        first w = start_for v (reach_in ps w.lead) (ahead (packed_start v ps) ps w) w
-
         go : (w : Claim)
-            → (first w ≡ v.clock) ⊎ ((c : Claim) × c ∈ ahead (packed_start v ps) ps w × (meets (reach_in ps w.lead) c w ≡ true) × (end_of v c ≡ first w))
-            → (first w ≡ v.clock) ⊎ HeldUp v (map (moved (packed_start v ps)) ps) (with_phase w (Waiting (first w)))
+            → (start_for v (ahead (packed_start v ps) ps w) w ≡ v.clock)
+            ⊎ ((c : Claim) × c ∈ ahead (packed_start v ps) ps w × (meets c w ≡ true) × (end_of v c ≡ start_for v (ahead (packed_start v ps) ps w) w))
+            → (start_for v (ahead (packed_start v ps) ps w) w ≡ v.clock) ⊎ HeldUp v (map (moved (packed_start v ps)) ps) (with_phase w (Waiting (start_for v (ahead (packed_start v ps) ps w) w)))
         go w (inl e) = inl e
         go w (inr r) =
             let a = ahead-e (packed_start v ps) ps w r.1 in
-            inr (
-              r.0,
-              subst (λ (x : Claim). x ∈ map (moved (packed_start v ps)) ps) (sym a.3) (map-i (moved (packed_start v ps)) a.1),
-              ap (λ (g : ℕ). meets g r.0 w) (reach-moved (packed_start v ps) ps w.lead) ∙ r.2,
-              r.3,
-            )
-
-    -- ── the claims of a set ──
-    for-le : (g : ℕ) (qs : List Claim) (c d : Claim) → Sane v c → Sane v d → c.units ≡ 0 → start_for v g qs c ≤ start_for v g qs d
-    for-le g qs c d s r z = for-least v g qs c s _ (for-low v g qs d) (record { after = (for-behind v g qs d r).after; spare = λ y. absurd (omega arith) })
-
-    -- They are packed at one start.
-    pub packed-mates : Ascending ps → Sets ps → (c d : Claim) → c ∈ ps → d ∈ ps → c.lead ≡ d.lead → packed_start v ps c ≡ packed_start v ps d
-    unfolding ahead
-    packed-mates ascending sets c d m k e =
-        ⊎_elim (λ q. ap (packed_start v ps) (ascending-same ps ascending c d m k q))
-        (λ q.
-        let a = sets c d m k e in
-        let b = sets d c k m (sym e) in
-        let l : ahead (packed_start v ps) ps c ≡ ahead (packed_start v ps) ps d =
-        ap (map (moved (packed_start v ps))) (keep-cong (λ x. before x c) (λ x. before x d) ps (λ x i. before-alike x c d (mates-key c d e a))) in
-        let u = a.undrawn q in
-        let w = b.undrawn (λ z. q (sym z)) in
-        let g = reach_in ps d.lead in
-        let qs = ahead (packed_start v ps) ps d in
-        start-eq v ps c ∙ ap (λ (x : List Claim). start_for v (reach_in ps c.lead) x c) l ∙ ap (λ (n : ℕ). start_for v (reach_in ps n) qs c) e
-        ∙ omega (arith, for-le g qs c d (sane c m) (sane d k) u, for-le g qs d c (sane d k) (sane c m) w)
-        ∙ sym (start-eq v ps d))
-        (same? c.ticket d.ticket)
-
-    pub pack-sets : Ascending ps → Sets ps → Sets (pack v ps)
-    unfolding pack new
-    pack-sets ascending sets =
-        map-each2 (λ (c d : Claim). c.lead ≡ d.lead → Mates c d) (moved (packed_start v ps)) ps
-        (λ c d m k. moved-cases (λ (x : Claim). x.lead ≡ (moved (packed_start v ps) d).lead → Mates x (moved (packed_start v ps) d)) (packed_start v ps) c
-        (λ o. moved-cases (λ (y : Claim). c.lead ≡ y.lead → Mates c y) (packed_start v ps) d (λ q. sets c d m k) (λ q e. clash o ((sets c d m k e).phase ∙ q)))
-        (λ o. moved-cases (λ (y : Claim). c.lead ≡ y.lead → Mates (new c) y) (packed_start v ps) d
-        (λ q e. clash ((sets c d m k e).phase ∙ q) o)
-        (λ q e. let a = sets c d m k e in record { phase = refl; start = packed-mates ascending sets c d m k e; apart = a.apart; undrawn = a.undrawn })))
+            inr (r.0, subst (λ (x : Claim). x ∈ map (moved (packed_start v ps)) ps) (sym a.3) (map-i (moved (packed_start v ps)) a.1), r.2, r.3)
 
     -- Planned use never exceeds the pool: look at the last waiting claim, in the order of packing, that uses any of it at x.
-    pack-supplied : Ascending ps → Sets ps → held_units ps ≤ v.pool → (x : ℕ) → v.clock ≤ x → used v x (pack v ps) ≤ v.pool
+    pack-supplied : Ascending ps → held_units ps ≤ v.pool → (x : ℕ) → v.clock ≤ x → used v x (pack v ps) ≤ v.pool
     unfolding pack used held_units
-    pack-supplied ascending sets stock x l = omega (arith, sum-map (units_at v x) (moved n) ps, ⊎_elim none-waits some-waits (last_of busy ps))
+    pack-supplied ascending stock x l = omega (arith, sum-map (units_at v x) (moved n) ps, ⊎_elim none-waits some-waits (last_of busy ps))
       where
         n : Claim → ℕ
         n = packed_start v ps
@@ -402,46 +328,40 @@ module _ (v : Setting) (ps : List Claim) where
                 (λ b.
                 let a = before-not c w b in
                 by-test (busy c)
-                (λ e. ⊎_elim
-                (λ q. rw b (omega (arith, f-le c, (sets c w i m q).undrawn d)))
-                (λ q. absurd (keys-differ c w (sane c i) (sane w m) q (omega (arith, last c i e, a.1))))
-                (same? c.lead w.lead))
+                (λ e. absurd (keys-differ c w (sane c i) (sane w m) d (omega (arith, last c i e, a.1))))
                 (λ e. rw b (omega (arith, ltb-false 0 (f c) (rw a.0 at e)))))
 
-    pub pack-separates : Ascending ps → Sets ps → held_units ps ≤ v.pool → Separated v (pack v ps)
+    pub pack-separates : Ascending ps → held_units ps ≤ v.pool → Separated v (pack v ps)
     unfolding pack new
-    pack-separates ascending sets stock = record {
+    pack-separates ascending stock = record {
       behind = λ c w mc mw o b p.
-          map-each2 (λ (c w : Claim). on w ≡ false → before c w ≡ true → bars ps c w ≡ true → end_of v c ≤ at w) (moved (packed_start v ps)) ps
-          (λ c w m k. moved-cases (λ (y : Claim). on y ≡ false → before (moved (packed_start v ps) c) y ≡ true → bars ps (moved (packed_start v ps) c) y ≡ true → end_of v (moved (packed_start v ps) c) ≤ at y) (packed_start v ps) w
+          map-each2 (λ (c w : Claim). on w ≡ false → before c w ≡ true → rival c w ≡ true → end_of v c ≤ at w) (moved (packed_start v ps)) ps
+          (λ c w m k. moved-cases (λ (y : Claim). on y ≡ false → before (moved (packed_start v ps) c) y ≡ true → rival (moved (packed_start v ps) c) y ≡ true → end_of v (moved (packed_start v ps) c) ≤ at y) (packed_start v ps) w
           (λ p q. clash p q)
-          (λ p q. moved-cases (λ (x : Claim). before x (new w) ≡ true → bars ps x (new w) ≡ true → end_of v x ≤ packed_start v ps w) (packed_start v ps) c
+          (λ p q. moved-cases (λ (x : Claim). before x (new w) ≡ true → rival x (new w) ≡ true → end_of v x ≤ packed_start v ps w) (packed_start v ps) c
           (λ a b e. start-on c w m k e a)
-          (λ a b e. both c w m k a p (before-lt (new c) (new w) b refl) e (same? c.lead w.lead))))
-          c w mc mw o b (sym (bars-moved (packed_start v ps) ps c w) ∙ p);
-      supplied = pack-supplied ascending sets stock;
+          (λ a b e. both c w m k a p (before-lt (new c) (new w) b refl) e (same? c.ticket w.ticket))))
+          c w mc mw o b p;
+      supplied = pack-supplied ascending stock;
     }
       where
-        both : (c w : Claim) → c ∈ ps → w ∈ ps → on c ≡ false → on w ≡ false → key (new c) < key (new w) → bars ps c w ≡ true
-            → (c.lead ≡ w.lead) ⊎ (c.lead ≢ w.lead) → end_of v (new c) ≤ packed_start v ps w
-        both c w m k a b l p (inl e) = absurd (omega (arith, packed-mates ascending sets c w m k e))
+        both : (c w : Claim) → c ∈ ps → w ∈ ps → on c ≡ false → on w ≡ false → key (new c) < key (new w) → rival c w ≡ true
+            → (c.ticket ≡ w.ticket) ⊎ (c.ticket ≢ w.ticket) → end_of v (new c) ≤ packed_start v ps w
+        both c w m k a b l p (inl e) = let z = ap (λ (x : Claim). key (new x)) (ascending-same ps ascending c w m k e) in absurd (omega arith)
         both c w m k a b l p (inr n) = go (either-before c w (sane c m) (sane w k) n)
           where
             go : (before c w ≡ true) ⊎ (before w c ≡ true) → end_of v (new c) ≤ packed_start v ps w
             go (inl d) = omega (arith, end-wait v (new c) refl, pack-keeps-order c w m k p a d)
-            go (inr d) =
-                let r = member_of sets c w m k b p in
-                let q = pack-keeps-order r.mate c r.is m r.barring r.waits (alike-before r.mate w c r.waits r.keyed d b) in
-                absurd (omega (arith, packed-mates ascending sets r.mate w r.is k r.led, (sane r.mate r.is).long, (sane c m).small, (sane c m).led, (sane w k).small, (sane w k).led))
+            go (inr d) = absurd (omega (arith, pack-keeps-order w c k m (conflicts-sym c w p) b d, (sane w k).long, (sane c m).small, (sane w k).small))
 
     -- ── packing raises no start ──
     -- A start that fits already is one that packing might choose, where those before it start no later at f.
     pub stays-behind : Separated v ps → StartsFrom v.clock ps → (f : Claim → ℕ) (w : Claim) → w ∈ ps → on w ≡ false
-        → ((c : Claim) → c ∈ ps → on c ≡ false → before c w ≡ true → f c ≤ at c) → Behind v (reach_in ps w.lead) (ahead f ps w) w (at w)
+        → ((c : Claim) → c ∈ ps → on c ≡ false → before c w ≡ true → f c ≤ at c) → Behind v (ahead f ps w) w (at w)
     unfolding used
     stays-behind fit low f w m o h = record {
       after =
-          ahead-each (λ (d : Claim). bars ps d w ≡ true → end_of v d ≤ at w) f ps w
+          ahead-each (λ (d : Claim). rival d w ≡ true → end_of v d ≤ at w) f ps w
           (λ c k b q p. fit.behind c w k m o b p)
           (λ c k b q p. omega (arith, end-wait v (with_phase c (Waiting (f c))) refl, end-wait v c q, fit.behind c w k m o b p, h c k q b));
       spare = λ z x l r.
@@ -465,7 +385,7 @@ module _ (v : Setting) (ps : List Claim) where
             (λ b. rw b
             (moved-cases (λ (y : Claim). units_at v x y ≤ units_at v x c) f c (λ q. omega arith)
             (λ q. units_mono v v x x (with_phase c (Waiting (f c))) c refl (λ r z. record {
-              begun = λ p. omega (arith, before-lt c w b q, (sane w m).small, (sane w m).led);
+              begun = λ p. omega (arith, before-lt c w b q, (sane w m).small);
               going = omega (arith, r.going, end-wait v (with_phase c (Waiting (f c))) refl, end-wait v c q, h c k q b);
             }))))
             (λ b. rw b (omega arith))
@@ -473,7 +393,7 @@ module _ (v : Setting) (ps : List Claim) where
     -- Where nobody overlaps and no start is below the clock, packing raises no start.
     pub pack-no-later : Separated v ps → StartsFrom v.clock ps → (w : Claim) → w ∈ ps → on w ≡ false → packed_start v ps w ≤ at w
     pack-no-later f low = by_key (λ (w : Claim). packed_start v ps w ≤ at w) ps (λ w m o ih.
-        rw (start-eq v ps w) (for-least v (reach_in ps w.lead) (ahead (packed_start v ps) ps w) w (sane w m) (at w) (low w m o) (stays-behind f low (packed_start v ps) w m o ih)))
+        rw (start-eq v ps w) (for-least v (ahead (packed_start v ps) ps w) w (sane w m) (at w) (low w m o) (stays-behind f low (packed_start v ps) w m o ih)))
 
     -- ── packing what is packed ──
     pub pack-idle : Separated v ps → StartsFrom v.clock ps → Earliest v ps → pack v ps ≡ ps
@@ -484,19 +404,18 @@ module _ (v : Setting) (ps : List Claim) where
         same = by_key (λ (w : Claim). packed_start v ps w ≡ at w) ps (λ w m o ih.
             let l : ahead (packed_start v ps) ps w ≡ keep (λ c. before c w) ps = map-id (moved (packed_start v ps)) (keep (λ c. before c w) ps) (λ c i.
             (let k = keep-e (λ c. before c w) ps i in moved_same (packed_start v ps) c (λ q. ih c k.0 q k.1))) in
-            let g = reach_in ps w.lead in
-            let q : packed_start v ps w ≡ start_for v g (keep (λ c. before c w) ps) w = start-eq v ps w ∙ ap (λ (x : List Claim). start_for v g x w) l in
-            omega (arith, early w m o _ (for-low v g (keep (λ c. before c w) ps) w) (for-behind v g (keep (λ c. before c w) ps) w (sane w m)), pack-no-later f low w m o))
+            let q : packed_start v ps w ≡ start_for v (keep (λ c. before c w) ps) w = start-eq v ps w ∙ ap (λ (x : List Claim). start_for v x w) l in
+            omega (arith, early w m o _ (for-low v (keep (λ c. before c w) ps) w) (for-behind v (keep (λ c. before c w) ps) w (sane w m)), pack-no-later f low w m o))
 
     pub pack-earliest : Earliest v (pack v ps)
     unfolding pack new used
     pack-earliest w m o s h k =
-        map_each (λ (x : Claim). on x ≡ false → Behind v (reach_in ps x.lead) (keep (λ c. before c x) (pack v ps)) x s → at x ≤ s) (moved (packed_start v ps)) ps
-        (λ c i. moved-cases (λ (x : Claim). on x ≡ false → Behind v (reach_in ps x.lead) (keep (λ c. before c x) (pack v ps)) x s → at x ≤ s) (packed_start v ps) c (λ p q. clash p q)
-        (λ p q r. by_order (packed_start v ps c) s (λ l. l) (λ l. rw (start-eq v ps c) (for-least v (reach_in ps c.lead) (ahead (packed_start v ps) ps c) c (sane c i) s h (sooner c i (omega arith) r)))))
-        w m o (subst (λ (g : ℕ). Behind v g (keep (λ c. before c w) (pack v ps)) w s) (reach-moved (packed_start v ps) ps w.lead) k)
+        map_each (λ (x : Claim). on x ≡ false → Behind v (keep (λ c. before c x) (pack v ps)) x s → at x ≤ s) (moved (packed_start v ps)) ps
+        (λ c i. moved-cases (λ (x : Claim). on x ≡ false → Behind v (keep (λ c. before c x) (pack v ps)) x s → at x ≤ s) (packed_start v ps) c (λ p q. clash p q)
+        (λ p q r. by_order (packed_start v ps c) s (λ l. l) (λ l. rw (start-eq v ps c) (for-least v (ahead (packed_start v ps) ps c) c (sane c i) s h (sooner c i (omega arith) r)))))
+        w m o k
       where
-        sooner : (w : Claim) → w ∈ ps → s ≤ packed_start v ps w → Behind v (reach_in ps w.lead) (keep (λ c. before c (new w)) (pack v ps)) (new w) s → Behind v (reach_in ps w.lead) (ahead (packed_start v ps) ps w) w s
+        sooner : (w : Claim) → w ∈ ps → s ≤ packed_start v ps w → Behind v (keep (λ c. before c (new w)) (pack v ps)) (new w) s → Behind v (ahead (packed_start v ps) ps w) w s
         sooner w m l k = record {
           after = λ d i p. k.after d (keep-i (λ c. before c (new w)) (first d i p) (in-pack d i)) p;
           spare = λ z x a b. by_order (packed_start v ps w) x (λ c. (start-behind w m).spare z x c (omega arith)) (λ c. omega (arith, k.spare z x a b, ahead-used v x (packed_start v ps) ps w, packed-used x, sum-le _ _ ps (each x c)));
@@ -505,7 +424,7 @@ module _ (v : Setting) (ps : List Claim) where
             in-pack : (d : Claim) → d ∈ ahead (packed_start v ps) ps w → d ∈ map (moved (packed_start v ps)) ps
             in-pack d i = let a = ahead-e (packed_start v ps) ps w i in subst (λ (x : Claim). x ∈ map (moved (packed_start v ps)) ps) (sym a.3) (map-i (moved (packed_start v ps)) a.1)
 
-            first : (d : Claim) → d ∈ ahead (packed_start v ps) ps w → bars ps d w ≡ true → before d (new w) ≡ true
+            first : (d : Claim) → d ∈ ahead (packed_start v ps) ps w → rival d w ≡ true → before d (new w) ≡ true
             first d i p =
                 let a = ahead-e (packed_start v ps) ps w i in
                 ends-before v d (new w) (subst (Sane v) (sym a.3) (moved-sane (packed_start v ps) a.0 (sane a.0 a.1))) ((start-behind w m).after d i p)
@@ -527,7 +446,7 @@ module _ (v : Setting) (ps : List Claim) where
                 moved-cases (λ (d : Claim). cond (before c w) (units_at v x d) 0 ≤ cond (before d (new w)) (units_at v x d) 0) (packed_start v ps) c
                 (λ o. rw (before_on c w o, before_on c (new w) o) (omega arith))
                 (λ o. off (before c w) (units-le v x (new c) (cond (before (new c) (new w)) (units_at v x (new c)) 0) (λ q z.
-                rw (before-key (new c) (new w) (omega (arith, q.begun refl, (sane c i).small, (sane c i).led))) (omega (arith, units-is v x (new c) q)))))
+                rw (before-key (new c) (new w) (omega (arith, q.begun refl, (sane c i).small))) (omega (arith, units-is v x (new c) q)))))
 
   -- ── packing where nobody waits ──
   pub pack-holders : Each (λ c. on c ≡ true) ps → pack v ps ≡ ps
@@ -535,13 +454,13 @@ module _ (v : Setting) (ps : List Claim) where
   pack-holders h = map-id (moved (packed_start v ps)) ps (λ c m. moved_on (packed_start v ps) c (h c m))
 
 -- Starts that leave nobody overlapping, and of which none could be sooner, are packed starts.
-pub packs-at : (v : Setting) (ps : List Claim) → Each (Sane v) ps → Sets ps → Separated v ps → StartsFrom v.clock ps → Earliest v ps → Packs v ps at
+pub packs-at : (v : Setting) (ps : List Claim) → Each (Sane v) ps → Ascending ps → Separated v ps → StartsFrom v.clock ps → Earliest v ps → Packs v ps at
 unfolding ahead
-packs-at v ps sane sets fit low early w m o =
-    let untied = separated-untied v ps sane sets fit in
+packs-at v ps sane ascending fit low early w m o =
+    let untied = separated-untied v ps sane fit in
     let b = stays-behind v ps sane fit low at w m o (λ c k q z. omega arith) in (
-      behind-may v ps sane sets untied at w (at w) (low w m o) b,
-      λ s h. early w m o s h.from_clock (subst (λ (l : List Claim). Behind v (reach_in ps w.lead) l w s) same (may-behind v ps sane sets untied at w m o s h)),
+      behind-may v ps sane ascending untied at w (at w) (low w m o) b,
+      λ s h. early w m o s h.from_clock (subst (λ (l : List Claim). Behind v l w s) same (may-behind v ps sane ascending untied at w m o s h)),
     )
   where
     same : ahead at ps w ≡ keep (λ c. before c w) ps

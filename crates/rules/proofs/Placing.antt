@@ -8,16 +8,16 @@ use native.Mathlib.Omega.{arith}
 use lib.Dec.{leb}
 use borrow.Author.Tests.{leb-true, leb-false, le-leb, not-true, not-false}
 use Rattle.rules.specs.declared.Claim.{Claim}
-use Rattle.rules.specs.Lists.{◌∈◌, greatest, all, any}
+use Rattle.rules.specs.Lists.{◌∈◌, greatest, all}
 use Rattle.rules.specs.declared.Setting.{Setting}
 use Rattle.rules.specs.Claims.{on, at, rival, end_of}
 use Rattle.rules.specs.Order.{meets}
 use Rattle.rules.specs.Pool.{spare}
-use Rattle.rules.specs.Placing.{clear, fits, place, fits_all, place_all}
+use Rattle.rules.specs.Placing.{clear, fits, place}
 use Rattle.rules.specs.Plans.{Sane, Room, Fits}
 use Rattle.rules.proofs.Bools.{by-test, and_l, and_r, and_i, or-e, or_r, or-fl, or-fr}
-use Rattle.rules.proofs.Lists.{Each, greatest-ge, all-e, all-i, any-i}
-use Rattle.rules.proofs.Order.{meets-shares, meets-units}
+use Rattle.rules.proofs.Lists.{greatest-ge, all-e, all-i}
+use Rattle.rules.proofs.Order.{meets-rival}
 use Rattle.rules.proofs.Pool.{spare-e, spare-i, spare-last}
 use Rattle.rules.proofs.Seeking.{anchor, anchor-le, anchor-ge, seek-low, seek-passes, seek-least, seek_is, spare-down}
 
@@ -72,7 +72,7 @@ module _ (v : Setting) (ps : List Claim) (w : Claim) where
 
   module _ (sane : Sane v w) where
     against : Claim → Bool
-    against c = meets w.groups c w
+    against c = meets c w
 
     last : fits v ps w (greatest (end_of v) v.clock ps) ≡ true
     last = fits-i v ps w _ sane.long (record { room = λ c m e. inl (greatest-ge (end_of v) v.clock m); spare = spare-last v ps w sane.drawn })
@@ -83,8 +83,8 @@ module _ (v : Setting) (ps : List Claim) (w : Claim) where
         let f = fits-e v ps w s e in
         fits-i v ps w _ sane.long (record {
           room = λ c m q.
-              ⊎_elim (λ r. inl (anchor-ge v against ps s c m (meets-shares w.groups c w q) r)) (λ r. inr (r.0, omega (arith, r.1, anchor-le v against ps s h))) (f.room c m q);
-          spare = spare-down v against ps w s (λ c y z. meets-units w.groups c w y z) sane.long h f.spare;
+              ⊎_elim (λ r. inl (anchor-ge v against ps s c m (meets-rival c w q) r)) (λ r. inr (r.0, omega (arith, r.1, anchor-le v against ps s h))) (f.room c m q);
+          spare = spare-down v ps w s sane.long h f.spare;
         })
 
     pub place-fits : Fits v ps w (place v ps w)
@@ -96,47 +96,6 @@ module _ (v : Setting) (ps : List Claim) (w : Claim) where
     unfolding place
     place-least s h f = seek-least v against ps (fits v ps w) down s h (fits-i v ps w s sane.long f)
 
-    pub place_is : (place v ps w ≡ v.clock) ⊎ ((c : Claim) × c ∈ ps × (meets w.groups c w ≡ true) × (end_of v c ≡ place v ps w))
+    pub place_is : (place v ps w ≡ v.clock) ⊎ ((c : Claim) × c ∈ ps × (meets c w ≡ true) × (end_of v c ≡ place v ps w))
     unfolding place against
     place_is = seek_is v against ps (fits v ps w) last down
-
--- ── claims that start together ──
-module _ (v : Setting) (ps ws : List Claim) where
-  pub places-low : v.clock ≤ place_all v ps ws
-  unfolding place_all
-  places-low = seek-low v ps (fits_all v ps ws)
-
-  pub fits-all-e : (s : ℕ) → fits_all v ps ws s ≡ true → Each (λ w. Fits v ps w s) ws
-  unfolding fits_all
-  fits-all-e s e w m = fits-e v ps w s (all-e (λ w. fits v ps w s) e m)
-
-  module _ (sane : Each (Sane v) ws) where
-    pub fits-all-i : (s : ℕ) → Each (λ w. Fits v ps w s) ws → fits_all v ps ws s ≡ true
-    unfolding fits_all
-    fits-all-i s h = all-i (λ w. fits v ps w s) ws (λ w m. fits-i v ps w s (sane w m).long (h w m))
-
-    against-all : Claim → Bool
-    against-all c = any (λ w. meets w.groups c w) ws
-
-    last-all : fits_all v ps ws (greatest (end_of v) v.clock ps) ≡ true
-    last-all = fits-all-i _ (λ w k. record { room = λ c m e. inl (greatest-ge (end_of v) v.clock m); spare = spare-last v ps w (sane w k).drawn })
-
-    down-all : (s : ℕ) → v.clock ≤ s → fits_all v ps ws s ≡ true → fits_all v ps ws (anchor v against-all ps s) ≡ true
-    unfolding against-all
-    down-all s h e =
-        fits-all-i _ (λ w k.
-        (let f = fits-all-e s e w k in
-        record {
-          room = λ c m q.
-              ⊎_elim (λ r. inl (anchor-ge v against-all ps s c m (any-i (λ w. meets w.groups c w) (meets-shares w.groups c w q) k) r)) (λ r. inr (r.0, omega (arith, r.1, anchor-le v against-all ps s h))) (f.room c m q);
-          spare = spare-down v against-all ps w s (λ c y z. any-i (λ w. meets w.groups c w) (meets-units w.groups c w y z) k) (sane w k).long h f.spare;
-        }))
-
-    pub places-fit : Each (λ w. Fits v ps w (place_all v ps ws)) ws
-    unfolding place_all
-    places-fit = fits-all-e _ (seek-passes v ps (fits_all v ps ws) last-all)
-
-    -- The least of all numbers not below the clock at which every one fits.
-    pub places-least : (s : ℕ) → v.clock ≤ s → Each (λ w. Fits v ps w s) ws → place_all v ps ws ≤ s
-    unfolding place_all
-    places-least s h f = seek-least v against-all ps (fits_all v ps ws) down-all s h (fits-all-i s f)

@@ -12,11 +12,13 @@ use Rattle.rules.specs.declared.Claim.{Claim}
 use Rattle.rules.specs.Lists.{◌∈◌, greatest}
 use Rattle.rules.specs.declared.Setting.{Setting}
 use Rattle.rules.specs.Claims.{at, end_of}
+use Rattle.rules.specs.Order.{meets}
 use Rattle.rules.specs.Pool.{units_at, used}
 use Rattle.rules.specs.Seeking.{candidates, seek}
 use Rattle.rules.specs.Plans.{Spare}
 use Rattle.rules.proofs.Bools.{by-test, by_order, and_l, and_r}
 use Rattle.rules.proofs.Lists.{Each, here, there, greatest-base, greatest-ge, greatest-le, greatest-is, map-i, map_each, sum-le, least-le, least-passes, least-low}
+use Rattle.rules.proofs.Order.{meets-units}
 use Rattle.rules.proofs.Pool.{Covers, units_mono}
 
 -- ── the anchor of a start: the greatest of the clock and the ends, up to it, of the claims that matter ──
@@ -99,13 +101,11 @@ module _ (v : Setting) (matters : Claim → Bool) (ps : List Claim) (p : ℕ →
           )
 
 -- Where there are units enough from s on, there are from its anchor on: up to s nothing ends there that w could wait for.
--- (Those that matter are all that draw units, if w does.)
-pub spare-down : (v : Setting) (matters : Claim → Bool) (qs : List Claim) (w : Claim) (s : ℕ) → ((c : Claim) → 0 < c.units → 0 < w.units → matters c ≡ true)
-    → 1 ≤ w.length → v.clock ≤ s → Spare v qs w s → Spare v qs w (anchor v matters qs s)
+pub spare-down : (v : Setting) (qs : List Claim) (w : Claim) (s : ℕ) → 1 ≤ w.length → v.clock ≤ s → Spare v qs w s → Spare v qs w (anchor v (λ c. meets c w) qs s)
 unfolding used
-spare-down v matters qs w s all! long low k z x h l =
+spare-down v qs w s long low k z x h l =
     by_order s x
-    (λ b. k z x b (omega (arith, anchor-le v matters qs s low)))
+    (λ b. k z x b (omega (arith, anchor-le v (λ c. meets c w) qs s low)))
     (λ b.
     omega (
       arith,
@@ -116,5 +116,5 @@ spare-down v matters qs w s all! long low k z x h l =
     still : (c : Claim) → c ∈ qs → x < s → Covers v x c → 0 < c.units → Covers v s c
     still c m b q y =
         by_order (end_of v c) s
-        (λ e. absurd (omega (arith, q.going, anchor-ge v matters qs s c m (all! c y z) e)))
+        (λ e. absurd (omega (arith, q.going, anchor-ge v (λ c. meets c w) qs s c m (meets-units c w y z) e)))
         (λ e. record { begun = λ o. omega (arith, q.begun o); going = e })

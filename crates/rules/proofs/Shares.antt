@@ -101,7 +101,7 @@ pub pending-cons : (ks : List ℕ) (k c : ℕ) → pending_of (k ∷ ks) c ≡ c
 unfolding pending_of keep
 pending-cons ks k c = by-test (eqb k c) (λ e. rw e (omega arith)) (λ e. rw e (omega arith))
 
-pub pending-more : (ks : List ℕ) (c : ℕ) → pending_of (ks ++ (c ∷ [])) c ≡ pending_of ks c + 1
+pending-more : (ks : List ℕ) (c : ℕ) → pending_of (ks ++ (c ∷ [])) c ≡ pending_of ks c + 1
 pending-more [] c = pending-cons [] c c ∙ rw (eq-eqb c c refl) (omega arith)
 pending-more (k ∷ ks) c = omega (arith, pending-cons (ks ++ (c ∷ [])) k c, pending-cons ks k c, pending-more ks c)
 
@@ -320,6 +320,13 @@ declare-books ss c r l b n o =
 pub reserved-room : (ss : List Share) (ks : List ℕ) (c : ℕ) → Booked ss ks → pending_of ks c < (share_of ss c).reserved → length ks < most_pending
 unfolding unfilled
 reserved-room ss ks c b h = omega (arith, b.room, unfilled-le ss ks c b.eight)
+
+pub claim-room : (ss : List Share) (ks : List ℕ) (c : ℕ) → Booked ss ks
+    → (full_for (share_of ss c) (pending_of ks c) (length ks) (unfilled_by_others ss ks c)).fails ≡ false → length ks < most_pending
+claim-room ss ks c b f =
+    by-test (leb (share_of ss c).reserved (pending_of ks c))
+    (λ e. omega (arith, leb-false most_pending (length ks + unfilled_by_others ss ks c) (rw e at f)))
+    (λ e. reserved-room ss ks c b (leb-false (share_of ss c).reserved (pending_of ks c) e))
 
 -- A full table is full for everybody.
 pub full-for-all : (ss : List Share) (ks : List ℕ) (c : ℕ) → Booked ss ks → most_pending ≤ length ks

@@ -13,7 +13,7 @@ use Rattle.rules.specs.declared.Phase.TheVariants.{Waiting}
 use Rattle.rules.specs.Lists.{◌∈◌, sum}
 use Rattle.rules.specs.declared.Setting.{Setting}
 use Rattle.rules.specs.Claims.{on, with_phase, end_of}
-use Rattle.rules.specs.Order.{key, before, reach_in, meets}
+use Rattle.rules.specs.Order.{key, before, meets}
 use Rattle.rules.specs.Packing.{start_for, ahead, packed_start}
 use Rattle.rules.specs.Plans.{Sane}
 use Rattle.rules.proofs.Lists.{Each, sum-le, sum-gap}
@@ -47,12 +47,12 @@ pub start-cap : (v : Setting) (B : ℕ) (ps : List Claim) → Each (Sane v) ps �
 start-cap v B ps sane h k w m o = omega (arith, near w m o, sum-le (sooner w) (λ (c : Claim). c.length) ps (λ c m. sooner-le w c))
   where
     near : (w : Claim) → w ∈ ps → on w ≡ false → packed_start v ps w ≤ B + sum (sooner w) ps
-    near = by_key (λ (w : Claim). packed_start v ps w ≤ B + sum (sooner w) ps) ps (λ w m o ih. rw (start-eq v ps w) (go w ih (for-is v (reach_in ps w.lead) (ahead (packed_start v ps) ps w) w (sane w m))))
+    near = by_key (λ (w : Claim). packed_start v ps w ≤ B + sum (sooner w) ps) ps (λ w m o ih. rw (start-eq v ps w) (go w ih (for-is v (ahead (packed_start v ps) ps w) w (sane w m))))
       where
         go : (w : Claim) → ((c : Claim) → c ∈ ps → on c ≡ false → before c w ≡ true → packed_start v ps c ≤ B + sum (sooner c) ps)
-            → (start_for v (reach_in ps w.lead) (ahead (packed_start v ps) ps w) w ≡ v.clock)
-            ⊎ ((c : Claim) × c ∈ ahead (packed_start v ps) ps w × (meets (reach_in ps w.lead) c w ≡ true) × (end_of v c ≡ start_for v (reach_in ps w.lead) (ahead (packed_start v ps) ps w) w))
-            → start_for v (reach_in ps w.lead) (ahead (packed_start v ps) ps w) w ≤ B + sum (sooner w) ps
+            → (start_for v (ahead (packed_start v ps) ps w) w ≡ v.clock)
+            ⊎ ((c : Claim) × c ∈ ahead (packed_start v ps) ps w × (meets c w ≡ true) × (end_of v c ≡ start_for v (ahead (packed_start v ps) ps w) w))
+            → start_for v (ahead (packed_start v ps) ps w) w ≤ B + sum (sooner w) ps
         go w ih (inl e) = omega arith
         go w ih (inr r) =
             let a = ahead-e (packed_start v ps) ps w r.1 in

@@ -12,12 +12,12 @@ use Rattle.rules.specs.Claims.{on, at, rival, end_of, remaining}
 use Rattle.rules.specs.Order.{rivals}
 use Rattle.rules.specs.Pool.{spare}
 use Rattle.rules.specs.Plans.{Sane}
-use Rattle.rules.specs.Placing.{clear, fits, place, contention, start_bound, fits_all, place_all, bound_all}
+use Rattle.rules.specs.Placing.{clear, fits, place, contention, start_bound}
 use Rattle.rules.proofs.Bools.{by-test, clash}
-use Rattle.rules.proofs.Lists.{Each, sum-le, sum-gap, sum-add, all-not, keep-i}
+use Rattle.rules.proofs.Lists.{sum-le, sum-gap, sum-add, all-not, keep-i}
 use Rattle.rules.proofs.Claims.{end-wait}
 use Rattle.rules.proofs.Pool.{spare-none}
-use Rattle.rules.proofs.Placing.{barred, fits-e, place-least, places-low, places-least, fits-all-e}
+use Rattle.rules.proofs.Placing.{barred, fits-e, place-least}
 
 -- Where each x from a on, n of them, lies in a claim's interval, n is at most the sum of the intervals' parts below a + n.
 cover : (lo hi : Claim → ℕ) (l : List Claim) (a n : ℕ)
@@ -77,41 +77,3 @@ module _ (v : Setting) (ps : List Claim) (w : Claim) where
     where
       below : (x : ℕ) → v.clock ≤ x → x < place v ps w → (c : Claim) × c ∈ rivals ps w × (from c ≤ x) × (x < end_of v c)
       below x h k = by-test (fits v ps w x) (λ e. absurd (omega (arith, place-least v ps w sane x h (fits-e v ps w x e)))) (ruled_out z x h)
-
--- ── claims that start together ──
--- Where each x from a on, n of them, lies in the interval of a pair, n is at most the sum of the intervals' parts below a + n.
-cover-pairs : (lo hi : Claim → Claim → ℕ) (f : Claim → List Claim) (ws : List Claim) (a n : ℕ)
-    → ((x : ℕ) → a ≤ x → x < a + n → (w : Claim) × w ∈ ws × (c : Claim) × c ∈ f w × (lo w c ≤ x) × (x < hi w c))
-    → n ≤ sum (λ w. sum (λ c. min (hi w c) (a + n) - lo w c) (f w)) ws
-cover-pairs lo hi f ws a zero h = omega arith
-cover-pairs lo hi f ws a (suc n) h =
-    let ih = cover-pairs lo hi f ws a n (λ x p q. h x p (omega arith)) in
-    let r = h (a + n) (omega arith) (omega arith) in
-    let w = r.0 in
-    omega (
-      arith,
-      sum-gap (λ (w : Claim). sum (λ c. min (hi w c) (a + n) - lo w c) (f w)) (λ (w : Claim). sum (λ c. min (hi w c) (a + suc n) - lo w c) (f w)) 1 r.1
-          (sum-gap (λ (c : Claim). min (hi w c) (a + n) - lo w c) (λ (c : Claim). min (hi w c) (a + suc n) - lo w c) 1 r.3 (omega (arith, r.4, r.5)) (λ d m. omega arith))
-          (λ y k. sum-le (λ (c : Claim). min (hi y c) (a + n) - lo y c) (λ (c : Claim). min (hi y c) (a + suc n) - lo y c) (f y) (λ d m. omega arith)),
-    )
-
-pub places-bound : (v : Setting) (ps ws : List Claim) → Each (Sane v) ws → Each (λ w. w.units ≡ 0) ws → place_all v ps ws ≤ bound_all v ps ws
-unfolding bound_all fits_all
-places-bound v ps ws sane z =
-    let s = place_all v ps ws in
-    let k = cover-pairs (from v ps) (λ w c. end_of v c) (rivals ps) ws v.clock (s - v.clock) (λ x p q. below x p (omega arith)) in
-    omega (
-      arith,
-      places-low v ps ws,
-      sum-le (λ (w : Claim). sum (λ c. min (end_of v c) (v.clock + (s - v.clock)) - from v ps w c) (rivals ps w)) (λ (w : Claim). sum (λ c. remaining v c + (w.length - 1)) (rivals ps w)) ws (λ w m.
-          sum-le (λ (c : Claim). min (end_of v c) (v.clock + (s - v.clock)) - from v ps w c) (λ (c : Claim). remaining v c + (w.length - 1)) (rivals ps w) (λ c i. omega (arith, count v ps w c))),
-    )
-  where
-    below : (x : ℕ) → v.clock ≤ x → x < place_all v ps ws → (w : Claim) × w ∈ ws × (c : Claim) × c ∈ rivals ps w × (from v ps w c ≤ x) × (x < end_of v c)
-    below x h k =
-        by-test (fits_all v ps ws x)
-        (λ e. absurd (omega (arith, places-least v ps ws sane x h (fits-all-e v ps ws x e))))
-        (λ e.
-        let r = all-not (λ w. fits v ps w x) ws e in
-        let q = ruled_out v ps r.0 (z r.0 r.1) x h r.2 in
-        (r.0, r.1, q.0, q.1, q.2, q.3))

@@ -6,65 +6,64 @@ use mathlib.Core.Bool.{Bool, true, not, ◌||◌}
 use mathlib.Core.List.{List}
 use Prim.Native.Nat.{ℕ, ◌≤◌}
 use lib.Dec.{leb}
-use Rattle.groups.specs.Groups.{shares}
 use borrow.Author.Tests.{leb-true, le-leb, not-true}
 use Rattle.rules.specs.declared.Claim.{Claim}
 use Rattle.rules.specs.Lists.{◌∈◌, greatest, all}
 use Rattle.rules.specs.declared.Setting.{Setting}
-use Rattle.rules.specs.Claims.{end_of}
+use Rattle.rules.specs.Claims.{rival, end_of}
 use Rattle.rules.specs.Order.{meets}
 use Rattle.rules.specs.Pool.{spare}
 use Rattle.rules.specs.Packing.{ready, start_for}
 use Rattle.rules.specs.Plans.{Sane, Behind}
 use Rattle.rules.proofs.Bools.{by-test, clash, and_l, and_r, and_i, or-e, or_r}
 use Rattle.rules.proofs.Lists.{greatest-ge, all-e, all-i}
-use Rattle.rules.proofs.Order.{meets-shares, meets-units}
+use Rattle.rules.proofs.Order.{meets-rival}
 use Rattle.rules.proofs.Pool.{spare-e, spare-i, spare-last}
 use Rattle.rules.proofs.Seeking.{anchor, anchor-ge, seek-low, seek-passes, seek-least, seek_is, spare-down}
 
-module _ (v : Setting) (g : ℕ) (qs : List Claim) (w : Claim) where
-  pub for-low : v.clock ≤ start_for v g qs w
+module _ (v : Setting) (qs : List Claim) (w : Claim) where
+  pub for-low : v.clock ≤ start_for v qs w
   unfolding start_for
-  for-low = seek-low v qs (ready v g qs w)
+  for-low = seek-low v qs (ready v qs w)
 
-  ready-e : (s : ℕ) → ready v g qs w s ≡ true → Behind v g qs w s
+  ready-e : (s : ℕ) → ready v qs w s ≡ true → Behind v qs w s
   unfolding ready
   ready-e s e = record {
     after = λ c m p.
-        ⊎_elim (λ q. clash p (not-true (shares c.groups g) q)) (leb-true (end_of v c) s)
-        (or-e (not (shares c.groups g)) _ (all-e (λ c. not (shares c.groups g) || leb (end_of v c) s) (and_l _ (spare v qs w s) e) m));
-    spare = spare-e v qs w s (and_r (all (λ c. not (shares c.groups g) || leb (end_of v c) s) qs) _ e);
+        ⊎_elim (λ q. clash p (not-true (rival c w) q)) (leb-true (end_of v c) s)
+        (or-e (not (rival c w)) _ (all-e (λ c. not (rival c w) || leb (end_of v c) s) (and_l _ (spare v qs w s) e) m));
+    spare = spare-e v qs w s (and_r (all (λ c. not (rival c w) || leb (end_of v c) s) qs) _ e);
   }
 
   module _ (sane : Sane v w) where
-    ready-i : (s : ℕ) → Behind v g qs w s → ready v g qs w s ≡ true
+    ready-i : (s : ℕ) → Behind v qs w s → ready v qs w s ≡ true
     unfolding ready
     ready-i s k =
         and_i _ (spare v qs w s)
-        (all-i (λ c. not (shares c.groups g) || leb (end_of v c) s) qs (λ c m. by-test (shares c.groups g) (λ p. or_r (not (shares c.groups g)) _ (le-leb _ _ (k.after c m p))) (λ p. rw p)))
+        (all-i (λ c. not (rival c w) || leb (end_of v c) s) qs (λ c m. by-test (rival c w) (λ p. or_r (not (rival c w)) _ (le-leb _ _ (k.after c m p))) (λ p. rw p)))
         (spare-i v qs w s sane.long k.spare)
 
     against : Claim → Bool
-    against c = meets g c w
+    against c = meets c w
 
-    last : ready v g qs w (greatest (end_of v) v.clock qs) ≡ true
+    last : ready v qs w (greatest (end_of v) v.clock qs) ≡ true
     last = ready-i _ (record { after = λ c m p. greatest-ge (end_of v) v.clock m; spare = spare-last v qs w sane.drawn })
 
-    down : (s : ℕ) → v.clock ≤ s → ready v g qs w s ≡ true → ready v g qs w (anchor v against qs s) ≡ true
+    down : (s : ℕ) → v.clock ≤ s → ready v qs w s ≡ true → ready v qs w (anchor v against qs s) ≡ true
     unfolding against
     down s h e =
         let k = ready-e s e in
-        ready-i _ (record { after = λ c m p. anchor-ge v against qs s c m (meets-shares g c w p) (k.after c m p); spare = spare-down v against qs w s (λ c y z. meets-units g c w y z) sane.long h k.spare })
+        ready-i _ (record { after = λ c m p. anchor-ge v against qs s c m (meets-rival c w p) (k.after c m p); spare = spare-down v qs w s sane.long h k.spare })
 
-    pub for-behind : Behind v g qs w (start_for v g qs w)
+    pub for-behind : Behind v qs w (start_for v qs w)
     unfolding start_for
-    for-behind = ready-e _ (seek-passes v qs (ready v g qs w) last)
+    for-behind = ready-e _ (seek-passes v qs (ready v qs w) last)
 
-    pub for-least : (s : ℕ) → v.clock ≤ s → Behind v g qs w s → start_for v g qs w ≤ s
+    pub for-least : (s : ℕ) → v.clock ≤ s → Behind v qs w s → start_for v qs w ≤ s
     unfolding start_for
-    for-least s h k = seek-least v against qs (ready v g qs w) down s h (ready-i s k)
+    for-least s h k = seek-least v against qs (ready v qs w) down s h (ready-i s k)
 
     -- It is the clock, or the end of a claim that has something in common with w.
-    pub for-is : (start_for v g qs w ≡ v.clock) ⊎ ((c : Claim) × c ∈ qs × (meets g c w ≡ true) × (end_of v c ≡ start_for v g qs w))
+    pub for-is : (start_for v qs w ≡ v.clock) ⊎ ((c : Claim) × c ∈ qs × (meets c w ≡ true) × (end_of v c ≡ start_for v qs w))
     unfolding start_for against
-    for-is = seek_is v against qs (ready v g qs w) last down
+    for-is = seek_is v against qs (ready v qs w) last down

@@ -1,5 +1,5 @@
 -- The calls: in which order each is tested, and what it does. Everything here computes on numerals.
-use Rattle.std.specs.Prelude.{Bool, true, false, not, ◌&&◌, cond, List, [], ◌∷◌, ◌++◌, map, ℕ, zero, suc, ◌+◌, eqb, length}
+use Rattle.std.specs.Prelude.{Bool, true, false, not, ◌&&◌, cond, List, [], ◌∷◌, ◌++◌, map, ℕ, zero, suc, ◌+◌, length}
 use Rattle.numbers.specs.Numbers.{dark_number, unknown_number, already_on_number}
 use Rattle.groups.specs.declared.MaybeGroup.{MaybeGroup}
 use Rattle.groups.specs.declared.MaybeGroup.TheVariants.{Group, NoGroup}
@@ -16,12 +16,12 @@ use Rattle.rules.specs.declared.Standing.{Standing}
 use Rattle.rules.specs.declared.Standing.TheVariants.{NotPending, Waits, Holds}
 use Rattle.rules.specs.Lists.{any, keep}
 use Rattle.rules.specs.Shares.{share, first_shares, share_of, with_share, pending_of, unfilled_by_others, reserved_in_all}
-use Rattle.rules.specs.Claims.{on, at, conflicts}
+use Rattle.rules.specs.Claims.{on, at, with_phase, conflicts}
 use Rattle.rules.specs.Packing.{pack}
-use Rattle.rules.specs.Placing.{place_all, contention_all, bound_all}
+use Rattle.rules.specs.Placing.{place, contention, start_bound}
 use Rattle.rules.specs.Granting.{grant, grants}
 use Rattle.rules.specs.Pool.{free_units}
-use Rattle.rules.specs.Tests.{Test, test, first_number, late, backward, stranger, no_client, nothing_asked, off_rig, spots, bad_length, cast, some_dark, some_off_rig, some_bad_length, clashes, full_for, over, begun, overbooked, bad_grace, ticketless, named, unknown, not_yet_on, already_on}
+use Rattle.rules.specs.Tests.{Test, test, first_number, late, backward, stranger, no_client, nothing_asked, off_rig, spots, bad_length, full_for, over, begun, overbooked, bad_grace, ticketless, named, unknown, not_yet_on, already_on}
 
 -- What a table means. The pending claims stand in ascending order of ticket.
 pub record Model : Type 0 where
@@ -63,20 +63,10 @@ setting_of m = ruled m m.clock
 abbrev pub asking : ℕ → ℕ → Request
 asking g n = record { groups = g; length = n; units = 0; client = 1 }
 
--- A member of a set of claims that start together: its groups and its length (document 02, P8).
-pub record Member : Type 0 where
-  pub groups : ℕ
-  pub length : ℕ
-
--- What a member asks for: "claims without units".
-abbrev pub asks_of : ℕ → List Member → List Request
-asks_of c ms = map (λ (p : Member). record { groups = p.groups; length = p.length; units = 0; client = c }) ms
-
--- What a timed call does once the clock is set: it claims what is asked for, or a set of a client's members; releases a ticket or withdraws it;
--- or nothing, "Clock only moves the clock".
+-- What a timed call does once the clock is set: it claims what is asked for, releases a ticket or withdraws it; or nothing, "Clock only moves
+-- the clock".
 pub data Action : Type 0 where
   claims : Request → Action
-  claims_set : ℕ → List Member → Action
   releases : ℕ → Action
   withdraws : ℕ → Action
   moves_clock : Action
@@ -99,13 +89,10 @@ pub data Call : Type 0 where
   looks : Look → Call
   sets_up : Setup → Call
 
--- Each by its name: clock and what is asked for; clock, client and members of a set; clock and ticket, clock; ticket, two tickets, nothing,
--- ticket; a client with its guarantee and its limit; a grace.
+-- Each by its name: clock and what is asked for, clock and ticket, clock; ticket, two tickets, nothing, ticket; a client with its guarantee and
+-- its limit; a grace.
 abbrev pub claim : ℕ → Request → Call
 claim t ask = timed t (claims ask)
-
-abbrev pub claim_set : ℕ → ℕ → List Member → Call
-claim_set t c ms = timed t (claims_set c ms)
 
 abbrev pub release : ℕ → ℕ → Call
 release t k = timed t (releases k)
@@ -134,7 +121,7 @@ declare c r l = sets_up (declares c r l)
 abbrev pub set_grace : ℕ → Call
 set_grace n = sets_up (sets_grace n)
 
--- "Every accepted timed call (claim, release, withdraw, clock)"; and a claim of a set.
+-- "Every accepted timed call (claim, release, withdraw, clock)"
 abbrev pub is_timed : Call → Bool
 is_timed (timed t x) = true
 is_timed (looks q) = false
@@ -176,41 +163,13 @@ full_to m c =
 abbrev pub over_of : Model → ℕ → Test
 over_of m c = over (share_of m.shares c) (pending_of (clients_of m.pending) c)
 
--- The claims that are made of what is asked for: waiting, with the start s, and tickets from k + 1 on. The first ticket of all goes with each.
-unfoldable pub members : ℕ → ℕ → ℕ → List Request → List Claim
-members lead s k [] = []
-members lead s k (ask ∷ asks) =
-    record { groups = ask.groups; phase = Waiting s; length = ask.length; ticket = suc k; units = ask.units; lead = lead; client = ask.client }
-    ∷ members lead s (suc k) asks
-
--- Claims with the start s, before they join the pending ones.
-abbrev pub starting : Model → List Request → ℕ → List Claim
-starting m asks s = members (suc m.issued) s m.issued asks
-
--- More claims, with the next tickets.
-unfoldable pub join : Model → List Claim → Model
-join m ws = with_pending (with_issued m (m.issued + length ws)) (m.pending ++ ws)
-
--- "for 6, 18 and 7 members come in turn, those before counted as taken, and the first that meets one decides"
-abbrev pub taken : Model → Request → Model
-taken m ask = join m (starting m (ask ∷ []) m.clock)
-
-unfoldable pub in_turn : Model → List Request → List Test
-in_turn m [] = []
-in_turn m (ask ∷ asks) = full_to m ask.client ∷ over_of m ask.client ∷ ticketless m.issued ∷ in_turn (taken m ask) asks
-
 -- "A claim is tested in the order 5, 4, 1, 2, 3, 6, 7; a release 5, 4, 8, 9; a withdrawal 5, 4, 8, 10; a clock call 5, 4": of every timed
--- call 5 and 4, then these; of a claim "16 .. after 2", "17 .. before 1", "18 .. after 6" (document 02, P3 and P4); of a set "the whole order
--- is 5, 4, 22, 17, 1, 2, 3, 23, 6, 18, 7" (P8).
+-- call 5 and 4, then these; of a claim "16 .. after 2", "17 .. before 1", "18 .. after 6" (document 02, P3 and P4).
 abbrev pub action_tests : Model → Action → List Test
 action_tests m (claims ask) =
     stranger (share_of m.shares ask.client) ∷ nothing_asked ask.groups ask.units
     ∷ off_rig m.rig ask.groups ∷ spots m.pool ask.units ∷ bad_length ask.length
     ∷ full_to m ask.client ∷ over_of m ask.client ∷ ticketless m.issued ∷ []
-action_tests m (claims_set c ms) =
-    let gs = map (λ (a : Request). a.groups) (asks_of c ms) in
-    cast (length (asks_of c ms)) ∷ stranger (share_of m.shares c) ∷ some_dark gs ∷ some_off_rig m.rig gs
-    ∷ some_bad_length (map (λ (a : Request). a.length) (asks_of c ms)) ∷ clashes gs ∷ in_turn m (asks_of c ms)
 action_tests m (releases k) = unknown (named k) m.pending ∷ not_yet_on (named k) on m.pending ∷ []
 action_tests m (withdraws k) = unknown (named k) m.pending ∷ already_on (named k) on m.pending ∷ []
 action_tests m moves_clock = []
@@ -257,34 +216,29 @@ granting m r ps =
 unfoldable pub finish : Model → Reply → Step
 finish m r = granting m r (pack (setting_of m) m.pending)
 
+-- One claim more, with the next ticket.
+unfoldable pub join : Model → Claim → Model
+join m w = with_pending (with_issued m (suc m.issued)) (m.pending ++ (w ∷ []))
+
 -- The claims but that of ticket k.
 unfoldable pub remove : Model → ℕ → Model
 remove m k = with_pending m (keep (λ c. not (named k c)) m.pending)
 
--- "One waiting member's withdrawal withdraws the set": the claims but those of the set of ticket k.
-unfoldable pub lead_of : ℕ → List Claim → ℕ
-lead_of k [] = 0
-lead_of k (c ∷ cs) = cond (named k c) c.lead (lead_of k cs)
+-- A new claim, before it has its place: waiting from the clock on.
+abbrev pub fresh : Model → Request → Claim
+fresh m ask = record { groups = ask.groups; phase = Waiting m.clock; length = ask.length; ticket = suc m.issued; units = ask.units; client = ask.client }
 
-unfoldable pub disband : Model → ℕ → Model
-disband m k = with_pending m (keep (λ c. not (eqb c.lead (lead_of k m.pending))) m.pending)
-
--- New claims, before they have their place: waiting from the clock on.
-abbrev pub fresh : Model → List Request → List Claim
-fresh m asks = starting m asks m.clock
-
--- "Claim": placed among the pending claims; "the answer is ticket, start, crowd and ceiling". Of a set it is "the first member's ticket", and a
--- claim is a set of its own here (proofs/Sets: `admit-one`).
-abbrev pub placing : Model → List Request → Reply
-placing m asks =
+-- "Claim": placed among the pending claims; "the answer is ticket, start, crowd and ceiling".
+abbrev pub placing : Model → Claim → Reply
+placing m w =
     let v : Setting = setting_of m in
-    let ws = fresh m asks in
-    record { ticket = suc m.issued; start = place_all v m.pending ws; contention = contention_all m.pending ws; bound = bound_all v m.pending ws }
+    record { ticket = w.ticket; start = place v m.pending w; contention = contention m.pending w; bound = start_bound v m.pending w }
 
-unfoldable pub admit : Model → List Request → Step
-admit m asks =
-    let r : Reply = placing m asks in
-    finish (join m (starting m asks r.start)) r
+unfoldable pub admit : Model → Request → Step
+admit m ask =
+    let w : Claim = fresh m ask in
+    let r : Reply = placing m w in
+    finish (join m (with_phase w (Waiting r.start))) r
 
 -- A declaration gives its client a share. It answers 0 and nothing else; so does a grace that is set.
 abbrev pub declared : Model → ℕ → ℕ → ℕ → Model
@@ -293,10 +247,9 @@ declared m c r l = with_shares m (with_share m.shares c (share r l))
 -- "Release takes away an on claim; withdraw takes away a waiting one. Clock only moves the clock": in a table whose clock is set to t and
 -- which is packed.
 abbrev pub perform : Model → ℕ → Action → Step
-perform m t (claims ask) = admit m (ask ∷ [])
-perform m t (claims_set c ms) = admit m (asks_of c ms)
+perform m t (claims ask) = admit m ask
 perform m t (releases k) = finish (remove m k) (plain k t)
-perform m t (withdraws k) = finish (disband m k) (plain k t)
+perform m t (withdraws k) = finish (remove m k) (plain k t)
 perform m t moves_clock = finish m (plain 0 t)
 
 abbrev pub with_setup : Model → Setup → Model

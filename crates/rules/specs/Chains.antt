@@ -7,14 +7,17 @@ use Rattle.rules.specs.declared.Claim.{Claim}
 use Rattle.rules.specs.declared.Setting.{Setting}
 use Rattle.rules.specs.Lists.{◌∈◌, sum, keep, first_with, Distinct}
 use Rattle.rules.specs.Claims.{on, at, end_of}
-use Rattle.rules.specs.Order.{reach_in, meets}
+use Rattle.rules.specs.Order.{meets}
 use Rattle.rules.specs.Tests.{named}
 
 -- ── links ──
--- Of a waiting claim w: c is one "whose end equals this claim's start and which shares a group, or the pool, with it"; "A chain's link from a
--- waiting member counts the groups of its whole set" (P8).
+-- Whom a waiting claim counts as in the search for its link: itself.
+unfoldable pub counts_as : List Claim → Claim → Claim
+counts_as ps w = w
+
+-- Of a waiting claim w: c is one "whose end equals this claim's start and which shares a group, or the pool, with it".
 unfoldable pub links : Setting → List Claim → Claim → Claim → Bool
-links v ps c w = eqb (end_of v c) (at w) && meets (reach_in ps w.lead) c w
+links v ps c w = eqb (end_of v c) (at w) && meets c (counts_as ps w)
 
 -- The link of w: "the lowest ticket" of those. The pending claims stand in ascending order of ticket, so it is the first. (There is one for every
 -- waiting claim: proofs/Chains, `link-true`. Where there is none, w.)
@@ -52,12 +55,12 @@ unfoldable pub chain_of : Setting → ℕ → List Claim → ChainValues
 chain_of v k ps = chain_from v ps (keep (named k) ps)
 
 -- ── what is said of chains ──
--- c is the link of w: pending, it has a group or the pool in common with the set of w and ends as w starts, and no lower ticket does so.
+-- c is the link of w: pending, it has a group or the pool in common with w and ends as w starts, and no lower ticket does so.
 pub record TrueLink (v : Setting) (ps : List Claim) (c w : Claim) : Type 0 where
   pub pending : c ∈ ps
   pub ends : end_of v c ≡ at w
-  pub common : meets (reach_in ps w.lead) c w ≡ true
-  pub lowest : (d : Claim) → d ∈ ps → end_of v d ≡ at w → meets (reach_in ps w.lead) d w ≡ true → c.ticket ≤ d.ticket
+  pub common : meets c (counts_as ps w) ≡ true
+  pub lowest : (d : Claim) → d ∈ ps → end_of v d ≡ at w → meets d (counts_as ps w) ≡ true → c.ticket ≤ d.ticket
 
 -- "Each link is true", from each waiting claim to the next; the last claim is on, and no other is.
 abbrev pub TrueChain : Setting → List Claim → List Claim → Type 0

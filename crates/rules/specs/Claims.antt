@@ -24,7 +24,7 @@ abbrev pub at : Claim → ℕ
 at c = mark c.phase
 
 abbrev pub with_phase : Claim → Phase → Claim
-with_phase c p = record { groups = c.groups; phase = p; length = c.length; ticket = c.ticket; units = c.units; lead = c.lead; client = c.client }
+with_phase c p = record { groups = c.groups; phase = p; length = c.length; ticket = c.ticket; units = c.units; client = c.client }
 
 -- "The test of two claims for a common group .. answers the lowest common group number, or none" (document 02, P1).
 abbrev pub conflicts : Claim → Claim → MaybeGroup

@@ -23,7 +23,7 @@ truly_free v ps p w = eqb w.units 0 || leb (held_units ps + sum (taken_before p 
 unfoldable pub goes_within : ℕ → Setting → List Claim → Claim → Bool
 goes_within zero v ps w = false
 goes_within (suc k) v ps w =
-    (not (on w) && eqb (at w) v.clock) && (not (any (λ d. precedes ps d w) ps) && truly_free v ps (λ c. goes_within k v ps c) w)
+    (not (on w) && eqb (at w) v.clock) && (not (any (λ d. precedes d w) ps) && truly_free v ps (λ c. goes_within k v ps c) w)
 
 unfoldable pub goes : Setting → List Claim → Claim → Bool
 goes v ps w = goes_within (suc (key w)) v ps w

@@ -9,7 +9,7 @@ use Rattle.rules.specs.Shares.{share_of, pending_of, unfilled_in_all}
 use Rattle.rules.specs.Claims.{on, at}
 use Rattle.rules.specs.Packing.{pack}
 use Rattle.rules.specs.Calls.{Model, setting_of, clients_of}
-use Rattle.rules.specs.Plans.{Ascending, Sane, Sets, Apart, Separated, StartsFrom, Tight, Blocked, Earliest}
+use Rattle.rules.specs.Plans.{Ascending, Sane, Apart, Separated, StartsFrom, Tight, Blocked, Earliest}
 
 -- A claim as it may stand in a table.
 pub record Proper (k : ℕ) (v : Setting) (c : Claim) : Type 0 where
@@ -22,14 +22,12 @@ pub record Proper (k : ℕ) (v : Setting) (c : Claim) : Type 0 where
 pub record Packable (k : ℕ) (v : Setting) (ps : List Claim) : Type 0 where
   pub proper : (c : Claim) → c ∈ ps → Proper k v c
   pub ascending : Ascending ps
-  pub sets : Sets ps
   pub holders : Apart v ps
 
 -- Nobody overlaps, and no start is below the clock.
 pub record Spaced (k : ℕ) (v : Setting) (ps : List Claim) : Type 0 where
   pub proper : (c : Claim) → c ∈ ps → Proper k v c
   pub ascending : Ascending ps
-  pub sets : Sets ps
   pub holders : Apart v ps
   pub fit : Separated v ps
   pub low : StartsFrom v.clock ps

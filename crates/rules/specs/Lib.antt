@@ -11,7 +11,6 @@ pub mod Granting
 pub mod Tests
 pub mod Calls
 pub mod Invariants
-pub mod NoSets
 pub mod NoUnits
 pub mod OneClient
 pub mod NoGrace

@@ -35,7 +35,7 @@ any p (x ∷ l) = p x || any p l
 -- The elements that pass p, in their order.
 unfoldable pub keep : {A : Type 0} → (A → Bool) → List A → List A
 keep p [] = []
-keep p (x ∷ l) = let r = keep p l in cond (p x) (x ∷ r) r
+keep p (x ∷ l) = cond (p x) (x ∷ keep p l) (keep p l)
 
 -- The first element that passes p; d where none does.
 unfoldable pub first_with : {A : Type 0} → (A → Bool) → A → List A → A

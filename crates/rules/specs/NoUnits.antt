@@ -11,12 +11,12 @@ use Rattle.rules.specs.Packing.{moved}
 use Rattle.rules.specs.Placing.{clear}
 use Rattle.rules.specs.Shares.{share_of}
 use Rattle.rules.specs.Tests.{Test, late, backward, stranger, dark, off_rig, bad_length, ticketless}
-use Rattle.rules.specs.Calls.{Model, claims, claims_set, releases, withdraws, moves_clock, Call, timed, looks, sets_up, full_to, over_of}
+use Rattle.rules.specs.Calls.{Model, claims, releases, withdraws, moves_clock, Call, timed, looks, sets_up, full_to, over_of}
 
 -- ── a claim ──
 -- "Each waiting claim's planned start becomes the greatest of the clock and the ends of the claims that precede it": of the starts f.
 abbrev pub documented_start : Setting → List Claim → (Claim → ℕ) → Claim → ℕ
-documented_start v ps f w = greatest (λ c. end_of v (moved f c)) v.clock (keep (λ c. precedes ps c w) ps)
+documented_start v ps f w = greatest (λ c. end_of v (moved f c)) v.clock (keep (λ c. precedes c w) ps)
 
 -- "for each conflicting on claim s ≥ its end, and for each conflicting waiting claim either s ≥ its end or s + length ≤ its planned start"
 abbrev pub documented_fits : Setting → List Claim → Claim → ℕ → Bool
@@ -32,7 +32,6 @@ undrawn_tests m t ask =
 -- The call draws no units.
 abbrev pub CallDrawsNone : Call → Type 0
 CallDrawsNone (timed t (claims ask)) = ask.units ≡ 0
-CallDrawsNone (timed t (claims_set c ms)) = Unit {0}
 CallDrawsNone (timed t (releases k)) = Unit {0}
 CallDrawsNone (timed t (withdraws k)) = Unit {0}
 CallDrawsNone (timed t moves_clock) = Unit {0}

@@ -5,26 +5,24 @@
 -- Packing takes the claims in the order `before`. On every table that calls can make that is the order of `precedes` for claims that conflict
 -- (proofs/Calls: `packs-as-documented`): no two waiting claims that conflict have the same start.
 use Rattle.std.specs.Prelude.{◌≡◌, Bool, true, false, not, ◌&&◌, ◌||◌, List, map, ℕ, zero, suc, ◌≤◌, leb}
-use Rattle.groups.specs.Groups.{shares}
 use Rattle.rules.specs.declared.Claim.{Claim}
 use Rattle.rules.specs.declared.Phase.TheVariants.{Waiting}
 use Rattle.rules.specs.Lists.{◌∈◌, all, keep}
 use Rattle.rules.specs.declared.Setting.{Setting}
-use Rattle.rules.specs.Claims.{on, with_phase, end_of}
-use Rattle.rules.specs.Order.{key, before, reach_in, precedes}
+use Rattle.rules.specs.Claims.{on, with_phase, rival, end_of}
+use Rattle.rules.specs.Order.{key, before, precedes}
 use Rattle.rules.specs.Pool.{spare}
 use Rattle.rules.specs.Seeking.{seek}
 use Rattle.rules.specs.Plans.{Spare}
 
--- w, whose set has the groups g, may start at s behind the claims qs: after the ends of those that have one of these groups, and with units
--- enough beside all. (So claims of a set are ready together, and the set gets "the greatest start that any member needs": proofs/Sets.)
-unfoldable pub ready : Setting → ℕ → List Claim → Claim → ℕ → Bool
-ready v g qs w s = all (λ c. not (shares c.groups g) || leb (end_of v c) s) qs && spare v qs w s
+-- w may start at s behind the claims qs: after the ends of those that conflict with it, and with units enough beside all.
+unfoldable pub ready : Setting → List Claim → Claim → ℕ → Bool
+ready v qs w s = all (λ c. not (rival c w) || leb (end_of v c) s) qs && spare v qs w s
 
 -- The start of w behind the claims qs: the least that is ready. (The least of all numbers, not only of the candidates: proofs/Starts,
 -- `for-least`.)
-unfoldable pub start_for : Setting → ℕ → List Claim → Claim → ℕ
-start_for v g qs w = seek v (ready v g qs w) qs
+unfoldable pub start_for : Setting → List Claim → Claim → ℕ
+start_for v qs w = seek v (ready v qs w) qs
 
 -- A waiting claim with the start that f gives it.
 unfoldable pub moved : (Claim → ℕ) → Claim → Claim
@@ -38,7 +36,7 @@ ahead f ps w = map (moved f) (keep (λ c. before c w) ps)
 -- claims can stand before one another; one more than w's key is enough.
 unfoldable pub start_within : ℕ → Setting → List Claim → Claim → ℕ
 start_within zero v ps w = v.clock
-start_within (suc k) v ps w = start_for v (reach_in ps w.lead) (ahead (λ c. start_within k v ps c) ps w) w
+start_within (suc k) v ps w = start_for v (ahead (λ c. start_within k v ps c) ps w) w
 
 unfoldable pub packed_start : Setting → List Claim → Claim → ℕ
 packed_start v ps w = start_within (suc (key w)) v ps w
@@ -50,7 +48,7 @@ pack v ps = map (moved (packed_start v ps)) ps
 -- and leaves units enough beside the on claims and those packed before it; and f w is the least such s that is not below the clock.
 pub record MayStart (v : Setting) (ps : List Claim) (f : Claim → ℕ) (w : Claim) (s : ℕ) : Type 0 where
   pub from_clock : v.clock ≤ s
-  pub after : (c : Claim) → c ∈ ps → precedes ps c w ≡ true → end_of v (moved f c) ≤ s
+  pub after : (c : Claim) → c ∈ ps → precedes c w ≡ true → end_of v (moved f c) ≤ s
   pub spare : Spare v (ahead f ps w) w s
 
 abbrev pub Packs : Setting → List Claim → (Claim → ℕ) → Type 0

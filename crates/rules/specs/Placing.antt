@@ -28,19 +28,3 @@ contention ps w = length (rivals ps w)
 -- Start bound of a claim (document 01: ceiling): "clock + the sum, over those, of remaining time .. + crowd × (length − 1)".
 unfoldable pub start_bound : Setting → List Claim → Claim → ℕ
 start_bound v ps w = v.clock + sum (remaining v) (rivals ps w) + contention ps w * (w.length - 1)
-
--- ── claims that start together (document 02, P8) ──
--- "set it at the least start that fits every member by the ordinary rule". Of one claim alone that is its `place` (proofs/Sets: `place-one`).
-unfoldable pub fits_all : Setting → List Claim → List Claim → ℕ → Bool
-fits_all v ps ws s = all (λ w. fits v ps w s) ws
-
-unfoldable pub place_all : Setting → List Claim → List Claim → ℕ
-place_all v ps ws = seek v (fits_all v ps ws) ps
-
--- "Crowd counts the pairs of a member and a pending claim sharing a group; ceiling is clock plus, for each, remaining time + the member's
--- length − 1."
-unfoldable pub contention_all : List Claim → List Claim → ℕ
-contention_all ps ws = sum (contention ps) ws
-
-unfoldable pub bound_all : Setting → List Claim → List Claim → ℕ
-bound_all v ps ws = v.clock + sum (λ w. sum (λ c. remaining v c + (w.length - 1)) (rivals ps w)) ws

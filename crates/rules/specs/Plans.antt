@@ -1,11 +1,10 @@
 -- What the laws say of a plan, the list of pending claims with their starts and grants. Two claims are claims of different tickets.
-use Rattle.std.specs.Prelude.{◌≡◌, ◌⊎◌, ◌≢◌, true, false, ◌&&◌, List, ℕ, ◌+◌, ◌≤◌, ◌<◌, eqb}
+use Rattle.std.specs.Prelude.{◌≡◌, ◌⊎◌, ◌≢◌, true, false, List, ℕ, ◌+◌, ◌≤◌, ◌<◌}
 use Rattle.rules.specs.declared.Claim.{Claim}
 use Rattle.rules.specs.Lists.{◌∈◌, keep, Ascends}
 use Rattle.rules.specs.declared.Setting.{Setting}
 use Rattle.rules.specs.Claims.{on, at, rival, end_of}
-use Rattle.groups.specs.Groups.{shares, empty}
-use Rattle.rules.specs.Order.{before, reach_in, bars, meets}
+use Rattle.rules.specs.Order.{before, meets}
 use Rattle.rules.specs.Pool.{used, held_units}
 
 -- Tickets ascend, so no ticket stands twice.
@@ -17,36 +16,16 @@ pub record Sane (v : Setting) (c : Claim) : Type 0 where
   pub long : 1 ≤ c.length
   pub small : c.ticket < 65536
   pub drawn : c.units ≤ v.pool
-  pub led : c.lead ≤ c.ticket
-  -- Members of sets draw no units.
-  pub single : 0 < c.units → c.lead ≡ c.ticket
-  -- It has a group or draws units.
-  pub lit : (empty c.groups && eqb c.units 0) ≡ false
-
--- Two claims of one set: both wait, with one start, or both are on, with one grant. They share no group and draw no units.
-pub record Mates (c d : Claim) : Type 0 where
-  pub phase : on c ≡ on d
-  pub start : at c ≡ at d
-  pub apart : c.ticket ≢ d.ticket → rival c d ≡ false
-  pub undrawn : c.ticket ≢ d.ticket → c.units ≡ 0
-
--- So are any two claims with one lead.
-abbrev pub Sets : List Claim → Type 0
-Sets ps = (c d : Claim) → c ∈ ps → d ∈ ps → c.lead ≡ d.lead → Mates c d
 
 -- No two holders share a group, and together they hold no more units than there are.
 pub record Apart (v : Setting) (ps : List Claim) : Type 0 where
   pub apart : (c d : Claim) → c ∈ ps → d ∈ ps → c.ticket ≢ d.ticket → rival c d ≡ true → on c ≡ true → on d ≡ true → ⊥
   pub stock : held_units ps ≤ v.pool
 
--- A waiting claim starts at or after the end of each claim before it that conflicts with it or its set, and planned use never exceeds the pool.
+-- A waiting claim starts at or after the end of each conflicting claim before it, and planned use never exceeds the pool.
 pub record Separated (v : Setting) (ps : List Claim) : Type 0 where
-  pub behind : (c w : Claim) → c ∈ ps → w ∈ ps → on w ≡ false → before c w ≡ true → bars ps c w ≡ true → end_of v c ≤ at w
+  pub behind : (c w : Claim) → c ∈ ps → w ∈ ps → on w ≡ false → before c w ≡ true → rival c w ≡ true → end_of v c ≤ at w
   pub supplied : (x : ℕ) → v.clock ≤ x → used v x ps ≤ v.pool
-
--- No two conflicting waiting claims of different sets have the same start.
-abbrev pub Untied : List Claim → Type 0
-Untied ps = (c w : Claim) → c ∈ ps → w ∈ ps → on c ≡ false → on w ≡ false → c.lead ≢ w.lead → bars ps c w ≡ true → at c ≢ at w
 
 -- If c is on, its promised end is not below t. So it is of all the claims: nobody overruns at that clock.
 abbrev pub PromptAt : ℕ → Claim → Type 0
@@ -59,9 +38,9 @@ NoOverrunAt t ps = (c : Claim) → c ∈ ps → PromptAt t c
 abbrev pub StartsFrom : ℕ → List Claim → Type 0
 StartsFrom t ps = (w : Claim) → w ∈ ps → on w ≡ false → t ≤ at w
 
--- A claim that has a group or the pool in common with the set of w ends as w starts.
+-- A claim that has a group or the pool in common with w ends as w starts.
 abbrev pub HeldUp : Setting → List Claim → Claim → Type 0
-HeldUp v ps w = (c : Claim) × c ∈ ps × (meets (reach_in ps w.lead) c w ≡ true) × (end_of v c ≡ at w)
+HeldUp v ps w = (c : Claim) × c ∈ ps × (meets c w ≡ true) × (end_of v c ≡ at w)
 
 -- Each planned start is the clock or such an end.
 abbrev pub Tight : Setting → List Claim → Type 0
@@ -76,14 +55,14 @@ Blocked v ps = (w : Claim) → w ∈ ps → on w ≡ false → HeldUp v ps w
 abbrev pub Spare : Setting → List Claim → Claim → ℕ → Type 0
 Spare v qs w s = 0 < w.units → (x : ℕ) → s ≤ x → x < s + w.length → used v x qs + w.units ≤ v.pool
 
--- w, whose set has the groups g, may start at s behind the claims qs.
-pub record Behind (v : Setting) (g : ℕ) (qs : List Claim) (w : Claim) (s : ℕ) : Type 0 where
-  pub after : (c : Claim) → c ∈ qs → shares c.groups g ≡ true → end_of v c ≤ s
+-- w may start at s behind the claims qs.
+pub record Behind (v : Setting) (qs : List Claim) (w : Claim) (s : ℕ) : Type 0 where
+  pub after : (c : Claim) → c ∈ qs → rival c w ≡ true → end_of v c ≤ s
   pub spare : Spare v qs w s
 
 -- No waiting claim could start sooner behind the claims before it.
 abbrev pub Earliest : Setting → List Claim → Type 0
-Earliest v ps = (w : Claim) → w ∈ ps → on w ≡ false → (s : ℕ) → v.clock ≤ s → Behind v (reach_in ps w.lead) (keep (λ c. before c w) ps) w s → at w ≤ s
+Earliest v ps = (w : Claim) → w ∈ ps → on w ≡ false → (s : ℕ) → v.clock ≤ s → Behind v (keep (λ c. before c w) ps) w s → at w ≤ s
 
 -- The claim c leaves room for w at s, and all do.
 abbrev pub Room : Setting → Claim → ℕ → Claim → Type 0

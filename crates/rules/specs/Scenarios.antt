@@ -10,7 +10,7 @@ use Rattle.rules.specs.declared.Phase.TheVariants.{Waiting, On}
 use Rattle.rules.specs.declared.Standing.{Standing}
 use Rattle.rules.specs.declared.Standing.TheVariants.{NotPending, Waits, Holds}
 use Rattle.rules.specs.Tests.{first_number}
-use Rattle.rules.specs.Calls.{Model, setting_of, with_issued, with_pending, Member, asking, claims, Call, timed, claim_set, release, withdraw, clock, declare, set_grace, Answer, tests, new, standing_of, common_of, free_of, after, answers}
+use Rattle.rules.specs.Calls.{Model, setting_of, with_issued, with_pending, asking, claims, Call, timed, release, withdraw, clock, declare, set_grace, Answer, tests, new, standing_of, common_of, free_of, after, answers}
 use Rattle.rules.specs.Chains.{chain, ChainValues, chain_refused, chain_of}
 
 -- Calls made before, calls made now, their answers, and what lookup then tells of tickets 1 to 4.
@@ -103,21 +103,16 @@ outcome x =
 abbrev pub expected : Scenario → Outcome
 expected x = record { answers = x.answers; standings = x.standings }
 
--- Calls on a table of groups F hex and a pool, with client 1 alone declared or nobody, their answers, and then what lookup tells of tickets 1 to
--- 4 and of the units free.
+-- Calls on a table of groups F hex and a pool, their answers, and then what lookup tells of tickets 1 to 4 and of the units free.
 pub record PoolScenario : Type 0 where
   pub pool : ℕ
-  pub alone : Bool
   pub calls : List Call
   pub answers : List Answer
   pub standings : List Standing
   pub free : ℕ
 
 abbrev pub on_pool : ℕ → List Call → List Answer → List Standing → ℕ → PoolScenario
-on_pool k c a s f = record { pool = k; alone = true; calls = c; answers = a; standings = s; free = f }
-
-abbrev pub undeclared : List Call → List Answer → List Standing → PoolScenario
-undeclared c a s = record { pool = 0; alone = false; calls = c; answers = a; standings = s; free = 0 }
+on_pool k c a s f = record { pool = k; calls = c; answers = a; standings = s; free = f }
 
 -- A claim at a clock, of groups (hex), a length and units.
 abbrev pub drawing : ℕ → ℕ → ℕ → ℕ → Call
@@ -196,76 +191,6 @@ grace_scenarios =
     (NotPending ∷ NotPending ∷ NotPending ∷ NotPending ∷ []) 0
     ∷ []
 
--- Sets of claims that start together (document 02, P8).
-abbrev pub of : ℕ → ℕ → Member
-of g n = record { groups = g; length = n }
-
-abbrev pub together : ℕ → List Member → Call
-together t ms = claim_set t 1 ms
-
-unfoldable pub set_scenarios : List PoolScenario
-set_scenarios =
-    -- released early, it is pulled forward to the greatest start that any member needs
-    on_pool 0 (claim 0 0x1 10 ∷ claim 0 0x2 20 ∷ together 0 (of 0x1 5 ∷ of 0x2 7 ∷ []) ∷ release 4 2 ∷ [])
-    (ok 1 0 0 0 (1 ∷ []) ∷ ok 2 0 0 0 (2 ∷ []) ∷ ok 3 20 2 40 [] ∷ ok 2 4 0 0 [] ∷ [])
-    (Holds 10 ∷ NotPending ∷ Waits 10 ∷ Waits 10 ∷ []) 0
-    -- two behind different holders: at the later end; contention is pairs, and the bound that of all
-    ∷ on_pool 0 (claim 0 0x1 10 ∷ claim 0 0x2 20 ∷ together 0 (of 0x1 5 ∷ of 0x2 7 ∷ []) ∷ [])
-    (ok 1 0 0 0 (1 ∷ []) ∷ ok 2 0 0 0 (2 ∷ []) ∷ ok 3 20 2 40 [] ∷ [])
-    (Holds 10 ∷ Holds 20 ∷ Waits 20 ∷ Waits 20 ∷ []) 0
-    -- pulled forward to the greatest need, and granted together when both can be
-    ∷ on_pool 0 (claim 0 0x1 10 ∷ claim 0 0x2 20 ∷ together 0 (of 0x1 5 ∷ of 0x2 7 ∷ []) ∷ release 4 2 ∷ release 10 1 ∷ [])
-    (ok 1 0 0 0 (1 ∷ []) ∷ ok 2 0 0 0 (2 ∷ []) ∷ ok 3 20 2 40 [] ∷ ok 2 4 0 0 [] ∷ ok 1 10 0 0 (3 ∷ 4 ∷ []) ∷ [])
-    (NotPending ∷ NotPending ∷ Holds 15 ∷ Holds 17 ∷ []) 0
-    -- one holder overruns: the other's member waits with its mate, though its own groups are free
-    ∷ on_pool 0 (claim 0 0x1 10 ∷ together 0 (of 0x1 5 ∷ of 0x2 7 ∷ []) ∷ clock 12 ∷ release 13 1 ∷ [])
-    (ok 1 0 0 0 (1 ∷ []) ∷ ok 2 10 1 14 [] ∷ ok 0 12 0 0 [] ∷ ok 1 13 0 0 (2 ∷ 3 ∷ []) ∷ [])
-    (NotPending ∷ Holds 18 ∷ Holds 20 ∷ NotPending ∷ []) 0
-    -- and a later claim of those groups does not slip in before it
-    ∷ on_pool 0 (claim 0 0x1 10 ∷ together 0 (of 0x1 5 ∷ of 0x2 7 ∷ []) ∷ clock 12 ∷ claim 12 0x2 3 ∷ [])
-    (ok 1 0 0 0 (1 ∷ []) ∷ ok 2 10 1 14 [] ∷ ok 0 12 0 0 [] ∷ ok 4 19 1 21 [] ∷ [])
-    (Holds 10 ∷ Waits 12 ∷ Waits 12 ∷ Waits 19 ∷ []) 0
-    -- members hold, end and release singly; one that is on is not withdrawn, its mate there or not
-    ∷ on_pool 0 (together 0 (of 0x1 5 ∷ of 0x2 7 ∷ []) ∷ withdraw 3 1 ∷ release 3 1 ∷ withdraw 3 2 ∷ claim 3 0x1 4 ∷ release 5 2 ∷ [])
-    (ok 1 0 0 0 (1 ∷ 2 ∷ []) ∷ refused 10 ∷ ok 1 3 0 0 [] ∷ refused 10 ∷ ok 3 3 0 3 (3 ∷ []) ∷ ok 2 5 0 0 [] ∷ [])
-    (NotPending ∷ NotPending ∷ Holds 7 ∷ NotPending ∷ []) 0
-    -- one waiting member's withdrawal, the second's or the first's, withdraws the set; its mates then give 8
-    ∷ on_pool 0 (claim 0 0x3 10 ∷ together 0 (of 0x1 5 ∷ of 0x2 7 ∷ []) ∷ withdraw 1 3 ∷ withdraw 1 2 ∷ claim 1 0x4 3 ∷ [])
-    (ok 1 0 0 0 (1 ∷ []) ∷ ok 2 10 2 30 [] ∷ ok 3 1 0 0 [] ∷ refused 8 ∷ ok 4 1 0 1 (4 ∷ []) ∷ [])
-    (Holds 10 ∷ NotPending ∷ NotPending ∷ Holds 4 ∷ []) 0
-    ∷ on_pool 0 (claim 0 0x3 10 ∷ together 0 (of 0x1 5 ∷ of 0x2 7 ∷ []) ∷ withdraw 1 2 ∷ withdraw 1 3 ∷ claim 1 0x4 3 ∷ [])
-    (ok 1 0 0 0 (1 ∷ []) ∷ ok 2 10 2 30 [] ∷ ok 2 1 0 0 [] ∷ refused 8 ∷ ok 4 1 0 1 (4 ∷ []) ∷ [])
-    (Holds 10 ∷ NotPending ∷ NotPending ∷ Holds 4 ∷ []) 0
-    -- a single claim waits for the member that it conflicts with, and only for that one
-    ∷ on_pool 0 (claim 0 0x1 10 ∷ together 0 (of 0x1 5 ∷ of 0x2 7 ∷ []) ∷ claim 0 0x2 4 ∷ claim 0 0x2 11 ∷ [])
-    (ok 1 0 0 0 (1 ∷ []) ∷ ok 2 10 1 14 [] ∷ ok 4 0 1 10 (4 ∷ []) ∷ ok 5 17 2 31 [] ∷ [])
-    (Holds 10 ∷ Waits 10 ∷ Waits 10 ∷ Holds 4 ∷ []) 0
-    -- the least start that fits every member: a gap that is long enough for one is not for the other
-    ∷ on_pool 0 (claim 0 0x1 10 ∷ claim 0 0x5 10 ∷ together 0 (of 0x4 10 ∷ of 0x2 3 ∷ []) ∷ together 0 (of 0x4 11 ∷ of 0x8 3 ∷ []) ∷ [])
-    (ok 1 0 0 0 (1 ∷ []) ∷ ok 2 10 1 19 [] ∷ ok 3 0 1 19 (3 ∷ 4 ∷ []) ∷ ok 5 20 2 40 [] ∷ [])
-    (Holds 10 ∷ Waits 10 ∷ Holds 10 ∷ Holds 3 ∷ []) 0
-    -- two sets: the second behind the first, by the member that conflicts
-    ∷ on_pool 0 (together 0 (of 0x1 5 ∷ of 0x2 7 ∷ []) ∷ together 0 (of 0x2 3 ∷ of 0x4 9 ∷ []) ∷ together 0 (of 0x4 2 ∷ of 0x8 1 ∷ []) ∷ release 5 2 ∷ [])
-    (ok 1 0 0 0 (1 ∷ 2 ∷ []) ∷ ok 3 7 1 9 [] ∷ ok 5 0 1 10 (5 ∷ 6 ∷ []) ∷ ok 2 5 0 0 [] ∷ [])
-    (Holds 5 ∷ NotPending ∷ Waits 5 ∷ Waits 5 ∷ []) 0
-    -- 22, 1, 2, 3, 23 in this order, each of the earliest that a member meets
-    ∷ on_pool 0 (together 0 (of 0x1 5 ∷ []) ∷ together 0 (of 0x1 5 ∷ of 0x1 5 ∷ of 0x1 5 ∷ of 0x1 5 ∷ of 0x1 5 ∷ of 0x1 5 ∷ of 0x1 5 ∷ of 0x1 5 ∷ of 0x1 5 ∷ []) ∷ together 0 [] ∷ together 0 (of 0x1 0 ∷ of 0x10 5 ∷ of 0x0 5 ∷ []) ∷ together 0 (of 0x1 0 ∷ of 0x10 5 ∷ []) ∷ together 0 (of 0x1 0 ∷ of 0x1 5 ∷ []) ∷ together 0 (of 0x1 1 ∷ of 0x3 1 ∷ []) ∷ together 0 (of 0x1 5 ∷ of 0x2 3600001 ∷ []) ∷ [])
-    (refused 22 ∷ refused 22 ∷ refused 22 ∷ refused 1 ∷ refused 2 ∷ refused 3 ∷ refused 23 ∷ refused 3 ∷ [])
-    (NotPending ∷ NotPending ∷ NotPending ∷ NotPending ∷ []) 0
-    -- draws no units: the pool is others'
-    ∷ on_pool 2 (drawing 0 0x1 10 2 ∷ together 0 (of 0x1 5 ∷ of 0x2 7 ∷ []) ∷ drawing 0 0x2 3 2 ∷ release 4 1 ∷ [])
-    (ok 1 0 0 0 (1 ∷ []) ∷ ok 2 10 1 14 [] ∷ ok 4 17 1 9 [] ∷ ok 1 4 0 0 (2 ∷ 3 ∷ []) ∷ [])
-    (NotPending ∷ Holds 9 ∷ Holds 11 ∷ Waits 11 ∷ []) 2
-    -- a holder overruns under a grace: the set is planned for the clock and the grace
-    ∷ on_pool 0 (set_grace 5 ∷ claim 0 0x1 10 ∷ together 0 (of 0x1 5 ∷ of 0x2 7 ∷ []) ∷ clock 12 ∷ release 13 1 ∷ [])
-    (ok 0 0 0 0 [] ∷ ok 1 0 0 0 (1 ∷ []) ∷ ok 2 10 1 14 [] ∷ ok 0 12 0 0 [] ∷ ok 1 13 0 0 (2 ∷ 3 ∷ []) ∷ [])
-    (NotPending ∷ Holds 18 ∷ Holds 20 ∷ NotPending ∷ []) 0
-    -- accepted whole or not at all: the second member meets 6, the first is not taken, and the next claim has ticket 1
-    ∷ undeclared (declare 1 0 1 ∷ declare 2 63 63 ∷ together 0 (of 0x1 5 ∷ of 0x2 7 ∷ []) ∷ claim 0 0x3 10 ∷ [])
-    (ok 0 0 0 0 [] ∷ ok 0 0 0 0 [] ∷ refused 6 ∷ ok 1 0 0 0 (1 ∷ []) ∷ [])
-    (Holds 10 ∷ NotPending ∷ NotPending ∷ NotPending ∷ [])
-    ∷ []
-
 -- What the rules give, and what is expected.
 pub record PoolOutcome : Type 0 where
   pub answers : List Answer
@@ -274,7 +199,7 @@ pub record PoolOutcome : Type 0 where
 
 unfoldable pub outcome_on_pool : PoolScenario → PoolOutcome
 outcome_on_pool x =
-    let m : Model = (new 0xF x.pool x.alone).model in
+    let m : Model = (new 0xF x.pool true).model in
     let n : Model = after m x.calls in
     record {
       answers = answers m x.calls;
@@ -353,10 +278,6 @@ chain_scenarios =
     -- but not where the lower shares nothing with it: no group, and of two that share the pool both draw
     ∷ explained 0 (claim 0 0x1 10 ∷ claim 0 0x2 10 ∷ claim 0 0x2 5 ∷ []) 3 (3 ∷ 2 ∷ [])
     ∷ explained 2 (drawing 0 0x1 10 1 ∷ drawing 0 0x2 10 0 ∷ drawing 0 0x2 5 0 ∷ []) 3 (3 ∷ 2 ∷ [])
-    -- from a member through its own groups or its mate's, and through a member to what its mate waits for
-    ∷ explained 0 (claim 0 0x1 10 ∷ claim 0 0x2 20 ∷ together 0 (of 0x1 5 ∷ of 0x2 7 ∷ []) ∷ []) 3 (3 ∷ 2 ∷ [])
-    ∷ explained 0 (claim 0 0x1 10 ∷ claim 0 0x2 20 ∷ together 0 (of 0x1 5 ∷ of 0x2 7 ∷ []) ∷ []) 4 (4 ∷ 2 ∷ [])
-    ∷ explained 0 (claim 0 0x1 10 ∷ together 0 (of 0x1 5 ∷ of 0x2 7 ∷ []) ∷ claim 0 0x2 11 ∷ []) 4 (4 ∷ 3 ∷ 1 ∷ [])
     -- 8: never issued, or taken away; 10: on, from the first or since a release
     ∷ unexplained 0 S 4 8
     ∷ unexplained 0 S 0 8
@@ -373,7 +294,7 @@ chain_told x =
 -- Claims of one group and length, as calls at clock 0 leave them: ticket 1 is on, and each other starts as the one before it ends. The last of 64
 -- has a chain of them all.
 abbrev pub queued : ℕ → Claim
-queued n = record { groups = 0x1; phase = cond (eqb n 1) (On 0) (Waiting (n * 10 - 10)); length = 10; ticket = n; units = 0; lead = n; client = 1 }
+queued n = record { groups = 0x1; phase = cond (eqb n 1) (On 0) (Waiting (n * 10 - 10)); length = 10; ticket = n; units = 0; client = 1 }
 
 unfoldable pub down_from : ℕ → List ℕ
 down_from zero = []
@@ -405,13 +326,6 @@ claim_by c = timed 0 (claims (record { groups = 0x1; length = 10; units = 0; cli
 abbrev pub dark_by : ℕ → Call
 dark_by c = timed 0 (claims (record { groups = 0x0; length = 10; units = 0; client = c }))
 
--- A set of two, and one of three.
-abbrev pub set_by : ℕ → Call
-set_by c = claim_set 0 c (of 0x1 10 ∷ of 0x2 10 ∷ [])
-
-abbrev pub three_by : ℕ → Call
-three_by c = claim_set 0 c (of 0x1 10 ∷ of 0x2 10 ∷ of 0x4 10 ∷ [])
-
 unfoldable pub sharings : List Sharing
 sharings =
     -- two clients with 32 reserved each: one asks for 33
@@ -430,17 +344,6 @@ sharings =
     ∷ sharing (declare 1 2 3 ∷ []) 3 0 (claim_by 1) 18
     ∷ sharing (declare 1 0 0 ∷ []) 0 0 (claim_by 1) 18
     ∷ sharing (declare 1 3 3 ∷ declare 2 61 61 ∷ []) 3 0 (claim_by 1) 6
-    -- of a set each member in its turn: the first that meets 6 or 18 decides, and those before it are counted
-    ∷ sharing (declare 1 32 64 ∷ declare 2 32 64 ∷ []) 30 0 (set_by 1) 0
-    ∷ sharing (declare 1 32 64 ∷ declare 2 32 64 ∷ []) 31 0 (set_by 1) 6
-    ∷ sharing (declare 1 2 3 ∷ []) 2 0 (set_by 1) 18
-    ∷ sharing (declare 1 2 3 ∷ []) 0 0 (three_by 1) 0
-    ∷ sharing (declare 1 2 3 ∷ []) 1 0 (three_by 1) 18
-    ∷ sharing (declare 1 0 1 ∷ declare 2 63 63 ∷ []) 0 0 (set_by 1) 6
-    ∷ sharing (declare 1 0 0 ∷ declare 2 63 63 ∷ []) 0 0 (set_by 1) 18
-    -- 22 before 17, 17 before 1
-    ∷ sharing [] 0 0 (claim_set 0 1 []) 22
-    ∷ sharing [] 0 0 (claim_set 0 1 (of 0x0 10 ∷ of 0x0 10 ∷ [])) 17
     -- 17 before 1, and after 5
     ∷ sharing [] 0 0 (claim_by 1) 17
     ∷ sharing (declare 1 0 64 ∷ []) 0 0 (dark_by 2) 17
@@ -472,8 +375,6 @@ sharings =
     -- client 1 alone: 6 as ever, nobody else is known; another may be declared, but no place is left to reserve
     ∷ unshared [] 63 0 (claim_by 1) 0
     ∷ unshared [] 64 0 (claim_by 1) 6
-    ∷ unshared [] 62 0 (set_by 1) 0
-    ∷ unshared [] 63 0 (set_by 1) 6
     ∷ unshared [] 0 0 (claim_by 2) 17
     ∷ unshared [] 0 0 (declare 2 0 5) 0
     ∷ unshared [] 0 0 (declare 2 1 5) 19
@@ -482,16 +383,9 @@ sharings =
 
 -- A pending claim of a client.
 abbrev pub held_by : ℕ → Claim
-held_by c = record { groups = 0x1; phase = On 0; length = 10; ticket = 1; units = 0; lead = 1; client = c }
+held_by c = record { groups = 0x1; phase = On 0; length = 10; ticket = 1; units = 0; client = c }
 
 unfoldable pub number_of : Sharing → ℕ
 number_of x =
     let m : Model = after (new 0xF 0 x.alone).model x.declarations in
     first_number (tests (with_pending (with_issued m (x.of_one + x.of_two)) (replicate x.of_one (held_by 1) ++ replicate x.of_two (held_by 2))) x.call)
-
--- The number of a set of two where so many tickets are left: each member meets 7 in its turn, those before counted as taken.
-abbrev pub tickets_left : ℕ → ℕ
-tickets_left k = first_number (tests (with_issued (new 0xF 0 true).model (65535 - k)) (set_by 1))
-
-unfoldable pub last_tickets : List ℕ
-last_tickets = map tickets_left (2 ∷ 1 ∷ 0 ∷ [])

@@ -1,7 +1,7 @@
 -- What calls are tested for. A test takes what it looks at, so that another kind of table can use it. Quotations are from document 01.
-use Rattle.std.specs.Prelude.{Bool, false, not, ◌&&◌, ◌||◌, cond, List, [], ◌∷◌, ℕ, ◌+◌, ltb, leb, eqb}
-use Rattle.numbers.specs.Numbers.{dark_number, off_rig_number, length_number, backward_number, late_number, full_number, ticketless_number, unknown_number, not_yet_on_number, already_on_number, misfit_number, spots_number, stranger_number, over_number, overbooked_number, grace_number, cast_number, clash_number, most_clock, most_length, most_tickets, most_pending, most_clients, most_grace, least_members, most_members}
-use Rattle.groups.specs.Groups.{empty, within, shares}
+use Rattle.std.specs.Prelude.{Bool, not, ◌&&◌, ◌||◌, cond, List, [], ◌∷◌, ℕ, ◌+◌, ltb, leb, eqb}
+use Rattle.numbers.specs.Numbers.{dark_number, off_rig_number, length_number, backward_number, late_number, full_number, ticketless_number, unknown_number, not_yet_on_number, already_on_number, misfit_number, spots_number, stranger_number, over_number, overbooked_number, grace_number, most_clock, most_length, most_tickets, most_pending, most_clients, most_grace}
+use Rattle.groups.specs.Groups.{empty, within}
 use Rattle.rules.specs.declared.Claim.{Claim}
 use Rattle.rules.specs.declared.Share.{Share}
 use Rattle.rules.specs.Lists.{any}
@@ -79,27 +79,6 @@ bad_grace issued n = test (ltb 0 issued || ltb most_grace n) grace_number
 
 abbrev pub ticketless : ℕ → Test
 ticketless issued = test (leb most_tickets issued) ticketless_number
-
--- A set of claims (document 02, P8): "cast, count outside two to eight; .. clash, two members share a group", and "the earliest number in the
--- order that a member meets".
-abbrev pub cast : ℕ → Test
-cast count = test (ltb count least_members || ltb most_members count) cast_number
-
-abbrev pub some_dark : List ℕ → Test
-some_dark gs = test (any empty gs) dark_number
-
-abbrev pub some_off_rig : ℕ → List ℕ → Test
-some_off_rig rig gs = test (any (λ g. not (within g rig)) gs) off_rig_number
-
-abbrev pub some_bad_length : List ℕ → Test
-some_bad_length ns = test (any (λ n. eqb n 0 || ltb most_length n) ns) length_number
-
-unfoldable pub clashing : List ℕ → Bool
-clashing [] = false
-clashing (g ∷ gs) = any (shares g) gs || clashing gs
-
-abbrev pub clashes : List ℕ → Test
-clashes gs = test (clashing gs) clash_number
 
 -- "unknown: ticket not pending", "not yet on: release of a waiting claim", "already on: withdrawal of an on claim"
 abbrev pub named : ℕ → Claim → Bool

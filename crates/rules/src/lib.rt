@@ -10,8 +10,7 @@ pub enum Phase {
 }
 
 // A claim: its set of groups (2^g for group g), its phase, its declared length in ticks, its ticket, the units that it draws from the pool,
-// the first ticket of the set of claims that it starts together with (its own, if it is a single claim), its client (document 02: desk).
-// Fields in this order make it 40 bytes.
+// its client (document 02: desk). Fields in this order make it 40 bytes.
 #[derive(Drop)]
 pub struct Claim {
     pub groups: u64,
@@ -19,7 +18,6 @@ pub struct Claim {
     pub length: u32,
     pub ticket: u16,
     pub units: u16,
-    pub lead: u16,
     pub client: u8,
 }
 
@@ -59,8 +57,7 @@ pub struct Share {
 }
 
 // The table. The shares are those of clients 1 to 8. The first `count` places hold the pending claims in ascending order of ticket; the
-// others are vacant. `followers` counts those of them that are not the first of their set: 0 where no set is pending. Fields in this order
-// make its head 64 bytes.
+// others are vacant. Fields in this order make its head 56 bytes.
 #[derive(Drop)]
 pub struct Table {
     pub rig: u64,
@@ -69,7 +66,6 @@ pub struct Table {
     pub issued: u16,
     pub grace: u32,
     pub shares: [Share; 8],
-    pub followers: usize,
     pub count: usize,
     pub claims: [Claim; 64],
 }

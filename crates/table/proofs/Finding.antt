@@ -19,7 +19,7 @@ use Rattle.rules.specs.Tables.{vacant, model}
 use Rattle.rules.proofs.Lookup.{one-named}
 use Rattle.table.specs.Valid.{Formed}
 use Rattle.table.specs.Outcomes.{Found}
-use Rattle.holds.proofs.Rows.{row-member}
+use Rattle.plan.proofs.Rows.{row-member}
 use Rattle.table.proofs.Formed.{formed-few, formed-now}
 
 module _ (t : Table) (k : ℕ) (v : Formed t) where

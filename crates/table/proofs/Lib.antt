@@ -3,8 +3,6 @@ pub mod Counting
 pub mod Tests
 pub mod Finding
 pub mod RemovalLoop
-pub mod Leaving
 pub mod Steps
 pub mod Sharing
-pub mod Turns
 pub mod Promised

@@ -5,7 +5,6 @@ use mathlib.Core.Bool.{Bool}
 use Prim.Native.Nat.{ℕ, ◌+◌, ◌-◌, ◌≤◌}
 use native.Mathlib.Omega.{arith}
 use lib.ListN.{length, take}
-use Rattle.numbers.specs.Numbers.{most_members}
 use Rattle.rules.specs.declared.Blocking.{Blocking}
 use Rattle.rules.specs.declared.Table.{Table}
 use Rattle.rules.specs.Calls.{Model, setting_of, Call, Step, step, blank, new}
@@ -14,8 +13,8 @@ use Rattle.rules.specs.Plans.{Ascending}
 use Rattle.rules.specs.Tables.{encode, model}
 use Rattle.rules.proofs.Calls.{new-cases}
 use Rattle.rules.proofs.Chains.{told-length}
-pub use Rattle.rules.proofs.GrantCounts.{waiting, tickets_asked}
-use Rattle.rules.proofs.GrantCounts.{waiting_none, Counted, step-counted, step-asked, new-counted}
+pub use Rattle.rules.proofs.GrantCounts.{waiting}
+use Rattle.rules.proofs.GrantCounts.{waiting_none, Counted, step-counted, new-counted}
 use Rattle.table.specs.declared.Outcome.{Outcome}
 use Rattle.table.specs.Valid.{Valid}
 use Rattle.table.specs.Outcomes.{outcome, blocking}
@@ -67,26 +66,13 @@ counted : {m : Model} {s : Step} → Promised m s → Counted m s
 counted {m} (by_call c) = step-counted m c
 counted {m} (by-new g k alone) = new-counted m g k alone
 
--- How many tickets it asks for.
-abbrev pub asked_by : {m : Model} {s : Step} → Promised m s → ℕ
-asked_by (by_call c) = tickets_asked c
-asked_by (by-new g k alone) = 0
-
-asked : {m : Model} {s : Step} (q : Promised m s) → s.model.issued - m.issued ≤ asked_by q
-asked {m} (by_call c) = step-asked m c
-asked {m} (by-new g k alone) = new-cases (λ (x : Step). x.model.issued - m.issued ≤ 0) g k alone (λ z. omega arith) (λ z. omega arith)
-
 module _ {m : Model} {s : Step} (q : Promised m s) where
-  -- Those named as granted, and those that still wait, waited before or were issued by the call, which issues eight tickets at most.
+  -- Those named as granted, and those that still wait, waited before or were issued by the call, which issues one ticket at most.
   pub granted-once : length s.answer.grants + waiting s.model ≤ waiting m + (s.model.issued - m.issued)
   granted-once = (counted q).once
 
-  pub issues_few : s.model.issued - m.issued ≤ most_members
+  pub issues_few : s.model.issued - m.issued ≤ 1
   issues_few = (counted q).issues_few
-
-  -- Nor more than it asks for.
-  pub issues-asked : s.model.issued - m.issued ≤ asked_by q
-  issues-asked = asked q
 
   -- No more are granted than there are places.
   pub granted-few : (o : Outcome) → o ≡ outcome s → Valid o.table → o.granted ≤ 64

@@ -1,13 +1,12 @@
 -- Loops over a table's claims: looking for a ticket, and leaving one out.
 use mathlib.Core.Path.{◌≡◌, refl, sym, ◌∙◌, ap, subst}
 use mathlib.Core.Logic.{◌⊎◌, inl, inr, ⊎_elim, ◌≢◌}
-use mathlib.Core.List.{List, [], ◌∷◌, ◌++◌, append_assoc}
-use mathlib.Core.Bool.{Bool, true, false, not}
-use Prim.Native.Nat.{ℕ, zero, suc, ◌+◌, ◌-◌, ◌≤◌, ◌<◌}
+use mathlib.Core.List.{List, [], ◌∷◌, ◌++◌}
+use mathlib.Core.Bool.{not}
+use Prim.Native.Nat.{ℕ, zero, suc, ◌+◌, ◌≤◌, ◌<◌}
 use native.Mathlib.Omega.{arith}
-use lib.ListN.{length, take, drop, get_or, set, replicate, length-append, length-replicate}
-use lib.Seq.{get_or-set_other, set-get_or, drop-append_seam, sets, sets-eq}
-use native.Mathlib.Numerals.{add-one}
+use lib.ListN.{length, take, drop, get_or, set}
+use lib.Seq.{get_or-set_other, set-get_or}
 use borrow.Author.Tests.{eq-eqb, ne_eqb}
 use Rattle.rules.specs.declared.Claim.{Claim}
 use Rattle.rules.specs.declared.Setting.{Setting}
@@ -17,12 +16,11 @@ use Rattle.rules.specs.declared.Standing.{Standing}
 use Rattle.rules.specs.declared.Standing.TheVariants.{NotPending}
 use Rattle.rules.specs.Tests.{named}
 use Rattle.rules.specs.Calls.{standing, standing_of}
-use Rattle.rules.specs.Tables.{vacant, pad, follows, followers_in}
-use Rattle.rules.proofs.Followers.{follows-yes, follows_no}
+use Rattle.rules.specs.Tables.{vacant, pad}
 use Rattle.rules.proofs.Lists.{Each, here, there, keep-length, ascends-drop}
-use Rattle.holds.specs.Rows.{InPlaces}
+use Rattle.plan.specs.Rows.{InPlaces}
 use Rattle.rules.proofs.Places.{prefix-end, pad-over, pad-less, Storing, store-start, store-more, store-end}
-use Rattle.holds.proofs.Rows.{row_count, row_step}
+use Rattle.plan.proofs.Rows.{row_count, row_step}
 use Rattle.table.specs.Outcomes.{lacking}
 
 module _ (k : ℕ) (c : Claim) (l : List Claim) where
@@ -167,10 +165,9 @@ pub record Looking (k : ℕ) (v : Setting) (l : List Claim) (n i : ℕ) (s : Sta
   pub row : InPlaces v l n
   pub within : i ≤ n
   pub found : ((r ≡ n) × (s ≡ NotPending) × Taking k v l n i s i l) ⊎ ((r < i) × Taking k v l n (r + 1) s r l)
-  pub here : r < n → (get_or l r vacant).ticket ≡ k
 
 pub looking-start : {k : ℕ} {v : Setting} {l : List Claim} {n : ℕ} → InPlaces v l n → Looking k v l n 0 NotPending n
-looking-start r = record { row = r; within = omega arith; found = inl (refl, refl, taking-start r); here = λ h. absurd (omega arith) }
+looking-start r = record { row = r; within = omega arith; found = inl (refl, refl, taking-start r) }
 
 module _ {k : ℕ} {v : Setting} {l : List Claim} {n i : ℕ} {s : Standing} {r : ℕ} (w : Looking k v l n i s r) where
   module _ (h : i < n) where
@@ -187,7 +184,6 @@ module _ {k : ℕ} {v : Setting} {l : List Claim} {n i : ℕ} {s : Standing} {r 
           (λ a. absurd (a.2 (get_or l i vacant) (later-in (take n l) (r + 1) i (omega (arith, b.0)) (rw (row_step w.row i h) here)) e))
           b.1.told)
           w.found;
-      here = λ q. e;
     }
 
     -- or has another.
@@ -200,7 +196,6 @@ module _ {k : ℕ} {v : Setting} {l : List Claim} {n i : ℕ} {s : Standing} {r 
           (λ b. inl (b.0, b.1, subst (Taking k v l n (i + 1) s (i + 1)) (set-get_or l i vacant) (taking-kept b.2 h e)))
           (λ b. inr (omega (arith, b.0), b.1))
           w.found;
-      here = w.here;
     }
 
   -- All were looked at: there is none, or its claim is to be taken out at place r.
@@ -210,137 +205,3 @@ module _ {k : ℕ} {v : Setting} {l : List Claim} {n i : ℕ} {s : Standing} {r 
 
     pub looking-found : r < n → Taking k v l n (r + 1) s r l
     looking-found a = ⊎_elim (λ b. absurd (omega (arith, b.0))) (λ b. b.1) w.found
-
-    pub looking-unknown : n ≤ r → s ≡ NotPending
-    looking-unknown a = ⊎_elim (λ b. b.1) (λ b. absurd (omega (arith, b.0, w.within))) w.found
-
-    -- How it stands.
-    pub looking-told : r < n → s ≡ standing_of k (take n l)
-    looking-told a = ⊎_elim (λ b. absurd (omega (arith, b.0))) (λ b. b.1) (looking-found a).told
-
--- ── claims sifted ──
--- Those of the claims l, n of them, that pass p, and as many vacant places as others.
-abbrev pub sifted : (Claim → Bool) → List Claim → ℕ → List Claim
-sifted p l n = keep p (take n l) ++ replicate (n - length (keep p (take n l))) vacant
-
--- Of the claims l, n of them, the first i are done, and m of these pass p: they are the first m of `new`, in which all from i on is as it was.
--- f of them follow another claim of their set.
-pub record Sifting (p : Claim → Bool) (v : Setting) (l : List Claim) (n i m f : ℕ) (new : List Claim) : Type 0 where
-  pub row : InPlaces v l n
-  pub within : i ≤ n
-  pub fewer : m ≤ i
-  pub rest : (j : ℕ) → i ≤ j → get_or new j vacant ≡ get_or l j vacant
-  pub stays : Storing l (sifted p l n) (keep p (drop i (take n l)) ++ replicate (n - length (keep p (take n l))) vacant) m new
-  pub follow : f + followers_in (keep p (drop i (take n l))) ≡ followers_in (keep p (take n l))
-  pub count : m + length (keep p (drop i (take n l))) ≡ length (keep p (take n l))
-
-pub sifting-start : {p : Claim → Bool} {v : Setting} {l : List Claim} {n : ℕ} → InPlaces v l n → Sifting p v l n 0 0 0 l
-sifting-start r = record { row = r; within = omega arith; fewer = omega arith; rest = λ j h. refl; stays = store-start; follow = omega arith; count = omega arith }
-
-module _ {p : Claim → Bool} {v : Setting} {l : List Claim} {n i m f : ℕ} {new : List Claim} (w : Sifting p v l n i m f new) where
-  -- A place that is not done yet is as it was.
-  pub sifting-rest : get_or new i vacant ≡ get_or l i vacant
-  sifting-rest = w.rest i (omega arith)
-
-  -- No more follow than there are claims.
-  pub sifting-few : f ≤ 64
-  unfolding followers_in
-  sifting-few = omega (arith, w.follow, keep-length follows (keep p (take n l)), keep-length p (take n l), row_count w.row, w.row.few)
-
-  module _ (h : i < n) where
-    next_is : drop i (take n l) ≡ get_or l i vacant ∷ drop (i + 1) (take n l)
-    next_is = row_step w.row i h
-
-    -- The next claim passes; g counts it if it follows.
-    sifting-kept : p (get_or new i vacant) ≡ true → (g : ℕ) → g + followers_in (keep p (drop (i + 1) (take n l))) ≡ f + followers_in (get_or new i vacant ∷ keep p (drop (i + 1) (take n l)))
-        → Sifting p v l n (i + 1) (m + 1) g (set new m (get_or new i vacant))
-    unfolding keep
-    sifting-kept e g q =
-        let c : p (get_or l i vacant) ≡ true = ap p (sym sifting-rest) ∙ e in
-        let k : keep p (drop i (take n l)) ≡ get_or new i vacant ∷ keep p (drop (i + 1) (take n l)) = rw (next_is, c) (ap (λ (x : Claim). x ∷ keep p (drop (i + 1) (take n l))) (sym sifting-rest)) in
-        record {
-          row = w.row;
-          within = omega arith;
-          fewer = omega (arith, w.fewer);
-          rest = λ j b. get_or-set_other new m j _ vacant (λ z. omega (arith, w.fewer)) ∙ w.rest j (omega arith);
-          stays = store-more (subst (λ (r : List Claim). Storing l (sifted p l n) (r ++ replicate (n - length (keep p (take n l))) vacant) m new) k w.stays);
-          follow = omega (arith, q, w.follow, ap followers_in k);
-          count = omega (arith, w.count, ap length k);
-        }
-
-    pub sifting-follows : p (get_or new i vacant) ≡ true → follows (get_or new i vacant) ≡ true → Sifting p v l n (i + 1) (m + 1) (f + 1) (set new m (get_or new i vacant))
-    sifting-follows e q = sifting-kept e (f + 1) (omega (arith, follows-yes (get_or new i vacant) (keep p (drop (i + 1) (take n l))) q))
-
-    pub sifting-leads : p (get_or new i vacant) ≡ true → follows (get_or new i vacant) ≡ false → Sifting p v l n (i + 1) (m + 1) f (set new m (get_or new i vacant))
-    sifting-leads e q = sifting-kept e f (omega (arith, follows_no (get_or new i vacant) (keep p (drop (i + 1) (take n l))) q))
-
-    -- It does not.
-    pub sifting-gone : p (get_or new i vacant) ≡ false → Sifting p v l n (i + 1) m f new
-    unfolding keep
-    sifting-gone e =
-        let c : p (get_or l i vacant) ≡ false = ap p (sym sifting-rest) ∙ e in
-        let k : keep p (drop i (take n l)) ≡ keep p (drop (i + 1) (take n l)) = rw (next_is, c) in
-        record {
-          row = w.row;
-          within = omega arith;
-          fewer = omega (arith, w.fewer);
-          rest = λ j b. w.rest j (omega arith);
-          stays = subst (λ (r : List Claim). Storing l (sifted p l n) (r ++ replicate (n - length (keep p (take n l))) vacant) m new) k w.stays;
-          follow = omega (arith, w.follow, ap followers_in k);
-          count = omega (arith, w.count, ap length k);
-        }
-
-  -- All are done: m pass, and f of them follow.
-  module _ (h : n ≤ i) where
-    none_left : keep p (drop i (take n l)) ≡ []
-    unfolding keep
-    none_left = ap (keep p) (prefix-end l n i h)
-
-    pub sifting-count : m ≡ length (keep p (take n l))
-    sifting-count = omega (arith, w.count, ap length none_left)
-
-    pub sifting-follow : f ≡ followers_in (keep p (take n l))
-    unfolding followers_in keep
-    sifting-follow = omega (arith, w.follow, ap followers_in none_left)
-
-    -- The places behind them become vacant.
-    pub vacate-start : Storing l (sifted p l n) (replicate (n - m) vacant) m new
-    vacate-start =
-        subst (λ (k : ℕ). Storing l (sifted p l n) (replicate (n - k) vacant) m new) (sym sifting-count)
-        (subst (λ (r : List Claim). Storing l (sifted p l n) (r ++ replicate (n - length (keep p (take n l))) vacant) m new) none_left w.stays)
-
--- From place n₀ on, up to n, places become vacant: what is still to come, from k on, gives the whole.
-pub record Vacating (old : List Claim) (n₀ n k : ℕ) (new : List Claim) : Type 0 where
-  pub left : sets new k (replicate (n - k) vacant) ≡ sets old n₀ (replicate (n - n₀) vacant)
-
-pub vacating-start : {old : List Claim} {n k : ℕ} → Vacating old k n k old
-vacating-start = record { left = refl }
-
-pub vacating-more : {old new : List Claim} {n₀ n k : ℕ} → k < n → Vacating old n₀ n k new → Vacating old n₀ n (k + 1) (set new k vacant)
-vacating-more {old} {new} {n₀} {n} {k} h w =
-    let e : n - k ≡ suc (n - suc k) = omega arith in
-    record { left = rw (add-one k) (subst (λ (j : ℕ). sets new k (replicate j vacant) ≡ sets old n₀ (replicate (n - n₀) vacant)) e w.left) }
-
-many-vacant : (j k : ℕ) → replicate j vacant ++ replicate k vacant ≡ replicate (j + k) vacant
-many-vacant zero k = let e : 0 + k ≡ k = omega arith in rw e
-many-vacant (suc j) k = let e : suc j + k ≡ suc (j + k) = omega arith in rw e (ap (λ (r : List Claim). vacant ∷ r) (many-vacant j k))
-
--- Those that pass are left, and every other place is vacant.
-pub vacating-end : (p : Claim → Bool) {v : Setting} {l old new : List Claim} {n₀ n k : ℕ} → InPlaces v l n → l ≡ pad vacant (take n l) → n ≤ k → Storing l (sifted p l n) (replicate (n - n₀) vacant) n₀ old
-    → Vacating old n₀ n k new → new ≡ pad vacant (keep p (take n l))
-unfolding pad
-vacating-end p {v} {l} {old} {new} {n₀} {n} {k} row full h s w =
-    let ps = take n l in
-    let c : length ps ≡ n = row_count row in
-    let few = keep-length p ps in
-    let z : n - k ≡ 0 = omega arith in
-    let size : length (sifted p l n) ≡ n = omega (arith, length-append (keep p ps) (replicate (n - length (keep p ps)) vacant), length-replicate (n - length (keep p ps)) vacant) in
-    let done : new ≡ sets l 0 (sifted p l n) = subst (λ (j : ℕ). sets new k (replicate j vacant) ≡ sets old n₀ (replicate (n - n₀) vacant)) z w.left ∙ s.stores in
-    let tail : drop n l ≡ replicate (64 - n) vacant =
-    ap (λ (j : ℕ). drop j l) (sym c) ∙ ap (drop (length ps)) full ∙ drop-append_seam ps (replicate (64 - length ps) vacant) ∙ ap (λ (j : ℕ). replicate (64 - j) vacant) c in
-    let whole : 0 + length (sifted p l n) ≡ n = omega (arith, size) in
-    let span : n - length (keep p ps) + (64 - n) ≡ 64 - length (keep p ps) = omega (arith, row.few) in
-    done ∙ sets-eq (sifted p l n) l 0 (omega (arith, row.few, row.places)) ∙ ap (λ (j : ℕ). sifted p l n ++ drop j l) whole ∙ ap (λ (r : List Claim). sifted p l n ++ r) tail
-    ∙ append_assoc (keep p ps) (replicate (n - length (keep p ps)) vacant) (replicate (64 - n) vacant)
-    ∙ ap (λ (r : List Claim). keep p ps ++ r) (many-vacant (n - length (keep p ps)) (64 - n))
-    ∙ ap (λ (j : ℕ). keep p ps ++ replicate j vacant) span

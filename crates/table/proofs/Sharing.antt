@@ -8,7 +8,6 @@ use native.Mathlib.Omega.{arith}
 use lib.Dec.{leb}
 use lib.ListN.{length, length-map, get_or, set}
 use borrow.Author.Tests.{leb-true, leb-false, lt-ltb}
-use Rattle.numbers.specs.Numbers.{most_clients}
 use Rattle.rules.specs.declared.Claim.{Claim}
 use Rattle.rules.specs.declared.Share.{Share}
 use Rattle.rules.specs.declared.Table.{Table}
@@ -32,32 +31,25 @@ use Rattle.table.proofs.Steps.{prepared-is}
 abbrev pub theirs : Table → List ℕ
 theirs t = clients_of (model t).pending
 
-pub many : (t : Table) → Valid t → length (theirs t) ≡ t.count
+many : (t : Table) → Valid t → length (theirs t) ≡ t.count
 many t v = length-map (model t).pending (λ (c : Claim). c.client) ∙ formed-count t v.formed
 
--- As the code has them, by what was counted: ks are the clients of the pending claims.
-pub number_by : (ss : List Share) (ks : List ℕ) (c : ℕ) → length ss ≡ most_clients → (share_of ss c).declared ≡ true → (each : List ℕ) → each ≡ pending_each ks → (n : ℕ)
-    → number_counted ss each n c ≡ first_number (full_for (share_of ss c) (pending_of ks c) n (unfilled_by_others ss ks c) ∷ over (share_of ss c) (pending_of ks c) ∷ [])
-unfolding number_counted
-number_by ss ks c eight known each e n =
-    let r = declared-range ss eight c known in
-    let own : get_or each (c - 1) 0 ≡ pending_of ks c = ap (λ (l : List ℕ). get_or l (c - 1) 0) e ∙ each_at ks c r.0 r.1 in
-    let all : unfilled_each ss each ≡ unfilled_in_all ss ks = ap (unfilled_each ss) e ∙ each-unfilled ss ks in
-    let s : get_or ss (c - 1) undeclared ≡ share_of ss c = sym (share-place ss c r.0) in
-    let first = full_for (get_or ss (c - 1) undeclared) (get_or each (c - 1) 0) n (unfilled_each ss each) in
-    let last = over (get_or ss (c - 1) undeclared) (get_or each (c - 1) 0) in
-    let a : first.fails ≡ (full_for (share_of ss c) (pending_of ks c) n (unfilled_in_all ss ks)).fails = cc (s, own, all) in
-    let b : last.fails ≡ (over (share_of ss c) (pending_of ks c)).fails = cc (s, own) in
-    let whole = full_for (share_of ss c) (pending_of ks c) n (unfilled_by_others ss ks c) in
-    swapped first whole (last ∷ []) (a ∙ full-by-all ss ks c n r.0 r.1) refl
-    ∙ front whole (last ∷ []) (over (share_of ss c) (pending_of ks c) ∷ []) (swapped last (over (share_of ss c) (pending_of ks c)) [] b refl)
-
+-- As the code has them, by what was counted.
 pub number_is : (t : Table) (c : ℕ) → Valid t → (share_of t.shares c).declared ≡ true → (each : List ℕ) → each ≡ pending_each (theirs t)
     → number_counted t.shares each t.count c ≡ share_number (model t) c
-unfolding share_number
+unfolding number_counted share_number
 number_is t c v known each e =
-    number_by t.shares (theirs t) c v.booked.eight known each e t.count
-    ∙ ap (λ (n : ℕ). first_number (full_for (share_of t.shares c) (pending_of (theirs t) c) n (unfilled_by_others t.shares (theirs t) c) ∷ over_of (model t) c ∷ [])) (sym (formed-count t v.formed))
+    let r = declared-range t.shares v.booked.eight c known in
+    let own : get_or each (c - 1) 0 ≡ pending_of (theirs t) c = ap (λ (l : List ℕ). get_or l (c - 1) 0) e ∙ each_at (theirs t) c r.0 r.1 in
+    let all : unfilled_each t.shares each ≡ unfilled_in_all t.shares (theirs t) = ap (unfilled_each t.shares) e ∙ each-unfilled t.shares (theirs t) in
+    let s : get_or t.shares (c - 1) undeclared ≡ share_of t.shares c = sym (share-place t.shares c r.0) in
+    let first = full_for (get_or t.shares (c - 1) undeclared) (get_or each (c - 1) 0) t.count (unfilled_each t.shares each) in
+    let last = over (get_or t.shares (c - 1) undeclared) (get_or each (c - 1) 0) in
+    let a : first.fails ≡ (full_for (share_of t.shares c) (pending_of (theirs t) c) (length (model t).pending) (unfilled_in_all t.shares (theirs t))).fails =
+    cc (s, own, all, formed-count t v.formed) in
+    let b : last.fails ≡ (over_of (model t) c).fails = cc (s, own) in
+    swapped first (full_to (model t) c) (last ∷ []) (a ∙ full-by-all t.shares (theirs t) c (length (model t).pending) r.0 r.1) refl
+    ∙ front (full_to (model t) c) (last ∷ []) (over_of (model t) c ∷ []) (swapped last (over_of (model t) c) [] b refl)
 
 -- Where all places are taken there is none for anybody.
 pub full-shut : (t : Table) (c : ℕ) → Valid t → (full t.count).fails ≡ true → (full_to (model t) c).fails ≡ true
@@ -99,7 +91,7 @@ two-pass x y ts p q e h =
 -- ── declare ──
 -- The table with other shares.
 abbrev pub with_shares : Table → List Share → Table
-with_shares t ss = record { rig = t.rig; clock = t.clock; pool = t.pool; issued = t.issued; grace = t.grace; shares = ss; followers = t.followers; count = t.count; claims = t.claims }
+with_shares t ss = record { rig = t.rig; clock = t.clock; pool = t.pool; issued = t.issued; grace = t.grace; shares = ss; count = t.count; claims = t.claims }
 
 declared-ranged : (m : Model) (c r l : ℕ) → Ranged m → Ranged (declared m c r l)
 declared-ranged m c r l h = record { ranges = h.ranges; numbered = h.numbered; issued = h.issued }

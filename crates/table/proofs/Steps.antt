@@ -1,13 +1,13 @@
 -- From the parts of a call to its outcome by the rules.
 use mathlib.Core.Path.{◌≡◌, refl, sym, ◌∙◌, ap, subst}
-use mathlib.Core.Logic.{inr, ◌≢◌}
+use mathlib.Core.Logic.{◌≢◌}
 use mathlib.Core.Bool.{Bool, true, false, not, ◌&&◌, cond}
 use mathlib.Core.List.{List, [], ◌∷◌, ◌++◌}
 use Prim.Native.Nat.{ℕ, ◌+◌, ◌^◌, ◌≤◌, ◌<◌}
 use native.Mathlib.Omega.{arith}
 use native.Mathlib.Numerals.{add-one}
 use lib.ListN.{length, take, set, replicate, length-append}
-use lib.Dec.{ltb, eqb}
+use lib.Dec.{ltb}
 use borrow.Author.Tests.{ltb-false, eq-eqb, eqb-true, not-false}
 use Rattle.numbers.specs.Numbers.{most_clock, most_length, most_pending, most_tickets, most_units}
 use Rattle.groups.specs.Groups.{empty}
@@ -15,51 +15,42 @@ use Rattle.groups.proofs.Words.{empty-word}
 use Rattle.rules.specs.declared.Claim.{Claim}
 use Rattle.rules.specs.declared.Table.{Table}
 use Rattle.rules.specs.declared.Phase.TheVariants.{Waiting}
-use Rattle.rules.specs.Lists.{◌∈◌, any, keep}
+use Rattle.rules.specs.Lists.{◌∈◌, any}
 use Rattle.rules.specs.declared.Setting.{Setting}
 use Rattle.rules.specs.Claims.{on, at, with_phase}
 use Rattle.rules.specs.Packing.{packed_start, moved, pack}
-use Rattle.rules.specs.Placing.{place, place_all}
+use Rattle.rules.specs.Placing.{place}
 use Rattle.rules.specs.Granting.{grant, grants}
 use Rattle.rules.specs.Shares.{undeclared, first_shares}
-use Rattle.rules.specs.Tests.{first_number, clashing}
+use Rattle.rules.specs.Tests.{first_number}
 use Rattle.rules.specs.declared.Reply.{Reply}
 use Rattle.rules.specs.declared.Request.{Request}
-use Rattle.rules.specs.Calls.{plain, granting, Model, with_pending, with_clock, ruled, setting_of, with_grace, Member, asks_of, Call, claim, claim_set, clock, set_grace, Step, unchanged, advance, finish, members, join, remove, disband, fresh, placing, admit, act, step, tests, standing_of, blank, new}
-use Rattle.rules.specs.Tables.{followers_in, encode, model, pad, vacant}
-use Rattle.rules.specs.Plans.{NoOverrunAt, Separated, Untied}
+use Rattle.rules.specs.Calls.{plain, granting, Model, with_pending, with_clock, ruled, setting_of, with_grace, Call, claim, clock, set_grace, Step, unchanged, advance, finish, join, remove, fresh, admit, act, step, tests, blank, new}
+use Rattle.rules.specs.Tables.{encode, model, pad, vacant}
+use Rattle.rules.specs.Plans.{NoOverrunAt}
 use Rattle.rules.specs.Invariants.{Still, Invariant, IsBooked}
 use Rattle.rules.proofs.Bools.{clash, by-test}
-use Rattle.rules.proofs.Lists.{Each, one_each, any_none, any_false, map-e}
-use Rattle.rules.proofs.Members.{Asks}
-use Rattle.rules.proofs.Sets.{place-one, contention-one, bound-one}
-use Rattle.rules.proofs.Followers.{followers-append, followers-pack, followers-grant, none-follows}
+use Rattle.rules.proofs.Lists.{any_none, any_false, map-e}
 use Rattle.rules.proofs.Calls.{settable, placed, new-cases, blank-invariant, step-invariant}
 use Rattle.rules.proofs.Shares.{first-booked}
 use Rattle.rules.proofs.Booking.{step-booked}
 use Rattle.rules.proofs.NoOverrun.{no-overrun-still}
-use Rattle.rules.proofs.Packing.{pack-length, pack-holders, pack-idle, pack-separates, separated-untied, moved-cases}
+use Rattle.rules.proofs.Packing.{pack-length, pack-holders, pack-idle, moved-cases}
 use Rattle.rules.proofs.Repacking.{NoneDraws}
 use Rattle.rules.proofs.Granting.{grant-length}
-use Rattle.rules.proofs.OnePacking.{advance-still, join-still, leave-once, disband-once, finish-advanced}
-use Rattle.holds.specs.Rows.{Sized, InPlaces, Capped}
-use Rattle.plan.specs.Sets.{BarredGroups}
-use Rattle.plan.proofs.SetRows.{barred-none}
+use Rattle.rules.proofs.OnePacking.{advance-still, join-still, leave-once, finish-advanced}
+use Rattle.plan.specs.Rows.{Sized, InPlaces, Capped}
 use Rattle.rules.proofs.Places.{pad-take, pad-over, pad-more}
 use Rattle.plan.specs.declared.granting.Granted.{Granted}
-use Rattle.placing.specs.declared.Placed.{Placed}
-use Rattle.holds.specs.Parts.{with_claims, ruled_in, at_clock}
-use Rattle.plan.specs.Parts.{packed_table, granted_in}
-use Rattle.placing.specs.Entering.{placed_in}
+use Rattle.plan.specs.declared.placing.Placed.{Placed}
+use Rattle.plan.specs.Parts.{with_claims, ruled_in, at_clock, packed_table, granted_in, placed_in}
 use Rattle.table.specs.declared.Outcome.{Outcome}
 use Rattle.table.specs.Valid.{Ranged, Formed, Valid}
-use Rattle.table.specs.Outcomes.{outcome, answering_in, time_number, past_end, draws, departed, phase_number, leaving, taken_out}
-use Rattle.holds.proofs.Ranges.{in-range-later, start_small}
-use Rattle.placing.proofs.Ranges.{place-small}
-use Rattle.table.proofs.Formed.{model_is, formed-now, formed-is, formed-followers, formed-count, formed-sane, blank-ranged, advance-ranged, join-ranged, grant-ranged}
-use Rattle.table.proofs.Leaving.{gone, taken-gone, taken-same, taken-ranged, held_in, advance-ascending}
+use Rattle.table.specs.Outcomes.{outcome, answering_in, time_number, past_end, draws, departed, leaving, lacking}
+use Rattle.plan.proofs.Ranges.{in-range-later, sized-waiting, start_small, place-small}
+use Rattle.table.proofs.Formed.{model_is, formed-now, formed-is, formed-count, formed-sane, blank-ranged, advance-ranged, remove-ranged, join-ranged, grant-ranged}
 use Rattle.table.proofs.Tests.{timed-passes, step-refused, step-accepted}
-use Rattle.holds.specs.Bounds.{most_packed, most_start}
+use Rattle.plan.specs.Bounds.{most_packed}
 
 -- ── refusals ──
 pub answering-is : (t : Table) (n : ℕ) → Formed t → answering_in t n ≡ outcome (unchanged (model t) n)
@@ -95,7 +86,7 @@ prepared-is t u c m r v z a q h e =
 
 -- The table with another grace.
 abbrev pub graced : Table → ℕ → Table
-graced t n = record { rig = t.rig; clock = t.clock; pool = t.pool; issued = t.issued; grace = n; shares = t.shares; followers = t.followers; count = t.count; claims = t.claims }
+graced t n = record { rig = t.rig; clock = t.clock; pool = t.pool; issued = t.issued; grace = n; shares = t.shares; count = t.count; claims = t.claims }
 
 pub graced-is : (t : Table) (n : ℕ) (r : Outcome) → Valid t → first_number (tests (model t) (set_grace n)) ≡ 0 → r ≡ answering_in (graced t n) 0
     → (r ≡ outcome (step (model t) (set_grace n))) × Valid r.table
@@ -108,11 +99,11 @@ graced-is t n r v z e =
 -- ── new ──
 -- The table that the code makes for a rig and a pool.
 abbrev pub empty_table : ℕ → ℕ → Bool → Table
-empty_table g k alone = record { rig = g; clock = 0; pool = k; issued = 0; grace = 0; shares = first_shares alone; followers = 0; count = 0; claims = replicate 64 vacant }
+empty_table g k alone = record { rig = g; clock = 0; pool = k; issued = 0; grace = 0; shares = first_shares alone; count = 0; claims = replicate 64 vacant }
 
 opened : (g k n : ℕ) (alone : Bool) (r : Outcome) → k ≤ most_units → r ≡ answering_in (empty_table g k alone) n
     → (r ≡ outcome (unchanged (blank g k alone) n)) × Valid r.table
-unfolding pad followers_in keep
+unfolding pad
 opened g k n alone r h e =
     let f = formed-is (empty_table g k alone) (blank g k alone) refl (blank-ranged g k alone h) in
     let m = model_is (empty_table g k alone) (blank g k alone) refl in (
@@ -123,7 +114,7 @@ opened g k n alone r h e =
 
 -- The shares as the code makes them: those of client 1, and seven of nobody.
 pub shares-are : (g k : ℕ) (alone : Bool) (places n : ℕ) (r : Outcome) → places ≡ cond alone 64 0
-    → r ≡ answering_in (record { rig = g; clock = 0; pool = k; issued = 0; grace = 0; shares = record { declared = alone; reserved = places; limit = places } ∷ replicate 7 undeclared; followers = 0; count = 0; claims = replicate 64 vacant }) n
+    → r ≡ answering_in (record { rig = g; clock = 0; pool = k; issued = 0; grace = 0; shares = record { declared = alone; reserved = places; limit = places } ∷ replicate 7 undeclared; count = 0; claims = replicate 64 vacant }) n
     → r ≡ answering_in (empty_table g k alone) n
 shares-are g k true places n r e q = q ∙ rw e
 shares-are g k false places n r e q = q ∙ rw e
@@ -147,12 +138,12 @@ unfolding advance
 packed-is m u =
     let ps = pack (ruled m u) m.pending in
     let n = pack-length (ruled m u) m.pending in
-    cc (pad-take vacant m.pending, pad-over vacant m.pending ps n, followers-pack (ruled m u) m.pending)
+    cc (pad-take vacant m.pending, pad-over vacant m.pending ps n)
 
 advanced-to : (t : Table) (u : ℕ) → Formed t → t.clock ≤ u → u ≤ most_clock → (r : Table) → r ≡ encode (advance (model t) u)
     → (r ≡ encode (advance (model t) u)) × Formed r × Still (model r)
 advanced-to t u v a b r e =
-    (e, formed-is r _ e (advance-ranged (model t) u v.ranged a b), subst Still (sym (model_is r _ e)) (advance-still (model t) u (formed-sane t v u) v.ranged.ranges.ascending v.ranged.ranges.sets v.ranged.ranges.stock))
+    (e, formed-is r _ e (advance-ranged (model t) u v.ranged a b), subst Still (sym (model_is r _ e)) (advance-still (model t) u (formed-sane t v u) v.ranged.ranges.ascending v.ranged.ranges.stock))
 
 pub advanced-is : (t : Table) (u : ℕ) → Formed t → t.clock ≤ u → u ≤ most_clock → (r : Table) → r ≡ packed_table (ruled_in t u) t
     → (r ≡ encode (advance (model t) u)) × Formed r × Still (model r)
@@ -206,51 +197,45 @@ granted-to : (m : Model) (rep : Reply) → granted_in (encode m) ≡ granted_to 
 granted-to m rep =
     let ps = grant (setting_of m) m.pending in
     let n = grant-length (setting_of m) m.pending in
-    cc (pad-take vacant m.pending, pad-over vacant m.pending ps n, followers-grant (setting_of m) m.pending)
+    cc (pad-take vacant m.pending, pad-over vacant m.pending ps n)
 
 pub granted-is : (t : Table) (rep : Reply) (g : Granted) → Formed t → g ≡ granted_in t → (g ≡ granted_to (granting (model t) rep (model t).pending)) × Formed g.table
 granted-is t rep g v e =
     let is : g ≡ granted_to (granting (model t) rep (model t).pending) = e ∙ ap granted_in (sym v.whole) ∙ granted-to (model t) rep in
     (is, formed-is g.table _ (ap (λ (x : Granted). x.table) is) (grant-ranged (model t) rep v.ranged))
 
--- ── fewer claims, and more ──
--- A table with other claims, as many of them, and as many that follow.
-abbrev pub counted : Table → ℕ → ℕ → List Claim → Table
-counted t f n l = record { rig = t.rig; clock = t.clock; pool = t.pool; issued = t.issued; grace = t.grace; shares = t.shares; followers = f; count = n; claims = l }
+-- ── fewer claims, and one more ──
+-- A table with other claims, and as many of them.
+abbrev pub counted : Table → ℕ → List Claim → Table
+counted t n l = record { rig = t.rig; clock = t.clock; pool = t.pool; issued = t.issued; grace = t.grace; shares = t.shares; count = n; claims = l }
 
--- The claims that stay where that of ticket k leaves.
-abbrev pub stayers : ℕ → Model → List Claim
-stayers k m = (taken_out m k).pending
+-- t is the table t₀ with other claims; with l as its claims, m of them, it is t₀ without the claim of ticket k.
+pub removed-is : (t₀ t : Table) (k m : ℕ) (l : List Claim) → Formed t₀ → t ≡ with_claims t₀ t.claims → m ≡ length (lacking k (model t₀).pending) → l ≡ pad vacant (lacking k (model t₀).pending)
+    → (r : Table) → r ≡ counted t m l → (r ≡ encode (remove (model t₀) k)) × Formed r
+unfolding remove
+removed-is t₀ t k m l v e f g r q =
+    let is : r ≡ encode (remove (model t₀) k) = q ∙ ap (λ (x : Table). counted x m l) e ∙ cc in
+    (is, formed-is r (remove (model t₀) k) is (remove-ranged (model t₀) k v.ranged))
 
--- t is the table t₀ with other claims; with l as its claims, m of them, it is t₀ without those that leave with ticket k.
-pub removed-is : (t₀ t : Table) (k f m : ℕ) (l : List Claim) → Formed t₀ → t ≡ with_claims t₀ t.claims → f ≡ followers_in (stayers k (model t₀)) → m ≡ length (stayers k (model t₀)) → l ≡ pad vacant (stayers k (model t₀))
-    → (r : Table) → r ≡ counted t f m l → (r ≡ encode (taken_out (model t₀) k)) × Formed r
-removed-is t₀ t k f m l v e a b c r q =
-    let same = taken-same (model t₀) k in
-    let is : r ≡ encode (taken_out (model t₀) k) =
-    q ∙ ap (λ (x : Table). counted x f m l) e ∙ cc (a, b, c) ∙ ap encode (sym same) in
-    (is, formed-is r (taken_out (model t₀) k) is (taken-ranged (model t₀) k v.ranged))
-
--- A table with the single claim w after the others.
+-- A table with the claim w after the others.
 abbrev extended : Table → Claim → Table
-extended t w = record { rig = t.rig; clock = t.clock; pool = t.pool; issued = t.issued + 1; grace = t.grace; shares = t.shares; followers = t.followers; count = t.count + 1; claims = set t.claims t.count w }
+extended t w = record { rig = t.rig; clock = t.clock; pool = t.pool; issued = t.issued + 1; grace = t.grace; shares = t.shares; count = t.count + 1; claims = set t.claims t.count w }
 
-extended-is : (m : Model) (w : Claim) → length m.pending < 64 → w.lead ≡ w.ticket → extended (encode m) w ≡ encode (join m (w ∷ []))
+extended-is : (m : Model) (w : Claim) → length m.pending < 64 → extended (encode m) w ≡ encode (join m w)
 unfolding join
-extended-is m w h e =
+extended-is m w h =
     let n : length (m.pending ++ (w ∷ [])) ≡ length m.pending + 1 = length-append m.pending (w ∷ []) in
-    let z : followers_in (w ∷ []) ≡ 0 = none-follows (w ∷ []) (one_each (λ (c : Claim). c.lead ≡ c.ticket) w e) in
-    let f : followers_in (m.pending ++ (w ∷ [])) ≡ followers_in m.pending = omega (arith, followers-append m.pending (w ∷ [])) in
-    cc (pad-more vacant m.pending w h, n, f)
+    cc (pad-more vacant m.pending w h, add-one m.issued)
 
--- A table with claims after the others.
-pub joined_is : (m : Model) (ws : List Claim) → length m.pending + length ws ≤ 64 → encode (join m ws)
-    ≡ record { rig = m.rig; clock = m.clock; pool = m.pool; issued = m.issued + length ws; grace = m.grace; shares = m.shares; followers = followers_in m.pending + followers_in ws; count = length m.pending + length ws; claims = pad vacant (m.pending ++ ws) }
-unfolding join
-joined_is m ws h = cc (followers-append m.pending ws, length-append m.pending ws)
+joined_is : (t : Table) (w : Claim) (r : Table) → Formed t → t.count < most_pending → t.issued < most_tickets → Sized (ruled_in t t.clock) w → on w ≡ false → w.ticket ≡ t.issued + 1
+    → r ≡ extended t w → (r ≡ encode (join (model t) w)) × Formed r
+joined_is t w r v c i s o e q =
+    let h : length (model t).pending < most_pending = omega (arith, formed-count t v) in
+    let is : r ≡ encode (join (model t) w) = q ∙ ap (λ (x : Table). extended x w) (sym v.whole) ∙ extended-is (model t) w h in
+    (is, formed-is r _ is (join-ranged (model t) w v.ranged h i s o (e ∙ add-one t.issued)))
 
 -- ── the calls, accepted ──
-leave-act : (m : Model) (b : Bool) (t k : ℕ) → finish (gone b (advance m t) k) (plain k t) ≡ act m (leaving b t k)
+leave-act : (m : Model) (b : Bool) (t k : ℕ) → finish (remove (advance m t) k) (plain k t) ≡ act m (leaving b t k)
 unfolding act
 leave-act m true t k = refl
 leave-act m false t k = refl
@@ -265,37 +250,23 @@ unfolding tests act first_number
 clock-is t x n u r e z q f =
     finish-of u (advance (model t) x) (plain 0 x) r q f ∙ ap outcome (sym (step-accepted (model t) (clock x) (timed-passes (model t) x n [] e z)))
 
--- Where nobody draws units claims may leave before the first packing.
-gone-once : (t : Table) (b : Bool) (x k : ℕ) (rep : Reply) → Formed t → NoneDraws (model t).pending → phase_number b (standing_of k (model t).pending) ≡ 0
-    → finish (gone b (advance (model t) x) k) rep ≡ finish (advance (gone b (model t) k) x) rep
-gone-once t true x k rep v idle z =
-    leave-once (model t) x k rep (formed-sane t v x) v.ranged.ranges.ascending v.ranged.ranges.sets v.ranged.ranges.stock idle (held_in k (model t).pending v.ranged.ranges.ascending z)
-gone-once t false x k rep v idle z =
-    disband-once (model t) x k rep (formed-sane t v x) v.ranged.ranges.ascending v.ranged.ranges.sets v.ranged.ranges.stock idle
-
-leave-is : (t : Table) (b : Bool) (x k : ℕ) (rest u : Table) (r : Outcome) → Formed t → NoneDraws (model t).pending → first_number (tests (model t) (leaving b x k)) ≡ 0
-    → phase_number b (standing_of k (model t).pending) ≡ 0 → rest ≡ encode (taken_out (model t) k) → u ≡ encode (advance (model rest) x) → r ≡ outcome (finish (model u) (plain k x))
-    → r ≡ outcome (step (model t) (leaving b x k))
-leave-is t b x k rest u r v idle z y p q f =
-    let e : model rest ≡ gone b (model t) k = model_is rest _ p ∙ taken-gone b (model t) k v.ranged.ranges.ascending y in
-    finish-of u (advance (gone b (model t) k) x) (plain k x) r (q ∙ ap (λ (m : Model). encode (advance m x)) e) f
-    ∙ ap outcome (sym (gone-once t b x k (plain k x) v idle y) ∙ leave-act (model t) b x k ∙ sym (step-accepted (model t) (leaving b x k) z))
-
-gone-clock : (b : Bool) (m : Model) (x k : ℕ) → (gone b (advance m x) k).clock ≡ x
-unfolding remove disband advance
-gone-clock true m x k = refl
-gone-clock false m x k = refl
+leave-is : (t : Table) (b : Bool) (x k : ℕ) (rest u : Table) (r : Outcome) → Formed t → NoneDraws (model t).pending → first_number (tests (model t) (leaving b x k)) ≡ 0 → rest ≡ encode (remove (model t) k) → u ≡ encode (advance (model rest) x)
+    → r ≡ outcome (finish (model u) (plain k x)) → r ≡ outcome (step (model t) (leaving b x k))
+leave-is t b x k rest u r v idle z p q f =
+    finish-of u (advance (remove (model t) k) x) (plain k x) r (q ∙ ap (λ (m : Model). encode (advance m x)) (model_is rest (remove (model t) k) p)) f
+    ∙ ap outcome (sym (leave-once (model t) x k (plain k x) (formed-sane t v x) v.ranged.ranges.ascending v.ranged.ranges.stock idle) ∙ leave-act (model t) b x k ∙ sym (step-accepted (model t) (leaving b x k) z))
 
 -- Where a claim draws units it leaves between two packings.
-leave-packed-is : (t : Table) (b : Bool) (x k : ℕ) (rest u : Table) (r : Outcome) → Formed t → first_number (tests (model t) (leaving b x k)) ≡ 0
-    → phase_number b (standing_of k (advance (model t) x).pending) ≡ 0 → rest ≡ encode (taken_out (advance (model t) x) k) → Formed rest → u ≡ encode (advance (model rest) x)
-    → r ≡ outcome (finish (model u) (plain k x)) → r ≡ outcome (step (model t) (leaving b x k))
-leave-packed-is t b x k rest u r v z y q g s f =
-    let e : model rest ≡ gone b (advance (model t) x) k = model_is rest _ q ∙ taken-gone b (advance (model t) x) k (advance-ascending (model t) x v.ranged.ranges.ascending) y in
-    let clock : rest.clock ≡ x = ap (λ (n : Model). n.clock) e ∙ gone-clock b (model t) x k in
+leave-packed-is : (t : Table) (b : Bool) (x k : ℕ) (rest u : Table) (r : Outcome) → first_number (tests (model t) (leaving b x k)) ≡ 0
+    → rest ≡ encode (remove (advance (model t) x) k) → Formed rest → u ≡ encode (advance (model rest) x) → r ≡ outcome (finish (model u) (plain k x))
+    → r ≡ outcome (step (model t) (leaving b x k))
+unfolding remove advance
+leave-packed-is t b x k rest u r z q g s f =
+    let e : model rest ≡ remove (advance (model t) x) k = model_is rest _ q in
+    let clock : rest.clock ≡ x = ap (λ (n : Model). n.clock) e in
     finish-of u (advance (model rest) x) (plain k x) r s f
     ∙ ap (λ (y : ℕ). outcome (finish (advance (model rest) y) (plain k x))) (sym clock)
-    ∙ ap outcome (finish-advanced (model rest) (plain k x) (λ c i. (g.ranged.ranges.sized c i).sane) g.ranged.ranges.ascending g.ranged.ranges.sets g.ranged.ranges.stock)
+    ∙ ap outcome (finish-advanced (model rest) (plain k x) (λ c i. (g.ranged.ranges.sized c i).sane) g.ranged.ranges.ascending g.ranged.ranges.stock)
     ∙ ap (λ (n : Model). outcome (finish n (plain k x))) e
     ∙ ap outcome (leave-act (model t) b x k ∙ sym (step-accepted (model t) (leaving b x k) z))
 
@@ -312,28 +283,22 @@ unfolding departed advance
 departed-clock m x l = by-test (any draws m.pending) (λ e. rw e (omega arith)) (λ e. rw e l)
 
 pub leaves-is : (t : Table) (b : Bool) (x k : ℕ) (rest u : Table) (r : Outcome) → Formed t → first_number (tests (model t) (leaving b x k)) ≡ 0
-    → phase_number b (standing_of k (departed (model t) x).pending) ≡ 0 → rest ≡ encode (taken_out (departed (model t) x) k) → Formed rest → u ≡ encode (advance (model rest) x)
-    → r ≡ outcome (finish (model u) (plain k x)) → r ≡ outcome (step (model t) (leaving b x k))
-leaves-is t b x k rest u r v z y q g s f =
+    → rest ≡ encode (remove (departed (model t) x) k) → Formed rest → u ≡ encode (advance (model rest) x) → r ≡ outcome (finish (model u) (plain k x))
+    → r ≡ outcome (step (model t) (leaving b x k))
+leaves-is t b x k rest u r v z q g s f =
     by-test (any draws (model t).pending)
-    (λ e.
-    let d = departed-some (model t) x e in
-    leave-packed-is t b x k rest u r v z (subst (λ (m : Model). phase_number b (standing_of k m.pending) ≡ 0) d y) (q ∙ ap (λ (m : Model). encode (taken_out m k)) d) g s f)
-    (λ e.
-    let d = departed-none (model t) x e in
-    leave-is t b x k rest u r v (none-draws (model t).pending e) z (subst (λ (m : Model). phase_number b (standing_of k m.pending) ≡ 0) d y) (q ∙ ap (λ (m : Model). encode (taken_out m k)) d) s f)
+    (λ e. leave-packed-is t b x k rest u r z (q ∙ ap (λ (m : Model). encode (remove m k)) (departed-some (model t) x e)) g s f)
+    (λ e. leave-is t b x k rest u r v (none-draws (model t).pending e) z (q ∙ ap (λ (m : Model). encode (remove m k)) (departed-none (model t) x e)) s f)
 
 -- A new claim with its ticket as the code counts it.
 abbrev pub asked : Table → Request → Claim
-asked t ask = record { groups = ask.groups; phase = Waiting t.clock; length = ask.length; ticket = t.issued + 1; units = ask.units; lead = t.issued + 1; client = ask.client }
+asked t ask = record { groups = ask.groups; phase = Waiting t.clock; length = ask.length; ticket = t.issued + 1; units = ask.units; client = ask.client }
 
-asked_is : (t : Table) (ask : Request) → (asked t ask ∷ []) ≡ fresh (model t) (ask ∷ [])
-unfolding members
-asked_is t ask =
-    ap (λ (k : ℕ). record { groups = ask.groups; phase = Waiting t.clock; length = ask.length; ticket = k; units = ask.units; lead = k; client = ask.client } ∷ []) (add-one t.issued)
+pub asked_is : (t : Table) (ask : Request) → asked t ask ≡ fresh (model t) ask
+asked_is t ask = ap (λ (k : ℕ). record { groups = ask.groups; phase = Waiting t.clock; length = ask.length; ticket = k; units = ask.units; client = ask.client }) (add-one t.issued)
 
 -- In a table where packing changes nothing, starts are as low as packed starts.
-pub still-capped : (t : Table) → Formed t → Still (model t) → Capped (take t.count t.claims)
+still-capped : (t : Table) → Formed t → Still (model t) → Capped (take t.count t.claims)
 unfolding pack
 still-capped t v still c m =
     let f = packed_start (ruled_in t t.clock) (model t).pending in
@@ -347,74 +312,36 @@ still-capped t v still c m =
           (λ o. start_small v.ranged.ranges r.0 r.1 o),
     )
 
--- ── what sets bar ──
--- In a table where packing changes nothing, conflicting claims of different sets have different starts.
-pub still-untied : (t : Table) → Formed t → Still (model t) → Untied (model t).pending
-still-untied t v still =
-    let r = v.ranged.ranges in
-    let sane = formed-sane t v t.clock in
-    separated-untied (setting_of (model t)) (model t).pending sane r.sets (subst (Separated (setting_of (model t))) still (pack-separates (setting_of (model t)) (model t).pending sane r.ascending r.sets r.stock))
-
--- Nothing, where no set is pending.
-pub none-barred : (t : Table) → Formed t → t.followers ≡ 0 → BarredGroups (setting_of (model t)) (model t).pending 0
-none-barred t v z = barred-none (formed-now t v) (sym (formed-followers t v) ∙ z)
-
--- ── claims placed in a table ──
-module _ (t : Table) (asks : List Request) (v : Formed t) (h : Asks t.issued t.pool asks) (few : t.count + length asks ≤ most_pending) (short : Each (λ a. a.length ≤ most_length) asks)
-    (still : Still (model t)) (p : Table) (q : p ≡ encode (join (model t) (placed (model t) asks))) where
-  pub placed-formed : place_all (setting_of (model t)) (model t).pending (fresh (model t) asks) ≤ most_start → Formed p
-  placed-formed low = formed-is p _ q (join-ranged (model t) asks v.ranged h (omega (arith, formed-count t v)) short low)
-
-  pub placed-still : Still (model p)
-  placed-still =
-      let r = v.ranged in
-      subst Still (sym (model_is p _ q))
-      (join-still (model t) asks h (formed-sane t v t.clock) (λ c i. omega (arith, (r.ranges.sized c i).sane.led, r.issued c i)) r.ranges.ascending r.ranges.sets r.ranges.stock still)
-
-  pub admitted-is : (rep : Reply) (r : Outcome) → rep ≡ placing (model t) asks → r ≡ outcome (finish (model p) rep) → r ≡ outcome (admit (model t) asks)
-  unfolding admit
-  admitted-is rep r e f = finish-of p (join (model t) (placed (model t) asks)) rep r q f ∙ ap (λ (x : Reply). outcome (finish (join (model t) (placed (model t) asks)) x)) e
-
--- One claim.
-module _ (t : Table) (ask : Request) (v : Formed t) (few : t.count < most_pending) (i : t.issued < most_tickets) (l : 1 ≤ ask.length) (h : ask.length ≤ most_length) (d : ask.units ≤ t.pool) (y : (empty ask.groups && eqb ask.units 0) ≡ false) (still : Still (model t)) where
-  pub one-asks : Asks t.issued t.pool (ask ∷ [])
-  unfolding clashing any
-  one-asks = record { some = omega arith; long = one_each (λ (a : Request). 1 ≤ a.length) ask l; drawn = one_each (λ (a : Request). a.units ≤ t.pool) ask d; lit = one_each (λ (a : Request). (empty a.groups && eqb a.units 0) ≡ false) ask y; spare = omega arith; alone = inr (ask, refl); apart = refl }
-
+-- A claim placed in a table.
+module _ (t : Table) (ask : Request) (v : Formed t) (few : t.count < most_pending) (i : t.issued < most_tickets) (l : 1 ≤ ask.length) (h : ask.length ≤ most_length) (d : ask.units ≤ t.pool) (still : Still (model t)) where
   pub asked-row : InPlaces (ruled_in t t.clock) t.claims t.count × Sized (ruled_in t t.clock) (asked t ask) × Capped (take t.count t.claims) × (t.count < most_pending) × (t.issued < most_tickets)
   asked-row =
       let k = v.ranged.ranges.timely in
-      (formed-now t v, record { sane = record { long = l; small = omega arith; drawn = d; led = omega arith; single = λ z. refl; lit = y }; short = h; aged = λ o. clash o refl; planned = λ o. omega arith }, still-capped t v still, few, i)
+      (formed-now t v, record { sane = record { long = l; small = omega arith; drawn = d }; short = h; aged = λ o. clash o refl; planned = λ o. omega arith }, still-capped t v still, few, i)
 
-  one-start : place (setting_of (model t)) (model t).pending (asked t ask) ≡ place_all (setting_of (model t)) (model t).pending (fresh (model t) (ask ∷ []))
-  one-start = sym (place-one (setting_of (model t)) (model t).pending (asked t ask)) ∙ ap (place_all (setting_of (model t)) (model t).pending) (asked_is t ask)
-
-  pub one-low : place_all (setting_of (model t)) (model t).pending (fresh (model t) (ask ∷ [])) ≤ most_start
-  one-low = let a = asked-row in omega (arith, one-start, place-small (ruled_in t t.clock) t.claims t.count (asked t ask) a.0 a.1 a.2)
-
-  placed-is : (with_phase (asked t ask) (Waiting (place (setting_of (model t)) (model t).pending (asked t ask))) ∷ []) ≡ placed (model t) (ask ∷ [])
-  unfolding members
-  placed-is = rw (one-start, add-one t.issued)
+  placed-is : with_phase (asked t ask) (Waiting (place (setting_of (model t)) (model t).pending (asked t ask))) ≡ placed (model t) ask
+  placed-is = cc (asked_is t ask)
 
   module _ (p : Placed) (q : p ≡ placed_in t (asked t ask)) where
-    pub one_table : p.table ≡ encode (join (model t) (placed (model t) (ask ∷ [])))
-    one_table =
-        ap (λ (x : Placed). x.table) q ∙ ap (λ (x : Table). extended x (with_phase (asked t ask) (Waiting (place (setting_of (model t)) (model t).pending (asked t ask))))) (sym v.whole)
-        ∙ extended-is (model t) _ (omega (arith, formed-count t v)) refl ∙ ap (λ (ws : List Claim). encode (join (model t) ws)) placed-is
+    pub placed-table : (p.table ≡ encode (join (model t) (placed (model t) ask))) × Formed p.table
+    placed-table =
+        let a = asked-row in
+        let s = sized-waiting a.1 (place-small (ruled_in t t.clock) t.claims t.count (asked t ask) a.0 a.1 a.2) in
+        let j = joined_is t _ p.table v few i s refl refl (ap (λ (x : Placed). x.table) q) in
+        (j.0 ∙ ap (λ (w : Claim). encode (join (model t) w)) placed-is, j.1)
 
-    pub one-reply : p.reply ≡ placing (model t) (ask ∷ [])
-    one-reply =
-        ap (λ (x : Placed). x.reply) q
-        ∙ cc (add-one t.issued, one-start, sym (contention-one (model t).pending (asked t ask)), sym (bound-one (setting_of (model t)) (model t).pending (asked t ask)), asked_is t ask)
+    pub placed-still : Still (model p.table)
+    placed-still =
+        subst Still (sym (model_is p.table _ placed-table.0)) (join-still (model t) ask l d i (formed-sane t v t.clock) v.ranged.ranges.ascending v.ranged.ranges.stock still)
+
+    pub admitted-is : (r : Outcome) → r ≡ outcome (finish (model p.table) p.reply) → r ≡ outcome (admit (model t) ask)
+    unfolding admit
+    admitted-is r f =
+        finish-of p.table (join (model t) (placed (model t) ask)) p.reply r placed-table.0 f
+        ∙ cc (q, asked_is t ask)
 
 pub claim-is : (t : Table) (x : ℕ) (ask : Request) (n : ℕ) (u : Table) (r : Outcome) → n ≡ first_number (tests (model t) (claim x ask)) → n ≡ 0 → u ≡ encode (advance (model t) x)
-    → r ≡ outcome (admit (model u) (ask ∷ [])) → r ≡ outcome (step (model t) (claim x ask))
+    → r ≡ outcome (admit (model u) ask) → r ≡ outcome (step (model t) (claim x ask))
 unfolding act
 claim-is t x ask n u r e z q f =
-    f ∙ ap (λ (m : Model). outcome (admit m (ask ∷ []))) (model_is u (advance (model t) x) q) ∙ ap outcome (sym (step-accepted (model t) (claim x ask) (sym e ∙ z)))
-
-pub set_is : (t : Table) (x c : ℕ) (ms : List Member) (n : ℕ) (u : Table) (r : Outcome) → n ≡ first_number (tests (model t) (claim_set x c ms)) → n ≡ 0 → u ≡ encode (advance (model t) x)
-    → r ≡ outcome (admit (model u) (asks_of c ms)) → r ≡ outcome (step (model t) (claim_set x c ms))
-unfolding act
-set_is t x c ms n u r e z q f =
-    f ∙ ap (λ (m : Model). outcome (admit m (asks_of c ms))) (model_is u (advance (model t) x) q) ∙ ap outcome (sym (step-accepted (model t) (claim_set x c ms) (sym e ∙ z)))
+    f ∙ ap (λ (m : Model). outcome (admit m ask)) (model_is u (advance (model t) x) q) ∙ ap outcome (sym (step-accepted (model t) (claim x ask) (sym e ∙ z)))

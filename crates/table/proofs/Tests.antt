@@ -64,7 +64,7 @@ step-accepted m c e = ap (λ (k : ℕ). unless m k (act m c)) e
 
 -- ── lookup, and the tests 8, 9 and 10 ──
 -- The tests 8, then 9 or 10, of the first claim with the ticket; no later one has it.
-pub phase-first : (b : Bool) (k : ℕ) (ps : List Claim) → Ascending ps
+phase-first : (b : Bool) (k : ℕ) (ps : List Claim) → Ascending ps
     → first_number (test (not (any (named k) ps)) 8 ∷ test (any (λ c. named k c && cond b (not (on c)) (on c)) ps) (cond b 9 10) ∷ []) ≡ phase_number b (standing_of k ps)
 unfolding first_number any standing_of
 phase-first b k [] a = refl

@@ -1,14 +1,12 @@
 -- What the calls hand back, by the rules.
-use Rattle.std.specs.Prelude.{Bool, true, false, not, ◌&&◌, cond, List, [], ◌∷◌, ◌++◌, ℕ, zero, suc, ◌+◌, ◌≤◌, ◌<◌, ltb, eqb, ◌≡◌, length, get_or, replicate}
+use Rattle.std.specs.Prelude.{Bool, true, false, not, ◌&&◌, cond, List, [], ◌∷◌, ℕ, ◌+◌, ◌≤◌, ◌<◌, ltb, eqb, ◌≡◌, length, get_or, replicate}
 use Rattle.rules.specs.declared.Claim.{Claim}
 use Rattle.rules.specs.declared.Table.{Table}
 use Rattle.rules.specs.declared.Standing.{Standing}
 use Rattle.rules.specs.declared.Standing.TheVariants.{NotPending, Waits, Holds}
 use Rattle.numbers.specs.Numbers.{unknown_number, not_yet_on_number, already_on_number}
-use Rattle.rules.specs.declared.Share.{Share}
-use Rattle.rules.specs.Shares.{share_of, pending_of, unfilled_by_others}
-use Rattle.rules.specs.Tests.{Test, first_number, late, backward, full_for, over, ticketless, named}
-use Rattle.rules.specs.Calls.{Model, clients_of, full_to, over_of, Call, release, withdraw, Step, advance, remove, disband}
+use Rattle.rules.specs.Tests.{first_number, late, backward, named}
+use Rattle.rules.specs.Calls.{Model, full_to, over_of, Call, release, withdraw, Step, advance}
 use Rattle.rules.specs.Lists.{any, keep}
 use Rattle.rules.specs.Claims.{on, at}
 use Rattle.rules.specs.Tables.{vacant, encode, model, pad}
@@ -78,24 +76,6 @@ phase_number false (Holds e) = already_on_number
 abbrev pub leaving : Bool → ℕ → ℕ → Call
 leaving true t k = release t k
 leaving false t k = withdraw t k
-
--- Whether c leaves with the claim g: "One waiting member's withdrawal withdraws the set", and a claim that is on leaves alone.
-abbrev pub leaves_with : Claim → Claim → Bool
-leaves_with g c = cond (on g) (eqb c.ticket g.ticket) (eqb c.lead g.lead)
-
--- The table that the claim of ticket k leaves.
-unfoldable pub taken_out : Model → ℕ → Model
-taken_out m k = cond (any (λ c. named k c && not (on c)) m.pending) (disband m k) (remove m k)
-
--- The tests 6, 18 and 7 of n claims more of client c, each in its turn, those before counted as taken: ks are the clients of the pending claims.
-unfoldable pub turn_tests : List Share → List ℕ → ℕ → ℕ → ℕ → List Test
-turn_tests ss ks issued c zero = []
-turn_tests ss ks issued c (suc n) =
-    full_for (share_of ss c) (pending_of ks c) (length ks) (unfilled_by_others ss ks c) ∷ over (share_of ss c) (pending_of ks c) ∷ ticketless issued
-    ∷ turn_tests ss (ks ++ (c ∷ [])) (suc issued) c n
-
-unfoldable pub turn_number : Model → ℕ → ℕ → ℕ
-turn_number m c n = first_number (turn_tests m.shares (clients_of m.pending) m.issued c n)
 
 -- The claims but that of ticket k.
 abbrev pub lacking : ℕ → List Claim → List Claim

@@ -7,7 +7,7 @@ use Rattle.rules.specs.Lists.{◌∈◌}
 use Rattle.rules.specs.Calls.{Model, setting_of}
 use Rattle.rules.specs.Invariants.{Invariant, IsBooked}
 use Rattle.rules.specs.Tables.{encode, model}
-use Rattle.holds.specs.Rows.{InRange}
+use Rattle.plan.specs.Rows.{InRange}
 
 -- The limits of document 01, "A claim", of the pool and of the grace.
 pub record Ranged (m : Model) : Type 0 where

@@ -1,21 +1,19 @@
-// The claims table: new, declare, set_grace, claim, claim_set, release, withdraw, clock, lookup, common, free, why. Each call takes a table by
-// value and hands one back with its answer. A claim, a set and a clock call pack only where the clock moves and a holder overruns; a release and a
+// The claims table: new, declare, set_grace, claim, release, withdraw, clock, lookup, common, free, why. Each call takes a table by value and
+// hands one back with its answer. A claim and a clock call pack only where the clock moves and a holder overruns; a release and a
 // withdrawal only where somebody waits, and once more where a pending claim draws units, the clock moves and a holder overruns.
 // What packing and placing cost is told in `plan`, what a chain costs in `chains`; everything else is a few passes.
-ghost use Rattle.std.specs.Prelude.{◌≡◌, true, false, ◌&&◌, [], ◌∷◌, ◌+◌, ◌≤◌, ◌<◌, eqb};
-ghost use Rattle.groups.specs.Groups.{empty};
-ghost use Rattle.numbers.specs.Numbers.{most_clock, most_length, most_pending, most_tickets, most_members};
+ghost use Rattle.std.specs.Prelude.{◌≡◌, true, ◌+◌, ◌≤◌, ◌<◌};
+ghost use Rattle.numbers.specs.Numbers.{most_clock, most_length, most_pending, most_tickets};
 ghost use Rattle.rules.specs.Claims.{at};
 ghost use Rattle.rules.specs.Shares.{share_of};
 ghost use Rattle.rules.specs.Tests.{first_number};
-ghost use Rattle.rules.specs.Calls.{claims, claims_set, releases, withdraws, moves_clock, at_pool, declares, sets_grace, timed, looks, sets_up, tests, advance, finish, admit, step, new, standing_values, standing, standing_of, lookup_gives, common_values, common_of, common_gives, free_of, setting_of};
+ghost use Rattle.rules.specs.Calls.{claims, releases, withdraws, moves_clock, at_pool, declares, sets_grace, timed, looks, sets_up, tests, advance, finish, remove, admit, step, new, standing_values, standing, standing_of, lookup_gives, common_values, common_of, common_gives, free_of, setting_of};
 ghost use Rattle.rules.specs.Chains.{chain_refused, chain_of};
-ghost use Rattle.rules.specs.Tables.{encode, model, members_of};
+ghost use Rattle.rules.specs.Tables.{encode, model};
 ghost use Rattle.rules.specs.Invariants.{Still};
 ghost use Rattle.table.specs.Valid.{Formed, Valid};
-ghost use Rattle.table.specs.Outcomes.{outcome, answering_in, Found, time_number, share_number, counted_number, past_end, departed, phase_number, leaving, leaves_with, taken_out, turn_number, blocking};
-ghost use Rattle.holds.specs.Bounds.{most_at};
-ghost use Rattle.plan.specs.Sets.{BarredGroups};
+ghost use Rattle.table.specs.Outcomes.{outcome, answering_in, Found, time_number, share_number, counted_number, past_end, departed, phase_number, leaving, blocking};
+ghost use Rattle.plan.specs.Bounds.{most_at};
 
 mod shares;
 
@@ -78,7 +76,6 @@ pub fn new(rig: u64, pool: u16, alone: bool) -> Outcome
         length: 0,
         ticket: 0,
         units: 0,
-        lead: 0,
         client: 0,
     };
     let mut t = Table {
@@ -88,7 +85,6 @@ pub fn new(rig: u64, pool: u16, alone: bool) -> Outcome
         issued: 0,
         grace: 0,
         shares: [first, other, other, other, other, other, other, other],
-        followers: 0,
         count: 0,
         claims: [vacant; 64],
     };
@@ -106,7 +102,7 @@ fn shown(c: Claim) -> Standing
     ensures { result ≡ standing c }
 {
     let p = c.phase;
-    let n = holds::wide(c.length);
+    let n = plan::wide(c.length);
     match p {
         Phase::Waiting(s) => Standing::Waits(s),
         Phase::On(g) => Standing::Holds(g + n),
@@ -205,7 +201,7 @@ pub fn why(t: Table, ticket: u16) -> Blocking
         return unexplained(numbers::UNKNOWN);
     }
     let c = t.claims[i];
-    if holds::is_on(c) {
+    if plan::is_on(c) {
         return unexplained(numbers::ALREADY_ON);
     }
     chains::chain(t, i)
@@ -231,9 +227,9 @@ fn overruns(clock: u64, c: Claim) -> bool
     requires { at c ≤ most_at }
     ensures { result ≡ past_end clock c }
 {
-    if holds::is_on(c) {
-        let n = holds::wide(c.length);
-        return holds::start_or_grant(c) + n < clock;
+    if plan::is_on(c) {
+        let n = plan::wide(c.length);
+        return plan::start_or_grant(c) + n < clock;
     }
     false
 }
@@ -287,7 +283,7 @@ fn pulled(mut t: Table, clock: u64) -> Table
     let mut i: usize = 0;
     while i < count {
         let c = t.claims[i];
-        if !holds::is_on(c) {
+        if !plan::is_on(c) {
             packs = true;
             break;
         }
@@ -310,13 +306,12 @@ fn pulled(mut t: Table, clock: u64) -> Table
     t
 }
 
-// Grants in a table where packing again would change nothing, and answers. What sets bar is asked by the callers, and only where sets are
-// pending: a table handed on is a table copied.
-fn finished(t: Table, r: Reply, barred: u64) -> Outcome
-    requires { Formed t × Still (model t) × BarredGroups (setting_of (model t)) (model t).pending barred }
+// Grants in a table where packing again would change nothing, and answers.
+fn finished(t: Table, r: Reply) -> Outcome
+    requires { Formed t × Still (model t) }
     ensures { (result ≡ outcome (finish (model t) r)) × Formed result.table }
 {
-    let g = plan::grant(t, barred);
+    let g = plan::grant(t);
     let after = g.table;
     let tickets = g.tickets;
     Outcome {
@@ -349,11 +344,7 @@ pub fn clock(t: Table, clock: u64) -> Outcome
         contention: 0,
         bound: 0,
     };
-    let mut barred: u64 = 0;
-    if moved.followers != 0 {
-        barred = plan::barred(moved);
-    }
-    finished(moved, r, barred)
+    finished(moved, r)
 }
 
 // ── release and withdraw ──
@@ -369,16 +360,6 @@ fn phase_number(releasing: bool, s: Standing) -> u8
     }
 }
 
-// Whether the claim c leaves with `gone`: all of its set does while that waits; else it leaves alone. Cost: a few instructions.
-fn leaves_with(gone: Claim, c: Claim) -> bool
-    ensures { result ≡ leaves_with gone c }
-{
-    if holds::is_on(gone) {
-        return c.ticket == gone.ticket;
-    }
-    c.lead == gone.lead
-}
-
 // How the claim of a ticket stood, and the table without it.
 #[derive(Drop)]
 pub struct Taken {
@@ -386,12 +367,12 @@ pub struct Taken {
     pub table: Table,
 }
 
-// Takes the claim of a ticket out of a table, and while it waits the others of its set; those after move up, and the last places become vacant.
-// Where a pending claim draws units the table is packed first, if a holder overruns. Cost: one pass to find it, one more where there is a pool,
-// one move of those after it (one pass more where sets are pending), and that packing.
+// Takes the claim of a ticket out of a table; those after it move up, and the last place becomes vacant. Where a pending claim draws units
+// the table is packed first, if a holder overruns. Cost: one pass to find it, one more where there is a pool, one move of those after it, and
+// that packing.
 fn removed(mut t: Table, clock: u64, ticket: u16) -> Taken
     requires { Valid t × (t.clock ≤ clock) × (clock ≤ most_clock) }
-    ensures { (result.standing ≡ standing_of ticket (departed (model t) clock).pending) × (result.table ≡ encode (taken_out (departed (model t) clock) ticket))
+    ensures { (result.standing ≡ standing_of ticket (departed (model t) clock).pending) × (result.table ≡ encode (remove (departed (model t) clock) ticket))
         × Formed result.table }
 {
     let mut drawn = false;
@@ -422,55 +403,21 @@ fn removed(mut t: Table, clock: u64, ticket: u16) -> Taken
         i += 1;
     }
     if at < count {
-        if t.followers == 0 {
-            let last = count - 1;
-            while at < last {
-                let c = t.claims[at + 1];
-                t.claims[at] = c;
-                at += 1;
-            }
-            t.claims[last] = Claim {
-                groups: 0,
-                phase: Phase::Waiting(0),
-                length: 0,
-                ticket: 0,
-                units: 0,
-                lead: 0,
-                client: 0,
-            };
-            t.count = last;
-        } else {
-            let gone = t.claims[at];
-            let mut n: usize = 0;
-            let mut followers: usize = 0;
-            let mut k: usize = 0;
-            while k < count {
-                let c = t.claims[k];
-                if !leaves_with(gone, c) {
-                    t.claims[n] = c;
-                    n += 1;
-                    if c.lead != c.ticket {
-                        followers += 1;
-                    }
-                }
-                k += 1;
-            }
-            let mut m = n;
-            while m < count {
-                t.claims[m] = Claim {
-                    groups: 0,
-                    phase: Phase::Waiting(0),
-                    length: 0,
-                    ticket: 0,
-                    units: 0,
-                    lead: 0,
-                    client: 0,
-                };
-                m += 1;
-            }
-            t.followers = followers;
-            t.count = n;
+        let last = count - 1;
+        while at < last {
+            let c = t.claims[at + 1];
+            t.claims[at] = c;
+            at += 1;
         }
+        t.claims[last] = Claim {
+            groups: 0,
+            phase: Phase::Waiting(0),
+            length: 0,
+            ticket: 0,
+            units: 0,
+            client: 0,
+        };
+        t.count = last;
     }
     Taken {
         standing: s,
@@ -501,11 +448,7 @@ pub fn leave(t: Table, releasing: bool, clock: u64, ticket: u16) -> Outcome
         contention: 0,
         bound: 0,
     };
-    let mut barred: u64 = 0;
-    if u.followers != 0 {
-        barred = plan::barred(u);
-    }
-    finished(u, r, barred)
+    finished(u, r)
 }
 
 // Takes away a claim that is on. Refused: 5, 4, 8, 9.
@@ -629,8 +572,8 @@ fn claim_number(t: Table, clock: u64, ask: Request, counted: u8) -> u8
 // A claim that no test refuses, in a table that is packed.
 fn admitted(t: Table, ask: Request) -> Outcome
     requires { Formed t × Still (model t) × (t.count < most_pending) × (t.issued < most_tickets) × (1 ≤ ask.length) × (ask.length ≤ most_length)
-        × (ask.units ≤ t.pool) × ((empty ask.groups && eqb ask.units 0) ≡ false) }
-    ensures { (result ≡ outcome (admit (model t) (ask ∷ []))) × Formed result.table }
+        × (ask.units ≤ t.pool) }
+    ensures { (result ≡ outcome (admit (model t) ask)) × Formed result.table }
 {
     let clock = t.clock;
     let ticket = t.issued + 1;
@@ -640,18 +583,10 @@ fn admitted(t: Table, ask: Request) -> Outcome
         length: ask.length,
         ticket: ticket,
         units: ask.units,
-        lead: ticket,
         client: ask.client,
     };
-    // A claim by itself adds no follower. The word is read before it is placed: asked for behind that, it costs a copy of the table.
-    let followers = t.followers;
-    let p = placing::place(t, w);
-    let after = p.table;
-    let mut barred: u64 = 0;
-    if followers != 0 {
-        barred = plan::barred(after);
-    }
-    finished(after, p.reply, barred)
+    let p = plan::place(t, w);
+    finished(p.table, p.reply)
 }
 
 // Claims what is asked for. Refused: 5, 4, 17, 1, 2, 16, 3, 6, 18, 7. Counting what clients have pending stands here and not in
@@ -671,87 +606,4 @@ pub fn claim(t: Table, clock: u64, ask: Request) -> Outcome
     }
     let u = at_clock(t, clock);
     admitted(u, ask)
-}
-
-// ── claim_set ──
-
-// The first of the tests 6, 18 and 7 that a member of a set meets, or 0: each in its turn, those before counted as taken. Cost: one pass, and
-// eight steps for each member.
-fn turn_number(t: Table, client: u8, members: usize) -> u8
-    requires { Valid t × ((share_of t.shares client).declared ≡ true) × (members ≤ most_members) }
-    ensures { result ≡ turn_number (model t) client members }
-{
-    let held = t.shares;
-    let mut each = shares::pending_each(t);
-    let mut i: usize = 0;
-    while i < members {
-        let n = shares::number_of(held, each, t.count + i, client);
-        if n != 0 {
-            return n;
-        }
-        if refusals::ticketless(t.issued + i as u16) {
-            return numbers::TICKETLESS;
-        }
-        let own = each[(client - 1) as usize];
-        each[(client - 1) as usize] = own + 1;
-        i += 1;
-    }
-    0
-}
-
-// The first of its tests that a set fails, or 0.
-fn set_number(
-    t: Table,
-    clock: u64,
-    client: u8,
-    count: usize,
-    groups: [u64; 8],
-    lengths: [u32; 8],
-) -> u8
-    requires { Valid t }
-    ensures { result ≡ first_number (tests (model t) (timed clock (claims_set client (members_of count groups lengths)))) }
-{
-    let timing = time_number(t.clock, clock);
-    if timing != 0 {
-        return timing;
-    }
-    if refusals::cast(count) {
-        return numbers::CAST;
-    }
-    let held = t.shares;
-    let s = shares::share_of(held, client);
-    if refusals::stranger(s) {
-        return numbers::STRANGER;
-    }
-    let gs = groups;
-    let ns = lengths;
-    let wrong = refusals::members_number(t.rig, count, &gs, &ns);
-    if wrong != 0 {
-        return wrong;
-    }
-    turn_number(t, client, count)
-}
-
-// Claims a set of two to eight members that start together: the first `count` groups and lengths; entries behind them do not matter.
-// Refused: 5, 4, 22, 17, 1, 2, 3, 23, 6, 18, 7. Nothing is issued then.
-pub fn claim_set(
-    t: Table,
-    clock: u64,
-    client: u8,
-    count: usize,
-    groups: [u64; 8],
-    lengths: [u32; 8],
-) -> Outcome
-    requires { Valid t }
-    ensures { (result ≡ outcome (step (model t) (timed clock (claims_set client (members_of count groups lengths))))) × Valid result.table }
-{
-    let number = set_number(t, clock, client, count, groups, lengths);
-    if number != 0 {
-        return answering(t, number);
-    }
-    let u = at_clock(t, clock);
-    let set = placing::place_set(u, client, count, groups, lengths);
-    let after = set.table;
-    let barred = plan::barred(after);
-    finished(after, set.reply, barred)
 }

@@ -4,7 +4,7 @@ use mathlib.Core.List.{List, ◌∷◌}
 use Prim.Native.Nat.{ℕ}
 use Rattle.rules.specs.declared.Blocking.{Blocking}
 use Rattle.rules.specs.declared.Table.{Table}
-use Rattle.rules.specs.Calls.{Model, setting_of, Look, claims, claims_set, releases, withdraws, moves_clock, declares, sets_grace, Call, timed, looks, sets_up, Answer, Step, step, new, StandingValues, CommonValues}
+use Rattle.rules.specs.Calls.{Model, setting_of, Look, claims, releases, withdraws, moves_clock, declares, sets_grace, Call, timed, looks, sets_up, Answer, Step, step, new, StandingValues, CommonValues}
 use Rattle.rules.specs.Calls as rules
 use Rattle.rules.specs.Chains.{ChainValues, chain_of}
 use Rattle.rules.specs.Tables.{model}
@@ -23,7 +23,6 @@ use Rattle.promises.specs.WaitsExplained.{Explained}
 use Rattle.promises.specs.ChainsTold.{Chains, OnlyChains}
 use Rattle.promises.specs.NeverOvertaken.{NotOvertaken}
 use Rattle.promises.specs.GrantsDue.{Due}
-use Rattle.promises.specs.SetsTogether.{WaitTogether, OfSets}
 use Rattle.promises.specs.PoolKept.{Kept}
 use Rattle.promises.specs.SharesKept.{SharesNow, SharesNext}
 use Rattle.promises.specs.WholeCalls.{WholeCalls}
@@ -39,20 +38,18 @@ use Rattle.promises.proofs.ChainsTold.{chains_told}
 use Rattle.promises.proofs.NeverOvertaken.{never_overtaken}
 use Rattle.promises.proofs.StartsHold.{starts_hold}
 use Rattle.promises.proofs.GrantsDue.{grants_due}
-use Rattle.promises.proofs.SetsTogether.{sets_together}
 use Rattle.promises.proofs.PoolKept.{pool_kept}
 use Rattle.promises.proofs.SharesKept.{shares_kept}
 use Rattle.promises.proofs.TableKept.{table_kept}
 use Rattle.table.specs.declared.Outcome.{Outcome}
 use Rattle.table.specs.Outcomes.{outcome, blocking}
 use Rattle.table.specs.Valid.{Valid}
-use Rattle.table_runs.specs.Runs.{answered, looked, chain_shown, look_number, Promised, Shows, Made, by_call, by-look, Run, done, then, Looks, BeganAs, by-new, CodeAtAnyTime, CodeWhileNobodyOverruns, CodeAtAnyLater, CodeAtAnyCall, CodeDemand3, CodeNumbersTested, CodeNewTested, CodeReplies, CodeLeastStart, CodeStartsPacked, CodePackedInTurn, CodePlansApart, CodeWaitsExplained, CodeChainsTold, CodeNeverOvertaken, CodeStartsHold, CodeGrantsDue, CodeSetsTogether, CodePoolKept, CodeSharesKept, CodeTables}
+use Rattle.table_runs.specs.Runs.{answered, looked, chain_shown, look_number, Promised, Shows, Made, by_call, by-look, Run, done, then, Looks, BeganAs, by-new, CodeAtAnyTime, CodeWhileNobodyOverruns, CodeAtAnyLater, CodeAtAnyCall, CodeDemand3, CodeNumbersTested, CodeNewTested, CodeReplies, CodeLeastStart, CodeStartsPacked, CodePackedInTurn, CodePlansApart, CodeWaitsExplained, CodeChainsTold, CodeNeverOvertaken, CodeStartsHold, CodeGrantsDue, CodePoolKept, CodeSharesKept, CodeTables}
 use Rattle.table.proofs.Promised.{outcome-model, outcome-grants, blocking-tickets}
 
 -- ── what the contracts say ──
 promised-is : {t : Table} → Valid t → (c : Call) (r : Outcome) → Promised t c r → (r ≡ outcome (step (model t) c)) × Valid r.table
 promised-is v (timed u (claims ask)) r p = p v
-promised-is v (timed u (claims_set c ms)) r p = rw p.3 (p.4 v)
 promised-is v (timed u (releases k)) r p = p v
 promised-is v (timed u (withdraws k)) r p = p v
 promised-is v (timed u moves_clock) r p = p v
@@ -134,16 +131,11 @@ while-of-code calls Q h before rest e t s b ts u p shows k =
     let r = ran b p in
     rw (r.1, looks-are u _ shows r.3 r.2 k) (h s r.0 before rest e)
 
-pub any-later-of-code : (calls : List Call) (Q : Ledger → Told → Ledger → Told → Type 0) → ((s : Start) → Begins s → AtAnyLater step s calls Q) → CodeAtAnyLater calls Q
+pub any-later-of-code : (calls : List Call) (Q : Told → Told → Type 0) → ((s : Start) → Begins s → AtAnyLater step s calls Q) → CodeAtAnyLater calls Q
 any-later-of-code calls Q h before between rest e t s b ts u p old k us w q new k' =
     let r = ran b p in
     let d = run_is r.3 q in
-    rw (
-      r.1,
-      d.0 ∙ ap (λ (x : Model). turns step x between) r.2,
-      looks-are u _ old r.3 r.2 k,
-      looks-are w _ new d.2 (d.1 ∙ ap (λ (x : Model). table_after step x between) r.2) k',
-    )
+    rw (looks-are u _ old r.3 r.2 k, looks-are w _ new d.2 (d.1 ∙ ap (λ (x : Model). table_after step x between) r.2) k')
     (h s r.0 before between rest e)
 
 pub any-call-of-code : (calls : List Call) (Q : Ledger → Turn → Told → Told → Type 0) → ((s : Start) → Begins s → AtAnyCall step s calls Q) → CodeAtAnyCall calls Q
@@ -215,12 +207,6 @@ code-starts-hold calls before between rest e t s b ts u p old k us w q new k' =
 
 pub code-grants-due : (calls : List Call) → CodeGrantsDue calls
 code-grants-due calls = any-call-of-code calls Due (λ s b. grants_due s b calls)
-
-pub code-sets-together : (calls : List Call) → CodeSetsTogether calls
-code-sets-together calls = record {
-  at_any_later = any-later-of-code calls WaitTogether (λ s b. (sets_together s b calls).at_any_later);
-  at_any_call = any-call-of-code calls OfSets (λ s b. (sets_together s b calls).at_any_call);
-}
 
 pub code-pool-kept : (calls : List Call) → CodePoolKept calls
 code-pool-kept calls = any-time-of-code calls Kept (λ s b. pool_kept s b calls)

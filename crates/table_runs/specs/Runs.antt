@@ -4,9 +4,9 @@
 use Rattle.std.specs.Prelude.{◌≡◌, Bool, List, [], ◌∷◌, ◌++◌, ℕ, take}
 use Rattle.rules.specs.declared.Blocking.{Blocking}
 use Rattle.rules.specs.declared.Table.{Table}
-use Rattle.rules.specs.Calls.{Look, at_ticket, at_two, at_pool, at_chain, claims, claims_set, releases, withdraws, moves_clock, declares, sets_grace, Call, timed, looks, sets_up, Answer, step, new, standing_values, common_values}
+use Rattle.rules.specs.Calls.{Look, at_ticket, at_two, at_pool, at_chain, claims, releases, withdraws, moves_clock, declares, sets_grace, Call, timed, looks, sets_up, Answer, step, new, standing_values, common_values}
 use Rattle.rules.specs.Chains.{ChainValues}
-use Rattle.rules.specs.Tables.{model, members_of}
+use Rattle.rules.specs.Tables.{model}
 use Rattle.rules.specs.Tests.{first_number, dark}
 use Rattle.promises.specs.Ledger.{Turn, Ledger, opening, noted_all, NoOverruns}
 use Rattle.promises.specs.Runs.{Telling, Told, Start}
@@ -22,7 +22,6 @@ use Rattle.promises.specs.ChainsTold.{Chains, OnlyChains}
 use Rattle.promises.specs.NeverOvertaken.{NotOvertaken}
 use Rattle.promises.specs.StartsHold.{Holds}
 use Rattle.promises.specs.GrantsDue.{Due}
-use Rattle.promises.specs.SetsTogether.{WaitTogether, OfSets}
 use Rattle.promises.specs.PoolKept.{Kept}
 use Rattle.promises.specs.SharesKept.{SharesNow, SharesNext}
 use Rattle.promises.specs.TableKept.{Keeps}
@@ -31,7 +30,6 @@ use Rattle.table.specs.declared.Outcome.{Outcome}
 use Rattle.table.specs.Valid.{Valid}
 use Rattle.table.proofs.new.Reads as new-contract
 use Rattle.table.proofs.claim.Reads as claim-contract
-use Rattle.table.proofs.claim_set.Reads as set-contract
 use Rattle.table.proofs.release.Reads as release-contract
 use Rattle.table.proofs.withdraw.Reads as withdraw-contract
 use Rattle.table.proofs.clock.Reads as clock-contract
@@ -70,13 +68,9 @@ look_number at_pool n = 0
 look_number (at_chain k) r = r.number
 
 -- ── by its contract ──
--- What a call of the code handed back, made of table t. (The arguments stand as the contract takes them, and at exit are as they were.) A set's
--- members are handed over as a count, an array of groups and one of lengths.
+-- What a call of the code handed back, made of table t. (The arguments stand as the contract takes them, and at exit are as they were.)
 abbrev pub Promised : Table → Call → Outcome → Type 0
 Promised t (timed u (claims ask)) r = claim-contract.Asked tt (t, (u, (ask, tt))) → claim-contract.Learnt tt (t, (u, (ask, tt))) r (t, (u, (ask, tt)))
-Promised t (timed u (claims_set c ms)) r =
-    (count : ℕ) × (groups lengths : List ℕ) × (ms ≡ members_of count groups lengths)
-    × (set-contract.Asked tt (t, (u, (c, (count, (groups, (lengths, tt)))))) → set-contract.Learnt tt (t, (u, (c, (count, (groups, (lengths, tt)))))) r (t, (u, (c, (count, (groups, (lengths, tt)))))))
 Promised t (timed u (releases k)) r = release-contract.Asked tt (t, (u, (k, tt))) → release-contract.Learnt tt (t, (u, (k, tt))) r (t, (u, (k, tt)))
 Promised t (timed u (withdraws k)) r = withdraw-contract.Asked tt (t, (u, (k, tt))) → withdraw-contract.Learnt tt (t, (u, (k, tt))) r (t, (u, (k, tt)))
 Promised t (timed u moves_clock) r = clock-contract.Asked tt (t, (u, tt)) → clock-contract.Learnt tt (t, (u, tt)) r (t, (u, tt))
@@ -128,12 +122,12 @@ CodeWhileNobodyOverruns calls Q =
     → NoOverruns s.ledger ts → Q (noted_all s.ledger ts) shows
 
 -- At any time and any later one.
-abbrev pub CodeAtAnyLater : List Call → (Ledger → Told → Ledger → Told → Type 0) → Type 0
+abbrev pub CodeAtAnyLater : List Call → (Told → Told → Type 0) → Type 0
 CodeAtAnyLater calls Q =
     (before between rest : List Call) → before ++ (between ++ rest) ≡ calls
     → (t : Table) (s : Start) → BeganAs t s → (ts : List Turn) (u : Table) → Run t before ts u → (old : Told) → Looks u old
     → (us : List Turn) (w : Table) → Run u between us w → (new : Told) → Looks w new
-    → (let l = noted_all s.ledger ts in Q l old (noted_all l us) new)
+    → Q old new
 
 -- Of each call.
 abbrev pub CodeAtAnyCall : List Call → (Ledger → Turn → Told → Told → Type 0) → Type 0
@@ -195,10 +189,6 @@ CodeStartsHold calls =
 
 abbrev pub CodeGrantsDue : List Call → Type 0
 CodeGrantsDue calls = CodeAtAnyCall calls Due
-
-pub record CodeSetsTogether (calls : List Call) : Type 0 where
-  pub at_any_later : CodeAtAnyLater calls WaitTogether
-  pub at_any_call : CodeAtAnyCall calls OfSets
 
 abbrev pub CodePoolKept : List Call → Type 0
 CodePoolKept calls = CodeAtAnyTime calls Kept

@@ -232,7 +232,7 @@ fn records(load: &[u8]) {
         k += 1;
         match load::record_at(load, at) {
             Item::Record(call, next) => {
-                let o = replay::act(t, alone, load, at, call);
+                let o = replay::act(t, alone, call);
                 print(k, o, [0; 4096]);
                 print_pairs(o.table, [0; 8192]);
                 print_chains(o.table, [0; 32768]);

@@ -1,8 +1,8 @@
 // Runs the reader and the writer of loads on standard input and prints what they answer, for comparison with the second program: the scan;
-// each record's position and length, and the stop; the writer's answer to each record so read, written again one after the other; and its
-// answers to nine more calls on the load itself (a rig and a clock, then a rig with a pool and a claim with units, which edition 1 cannot
-// carry, then a claim of client 2, a declaration, a grace and a set of two members, which editions 1 and 2 cannot, and that set with a count
-// of three, which none can), each with room for any load and with room for one byte, with whether the lent buffer kept its bytes.
+// each record's position and length, and the stop; the writer's answer to each call so read, written again one after the other; and its
+// answers to seven more calls on the load itself (a rig and a clock, then a rig with a pool and a claim with units, which edition 1 cannot
+// carry, then a claim of client 2, a declaration and a grace, which editions 1 and 2 cannot), each with room for any load and with room for
+// one byte, with whether the lent buffer kept its bytes.
 ghost use Rattle.std.specs.Prelude.{◌≡◌, length};
 
 use format::Call;
@@ -108,53 +108,22 @@ fn equal(a: &[u8], b: &[u8]) -> bool {
     true
 }
 
-// The groups of the members of a record that was read at a position, and their lengths: in the first places, as many as its call counts.
-fn groups_of(read: &[u8], at: usize, call: Call) -> [u64; 255] {
-    let count = call.count as usize;
-    let mut groups = [0u64; 255];
-    let mut i: usize = 0;
-    while i < count {
-        groups[i] = load::member_groups(read, at, call, i);
-        i += 1;
-    }
-    groups
-}
-
-fn lengths_of(read: &[u8], at: usize, call: Call) -> [u32; 255] {
-    let count = call.count as usize;
-    let mut lengths = [0u32; 255];
-    let mut i: usize = 0;
-    while i < count {
-        lengths[i] = load::member_length(read, at, call, i);
-        i += 1;
-    }
-    lengths
-}
-
-// The record that was read at a position, once more after the n bytes of one buffer, into the other.
-fn grow(from: &[u8], n: usize, read: &[u8], at: usize, call: Call, to: &mut [u8]) -> usize {
-    let groups = groups_of(read, at, call);
-    let lengths = lengths_of(read, at, call);
-    let count = call.count as usize;
-    let w = load::append_record(
-        first(from, n),
-        call,
-        &groups[..count],
-        &lengths[..count],
-        to,
-    );
+// One call more after the n bytes of one buffer, into the other.
+fn grow(from: &[u8], n: usize, call: Call, to: &mut [u8]) -> usize {
+    let load = first(from, n);
+    let w = load::append(load, call, to);
     print_written(w)
 }
 
-// The k-th record goes from the first buffer into the second where k is even, else back.
-fn turn(k: u64, n: usize, read: &[u8], at: usize, call: Call, a: &mut [u8], b: &mut [u8]) -> usize {
+// The k-th call goes from the first buffer into the second where k is even, else back.
+fn turn(k: u64, n: usize, call: Call, a: &mut [u8], b: &mut [u8]) -> usize {
     if k % 2 == 0 {
-        return grow(a, n, read, at, call, b);
+        return grow(a, n, call, b);
     }
-    grow(b, n, read, at, call, a)
+    grow(b, n, call, a)
 }
 
-// After k records the n bytes written, against the part of the load that was read.
+// After k calls the n bytes written, against the part of the load that was read.
 fn compare(read: &[u8], k: u64, n: usize, a: &[u8], b: &[u8]) {
     if k % 2 == 0 {
         print_test(b"same ", equal(read, first(a, n)));
@@ -163,7 +132,7 @@ fn compare(read: &[u8], k: u64, n: usize, a: &[u8], b: &[u8]) {
     }
 }
 
-// The records of a load, written again after its edition byte.
+// The calls of a load, written again after its edition byte.
 fn rewrite(load: &[u8], a: &mut [u8], b: &mut [u8]) {
     let mut n = numerals::put_bytes(a, 0, first(load, 1));
     let mut at: usize = 1;
@@ -171,7 +140,7 @@ fn rewrite(load: &[u8], a: &mut [u8], b: &mut [u8]) {
     while k < 65536 {
         match reader::item_at(load, at) {
             Item::Record(call, next) => {
-                n = turn(k, n, load, at, call, a, b);
+                n = turn(k, n, call, a, b);
                 at = next;
                 k += 1;
             }
@@ -208,26 +177,7 @@ fn attempts(load: &[u8], call: Call) {
     attempt(load, call, &mut short);
 }
 
-// The same for a set of client 1 with a count and two members.
-fn attempt_set(load: &[u8], count: u8, out: &mut [u8]) {
-    let before = lent();
-    let mut set = call(7, 1, 0, 0, 0, 0);
-    set.count = count;
-    let groups: [u64; 2] = [1, 2];
-    let lengths: [u32; 2] = [1, 2];
-    let w = load::append_record(load, set, &groups, &lengths, out);
-    print_written(w);
-    print_test(b"kept ", equal(out, first(&before, out.len())));
-}
-
-fn attempts_set(load: &[u8], count: u8) {
-    let mut long = lent();
-    attempt_set(load, count, &mut long);
-    let mut short = [170u8; 1];
-    attempt_set(load, count, &mut short);
-}
-
-// A call of client 1 without a ticket and without members.
+// A call of client 1 without a ticket.
 fn call(kind: u8, clock: u64, groups: u64, length: u32, pool: u16, units: u16) -> Call {
     Call {
         kind,
@@ -241,7 +191,6 @@ fn call(kind: u8, clock: u64, groups: u64, length: u32, pool: u16, units: u16) -
         reserved: 0,
         limit: 0,
         grace: 0,
-        count: 0,
     }
 }
 
@@ -272,8 +221,6 @@ fn print(load: &[u8]) {
     let mut e = call(8, 0, 0, 0, 0, 0);
     e.grace = 60000;
     attempts(load, e);
-    attempts_set(load, 2);
-    attempts_set(load, 3);
 }
 
 // `room` is for the longest load and one byte more.

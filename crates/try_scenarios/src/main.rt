@@ -1,6 +1,6 @@
 // Runs the plots of document 01, "Plots to try", on the table, and prints a line for each: for every call its answer (number, ticket,
 // start, crowd, ceiling, then "on" with the tickets granted), for every look what it tells. Then it issues every ticket that a table has,
-// claim and release in turn, and shows what comes then. Last two clients with shares, a grace, and sets that have too few tickets left.
+// claim and release in turn, and shows what comes then. Last two clients with shares, and a grace.
 ghost use Rattle.table.specs.Valid.{Valid};
 
 use rules::{Request, Standing, Table};
@@ -239,14 +239,14 @@ fn line(text: &[u8], n: u64) {
     io::write_all(1, b"\n");
 }
 
-// A table after so many claims, each released at once.
-fn used(from: Table, claims: u32) -> Table
-    requires { Valid from }
+// The table after 65,535 claims, each released at once.
+fn exhausted() -> Table
     ensures { Valid result }
 {
-    let mut t = from;
+    let o = table::new(0x1, 0, true);
+    let mut t = o.table;
     let mut i: u32 = 0;
-    while i < claims {
+    while i < 65_535 {
         let c = table::claim(t, 0, rules::asking(0x1, 1));
         let u = c.table;
         let r = table::release(u, 0, c.ticket);
@@ -258,7 +258,7 @@ fn used(from: Table, claims: u32) -> Table
 
 // No load is long enough to issue every ticket.
 fn tickets() {
-    let t = used(rig(0x1), 65_535);
+    let t = exhausted();
     line(b"tickets issued: ", t.issued as u64);
     line(b"claims pending: ", t.count as u64);
     let c = table::claim(t, 0, rules::asking(0x1, 1));
@@ -371,116 +371,6 @@ fn graces() {
     looks(release(z, 13, 1));
 }
 
-// ── sets, with too few tickets left ──
-
-// As many claims of one group.
-fn queued(from: Table, claims: usize) -> Table
-    requires { Valid from }
-    ensures { Valid result }
-{
-    let mut t = from;
-    let mut i: usize = 0;
-    while i < claims {
-        t = quiet(t, 0x1, 10);
-        i += 1;
-    }
-    t
-}
-
-// A set of up to eight members, each of one group and one tick.
-fn set(t: Table, client: u8, members: usize) -> Table
-    requires { Valid t }
-    ensures { Valid result }
-{
-    let groups: [u64; 8] = [1, 2, 4, 8, 16, 32, 64, 128];
-    let lengths: [u32; 8] = [1, 1, 1, 1, 1, 1, 1, 1];
-    let r = table::claim_set(t, 0, client, members, groups, lengths);
-    answer(r);
-    r.table
-}
-
-// A set of eight with eight tickets left, with seven and so on: 7 is met by each member in turn.
-fn eights(from: Table)
-    requires { Valid from }
-{
-    let mut t = from;
-    let mut i: usize = 0;
-    while i < 9 {
-        set(t, 1, 8);
-        t = used(t, 1);
-        i += 1;
-    }
-    end();
-}
-
-// Sets of two with two tickets left, and with none.
-fn pairs(from: Table)
-    requires { Valid from }
-{
-    let t = set(from, 1, 2);
-    set(t, 1, 2);
-    set(t, 2, 2);
-    end();
-}
-
-// With one ticket left and two places, the third member of a set would meet 6; the second meets 7, of desk 2 first 18.
-fn crowded(from: Table)
-    requires { Valid from }
-{
-    let t = queued(from, 62);
-    set(t, 1, 3);
-    set(t, 2, 3);
-    end();
-}
-
-// With one ticket left and one place the second member meets 6 before 7, and a claim has both.
-fn brimful(from: Table)
-    requires { Valid from }
-{
-    let t = set(queued(from, 63), 1, 2);
-    claim(t, 0, 0x2, 1);
-    end();
-}
-
-fn two_desks() -> Table
-    ensures { Valid result }
-{
-    let o = table::new(0xFF, 0, false);
-    io::write_all(1, b"desks 1 and 2, limits 64 and 1:");
-    let t = declare(o.table, 1, 0, 64);
-    let u = declare(t, 2, 0, 1);
-    end();
-    u
-}
-
-fn few_tickets(from: Table)
-    requires { Valid from }
-{
-    io::write_all(1, b"sets of eight, 8 to 0 tickets left:");
-    eights(used(from, 56));
-    io::write_all(1, b"sets of two, 2 tickets left:");
-    pairs(used(from, 62));
-}
-
-fn few_places(from: Table)
-    requires { Valid from }
-{
-    io::write_all(
-        1,
-        b"sets of three, 1 ticket and 2 places left, desks 1 and 2:",
-    );
-    crowded(used(from, 1));
-    io::write_all(1, b"a set of two and a claim, 1 ticket and 1 place left:");
-    brimful(from);
-}
-
-// 64 tickets are left.
-fn sets() {
-    let t = used(two_desks(), 65_471);
-    few_tickets(t);
-    few_places(t);
-}
-
 fn main() {
     plots_1_to_4();
     plots_5_to_8();
@@ -490,5 +380,4 @@ fn main() {
     tickets();
     desks();
     graces();
-    sets();
 }

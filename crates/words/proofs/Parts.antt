@@ -7,7 +7,7 @@ use native.Mathlib.Nat.{add-zero, zero-add}
 use native.Mathlib.Numerals.{add-one}
 use native.Mathlib.Omega.{arith}
 use lib.Dec.{leb, leb-suc-zero, leb-suc-suc}
-use borrow.Author.Tests.{not-true, leb-true, leb-false, le-leb, lt-leb}
+use borrow.Author.Tests.{not-true, leb-true, le-leb, lt-leb}
 use lib.ListN.{length, get_or, take, drop, drop_of_length-le, length-drop}
 use lib.Seq.{drop-cons, drop-drop, get_or-drop, take_all}
 use Rattle.words.specs.Parts.{bytes_before, until, since, none, place_of, parts, in_front, is_feed, lines_in}
@@ -84,15 +84,6 @@ module _ (p : ℕ → Bool) where
     unfolding place_of
     place-passes at h =
         ap (λ b. p b) (sym (get_or-drop at s (bytes_before p (drop at s)) 0)) ∙ before-passes (drop at s) (omega (arith, length-drop at s))
-
-    -- The end where no byte from `at` on passes.
-    pub none_from : (at r : ℕ) → at ≤ length s → r ≡ place_of p s at → leb (length s) r ≡ none p (drop at s)
-    unfolding place_of
-    none_from at r h e =
-        let n = length-drop at s in
-        let b = bytes_before p (drop at s) in
-        either (none p (drop at s)) (λ q. le-leb (length s) r (omega (arith, leb-true (length (drop at s)) b (none_before (drop at s) ∙ q))) ∙ sym q)
-        (λ q. lt-leb (length s) r (omega (arith, leb-false (length (drop at s)) b (none_before (drop at s) ∙ q))) ∙ sym q)
 
     -- ── what lies before it, and from it on ──
     past : (at : ℕ) → place_of p s at - at ≡ bytes_before p (drop at s)

@@ -45,7 +45,7 @@ text-length [] i = omega arith
 text-length (t ∷ ts) zero = omega arith
 text-length (t ∷ ts) (suc i) = omega (arith, text-length ts i)
 
-reason-length : (n : ℕ) → length (reason_text n) ≤ 29
+reason-length : (n : ℕ) → length (reason_text n) ≤ 28
 unfolding reason_text reason_texts reasons longest
 reason-length n = text-length reason_texts (place_of (is n) (map (λ r. r.number) reasons) 0)
 
@@ -56,7 +56,7 @@ form-length form =
     (λ t. rw t (omega (arith, leb-true (length form) 64 ((and-eq-true_iff (ltb 0 (length form)) (leb (length form) 64)).0 t).1)))
     (λ t. rw t (omega arith))
 
-report-length : (line n : ℕ) (form : List ℕ) → length (report_of line n form) ≤ 123
+report-length : (line n : ℕ) (form : List ℕ) → length (report_of line n form) ≤ 122
 unfolding report_of
 report-length line n form =
     let a = length-append (decimal_of line) (bytes ": " ++ (reason_text n ++ (form_told form ++ bytes "\n"))) in

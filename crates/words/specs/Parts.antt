@@ -20,9 +20,6 @@ comma = code ","
 abbrev pub dash : ℕ
 dash = code "-"
 
-abbrev pub colon : ℕ
-colon = code ":"
-
 -- ── parts ──
 -- How many bytes stand before the first that passes p; these bytes, and those from it on.
 unfoldable pub bytes_before : (ℕ → Bool) → List ℕ → ℕ
@@ -60,7 +57,7 @@ not_empty [] = []
 not_empty ([] ∷ ws) = not_empty ws
 not_empty ((b ∷ w) ∷ ws) = (b ∷ w) ∷ not_empty ws
 
--- A byte is a; a line feed, a space or a tab, any other byte, a comma, a dash, either of the two, a colon.
+-- A byte is a; a line feed, a space or a tab, any other byte, a comma, a dash, either of the two.
 abbrev pub is : ℕ → ℕ → Bool
 is a b = eqb b a
 
@@ -81,9 +78,6 @@ is_dash b = is dash b
 
 abbrev pub is_joint : ℕ → Bool
 is_joint b = is_comma b || is_dash b
-
-abbrev pub is_colon : ℕ → Bool
-is_colon b = is colon b
 
 -- The edges of a word: a space or a tab ends it, any other byte begins it.
 abbrev pub edge_of : Bool → ℕ → Bool

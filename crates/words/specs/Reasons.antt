@@ -49,6 +49,3 @@ no_limit_reason = 115
 
 abbrev pub no_grace_reason : ℕ
 no_grace_reason = 116
-
-abbrev pub no_member_reason : ℕ
-no_member_reason = 117

@@ -6,7 +6,7 @@ use Rattle.numerals.specs.Laid.{lent_out}
 use Rattle.numerals.specs.Texts.{bytes}
 use Rattle.words.specs.declared.reports.Reported.{Reported}
 use Rattle.words.specs.Parts.{place_of, is, line_at, first_said}
-use Rattle.words.specs.Reasons.{unknown_reason, missing_reason, too_many_reason, no_clock_reason, no_ticket_reason, no_length_reason, no_groups_reason, too_large_reason, over63_reason, backward_reason, no_pool_reason, no_units_reason, no_client_reason, no_reserved_reason, no_limit_reason, no_grace_reason, no_member_reason}
+use Rattle.words.specs.Reasons.{unknown_reason, missing_reason, too_many_reason, no_clock_reason, no_ticket_reason, no_length_reason, no_groups_reason, too_large_reason, over63_reason, backward_reason, no_pool_reason, no_units_reason, no_client_reason, no_reserved_reason, no_limit_reason, no_grace_reason}
 
 -- what is wrong with a line: a number and its text
 pub record Reason : Type 0 where
@@ -34,7 +34,6 @@ reasons =
     ∷ reason no_reserved_reason (bytes "guarantee is not a number")
     ∷ reason no_limit_reason (bytes "limit is not a number")
     ∷ reason no_grace_reason (bytes "grace is not a number")
-    ∷ reason no_member_reason (bytes "a member is not GROUPS:LENGTH")
     ∷ reason edition_number (bytes "unknown edition")
     ∷ reason misfit_number (bytes "rig must be first")
     ∷ reason overlong_number (bytes "load over 65,536 bytes")

@@ -31,5 +31,3 @@ pub const NO_RESERVED: u8 = 114;
 pub const NO_LIMIT: u8 = 115;
 
 pub const NO_GRACE: u8 = 116;
-
-pub const NO_MEMBER: u8 = 117;

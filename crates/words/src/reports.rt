@@ -7,7 +7,7 @@ ghost use Rattle.words.specs.Reports.{form_told, reason_text, reason_texts, repo
 use crate::{is_either, place, reasons};
 
 // The number of each text but the last.
-const REASONS: [u8; 20] = [
+const REASONS: [u8; 19] = [
     reasons::UNKNOWN,
     reasons::MISSING,
     reasons::TOO_MANY,
@@ -24,13 +24,12 @@ const REASONS: [u8; 20] = [
     reasons::NO_RESERVED,
     reasons::NO_LIMIT,
     reasons::NO_GRACE,
-    reasons::NO_MEMBER,
     numbers::EDITION,
     numbers::MISFIT,
     numbers::OVERLONG,
 ];
 
-const TEXTS: [[u8; 32]; 21] = [
+const TEXTS: [[u8; 32]; 20] = [
     *b"unknown call                    ",
     *b"a number is missing             ",
     *b"too many words                  ",
@@ -47,19 +46,18 @@ const TEXTS: [[u8; 32]; 21] = [
     *b"guarantee is not a number       ",
     *b"limit is not a number           ",
     *b"grace is not a number           ",
-    *b"a member is not GROUPS:LENGTH   ",
     *b"unknown edition                 ",
     *b"rig must be first               ",
     *b"load over 65,536 bytes          ",
     *b"not written                     ",
 ];
 
-const LENGTHS: [usize; 21] = [
-    12, 19, 14, 21, 22, 22, 28, 16, 13, 19, 20, 22, 20, 25, 21, 21, 29, 15, 17, 22, 11,
+const LENGTHS: [usize; 20] = [
+    12, 19, 14, 21, 22, 22, 28, 16, 13, 19, 20, 22, 20, 25, 21, 21, 15, 17, 22, 11,
 ];
 
 fn put_row(out: &mut [u8], at: usize, i: usize) -> usize
-    requires { i < 21 }
+    requires { i < 20 }
     ensures { Put out.old at (get_or reason_texts i []) result out.new }
 {
     let row = TEXTS[i];
@@ -106,7 +104,7 @@ fn put_report(out: &mut [u8], line: u64, reason: u8, form: &[u8]) -> usize
     numerals::put_byte(out, e, b'\n')
 }
 
-// Such a line, in the first bytes of 128. It has at most 123.
+// Such a line, in the first bytes of 128. It has at most 122.
 #[derive(Drop)]
 pub struct Reported {
     pub text: [u8; 128],

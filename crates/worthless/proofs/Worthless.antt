@@ -9,38 +9,37 @@ use native.Mathlib.Omega.{arith}
 use lib.Dec.{leb, ltb}
 use lib.ListN.{length}
 use borrow.Author.Tests.{le-ltb}
-use Rattle.groups.specs.Groups.{some_from, lowest_from, common, shares, empty, within, set_from, union}
+use Rattle.groups.specs.Groups.{some_from, lowest_from, common, shares, empty, within}
 use Rattle.rules.specs.declared.Claim.{Claim}
 use Rattle.rules.specs.declared.Phase.{Phase}
-use Rattle.rules.specs.declared.Request.{Request}
 use Rattle.rules.specs.Lists.{◌∈◌, greatest, least, sum, all, any, keep, first_with}
 use Rattle.rules.specs.Shares.{share_of, with_share, pending_of, unfilled, unfilled_by_others, reserved_in_all}
 use Rattle.rules.specs.Claims.{on, at, held_until, end_of, remaining}
-use Rattle.rules.specs.Order.{union_of, reach_in, precedes, before}
+use Rattle.rules.specs.Order.{precedes, before}
+use Rattle.rules.specs.Plans.{Ascending}
 use Rattle.rules.specs.Pool.{covers, units_at, used, enough, spare, held_units, free_units}
 use Rattle.rules.specs.Seeking.{seek}
 use Rattle.rules.specs.Packing.{ready, start_for, moved, ahead, start_within, packed_start, pack}
-use Rattle.rules.specs.Placing.{clear, fits, place, contention, start_bound, fits_all, place_all, contention_all, bound_all}
+use Rattle.rules.specs.Placing.{clear, fits, place, contention, start_bound}
 use Rattle.rules.specs.Granting.{taken_before, truly_free, goes_within, goes, granted, grant, grants}
 use Rattle.rules.specs.declared.Phase.TheVariants.{Waiting, On}
 use Rattle.rules.specs.declared.Common.TheVariants.{Shared, Apart}
 use Rattle.rules.specs.declared.Standing.TheVariants.{NotPending, Waits, Holds}
-use Rattle.rules.specs.Tests.{first_number, clashing}
-use Rattle.rules.specs.Chains.{links, link, chain_within, chain, ChainValues, chain_of}
-use Rattle.rules.specs.Calls.{asking, releases, at_ticket, at_chain, Call, release, withdraw, declare, clock, set_grace, lookup, members, in_turn, tests, advance, finish, join, remove, lead_of, disband, admit, act, step, new, standing_of, common_of, value_at}
+use Rattle.rules.specs.Tests.{first_number}
+use Rattle.rules.specs.Chains.{counts_as, links, link, chain_within, chain, ChainValues, chain_of}
+use Rattle.rules.specs.Calls.{Model, asking, releases, at_ticket, at_chain, Call, release, declare, clock, set_grace, lookup, tests, advance, finish, join, remove, admit, act, step, new, standing_of, common_of, value_at}
 use Rattle.rules.proofs.Bools.{clash, by-test}
 use Rattle.rules.proofs.Lists.{here, there, none}
-use Rattle.promises.specs.Ledger.{Ledger, Entry, promised, turns, table_after, entered, issues, lead_in, stay, shares_by, grace_by, marked, noted_all, bound_on}
-use Rattle.promises.specs.Runs.{Told, Start, newly, ledger_after, told_after}
-use Rattle.promises.specs.Plan.{end_told, bars}
-use Rattle.promises.specs.NumbersTested.{in_turn_by, tests_by}
+use Rattle.promises.specs.Ledger.{Ledger, Entry, promised, turns, table_after, issues, stay, shares_by, grace_by, marked, noted_all, bound_on}
+use Rattle.promises.specs.Runs.{Told, tells, Start, newly, ledger_after, told_after}
+use Rattle.promises.specs.Plan.{end_told, Precedes}
+use Rattle.promises.specs.NumbersTested.{tests_by}
 use Rattle.promises.specs.WaitsExplained.{in_common}
 use Rattle.promises.specs.ChainsTold.{LinkTold, Followed, ChainTold}
-use Rattle.promises.specs.LeastStart.{FitsBeside, AllFit}
 use Rattle.promises.specs.TableKept.{Has}
 use Rattle.promises.specs.WholeCalls.{Stays}
-use Rattle.promises.proofs.Plan.{waits-once, waits-not-on}
-use Rattle.worthless.specs.Worthless.{claim, drawing, pair, turns_all_down, one_fixed_start, untouched, echoes, invents_contention, invents_bound, cries_full, never_grants, tells_late, renews, names_backward, stops_granting, fidgets, mumbles, blurts, rigless, ignores_gaps, skips_packing, lone_drawer, crowds, shows_now, leaves_gaps, leaves_drawers, reverses, changes_turns, overdraws, keeps_units_back, last_first, loses_units, grants_all, puts_back, forgets_groups, pushes_in, hides_units, ignores_limits, grants_singly, starts_singly, accepts_part, sets_late, leaves_mates, stops_short, links_highest, links_anybody, links_alone, disowns_holders, AllRefused}
+use Rattle.promises.proofs.Plan.{waits-once, waits-not-on, precedes-of}
+use Rattle.worthless.specs.Worthless.{claim, drawing, turns_all_down, one_fixed_start, untouched, echoes, invents_contention, invents_bound, cries_full, never_grants, tells_late, renews, names_backward, stops_granting, fidgets, mumbles, blurts, rigless, ignores_gaps, skips_packing, lone_drawer, crowds, shows_now, leaves_gaps, leaves_drawers, reverses, changes_turns, overdraws, keeps_units_back, last_first, loses_units, grants_all, puts_back, forgets_groups, pushes_in, hides_units, ignores_limits, stops_short, links_highest, links_anybody, disowns_holders, AllRefused}
 
 -- Of what holds of each, in a list of two and of three.
 module _ {A : Type 0} (P : A → Type 0) where
@@ -56,17 +55,13 @@ waits-pending a e = let z : ◌≡◌ {A = ℕ} 0 1 = cc in omega arith
 
 -- A claim of units alone, and its entry; an entry of groups alone.
 abbrev drawer : ℕ → Phase → ℕ → ℕ → Claim
-drawer k p n u = record { groups = 0; phase = p; length = n; ticket = k; units = u; lead = k; client = 1 }
+drawer k p n u = record { groups = 0; phase = p; length = n; ticket = k; units = u; client = 1 }
 
 abbrev drawer_entry : ℕ → ℕ → ℕ → Bool → Entry
-drawer_entry k n s h = record { ticket = k; lead = k; asked = record { groups = 0; length = n; units = 1; client = 1 }; first = s; held = h; grant = 0 }
+drawer_entry k n s h = record { ticket = k; asked = record { groups = 0; length = n; units = 1; client = 1 }; first = s; held = h; grant = 0 }
 
 abbrev entry : ℕ → ℕ → ℕ → ℕ → Bool → Entry
-entry k g n s h = record { ticket = k; lead = k; asked = asking g n; first = s; held = h; grant = 0 }
-
--- One of a set of `pair`.
-abbrev member : ℕ → ℕ → ℕ → ℕ → Entry
-member k lead g s = record { ticket = k; lead = lead; asked = asking g 10; first = s; held = false; grant = 0 }
+entry k g n s h = record { ticket = k; asked = asking g n; first = s; held = h; grant = 0 }
 
 -- A unit or none, and one more, of two.
 two-of-two : (b : Bool) → cond b 1 0 + 0 + 1 ≤ 2
@@ -88,12 +83,15 @@ passed_over f d = of_three (λ (y : Claim). Stays 5 (moved f later) y → f late
     (λ s l. ⊎_elim (λ e. (let z : 15 ≡ f later = ap at e in omega arith)) (λ e. clash (ap on e.2) refl) s)
     (λ s l. ⊎_elim (λ e. (let z : ◌≡◌ {A = ℕ} 4 3 = ap (λ (c : Claim). c.ticket) e in omega arith)) (λ e. (let z : ◌≡◌ {A = ℕ} 4 3 = ap (λ (c : Claim). c.ticket) e.2 in omega arith)) s)
 
--- What fits, of one that is asked for; and beside nobody, where no units are drawn.
-one-fits : (l : Ledger) (told : Told) (es : List Entry) (ask : Request) (x : ℕ) → FitsBeside l told es ask x → AllFit l told es (ask ∷ []) x
-one-fits l told es ask x f a i = subst (λ (y : Request). FitsBeside l told es y x) (sym (Memᴰ.eq_of_singleton i)) f
-
-beside-nobody : (l : Ledger) (told : Told) (asks : List Request) (x : ℕ) → ((ask : Request) → ask ∈ asks → ask.units ≡ 0) → AllFit l told [] asks x
-beside-nobody l told asks x h ask i = record { room = λ e j. none j; spare = λ u. absurd (omega (arith, h ask i)) }
+-- In a table of two claims nobody precedes the second, where the first does not.
+alone-first : (m : Model) (a b : Claim) → m.pending ≡ a ∷ b ∷ [] → a.ticket < b.ticket → precedes a b ≡ false → precedes b b ≡ false → (j : ℕ) → Precedes (tells m) j b.ticket → ⊥
+alone-first m a b e l p q j h =
+    let up : Ascending m.pending = subst Ascending (sym e) ((λ y i. rw (Memᴰ.eq_of_singleton i) l), (λ y i. none i, tt)) in
+    let x = precedes-of m up h in
+    let inside : (c : Claim) → c ∈ m.pending → c ∈ (a ∷ b ∷ []) = λ c i. subst (λ (y : List Claim). c ∈ y) e i in
+    of_two (λ (y : Claim). y.ticket ≡ b.ticket → precedes x.one y ≡ true → ⊥) a b x.other (λ z. omega (arith, z))
+    (λ _ z. of_two (λ (y : Claim). precedes y b ≡ true → ⊥) a b x.one (λ w. clash w p) (λ w. clash w q) (inside x.one x.one_in) z)
+    (inside x.other x.other_in) x.other_is x.before
 
 -- A chain told of two tickets: the second is that of a claim that is on, and the link to it is true.
 record OfTwo (l : Ledger) (told : Told) (f : Entry) (k : ℕ) : Type 0 where
@@ -116,13 +114,13 @@ two-told l told f s k q c = go c.behind (ap (λ (r : ChainValues). r.tickets) (s
     go (x ∷ (y ∷ es)) e h = absurd (omega (arith, ap length e))
 
 pub all-refused : AllRefused
-unfolding some_from lowest_from common shares empty within set_from union greatest least sum all any keep held_until end_of remaining union_of reach_in precedes before covers units_at used enough spare held_units ready start_for moved ahead start_within packed_start pack clear fits seek place contention start_bound fits_all place_all contention_all bound_all taken_before truly_free goes_within goes granted grant grants share_of pending_of unfilled unfilled_by_others first_number clashing members in_turn tests advance finish join remove lead_of disband admit act step new standing_of common_of turns table_after entered issues lead_in stay shares_by grace_by marked noted_all bound_on in_turn_by tests_by free_units value_at turns_all_down one_fixed_start untouched echoes invents_contention invents_bound cries_full never_grants tells_late renews names_backward stops_granting fidgets mumbles blurts rigless ignores_gaps skips_packing lone_drawer crowds shows_now leaves_gaps leaves_drawers reverses changes_turns overdraws keeps_units_back last_first loses_units grants_all puts_back forgets_groups pushes_in hides_units ignores_limits with_share reserved_in_all grants_singly starts_singly accepts_part sets_late leaves_mates links link chain_within chain chain_of first_with stops_short links_highest links_anybody links_alone disowns_holders
+unfolding some_from lowest_from common shares empty within greatest least sum all any keep held_until end_of remaining precedes before covers units_at used enough spare held_units ready start_for moved ahead start_within packed_start pack clear fits seek place contention start_bound taken_before truly_free goes_within goes granted grant grants share_of pending_of unfilled unfilled_by_others first_number tests advance finish join remove admit act step new standing_of common_of turns table_after issues stay shares_by grace_by marked noted_all bound_on tests_by free_units value_at turns_all_down one_fixed_start untouched echoes invents_contention invents_bound cries_full never_grants tells_late renews names_backward stops_granting fidgets mumbles blurts rigless ignores_gaps skips_packing lone_drawer crowds shows_now leaves_gaps leaves_drawers reverses changes_turns overdraws keeps_units_back last_first loses_units grants_all puts_back forgets_groups pushes_in hides_units ignores_limits with_share reserved_in_all counts_as links link chain_within chain chain_of first_with stops_short links_highest links_anybody disowns_holders
 all-refused = record {
   turns_down = λ d.
       let z : ◌≡◌ {A = ℕ} 3 0 = d [] (claim 0 0x1 10) [] refl in
       omega arith;
   fixed_start = λ d.
-      let z : 1000 ≤ 0 = ((d [] (claim 0 0x1 10) [] refl).of_claim 0 _ refl refl).least 0 (omega arith) (beside-nobody _ _ _ 0 (λ a i. ap (λ (x : Request). x.units) (Memᴰ.eq_of_singleton i))) in
+      let z : 1000 ≤ 0 = (d [] (claim 0 0x1 10) [] refl 0 _ refl refl).least 0 (omega arith) (record { room = λ e i. none i; spare = λ u. absurd (omega arith) }) in
       omega arith;
   fixed_start_late = λ d.
       let z : 1000 ≤ 0 = ((d.at_any_call [] (claim 0 0x1 10) [] refl).of_claim 0 _ refl refl).start_bounded refl in
@@ -177,7 +175,7 @@ all-refused = record {
       let s : Start = newly 0x3 0 true in
       let e : Entry = entry 2 0x2 5 10 false in
       let r = d calls [] refl e (there here) 10 refl in
-      of_two (λ (x : Entry). in_common (entry 1 0x1 5 0 true ∷ e ∷ []) x e ≡ true → end_told (ledger_after stops_granting s calls) (told_after stops_granting s calls) x ≡ 10 → ⊥) (entry 1 0x1 5 0 true) e r.0
+      of_two (λ (x : Entry). in_common x e ≡ true → end_told (ledger_after stops_granting s calls) (told_after stops_granting s calls) x ≡ 10 → ⊥) (entry 1 0x1 5 0 true) e r.0
       (λ h _. clash h refl) (λ _ (h : ◌≡◌ {A = ℕ} 15 10). omega arith) r.1 r.2 r.3;
   fidgeted = λ d.
       let z = waits-once 11 10 ((d (claim 0 0x1 10 ∷ claim 0 0x1 10 ∷ []) (lookup 1) [] refl).others_still refl (at_ticket 2)) in
@@ -195,13 +193,13 @@ all-refused = record {
       let calls : List Call = claim 0 0x8 10 ∷ claim 0 0xC 10 ∷ claim 0 0x6 11 ∷ [] in
       let s : Start = newly 0xF 0 true in
       let all : List Call = claim 0 0x8 10 ∷ claim 0 0xC 10 ∷ claim 0 0x6 11 ∷ claim 0 0x3 20 ∷ [] in
-      let z : 31 ≤ 0 = ((d calls (claim 0 0x3 20) [] refl).of_claim 0 _ refl refl).least 0 (omega arith) (one-fits _ _ _ _ 0 (record {
+      let z : 31 ≤ 0 = (d calls (claim 0 0x3 20) [] refl 0 _ refl refl).least 0 (omega arith) (record {
         room = λ e i. of_three
             (λ (x : Entry). shares x.asked.groups 0x3 ≡ true → (end_told (ledger_after ignores_gaps s all) (told_after ignores_gaps s all) x ≤ 0) ⊎ ((r : ℕ) × (told_after ignores_gaps s all (at_ticket x.ticket) ≡ Waits r) × (0 + 20 ≤ r)))
             (entry 1 0x8 10 0 true) (entry 2 0xC 10 10 false) (entry 3 0x6 11 20 false) e
             (λ h. clash h refl) (λ h. clash h refl) (λ h. inr (20, refl, omega arith)) i;
         spare = λ u. absurd (omega arith);
-      })) in
+      }) in
       omega arith;
   pushed_in = λ d.
       let calls : List Call = claim 0 0x1 10 ∷ claim 0 0x1 10 ∷ [] in
@@ -209,7 +207,7 @@ all-refused = record {
       let s : Start = newly 0x1 0 true in
       let one : Entry = entry 1 0x1 10 0 true in
       let due : 12 ≤ 12 = omega arith in
-      let z : 17 ≤ 12 = (((d calls (claim 12 0x1 5) [] refl).of_claim 12 _ refl refl).others_packed (entry 2 0x1 10 10 false) (there {y = one} here) 17 refl).least 12 (omega arith) (record {
+      let z : 17 ≤ 12 = ((d calls (claim 12 0x1 5) [] refl 12 _ refl refl).others_packed (entry 2 0x1 10 10 false) (there {y = one} here) 17 refl).least 12 (omega arith) (record {
         after = λ e i h. subst (λ (x : Entry). end_told (ledger_after pushes_in s all) (told_after pushes_in s all) x ≤ 12) (sym (Memᴰ.eq_of_singleton i)) due;
         spare = λ u. absurd (omega arith);
       }) in
@@ -219,18 +217,18 @@ all-refused = record {
       (λ h. (let z = waits-once 25 20 h in omega arith)) (waits-not-on 25 23)
       ((d.at_any_call (claim 0 0x1 10 ∷ claim 0 0x3 10 ∷ []) (claim 15 0x2 3) [] refl).of_claim 15 _ refl refl).first_told;
   one_drawer = λ d.
-      let z : 10 ≤ 0 = ((d (drawing 0 10 1 ∷ []) (drawing 0 10 1) [] refl).of_claim 0 _ refl refl).least 0 (omega arith) (one-fits _ _ _ _ 0 (record {
+      let z : 10 ≤ 0 = (d (drawing 0 10 1 ∷ []) (drawing 0 10 1) [] refl 0 _ refl refl).least 0 (omega arith) (record {
         room = λ e i h. clash h (ap (λ (x : Entry). shares x.asked.groups 0) (Memᴰ.eq_of_singleton i));
         spare = λ u y p q. two-of-two (leb 0 y && ltb y 10);
-      })) in
+      }) in
       omega arith;
   crowded = λ d.
-      let z : 24 ≤ 15 = (d (claim 0 0x1 10 ∷ claim 0 0x1 10 ∷ claim 0 0x1 10 ∷ clock 12 ∷ []) [] refl).ends_awaited (entry 2 0x1 10 10 false) (entry 3 0x1 10 20 false) (there here) (there (there here))
-      (record { start = 15; conflict = refl; waits = refl; sooner = inr (14, refl, omega arith) }) in
+      let z : 24 ≤ 15 = (d (claim 0 0x1 10 ∷ claim 0 0x1 10 ∷ claim 0 0x1 10 ∷ clock 12 ∷ []) [] refl).ends_awaited _ (there here) 3
+      (record { group = 0; start = 15; conflict = refl; waits = refl; sooner = inr (14, refl, omega arith) }) in
       omega arith;
   shown_now = λ d.
-      let z : 17 ≤ 12 = (d (set_grace 5 ∷ claim 0 0x1 10 ∷ claim 0 0x1 10 ∷ clock 12 ∷ []) [] refl).ends_awaited (entry 1 0x1 10 0 true) (entry 2 0x1 10 10 false) here (there here)
-      (record { start = 12; conflict = refl; waits = refl; sooner = inl (10, refl) }) in
+      let z : 17 ≤ 12 = (d (set_grace 5 ∷ claim 0 0x1 10 ∷ claim 0 0x1 10 ∷ clock 12 ∷ []) [] refl).ends_awaited _ here 2
+      (record { group = 0; start = 12; conflict = refl; waits = refl; sooner = inl (10, refl) }) in
       omega arith;
   gaps_left = λ d.
       let calls : List Call = claim 0 0x1 10 ∷ claim 0 0x1 10 ∷ release 4 1 ∷ [] in
@@ -240,31 +238,21 @@ all-refused = record {
       let z : ◌≡◌ {A = ℕ} 20 10 = subst (λ (x : Entry). end_told (ledger_after leaves_gaps s calls) (told_after leaves_gaps s calls) x ≡ 10) (Memᴰ.eq_of_singleton r.1) r.3 in
       omega arith;
   drawers_left = λ d.
-      let f : Entry = record { ticket = 3; lead = 3; asked = record { groups = 0; length = 10; units = 2; client = 1 }; first = 20; held = false; grant = 0 } in
-      let es : List Entry = drawer_entry 1 10 0 true ∷ f ∷ [] in
+      let f : Entry = record { ticket = 3; asked = record { groups = 0; length = 10; units = 2; client = 1 }; first = 20; held = false; grant = 0 } in
       let z : 20 ≤ 10 = (d (drawing 0 10 1 ∷ drawing 0 20 1 ∷ drawing 0 10 2 ∷ release 5 2 ∷ []) [] refl f (there {y = drawer_entry 1 10 0 true} here) 20 refl).least 10 (omega arith) (record {
-        after = λ e i h. clash h (ap (λ (x : Entry). bars es x f) (Memᴰ.eq_of_singleton i));
+        after = λ e i h. clash h (ap (λ (x : Entry). shares x.asked.groups 0) (Memᴰ.eq_of_singleton i));
         spare = λ u y p q. all-free 10 2 y p;
       }) in
       omega arith;
   reversed = λ d.
-      let e : Entry = entry 3 0x1 10 20 false in
-      let f : Entry = entry 2 0x1 10 10 false in
       let r =
-      (d (claim 0 0x1 10 ∷ claim 0 0x1 10 ∷ claim 0 0x1 10 ∷ []) (clock 0 ∷ []) [] refl).of_sets e f (there (there here)) (there here)
-      (record { start = 990; conflict = refl; waits = refl; sooner = inr (980, refl, omega arith) }) e f (there (there here)) (there here) refl refl in
-      ⊎_elim (λ h. waits-not-on 990 h.0 h.1) (λ h. omega (arith, waits-once 990 h.0 h.1, waits-once 980 r.start r.waits, h.2)) r.sooner;
-  reversed_tickets = λ d.
-      let r =
-      (d (claim 0 0x1 10 ∷ claim 0 0x1 10 ∷ claim 0 0x1 10 ∷ []) (clock 0 ∷ []) [] refl).of_tickets 3 2
+      d (claim 0 0x1 10 ∷ claim 0 0x1 10 ∷ claim 0 0x1 10 ∷ []) (clock 0 ∷ []) [] refl 3 2
       (record { group = 0; start = 990; conflict = refl; waits = refl; sooner = inr (980, refl, omega arith) }) (waits-pending 990) (waits-pending 980) in
       ⊎_elim (λ h. waits-not-on 990 h.0 h.1) (λ h. omega (arith, waits-once 990 h.0 h.1, waits-once 980 r.start r.waits, h.2)) r.sooner;
   turns_changed = λ d.
-      let f : Entry = drawer_entry 2 10 10 false in
-      let es : List Entry = drawer_entry 1 10 0 true ∷ f ∷ drawer_entry 3 10 20 false ∷ [] in
-      let z : 22 ≤ 12 = (d (drawing 0 10 1 ∷ drawing 0 10 1 ∷ drawing 0 10 1 ∷ []) (clock 12) [] refl refl (inl refl) f (there {y = drawer_entry 1 10 0 true} here) 10 refl).least 12
+      let z : 22 ≤ 12 = (d (drawing 0 10 1 ∷ drawing 0 10 1 ∷ drawing 0 10 1 ∷ []) (clock 12) [] refl refl (inl refl) (drawer_entry 2 10 10 false) (there {y = drawer_entry 1 10 0 true} here) 10 refl).least 12
       (omega arith) (record {
-        after = λ e i h. clash h (ap (λ (x : Entry). bars es x f) (Memᴰ.eq_of_singleton i));
+        after = λ e i h. clash h (ap (λ (x : Entry). shares x.asked.groups 0) (Memᴰ.eq_of_singleton i));
         spare = λ u y p q. all-free 12 1 y p;
       }) in
       omega arith;
@@ -275,10 +263,9 @@ all-refused = record {
       let z : 2 ≤ 1 = (d (drawing 0 10 1 ∷ drawing 0 10 1 ∷ []) [] refl).units_enough 0 (omega arith) in
       omega arith;
   units_kept_back = λ d.
-      let one : Entry = record { ticket = 1; lead = 1; asked = record { groups = 0; length = 10; units = 2; client = 1 }; first = 0; held = true; grant = 0 } in
-      let two : Entry = drawer_entry 2 8 10 false in
-      let z : 3 < 3 = d (drawing 0 10 2 ∷ []) (drawing 10 8 1) [] refl refl two (there here) refl
-      (λ e i p. of_two (λ (x : Entry). bars (one ∷ two ∷ []) x two ≡ true → ⊥) one two e (λ h. clash h refl) (λ h. clash h refl) i p.conflict) in
+      let z : 3 < 3 = d (drawing 0 10 2 ∷ []) (drawing 10 8 1) [] refl refl
+      (record { ticket = 2; asked = record { groups = 0; length = 8; units = 1; client = 1 }; first = 10; held = false; grant = 0 }) (there here) refl
+      (alone-first (table_after keeps_units_back (newly 0x1 3 true).table (drawing 0 10 2 ∷ drawing 10 8 1 ∷ [])) (drawer 1 (On 0) 10 2) (drawer 2 (Waiting 10) 8 1) refl (omega arith) refl refl) in
       omega arith;
   units_hidden = λ d.
       let z : ◌≡◌ {A = ℕ} 2 1 = (d (drawing 0 10 1 ∷ []) [] refl).free_and_held in
@@ -289,14 +276,14 @@ all-refused = record {
   last_granted = λ d.
       let w : Claim = drawer 3 (Waiting 10) 10 1 in
       let z : 2 < 2 = (d.of_timed 10 (releases 1) refl).0.units_wanting w (there {y = drawer 2 (On 0) 5 1} (here {l = drawer 4 (On 10) 10 1 ∷ []})) refl refl
-      (λ c. of_three (λ (x : Claim). precedes (drawer 2 (On 0) 5 1 ∷ w ∷ drawer 4 (On 10) 10 1 ∷ []) x w ≡ false) (drawer 2 (On 0) 5 1) w (drawer 4 (On 10) 10 1) c refl refl refl) in
+      (λ c. of_three (λ (x : Claim). precedes x w ≡ false) (drawer 2 (On 0) 5 1) w (drawer 4 (On 10) 10 1) c refl refl refl) in
       omega arith;
   last_packed = λ p.
       let d = (p.of_timed 5 (releases 2) refl).1 in
-      let x = d.all_stay later (there {y = drawer 1 (On 0) 20 1} (there {y = drawer 2 (On 0) 20 1} (here {l = drawer 4 (Waiting 20) 10 1 ∷ []}))) refl in
+      let x = d.all_stay later (there {y = drawer 1 (On 0) 20 1} (there {y = drawer 2 (On 0) 20 1} (here {l = drawer 4 (Waiting 20) 10 1 ∷ []}))) (λ (e : ◌≡◌ {A = ℕ} 3 2). omega arith) in
       let z : d.starts later ≤ 5 = (d.packs later (there {y = drawer 1 (On 0) 20 1} (here {l = drawer 4 (Waiting 20) 10 1 ∷ []})) refl).1 5 (record {
         from_clock = omega arith;
-        after = λ c i p. absurd (of_three (λ (y : Claim). precedes (drawer 1 (On 0) 20 1 ∷ later ∷ drawer 4 (Waiting 20) 10 1 ∷ []) y later ≡ true → ⊥) (drawer 1 (On 0) 20 1) later (drawer 4 (Waiting 20) 10 1) c (λ q. clash q refl) (λ q. clash q refl) (λ q. clash q refl) i p);
+        after = λ c i p. absurd (of_three (λ (y : Claim). precedes y later ≡ true → ⊥) (drawer 1 (On 0) 20 1) later (drawer 4 (Waiting 20) 10 1) c (λ q. clash q refl) (λ q. clash q refl) (λ q. clash q refl) i p);
         spare = λ u y p q. two-of-two (ltb y 20);
       }) in
       passed_over d.starts x.0 x.1 x.2 z;
@@ -304,34 +291,6 @@ all-refused = record {
       let r = d.every_entry (drawer_entry 2 10 10 false) (there {y = drawer_entry 1 10 0 true} here) in
       of_two (λ (x : Claim). Has x (drawer_entry 2 10 10 false) → ⊥) (drawer 1 (On 0) 10 1) (drawer 2 (Waiting 10) 10 0) r.0
       (λ h. (let z : ◌≡◌ {A = ℕ} 1 2 = h.ticket in omega arith)) (λ h. (let z : ◌≡◌ {A = ℕ} 0 1 = h.units in omega arith)) r.1 r.2;
-  granted_singly = λ d.
-      let i : ◌∈◌ {A = ℕ} 2 (3 ∷ []) = (d.at_any_call (claim 0 0x1 10 ∷ pair 0 0x1 0x2 ∷ []) (clock 0) [] refl).granted_together (member 3 2 0x2 10) (member 2 2 0x1 10) (there (there here)) (there here) refl here in
-      let z : ◌≡◌ {A = ℕ} 2 3 = Memᴰ.eq_of_singleton i in
-      omega arith;
-  started_singly = λ d.
-      let z = waits-once 5 10 (d.at_any_later (claim 0 0x1 10 ∷ claim 0 0x2 5 ∷ pair 0 0x1 0x2 ∷ []) [] [] refl (member 3 3 0x1 10) (member 4 3 0x2 10) (there (there here)) (there (there (there here))) refl 10 refl) in
-      omega arith;
-  started_singly_early = λ d.
-      let z : 10 ≤ 5 = (d (claim 0 0x1 10 ∷ claim 0 0x2 5 ∷ pair 0 0x1 0x2 ∷ []) [] refl).ends_awaited (entry 1 0x1 10 0 true) (member 4 3 0x2 10) here (there (there (there here)))
-      (record { start = 5; conflict = refl; waits = refl; sooner = inl (10, refl) }) in
-      omega arith;
-  accepted_in_part = λ d. (d.at_any_call [] (pair 0 0x1 0x2) [] refl).whole 0 1 _ refl refl 1 (omega arith) refl;
-  set_late = λ d.
-      let z : 1 ≤ 0 = ((d [] (pair 0 0x1 0x2) [] refl).of_set 0 1 _ refl refl).least 0 (omega arith)
-      (beside-nobody _ _ _ 0 (λ a i. of_two (λ (x : Request). x.units ≡ 0) (asking 0x1 10) (asking 0x2 10) a refl refl i)) in
-      omega arith;
-  mates_left = λ d.
-      let e : Holds 10 ≡ NotPending = (d.at_any_call (claim 0 0x1 10 ∷ pair 0 0x1 0x2 ∷ []) (withdraw 0 2) [] refl).withdrawn_whole 0 (member 2 2 0x1 10) (member 3 2 0x2 10) (there here) (there (there here)) refl refl refl in
-      let z : ◌≡◌ {A = ℕ} 0 1 = cc in
-      omega arith;
-  alone_linked = λ d.
-      let calls : List Call = claim 0 0x1 10 ∷ claim 0 0x2 10 ∷ pair 0 0x1 0x2 ∷ [] in
-      let one : Entry = entry 1 0x1 10 0 true in
-      let two : Entry = entry 2 0x2 10 0 true in
-      let f : Entry = member 4 3 0x2 10 in
-      let r = two-told (ledger_after step (newly 0x3 0 true) calls) (links_alone (table_after step (newly 0x3 0 true).table calls)) f 10 2 refl
-      ((d calls [] refl).waiting f (there {y = one} (there {y = two} (there {y = member 3 3 0x1 10} here))) 10 refl) in
-      r.linked.lowest one (here {l = two ∷ member 3 3 0x1 10 ∷ f ∷ []}) (omega (arith, r.next_is)) refl (waits-once 10 r.start r.waits);
   holders_disowned = λ d.
       let z : ◌≡◌ {A = ℕ} 8 10 = ap (λ (r : ChainValues). r.number) ((d (claim 0 0x1 10 ∷ []) [] refl).held (entry 1 0x1 10 0 true) here 10 refl) in
       omega arith;
@@ -349,6 +308,6 @@ all-refused = record {
       let calls : List Call = claim 0 0x1 10 ∷ claim 0 0x2 10 ∷ claim 0 0x2 10 ∷ [] in
       let f : Entry = entry 3 0x2 10 10 false in
       let r = two-told (ledger_after step (newly 0x3 0 true) calls) (links_anybody (table_after step (newly 0x3 0 true).table calls)) f 10 1 refl ((d calls [] refl).waiting f (there {y = entry 1 0x1 10 0 true} (there {y = entry 2 0x2 10 0 true} here)) 10 refl) in
-      of_three (λ (x : Entry). x.ticket ≡ 1 → in_common (entry 1 0x1 10 0 true ∷ entry 2 0x2 10 0 true ∷ f ∷ []) x f ≡ true → ⊥) (entry 1 0x1 10 0 true) (entry 2 0x2 10 0 true) f r.next
+      of_three (λ (x : Entry). x.ticket ≡ 1 → in_common x f ≡ true → ⊥) (entry 1 0x1 10 0 true) (entry 2 0x2 10 0 true) f r.next
       (λ _ h. clash h refl) (λ (e : ◌≡◌ {A = ℕ} 2 1) _. omega arith) (λ (e : ◌≡◌ {A = ℕ} 3 1) _. omega arith) r.linked.pending r.next_is r.linked.common;
 }

@@ -10,19 +10,18 @@ use Rattle.rules.specs.declared.Phase.TheVariants.{Waiting, On}
 use Rattle.rules.specs.Lists.{any, keep, greatest}
 use Rattle.rules.specs.Claims.{on, at, with_phase, end_of}
 use Rattle.rules.specs.Order.{rivals}
-use Rattle.rules.specs.Packing.{moved, packed_start}
+use Rattle.rules.specs.Packing.{moved}
 use Rattle.rules.specs.Placing.{place}
 use Rattle.rules.specs.Shares.{first_shares}
 use Rattle.rules.specs.Tests.{first_number}
 use Rattle.rules.specs.NoUnits.{with_pool}
-use Rattle.rules.specs.NoSets.{one_claim, one_reply}
-use Rattle.rules.specs.Calls.{Model, with_clock, with_pending, with_grace, with_shares, setting_of, asking, Member, asks_of, Action, claims, claims_set, releases, withdraws, moves_clock, Look, at_ticket, at_two, at_pool, at_chain, Call, timed, looks, sets_up, claim_set, release, withdraw, clock, lookup, declare, set_grace, is_timed, is_look, Answer, Step, tests, unchanged, unless, advance, plain, finish, join, remove, admit, step, blank, value_at, free_of}
+use Rattle.rules.specs.Calls.{Model, with_clock, with_pending, with_grace, with_shares, setting_of, asking, Action, claims, releases, withdraws, moves_clock, Look, at_ticket, at_two, at_pool, at_chain, Call, timed, looks, sets_up, release, clock, lookup, declare, set_grace, is_timed, is_look, Answer, Step, tests, unchanged, unless, advance, plain, finish, join, remove, fresh, placing, admit, step, blank, value_at, free_of}
 use Rattle.rules.specs.Chains.{ChainValues, chain_of}
 use Rattle.promises.specs.Ledger.{Steps, table_after}
 use Rattle.promises.specs.Runs.{Telling, Told, tells, Start, newly, ledger_after}
 use Rattle.promises.specs.Demand3.{Demand3Of}
 use Rattle.promises.specs.NumbersTested.{NumbersTestedOf, NewTestedOf}
-use Rattle.promises.specs.Replies.{issues_tickets, RepliesOf}
+use Rattle.promises.specs.Replies.{is_claim, RepliesOf}
 use Rattle.promises.specs.LeastStart.{LeastStartOf}
 use Rattle.promises.specs.StartsPacked.{StartsPackedOf}
 use Rattle.promises.specs.PackedInTurn.{PackedInTurnOf}
@@ -35,7 +34,6 @@ use Rattle.promises.specs.SharesKept.{SharesKeptOf}
 use Rattle.promises.specs.TableKept.{TableKeptOf}
 use Rattle.promises.specs.StartsHold.{StartsHoldOf}
 use Rattle.promises.specs.GrantsDue.{GrantsDueOf}
-use Rattle.promises.specs.SetsTogether.{SetsTogetherOf}
 use Rattle.promises.specs.WholeCalls.{WholeCallsOf}
 
 -- A claim at a clock, of groups (hex) and a length; and one of a length and units alone.
@@ -44,10 +42,6 @@ claim t g n = timed t (claims (asking g n))
 
 abbrev pub drawing : ℕ → ℕ → ℕ → Call
 drawing t n u = timed t (claims (record { groups = 0; length = n; units = u; client = 1 }))
-
--- A set of client 1 at a clock, of two members of 10 ticks, of these groups.
-abbrev pub pair : ℕ → ℕ → ℕ → Call
-pair t g h = claim_set t 1 (record { groups = g; length = 10 } ∷ record { groups = h; length = 10 } ∷ [])
 
 -- ── how a step is changed ──
 -- As the rules, but for what accepted timed calls do.
@@ -58,31 +52,15 @@ acts_by f m (sets_up p) = step m (sets_up p)
 
 abbrev pub claims_by : (Model → ℕ → Request → Step) → Model → ℕ → Action → Step
 claims_by f m t (claims ask) = f m t ask
-claims_by f m t (claims_set c ms) = step m (claim_set t c ms)
-claims_by f m t (releases k) = step m (release t k)
-claims_by f m t (withdraws k) = step m (withdraw t k)
+claims_by f m t (releases k) = step m (timed t (releases k))
+claims_by f m t (withdraws k) = step m (timed t (withdraws k))
 claims_by f m t moves_clock = step m (clock t)
-
-abbrev pub sets_by : (Model → ℕ → ℕ → List Member → Step) → Model → ℕ → Action → Step
-sets_by f m t (claims ask) = step m (timed t (claims ask))
-sets_by f m t (claims_set c ms) = f m t c ms
-sets_by f m t (releases k) = step m (release t k)
-sets_by f m t (withdraws k) = step m (withdraw t k)
-sets_by f m t moves_clock = step m (clock t)
 
 abbrev pub releases_by : (Model → ℕ → ℕ → Step) → Model → ℕ → Action → Step
 releases_by f m t (claims ask) = step m (timed t (claims ask))
-releases_by f m t (claims_set c ms) = step m (claim_set t c ms)
 releases_by f m t (releases k) = f m t k
-releases_by f m t (withdraws k) = step m (withdraw t k)
+releases_by f m t (withdraws k) = step m (timed t (withdraws k))
 releases_by f m t moves_clock = step m (clock t)
-
-abbrev pub withdraws_by : (Model → ℕ → ℕ → Step) → Model → ℕ → Action → Step
-withdraws_by f m t (claims ask) = step m (timed t (claims ask))
-withdraws_by f m t (claims_set c ms) = step m (claim_set t c ms)
-withdraws_by f m t (releases k) = step m (release t k)
-withdraws_by f m t (withdraws k) = f m t k
-withdraws_by f m t moves_clock = step m (clock t)
 
 -- A table whose claims are others; one whose waiting claims have other starts; an answer with another ticket, start, counts or grants.
 abbrev pub claims_as : (Claim → Claim) → Model → Model
@@ -102,13 +80,6 @@ naming a ks = record { number = a.number; ticket = a.ticket; start = a.start; co
 
 abbrev pub is_named : List ℕ → Claim → Bool
 is_named ks d = any (λ k. eqb k d.ticket) ks
-
--- A claim with other units, and a set of its own.
-abbrev pub with_units : ℕ → Claim → Claim
-with_units u d = record { groups = d.groups; phase = d.phase; length = d.length; ticket = d.ticket; units = u; lead = d.lead; client = d.client }
-
-abbrev pub alone : Claim → Claim
-alone d = record { groups = d.groups; phase = d.phase; length = d.length; ticket = d.ticket; units = d.units; lead = d.ticket; client = d.client }
 
 -- A claim that waits on where it would have gone on.
 abbrev pub waits_on : Claim → Claim
@@ -178,13 +149,13 @@ grants_all =
 
 -- A clock call puts every start back.
 unfoldable pub puts_back : Steps
-puts_back m c = let s : Step = step m c in cond (is_timed c && not (issues_tickets c)) (record { model = starts_as (λ d. at d + 1) s.model; answer = s.answer }) s
+puts_back m c = let s : Step = step m c in cond (is_timed c && not (is_claim c)) (record { model = starts_as (λ d. at d + 1) s.model; answer = s.answer }) s
 
 -- Waiting claims whose groups are forgotten.
 unfoldable pub forgets_groups : Steps
 forgets_groups m c =
     let s : Step = step m c in
-    record { model = claims_as (λ d. cond (on d) d (record { groups = 0; phase = d.phase; length = d.length; ticket = d.ticket; units = d.units; lead = d.lead; client = d.client })) s.model; answer = s.answer }
+    record { model = claims_as (λ d. cond (on d) d (record { groups = 0; phase = d.phase; length = d.length; ticket = d.ticket; units = d.units; client = d.client })) s.model; answer = s.answer }
 
 -- "Naming grants in the order that their planned starts had, and not by ticket", or in any other.
 unfoldable pub names_backward : Steps
@@ -200,7 +171,7 @@ fidgets m c = cond (is_look c) (record { model = starts_as (λ d. at d + 1) m; a
 
 -- A release answers no ticket; and a refused call answers one.
 unfoldable pub mumbles : Steps
-mumbles m c = let s : Step = step m c in record { model = s.model; answer = answering s.answer (cond (issues_tickets c) s.answer.ticket 0) s.answer.start }
+mumbles m c = let s : Step = step m c in record { model = s.model; answer = answering s.answer (cond (is_claim c) s.answer.ticket 0) s.answer.start }
 
 unfoldable pub blurts : Steps
 blurts m c = let s : Step = step m c in record { model = s.model; answer = cond (eqb s.answer.number 0) s.answer (answering s.answer 7 0) }
@@ -215,31 +186,36 @@ unfoldable pub ignores_gaps : Steps
 ignores_gaps =
     acts_by (claims_by (λ m t ask.
     let n : Model = advance m t in
-    let s = greatest (end_of (setting_of n)) n.clock (rivals n.pending (one_claim n ask t)) in
-    let r : Reply = one_reply n ask in
-    finish (join n (one_claim n ask s ∷ [])) (record { ticket = r.ticket; start = s; contention = r.contention; bound = r.bound })))
+    let w : Claim = fresh n ask in
+    let s = greatest (end_of (setting_of n)) n.clock (rivals n.pending w) in
+    let r : Reply = placing n w in
+    finish (join n (with_phase w (Waiting s))) (record { ticket = r.ticket; start = s; contention = r.contention; bound = r.bound })))
 
 -- While somebody overruns, whoever comes last is placed beside the holders alone, and the others make room.
 unfoldable pub pushes_in : Steps
 pushes_in =
     acts_by (claims_by (λ m t ask.
     let n : Model = advance m t in
-    let s = place (setting_of n) (keep on n.pending) (one_claim n ask t) in
-    let r : Reply = one_reply n ask in
+    let w : Claim = fresh n ask in
+    let s = place (setting_of n) (keep on n.pending) w in
+    let r : Reply = placing n w in
     cond (overrun n)
-    (finish (join (starts_as (λ d. at d + 1) n) (one_claim n ask s ∷ [])) (record { ticket = r.ticket; start = s; contention = r.contention; bound = r.bound }))
+    (finish (join (starts_as (λ d. at d + 1) n) (with_phase w (Waiting s))) (record { ticket = r.ticket; start = s; contention = r.contention; bound = r.bound }))
     (step m (timed t (claims ask)))))
 
 -- The first packing left out: a claim is placed beside starts that are past.
 unfoldable pub skips_packing : Steps
-skips_packing = acts_by (claims_by (λ m t ask. admit (with_clock m t) (ask ∷ [])))
+skips_packing = acts_by (claims_by (λ m t ask. admit (with_clock m t) ask))
 
 -- One drawer at a time: the pool as a single lamp.
 unfoldable pub lone_drawer : Steps
 lone_drawer =
     acts_by (claims_by (λ m t ask.
     let s : Step = step m (timed t (claims (record { groups = ask.groups; length = ask.length; units = cond (ltb 0 ask.units) m.pool 0; client = ask.client }))) in
-    record { model = claims_as (λ d. cond (eqb d.ticket s.answer.ticket) (with_units ask.units d) d) s.model; answer = s.answer }))
+    record {
+      model = claims_as (λ d. cond (eqb d.ticket s.answer.ticket) (record { groups = d.groups; phase = d.phase; length = d.length; ticket = d.ticket; units = ask.units; client = d.client }) d) s.model;
+      answer = s.answer;
+    }))
 
 -- While somebody overruns, all wait for a moment after the clock, one on top of the other.
 unfoldable pub crowds : Steps
@@ -280,7 +256,7 @@ overdraws m c = let s : Step = step (with_pool 100 m) c in record { model = with
 unfoldable pub hides_units : Steps
 hides_units m c =
     let s : Step = step m c in
-    record { model = claims_as (λ d. cond (on d) (with_units 0 d) d) s.model; answer = s.answer }
+    record { model = claims_as (λ d. cond (on d) (record { groups = d.groups; phase = d.phase; length = d.length; ticket = d.ticket; units = 0; client = d.client }) d) s.model; answer = s.answer }
 
 -- Limits that are not looked at.
 unfoldable pub ignores_limits : Steps
@@ -306,40 +282,13 @@ last_first =
     record { model = claims_as mirrored s.model; answer = naming s.answer (map (λ j. 1000 - j) s.answer.grants) }))
   where
     mirrored : Claim → Claim
-    mirrored d = record { groups = d.groups; phase = d.phase; length = d.length; ticket = 1000 - d.ticket; units = d.units; lead = 1000 - d.lead; client = d.client }
+    mirrored d = record { groups = d.groups; phase = d.phase; length = d.length; ticket = 1000 - d.ticket; units = d.units; client = d.client }
 
 -- Waiting claims that draw nothing until they go on.
 unfoldable pub loses_units : Steps
 loses_units m c =
     let s : Step = step m c in
-    record { model = claims_as (λ d. cond (on d) d (with_units 0 d)) s.model; answer = s.answer }
-
--- ── sets (document 02, P8) ──
--- Members granted singly: from the next call on each is packed and goes on by itself.
-unfoldable pub grants_singly : Steps
-grants_singly m c = step (claims_as alone m) c
-
--- Members that wait each for its own start.
-unfoldable pub starts_singly : Steps
-starts_singly m c =
-    let s : Step = step m c in
-    record { model = starts_as (λ d. packed_start (setting_of s.model) (map alone s.model.pending) (alone d)) s.model; answer = s.answer }
-
--- A set accepted in part: its first member alone.
-unfoldable pub accepts_part : Steps
-accepts_part = acts_by (sets_by (λ m t c ms. admit (advance m t) (take 1 (asks_of c ms))))
-
--- A set that is answered a tick more than the least start, and waits until then.
-unfoldable pub sets_late : Steps
-sets_late =
-    acts_by (sets_by (λ m t c ms.
-    let s : Step = step m (claim_set t c ms) in
-    let late = s.answer.start + 1 in
-    record { model = claims_as (λ d. cond (eqb d.lead s.answer.ticket) (with_phase d (Waiting late)) d) s.model; answer = naming (answering s.answer s.answer.ticket late) [] }))
-
--- A withdrawal that leaves the other members.
-unfoldable pub leaves_mates : Steps
-leaves_mates = acts_by (withdraws_by (λ m t k. finish (remove (advance m t) k) (plain k t)))
+    record { model = claims_as (λ d. cond (on d) d (record { groups = d.groups; phase = d.phase; length = d.length; ticket = d.ticket; units = 0; client = d.client })) s.model; answer = s.answer }
 
 -- ── chains ──
 -- A table that tells chains so, and all else as it is.
@@ -363,11 +312,9 @@ links_highest = tells_chains (λ m k. chain_of (setting_of m) k (reverse m.pendi
 
 -- Links to whoever ends as a claim starts: as if all drew on the pool.
 unfoldable pub links_anybody : Model → Told
-links_anybody = tells_chains (λ m k. chain_of (setting_of m) k (map (with_units 1) m.pending))
-
--- Links of a waiting member by its own groups.
-unfoldable pub links_alone : Model → Told
-links_alone = tells_chains (λ m k. chain_of (setting_of m) k (map alone m.pending))
+links_anybody =
+    tells_chains (λ m k.
+    chain_of (setting_of m) k (map (λ d. record { groups = d.groups; phase = d.phase; length = d.length; ticket = d.ticket; units = 1; client = d.client }) m.pending))
 
 -- A ticket that is on is told 8.
 unfoldable pub disowns_holders : Model → Told
@@ -432,9 +379,8 @@ pub record AllRefused : Type 0 where
   pub gaps_left : WaitsExplainedOf leaves_gaps (newly 0x1 0 true) (claim 0 0x1 10 ∷ claim 0 0x1 10 ∷ release 4 1 ∷ []) → ⊥
   -- By `least` of a packed start: ticket 3 draws both units and waits for 20; from 10 on, where ticket 1 ends, they are free.
   pub drawers_left : StartsPackedOf leaves_drawers (newly 0x1 2 true) (drawing 0 10 1 ∷ drawing 0 20 1 ∷ drawing 0 10 2 ∷ release 5 2 ∷ []) → ⊥
-  -- By `of_sets` of `NotOvertaken`, and by `of_tickets`: ticket 3 waits before ticket 2, and at the next call behind it.
+  -- By `NotOvertaken`: ticket 3 waits before ticket 2, and at the next call behind it.
   pub reversed : NeverOvertakenOf reverses (newly 0x1 0 true) (claim 0 0x1 10 ∷ claim 0 0x1 10 ∷ claim 0 0x1 10 ∷ clock 0 ∷ []) → ⊥
-  pub reversed_tickets : NeverOvertakenOf reverses (newly 0x1 0 true) (claim 0 0x1 10 ∷ claim 0 0x1 10 ∷ claim 0 0x1 10 ∷ clock 0 ∷ []) → ⊥
   -- By `least` of the start packed in turn: ticket 2, which came next, waits for 22; at 12, the clock, it could go on behind ticket 1.
   pub turns_changed : PackedInTurnOf changes_turns (newly 0x1 1 true) (drawing 0 10 1 ∷ drawing 0 10 1 ∷ drawing 0 10 1 ∷ clock 12 ∷ []) → ⊥
   -- By `never_more`: two units held of one; and by `units_enough`: two planned in use.
@@ -452,24 +398,11 @@ pub record AllRefused : Type 0 where
   pub last_packed : WholeCallsOf last_first (table_after step (newly 0x1 2 true).table (drawing 0 20 1 ∷ drawing 0 20 1 ∷ drawing 0 10 1 ∷ drawing 0 10 1 ∷ [])) → ⊥
   -- By `units` of what the table has: ticket 2 asked for one.
   pub units_lost : TableKeptOf loses_units (newly 0x1 1 true) (drawing 0 10 1 ∷ drawing 0 10 1 ∷ []) → ⊥
-  -- By `granted_together`: tickets 2 and 3 are one set, and at the next call 3 goes on alone.
-  pub granted_singly : SetsTogetherOf grants_singly (newly 0x3 0 true) (claim 0 0x1 10 ∷ pair 0 0x1 0x2 ∷ clock 0 ∷ []) → ⊥
-  -- By `WaitTogether`: ticket 3 waits for 10 and ticket 4, of the same set, for 5; and by `ends_awaited`: ticket 1 ends at 10.
-  pub started_singly : SetsTogetherOf starts_singly (newly 0x3 0 true) (claim 0 0x1 10 ∷ claim 0 0x2 5 ∷ pair 0 0x1 0x2 ∷ []) → ⊥
-  pub started_singly_early : PlansApartOf starts_singly (newly 0x3 0 true) (claim 0 0x1 10 ∷ claim 0 0x2 5 ∷ pair 0 0x1 0x2 ∷ []) → ⊥
-  -- By `whole`: ticket 2 is not pending.
-  pub accepted_in_part : SetsTogetherOf accepts_part (newly 0x3 0 true) (pair 0 0x1 0x2 ∷ []) → ⊥
-  -- By `least` of a set: 0 fits, in an empty table.
-  pub set_late : LeastStartOf sets_late (newly 0x3 0 true) (pair 0 0x1 0x2 ∷ []) → ⊥
-  -- By `withdrawn_whole`: ticket 2 is withdrawn, and ticket 3 goes on.
-  pub mates_left : SetsTogetherOf leaves_mates (newly 0x3 0 true) (claim 0 0x1 10 ∷ pair 0 0x1 0x2 ∷ withdraw 0 2 ∷ []) → ⊥
   -- By `followed`: document 01's case 3; the chain told is 3, 2, and ticket 2 waits.
   pub stopped_short : ChainsBy stops_short (newly 0xF 0 true) (claim 0 0x8 10 ∷ claim 0 0xC 10 ∷ claim 0 0x6 11 ∷ []) → ⊥
   -- By `lowest`: ticket 3 waits for 1 and 2, which both end at 10; the chain told is 3, 2.
   pub highest_linked : ChainsBy links_highest (newly 0x3 0 true) (claim 0 0x1 10 ∷ claim 0 0x2 10 ∷ claim 0 0x3 10 ∷ []) → ⊥
   -- By `common`: the chain told of ticket 3 is 3, 1, and they share nothing.
   pub anybody_linked : ChainsBy links_anybody (newly 0x3 0 true) (claim 0 0x1 10 ∷ claim 0 0x2 10 ∷ claim 0 0x2 10 ∷ []) → ⊥
-  -- By `lowest`: tickets 3 and 4 are one set, and 1 and 2 end as it starts; the chain told of 4 is 4, 2.
-  pub alone_linked : ChainsBy links_alone (newly 0x3 0 true) (claim 0 0x1 10 ∷ claim 0 0x2 10 ∷ pair 0 0x1 0x2 ∷ []) → ⊥
   -- By `held`.
   pub holders_disowned : ChainsBy disowns_holders (newly 0x1 0 true) (claim 0 0x1 10 ∷ []) → ⊥

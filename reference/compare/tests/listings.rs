@@ -5,8 +5,7 @@ use std::collections::BTreeMap;
 use compare::{listing, output_of, report, seeds};
 use reference::generate::{self, Prng, Run, Shape};
 use reference::load::{self, Call};
-use reference::table::{Answer, Declaration, Member, Table, TableCall, TimedCall, ONLY_CLIENT};
-use reference::tally::{Sets, Way};
+use reference::table::{Declaration, TableCall, TimedCall, ONLY_CLIENT};
 use reference::text;
 
 /// The two differ in the listing, or the proved call touches what it must not.
@@ -66,11 +65,10 @@ impl Counts {
     }
 }
 
-/// What clients, graces and sets meet comes often.
+/// What clients and graces meet comes often.
 #[test]
 fn generated_loads() {
     let mut counts = Counts::default();
-    let mut sets = Sets::default();
     let seeds = seeds("COMPARE_LOADS", 20_000);
     let loads = seeds.end - seeds.start;
     for seed in seeds {
@@ -80,32 +78,14 @@ fn generated_loads() {
             report(seed, &load, differs);
         }
         counts.add(&load, &expected);
-        sets.add(&load);
-        let good = generate::load(seed);
-        if load != good {
-            sets.damage(&good, &load);
-        }
     }
-    println!("COMPARE_LOADS: {counts:?}, {sets:?}");
+    println!("COMPARE_LOADS: {counts:?}");
     if loads >= 2_000 {
-        for (number, in_loads) in [
-            (6, 2),
-            (17, 4),
-            (18, 4),
-            (19, 10),
-            (21, 5),
-            (22, 12),
-            (23, 12),
-        ] {
+        for (number, in_loads) in [(6, 2), (17, 4), (18, 4), (19, 10), (21, 5)] {
             let count = counts.numbers.get(&number).copied().unwrap_or(0);
             assert!(count >= loads / in_loads, "{number}: {count}");
         }
         assert!(counts.late >= loads / 25, "late: {}", counts.late);
-        assert!(sets.reach(loads, loads / 4, loads / 4), "{sets:?}");
-        let rare = sets.rare(loads / 400, |way| !matches!(way, Way::Damaged(_)));
-        assert!(rare.is_empty(), "{rare:?}");
-        let rare = sets.rare(loads / 4_000, |way| matches!(way, Way::Damaged(_)));
-        assert!(rare.is_empty(), "{rare:?}");
     }
 }
 
@@ -146,17 +126,15 @@ fn truncations_and_flips() {
             check(&bent);
         }
     }
-    // Of a load with graces, and of one with sets, every bit.
-    for text in [GRACED, REVEAL] {
-        let load = text::make(text.as_bytes()).expect("a load's text");
-        for end in 0..=load.len() {
-            check(&load[..end]);
-        }
-        for bit in 0..8 * load.len() {
-            let mut bent = load.clone();
-            bent[bit / 8] ^= 1 << (bit % 8);
-            check(&bent);
-        }
+    // Of a load with graces every bit.
+    let load = text::make(GRACED.as_bytes()).expect("a load's text");
+    for end in 0..=load.len() {
+        check(&load[..end]);
+    }
+    for bit in 0..8 * load.len() {
+        let mut bent = load.clone();
+        bent[bit / 8] ^= 1 << (bit % 8);
+        check(&bent);
     }
 }
 
@@ -190,16 +168,12 @@ fn every_edition() {
     for first in 0..=255 {
         check(&[first]);
         for edition in [1, 2, 3] {
-            let mut load = load::join(edition, &[&rig, &claim]);
+            let mut load = load::join(edition, &[rig, claim]);
             load[0] = first;
             check(&load);
         }
         let declared = Call::Declare(ONLY_CLIENT);
-        for calls in [
-            [&rig, &declared, &claim],
-            [&rig, &Call::Grace(5), &declared],
-            [&rig, &declared, &set_of(2)],
-        ] {
+        for calls in [[rig, declared, claim], [rig, Call::Grace(5), declared]] {
             let mut load = load::join(3, &calls);
             load[0] = first;
             check(&load);
@@ -215,7 +189,7 @@ fn every_kind_and_length() {
         for kind in 0..=16 {
             for length in 1..=32 {
                 for fill in [0, 1] {
-                    let mut load = load::join(edition, &[&rig]);
+                    let mut load = load::join(edition, &[rig]);
                     load.extend([0, length, kind]);
                     load.resize(load.len() + usize::from(length) - 1, fill);
                     check(&load);
@@ -223,64 +197,6 @@ fn every_kind_and_length() {
                     check(&load);
                 }
             }
-        }
-    }
-}
-
-/// A set of so many members, of the groups from 0 on and lengths of 5.
-fn set_of(count: usize) -> Call {
-    let members = (0..count).map(|group| Member {
-        groups: 1 << (group % 64),
-        length: 5,
-    });
-    Call::Timed(TimedCall::Set {
-        clock: 0,
-        client: 1,
-        members: members.collect(),
-    })
-}
-
-/// Every count of members with its length, with a byte or a member more and less, and with other counts.
-#[test]
-fn every_count_of_a_set() {
-    let rig = Call::Rig {
-        groups: u64::MAX,
-        pool: 0,
-    };
-    let head = load::join(3, &[rig, Call::Declare(ONLY_CLIENT)]);
-    for count in 0..=255 {
-        let record = load::encode(3, &set_of(count)).expect("a call of edition 3");
-        let load = [&head[..], &record].concat();
-        let listing = agreed(&load);
-        let last = match count {
-            2..=8 => format!(
-                "3 0 1 0\n{}",
-                (1..=count)
-                    .map(|ticket| format!("on {ticket} 0\n"))
-                    .collect::<String>()
-            ),
-            _ => "3 22 0 0\n".to_string(),
-        };
-        assert!(listing.ends_with(&last), "{count} gives\n{listing}");
-        let at = head.len();
-        for other in [0, 1, 2, 8, 9, 254, 255, count ^ 1, (count + 1) % 256] {
-            let mut bent = load.clone();
-            bent[at + 12] = other as u8;
-            check(&bent);
-        }
-        // Another length, with as many bytes behind it or not.
-        for length in [
-            10,
-            11,
-            record.len() - 3,
-            record.len() - 1,
-            record.len() + 10,
-        ] {
-            let mut bent = load.clone();
-            bent[at..at + 2].copy_from_slice(&(length as u16).to_be_bytes());
-            check(&bent);
-            bent.resize(at + 2 + length, 1);
-            check(&bent);
         }
     }
 }
@@ -312,15 +228,12 @@ fn every_byte_of_a_declaration() {
                 reserved: 3,
                 limit: 3,
             });
-            check(&load::join(3, &[&rig, &declared, &claim(client)]));
+            check(&load::join(3, &[rig, declared, claim(client)]));
             check(&load::join(
                 3,
-                &[&rig, &first, &declared, &claim(byte), &claim(2)],
+                &[rig, first, declared, claim(byte), claim(2)],
             ));
-            check(&load::join(
-                3,
-                &[&rig, &first, &claim(1), &declared, &claim(2)],
-            ));
+            check(&load::join(3, &[rig, first, claim(1), declared, claim(2)]));
         }
     }
 }
@@ -341,65 +254,30 @@ fn pools() {
     }
 }
 
-/// A run as it is, without guarantees, with every limit lowered, and each client declared with one place more.
-fn redeclared(run: &Run) -> Vec<Run> {
-    let changes: [fn(&mut Declaration); 4] = [
-        |_| {},
-        |own| own.reserved = 0,
-        |own| own.limit = own.limit.min(9).max(own.reserved),
-        |own| own.reserved = own.reserved.saturating_add(1),
-    ];
-    let changed = changes.iter().map(|change| {
-        let mut run = run.clone();
-        for call in &mut run.calls {
-            if let TableCall::Declare(declaration) = call {
-                change(declaration);
-            }
-        }
-        run
-    });
-    changed.collect()
-}
-
-/// Runs of several clients, each with four declarations.
+/// Runs of several clients as they are, without guarantees, with every limit lowered, and each client declared with one
+/// place more.
 #[test]
 fn clients() {
     for seed in seeds("COMPARE_CLIENTS", 3_000) {
-        for run in redeclared(&generate::run_of(Shape::Clients, seed)) {
+        let run = generate::run_of(Shape::Clients, seed);
+        let changes: [fn(&mut Declaration); 4] = [
+            |_| {},
+            |own| own.reserved = 0,
+            |own| own.limit = own.limit.min(9).max(own.reserved),
+            |own| own.reserved = own.reserved.saturating_add(1),
+        ];
+        for change in changes {
+            let mut run = run.clone();
+            for call in &mut run.calls {
+                if let TableCall::Declare(declaration) = call {
+                    change(declaration);
+                }
+            }
             let load = run.load();
             if differs(&load) {
                 report(seed, &load, differs);
             }
         }
-    }
-}
-
-/// Runs with sets, in time and not: as they are, with every limit lowered, with a place more reserved for each client,
-/// and behind two graces.
-#[test]
-fn sets() {
-    let mut sets = Sets::default();
-    let seeds = seeds("COMPARE_SETS", 3_000);
-    let runs = seeds.end - seeds.start;
-    for seed in seeds {
-        let shape = [Shape::Sets, Shape::Sets, Shape::SetsInTime][(seed % 3) as usize];
-        let run = generate::run_of(shape, seed);
-        sets.add(&run.load());
-        let few = Prng::new(seed).range(1, 40) as u32;
-        let mut runs = vec![run.with_grace(0), run.with_grace(few)];
-        runs.extend(redeclared(&run));
-        for run in runs {
-            let load = run.load();
-            if differs(&load) {
-                report(seed, &load, differs);
-            }
-        }
-    }
-    println!("COMPARE_SETS: {sets:?}");
-    if runs >= 1_000 {
-        assert!(sets.reach(3 * runs, runs / 2, runs / 2), "{sets:?}");
-        let rare = sets.rare(runs / 200, |way| !matches!(way, Way::Damaged(_)));
-        assert!(rare.is_empty(), "{rare:?}");
     }
 }
 
@@ -429,14 +307,14 @@ fn every_grace_around_the_limits() {
     let powers = (0..32).flat_map(|bit| [(1u32 << bit) - 1, 1 << bit, (1 << bit) + 1]);
     let graces = (0..=300).chain(59_900..=60_100).chain(powers);
     for ticks in graces.chain(u32::MAX - 2..=u32::MAX) {
-        let grace = || Call::Grace(ticks);
-        check(&overrun(&[grace()], &[]));
-        check(&overrun(&[], &[grace()]));
-        check(&overrun(&[Call::Grace(9), grace()], &[grace()]));
-        check(&overrun(&[grace(), Call::Grace(9)], &[]));
+        let grace = Call::Grace(ticks);
+        check(&overrun(&[grace], &[]));
+        check(&overrun(&[], &[grace]));
+        check(&overrun(&[Call::Grace(9), grace], &[grace]));
+        check(&overrun(&[grace, Call::Grace(9)], &[]));
         for edition in [1, 2] {
             let mut load = load::join(edition, &[Call::Rig { groups: 1, pool: 0 }]);
-            load.extend(load::encode(3, &grace()).expect("a call of edition 3"));
+            load.extend(load::encode(3, grace).expect("a call of edition 3"));
             check(&load);
         }
     }
@@ -531,146 +409,13 @@ fn answers_differ(load: &[u8]) -> bool {
 
 #[test]
 fn whole_answers() {
-    let mut sets = Sets::default();
-    let seeds = seeds("COMPARE_ANSWERS", 2_000);
-    let loads = seeds.end - seeds.start;
-    for seed in seeds {
+    for seed in seeds("COMPARE_ANSWERS", 2_000) {
         let load = generate::any_load(seed);
         let load = &load[..load.len().min(2_500)];
         if answers_differ(load) {
             report(seed, load, answers_differ);
         }
-        sets.add(load);
     }
-    println!("COMPARE_ANSWERS: {sets:?}");
-    if loads >= 1_000 {
-        assert!(sets.reach(loads, loads / 5, loads / 5), "{sets:?}");
-        // A set of 255 members is longer than what is left of a load.
-        let asked = |way: &Way| !matches!(way, Way::Claimed(255) | Way::Damaged(_));
-        let rare = sets.rare(loads / 1_000, asked);
-        assert!(rare.is_empty(), "{rare:?}");
-    }
-}
-
-/// Sets: contention and start bound by pairs, lookups and chains of members.
-#[test]
-fn whole_answers_of_sets() {
-    for seed in 1..=400 {
-        let shape = [Shape::Sets, Shape::SetsInTime][(seed % 2) as usize];
-        let load = generate::run_of(shape, seed).load();
-        let load = &load[..load.len().min(3_000)];
-        if answers_differ(load) {
-            report(seed, load, answers_differ);
-        }
-    }
-    let rig = Call::Rig {
-        groups: u64::MAX,
-        pool: 3,
-    };
-    for count in [0, 1, 2, 7, 8, 9, 64, 65, 254, 255] {
-        let calls = [&rig, &Call::Declare(ONLY_CLIENT), &set_of(count)];
-        let load = load::join(3, &[&calls[..], &[&set_of(8), &set_of(2)]].concat());
-        if answers_differ(&load) {
-            report(0, &load, answers_differ);
-        }
-    }
-    let load = text::make(REVEAL.as_bytes()).expect("a load's text");
-    if answers_differ(&load) {
-        report(0, &load, answers_differ);
-    }
-    let answers = String::from_utf8(reference::answers::answers(&load)).expect("plain text");
-    for expected in [
-        // Behind two holders, each of whom shares a group with a member.
-        "5 0 3 20 2 41\nfree 0\nholds 1 10\nholds 2 20\nwaits 3 20\nwaits 4 20\n",
-        "why 1 10 0\nwhy 2 10 0\nwhy 3 0 2 3 2\nwhy 4 0 2 4 2\nwhy 0 8 0\n6 0 5 28 2 68\n",
-        "7 0 2 4 0 0\nfree 0\nholds 1 10\nwaits 3 10\nwaits 4 10\nwaits 5 18\n",
-        "why 1 10 0\nwhy 3 0 2 3 1\nwhy 4 0 2 4 1\nwhy 5 0 3 5 4 1\nwhy 0 8 0\n",
-        // A withdrawal of the second takes all.
-        "10 0 7 5 0 0\nfree 0\nholds 1 10\nwaits 3 10\nwaits 4 10\nwaits 5 18\n",
-    ] {
-        assert!(answers.contains(expected), "{expected} in\n{answers}");
-    }
-}
-
-/// An answer as `try_scenarios` prints it.
-fn in_words(answer: &Answer) -> String {
-    let mut words = format!(
-        " {} {} {} {} {}",
-        answer.number, answer.ticket, answer.start, answer.contention, answer.start_bound
-    );
-    if !answer.grants.is_empty() {
-        words += " on";
-    }
-    for ticket in &answer.grants {
-        words += &format!(" {ticket}");
-    }
-    words + ";"
-}
-
-/// No load is long enough to issue every ticket. `try_scenarios` issues them and prints what sets meet when too few
-/// are left: 7 at each member, and beside 6 and 18.
-#[test]
-fn sets_that_meet_7() {
-    let used = |table: &Table, claims: u16| {
-        let mut table = table.clone();
-        for _ in 0..claims {
-            let ticket = table.claim(0, 1, 1, 0, 1).ticket;
-            table.release(0, ticket);
-        }
-        table
-    };
-    let queued = |table: &Table, claims: usize| {
-        let mut table = table.clone();
-        for _ in 0..claims {
-            assert!(table.claim(0, 1, 10, 0, 1).accepted());
-        }
-        table
-    };
-    let set = |table: &mut Table, client: u8, count: usize| {
-        let members = (0..count).map(|group| Member {
-            groups: 1 << group,
-            length: 1,
-        });
-        let members: Vec<Member> = members.collect();
-        in_words(&table.claim_set(0, client, &members))
-    };
-    let mut table = Table::without_clients(0xFF, 0).0;
-    for (client, limit) in [(1, 64), (2, 1)] {
-        let declared = table.declare(Declaration {
-            client,
-            reserved: 0,
-            limit,
-        });
-        assert!(declared.accepted());
-    }
-    let table = used(&table, 65_471);
-    let mut eights = String::new();
-    for left in (0..=8).rev() {
-        let mut table = used(&table, 64 - left);
-        eights += &set(&mut table, 1, 8);
-    }
-    let mut two = used(&table, 62);
-    let pairs = [1, 1, 2].map(|client| set(&mut two, client, 2)).concat();
-    let mut three = queued(&used(&table, 1), 62);
-    let threes = [1, 2].map(|client| set(&mut three, client, 3)).concat();
-    let mut last = queued(&table, 63);
-    let brimful = set(&mut last, 1, 2) + &in_words(&last.claim(0, 2, 1, 0, 1));
-    let expected = format!(
-        "desks 1 and 2, limits 64 and 1: 0 0\n\
-         sets of eight, 8 to 0 tickets left:{eights}\n\
-         sets of two, 2 tickets left:{pairs}\n\
-         sets of three, 1 ticket and 2 places left, desks 1 and 2:{threes}\n\
-         a set of two and a claim, 1 ticket and 1 place left:{brimful}\n"
-    );
-    // 7 at each member from the eighth to the first; 18 and 6 before it.
-    assert!(eights.ends_with(&" 7 0 0 0 0;".repeat(8)), "{eights}");
-    assert_eq!(threes, " 7 0 0 0 0; 18 0 0 0 0;");
-    assert_eq!(brimful, " 6 0 0 0 0; 0 65535 0 0 0 on 65535;");
-    let printed = String::from_utf8(output_of("try_scenarios", b"")).expect("plain text");
-    assert!(
-        printed.ends_with(&expected),
-        "{printed}\ndoes not end in\n{expected}"
-    );
 }
 
 /// Behind a grace: a start bound counts it, a lookup gives what was promised, a chain goes by it.
@@ -1150,104 +895,7 @@ fn graces_by_hand() {
     // No kind of the older editions.
     for text in ["rig 1\n", "edition 2\nrig 1 3\n"] {
         let mut load = text::make(text.as_bytes()).expect("a load's text");
-        load.extend(load::encode(3, &Call::Grace(5)).expect("a call of edition 3"));
-        assert_eq!(
-            agreed(&load),
-            "rec answer ticket start\n1 0 0 0\nstop 13 2\n"
-        );
-    }
-}
-
-/// A reveal: two cues behind different holders, one behind them, sets that are refused, withdrawn and released.
-const REVEAL: &str = "edition 3\nrig F 0\ndesk 1 0 9\nclaim 0 1 10 0 1\nclaim 0 2 20 0 1\nset 0 1 1:5 2:8\n\
-    claim 0 2 21 0 1\nrelease 4 2\nset 4 1 4:1 6:1\nset 4 1 4:9 8:3 1:2\nwithdraw 5 7\nset 5 1 4:1\nrelease 6 1\n\
-    release 7 3\nwithdraw 7 4\nrelease 8 4\n";
-
-/// Sets, by the text of the calls behind the rig and the last lines of their listings.
-#[test]
-fn sets_by_hand() {
-    let listing = agreed(&text::make(REVEAL.as_bytes()).expect("a load's text"));
-    assert_eq!(
-        listing,
-        "rec answer ticket start\n1 0 0 0\n2 0 0 0\n3 0 1 0\non 1 0\n4 0 2 0\non 2 0\n5 0 3 20\n6 0 5 28\n\
-         7 0 2 4\n8 23 0 0\n9 0 6 15\n10 0 7 5\n11 22 0 0\n12 0 1 6\non 3 6\non 4 6\n13 0 3 7\n14 10 0 0\n\
-         15 0 4 8\non 5 8\n"
-    );
-    let claims = |client: u8, count: usize| format!("claim 0 1 5 0 {client}\n").repeat(count);
-    let one = "desk 1 0 64\n".to_string();
-    let two = "desk 1 0 64\ndesk 2 0 64\n".to_string();
-    for (calls, last) in [
-        // The one that could go on alone waits; 11 ticks do not go in before it, 10 do.
-        (
-            format!("{one}claim 0 1 10 0 1\nset 0 1 1:5 2:5\nclaim 0 2 11 0 1\nrelease 4 1"),
-            "5 0 4 15\n6 0 1 4\non 2 4\non 3 4\n",
-        ),
-        (
-            format!("{one}claim 0 1 10 0 1\nset 0 1 1:5 2:5\nclaim 0 2 10 0 1\nrelease 4 1\nrelease 7 4"),
-            "5 0 4 0\non 4 0\n6 0 1 4\n7 0 4 7\non 2 7\non 3 7\n",
-        ),
-        // At the promised end of the holder, and past it.
-        (
-            format!("{one}claim 0 1 10 0 1\nset 0 1 1:5 2:5\nclock 10\nclock 12\nrelease 13 1"),
-            "5 0 0 10\n6 0 0 12\n7 0 1 13\non 2 13\non 3 13\n",
-        ),
-        // Released one by one; a withdrawal of one that is on.
-        (
-            format!("{one}set 0 1 1:5 2:8 4:2\nwithdraw 1 2\nrelease 1 2\nclaim 1 2 9 0 1\nrelease 2 1"),
-            "3 0 1 0\non 1 0\non 2 0\non 3 0\n4 10 0 0\n5 0 2 1\n6 0 4 1\non 4 1\n7 0 1 2\n",
-        ),
-        // 5, 4, 22, 17; then 1, 2, 3 by the first number that any member meets; then 23.
-        (
-            format!("{one}clock 3\nset 1000000000001 9 0:0\nset 2 9 0:0\nset 3 9 0:0\nset 3 9 0:0 0:0\nset 3 1"),
-            "4 5 0 0\n5 4 0 0\n6 22 0 0\n7 17 0 0\n8 22 0 0\n",
-        ),
-        (
-            format!("{one}set 0 1 1:0 10:5 0:5\nset 0 1 1:0 10:5\nset 0 1 3:5 2:0\nset 0 1 3:5 2:5\nset 0 1 1:5 2:5"),
-            "3 1 0 0\n4 2 0 0\n5 3 0 0\n6 23 0 0\n7 0 1 0\non 1 0\non 2 0\n",
-        ),
-        // 6 at the second member leaves nothing: the next claim has the next ticket.
-        (
-            format!("{two}{}set 0 1 1:5 2:5\nclaim 0 8 1 0 1\n", claims(2, 63)),
-            "67 6 0 0\n68 0 64 0\non 64 0\n",
-        ),
-        // 18 at the third; at the second, though the third meets 6; and 6 at the second before 18 at the third.
-        (
-            "desk 1 0 2\nset 0 1 1:5 2:5 4:5\nset 0 1 1:5 2:5".to_string(),
-            "3 18 0 0\n4 0 1 0\non 1 0\non 2 0\n",
-        ),
-        (
-            format!("desk 1 0 1\ndesk 2 0 64\n{}set 0 1 1:5 2:5 4:5", claims(2, 62)),
-            "66 18 0 0\n",
-        ),
-        (
-            format!("desk 1 0 2\ndesk 2 0 64\n{}set 0 1 1:5 2:5 4:5", claims(2, 63)),
-            "67 6 0 0\n",
-        ),
-        // A guarantee has room for two, and not for three.
-        (
-            format!("desk 1 2 64\ndesk 2 62 64\n{}set 0 1 1:5 2:5 4:5\nset 0 1 4:5 8:5", claims(2, 40)),
-            "44 6 0 0\n45 0 41 0\non 41 0\non 42 0\n",
-        ),
-        // A grace, and a set as the first accepted claim.
-        (
-            format!("grace 5\n{one}set 0 1 1:10 2:3\ngrace 6\nset 12 1 1:1 4:1\nrelease 13 1\ndesk 2 0 1"),
-            "5 21 0 0\n6 0 3 17\n7 0 1 13\non 3 13\non 4 13\nstop 13 8\n",
-        ),
-        // Sets of 0 and 255 members are lines like others.
-        (
-            format!("{one}set 0 1\nset 0 1{}\nclock 1", " 1:1".repeat(255)),
-            "3 22 0 0\n4 22 0 0\n5 0 0 1\n",
-        ),
-    ] {
-        let text = format!("edition 3\nrig F 0\n{calls}\n");
-        let load = text::make(text.as_bytes()).expect("a load's text");
-        let listing = agreed(&load);
-        assert!(listing.ends_with(last), "{text}gives\n{listing}");
-    }
-    // No kind of the older editions.
-    for text in ["rig 1\n", "edition 2\nrig 1 3\n"] {
-        let mut load = text::make(text.as_bytes()).expect("a load's text");
-        load.extend(load::encode(3, &set_of(2)).expect("a call of edition 3"));
+        load.extend(load::encode(3, Call::Grace(5)).expect("a call of edition 3"));
         assert_eq!(
             agreed(&load),
             "rec answer ticket start\n1 0 0 0\nstop 13 2\n"

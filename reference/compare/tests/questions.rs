@@ -5,7 +5,6 @@ use reference::ask::{ask, left, MAX_QUESTION, WRONG};
 use reference::generate::{self, Prng, Shape};
 use reference::generate_question::{asked_load, question};
 use reference::load::MAX_LOAD;
-use reference::tally::{Sets, Way};
 use reference::text;
 
 /// The question as arguments: one for each word between single spaces.
@@ -48,22 +47,14 @@ const GRACES: &str =
     "edition 3\nrig F 0\ngrace 60001\ngrace 5\ndesk 1 9 9\nclaim 0 8 10 0 1\nclaim 0 C 10 0 1\n\
     claim 0 6 11 0 1\ngrace 7\nclock 12\n";
 
-/// A set on groups 0 and 1 behind a holder of group 0, and one behind its second member.
-const SETS: &str =
-    "edition 3\nrig F 0\ndesk 1 9 9\nclaim 0 1 10 0 1\nset 0 1 1:5 2:7\nclaim 0 2 11 0 1\n";
-
 /// A holder that waited itself, with one behind it and another behind that.
 const WAITED: &str =
     "rig F\nclaim 0 8 10\nclaim 0 8 10\nclaim 0 A 11\nclaim 0 1 20\nclaim 0 2 21\nrelease 10 1\n";
 
 #[test]
 fn generated_questions() {
-    let mut sets = Sets::default();
-    let seeds = seeds("COMPARE_QUESTIONS", 3_000);
-    let loads = seeds.end - seeds.start;
-    for seed in seeds {
+    for seed in seeds("COMPARE_QUESTIONS", 3_000) {
         let load = asked_load(seed);
-        sets.add(&load);
         let question = question(&load, seed);
         let differ = if seed.is_multiple_of(4) {
             differs_whole
@@ -73,14 +64,6 @@ fn generated_questions() {
         if differ(&load, &question) {
             report_question(seed, &load, &question, differ);
         }
-    }
-    println!("COMPARE_QUESTIONS: {sets:?}");
-    if loads >= 1_000 {
-        assert!(sets.reach(loads, loads / 6, loads / 8), "{sets:?}");
-        // How often each member meets 6 and 18 is asked of the listings.
-        let asked = |way: &Way| !matches!(way, Way::RefusedAt(..) | Way::Damaged(_));
-        let rare = sets.rare(loads / 3_000, asked);
-        assert!(rare.is_empty(), "{rare:?}");
     }
 }
 
@@ -183,32 +166,6 @@ fn the_answers() {
         let expected = (said.as_bytes().to_vec(), Vec::new());
         assert_eq!(agreed(&graces, question.as_bytes()), expected, "{question}");
     }
-    let sets = made(SETS);
-    for (question, said) in [
-        ("lookup 2", "ticket 2 waits, start 10\n"),
-        ("lookup 3", "ticket 3 waits, start 10\n"),
-        ("common 2 3", "tickets 2 and 3 share no group\n"),
-        ("common 4 3", "tickets 4 and 3 share group 1\n"),
-        ("why 2", "ticket 2 waits for 1 until 10, 1 is on until 10\n"),
-        ("why 3", "ticket 3 waits for 1 until 10, 1 is on until 10\n"),
-        (
-            "why 4",
-            "ticket 4 waits for 3 until 17, 3 waits for 1 until 10, 1 is on until 10\n",
-        ),
-    ] {
-        let expected = (said.as_bytes().to_vec(), Vec::new());
-        assert_eq!(agreed(&sets, question.as_bytes()), expected, "{question}");
-    }
-    let withdrawn = made(&format!("{SETS}withdraw 1 3\n"));
-    for (question, said) in [
-        ("lookup 2", "ticket 2 is not pending\n"),
-        ("why 3", "ticket 3 is not pending\n"),
-        ("lookup 4", "ticket 4 is on, promised end 12\n"),
-    ] {
-        let expected = (said.as_bytes().to_vec(), Vec::new());
-        let told = agreed(&withdrawn, question.as_bytes());
-        assert_eq!(told, expected, "{question}");
-    }
     for question in [
         "",
         "lookup",
@@ -260,16 +217,10 @@ fn units_free_at_every_stage() {
     }
 }
 
-/// Why a ticket waits after each call of runs with ties, pools, graces and sets.
+/// Why a ticket waits after each call of runs with ties, pools and graces.
 #[test]
 fn chains_at_every_stage() {
-    for shape in [
-        Shape::Ties,
-        Shape::Pool,
-        Shape::Grace,
-        Shape::Chain,
-        Shape::Sets,
-    ] {
+    for shape in [Shape::Ties, Shape::Pool, Shape::Grace, Shape::Chain] {
         for seed in 1..=12 {
             let mut run = generate::run_of(shape, seed);
             run.calls.truncate(40);
@@ -427,10 +378,9 @@ fn loads_that_end_early() {
     for end in 0..=clients.len() {
         agreed(&clients[..end], b"lookup 1");
     }
-    for load in [made(GRACES), made(SETS)] {
-        for end in 0..=load.len() {
-            agreed(&load[..end], b"lookup 2");
-            agreed(&load[..end], b"why 3");
-        }
+    let graces = made(GRACES);
+    for end in 0..=graces.len() {
+        agreed(&graces[..end], b"lookup 2");
+        agreed(&graces[..end], b"why 3");
     }
 }

@@ -39,31 +39,6 @@ fn generated_texts() {
     }
 }
 
-/// A text makes the load of these bytes in hex, which is shown so; and so shown it makes the load again.
-fn sample(text: &[u8], hex: &str, shown: &str) -> Vec<u8> {
-    let load: Vec<u8> = (0..hex.len())
-        .step_by(2)
-        .map(|at| u8::from_str_radix(&hex[at..at + 2], 16).expect("hex"))
-        .collect();
-    assert_eq!(agreed(text), (load.clone(), Vec::new()));
-    assert!(!show_differs(&load));
-    assert_eq!(load_show(&load), shown);
-    assert_eq!(agreed(shown.as_bytes()).0, load);
-    load
-}
-
-/// Every truncation of a load of edition 3 is shown alike, and its records in the older editions.
-fn shows_in_part(load: &[u8]) {
-    for end in 0..load.len() {
-        assert!(!show_differs(&load[..end]), "{end}");
-    }
-    for edition in [1, 2] {
-        let mut other = load.to_vec();
-        other[0] = edition;
-        assert!(!show_differs(&other), "{edition}");
-    }
-}
-
 /// The text and the load of six records of docs/FORMAT.md.
 #[test]
 fn the_sample() {
@@ -73,9 +48,16 @@ fn the_sample() {
         0000000A0015020000000000000000000000000000000C0000000A00150200000\
         0000000000000000000000000060000000B001502000000000000000000000000\
         0000000300000014000B0300000000000000040001";
+    let load: Vec<u8> = (0..hex.len())
+        .step_by(2)
+        .map(|at| u8::from_str_radix(&hex[at..at + 2], 16).expect("hex"))
+        .collect();
+    assert_eq!(agreed(text), (load.clone(), Vec::new()));
+    assert!(!show_differs(&load));
     let shown =
         "# edition 1\nrig F\nclaim 0 8 10\nclaim 0 C 10\nclaim 0 6 11\nclaim 0 3 20\nrelease 4 1\n";
-    sample(text, hex, shown);
+    assert_eq!(load_show(&load), shown);
+    assert_eq!(agreed(shown.as_bytes()).0, load);
 }
 
 /// A text of edition 2, with its load.
@@ -85,8 +67,15 @@ fn the_sample_of_edition_2() {
         b"edition 2\nrig 0-3 02    # or: rig F 2\nclaim 0 3, 10 1\nclaim 0 0 10 2\nrelease 4 1\n";
     let hex = "02000B01000000000000000F0002001702000000000000000000000000000000080000000A0001\
         001702000000000000000000000000000000000000000A0002000B0300000000000000040001";
+    let load: Vec<u8> = (0..hex.len())
+        .step_by(2)
+        .map(|at| u8::from_str_radix(&hex[at..at + 2], 16).expect("hex"))
+        .collect();
+    assert_eq!(agreed(text), (load.clone(), Vec::new()));
+    assert!(!show_differs(&load));
     let shown = "edition 2\nrig F 2\nclaim 0 8 10 1\nclaim 0 0 10 2\nrelease 4 1\n";
-    sample(text, hex, shown);
+    assert_eq!(load_show(&load), shown);
+    assert_eq!(agreed(shown.as_bytes()).0, load);
 }
 
 /// A text of edition 3, with its load.
@@ -97,8 +86,15 @@ fn the_sample_of_edition_3() {
         claim 0 0 10 2 2\nrelease 4 1\n";
     let hex = "03000B01000000000000000F00020004060128400004060218180018020000000000000000000000000000\
         00080000000A000101001802000000000000000000000000000000000000000A000202000B0300000000000000040001";
+    let load: Vec<u8> = (0..hex.len())
+        .step_by(2)
+        .map(|at| u8::from_str_radix(&hex[at..at + 2], 16).expect("hex"))
+        .collect();
+    assert_eq!(agreed(text), (load.clone(), Vec::new()));
+    assert!(!show_differs(&load));
     let shown = "edition 3\nrig F 2\ndesk 1 40 64\ndesk 2 24 24\nclaim 0 8 10 1 1\nclaim 0 0 10 2 2\nrelease 4 1\n";
-    sample(text, hex, shown);
+    assert_eq!(load_show(&load), shown);
+    assert_eq!(agreed(shown.as_bytes()).0, load);
 }
 
 /// Graces of edition 3, with their load.
@@ -108,66 +104,22 @@ fn graces_of_edition_3() {
     let hex = "03000B01000000000000000F00020005080000EA60000508FFFFFFFF\
         001802000000000000000000000000000000080000000A0001010005080000\
         0005";
+    let load: Vec<u8> = (0..hex.len())
+        .step_by(2)
+        .map(|at| u8::from_str_radix(&hex[at..at + 2], 16).expect("hex"))
+        .collect();
+    assert_eq!(agreed(text), (load.clone(), Vec::new()));
+    assert!(!show_differs(&load));
     let shown = "edition 3\nrig F 2\ngrace 60000\ngrace 4294967295\nclaim 0 8 10 1 1\ngrace 5\n";
-    shows_in_part(&sample(text, hex, shown));
-}
-
-/// Sets of edition 3, with their load.
-#[test]
-fn sets_of_edition_3() {
-    let text = b"edition 3\nrig 0-3 2\nset 0 01 3,:10 0-2:0005 # a reveal\nset 18446744073709551615 255\nset 7 2 fF:4294967295";
-    let hex = "03000B01000000000000000F0002\
-        00230700000000000000000102\
-        00000000000000080000000A000000000000000700000005\
-        000B07FFFFFFFFFFFFFFFFFF00\
-        0017070000000000000007020100000000000000FFFFFFFFFF";
-    let shown = "edition 3\nrig F 2\nset 0 1 8:10 7:5\nset 18446744073709551615 255\nset 7 2 FF:4294967295\n";
-    shows_in_part(&sample(text, hex, shown));
-}
-
-/// Every count of members up to what a record carries, and past it.
-#[test]
-fn every_count_of_members() {
-    for count in (0..=12)
-        .chain([63, 64, 65, 127, 128])
-        .chain(250..=260)
-        .chain([511, 512, 513])
-    {
-        for member in [
-            "1:1",
-            "FFFFFFFFFFFFFFFF:4294967295",
-            "0-63:0000000000000001",
-        ] {
-            let text = format!(
-                "edition 3\nrig F 0\nset 0 1{}\n",
-                format!(" {member}").repeat(count)
-            );
-            let (load, message) = agreed(text.as_bytes());
-            if count > 255 {
-                assert_eq!(
-                    message,
-                    b"line 3: too many words: set CLOCK DESK GROUPS:LENGTH ..\n"
-                );
-            } else {
-                assert_eq!(load.len(), 14 + 13 + 12 * count);
-                assert!(!show_differs(&load), "{count}");
-            }
-        }
+    assert_eq!(load_show(&load), shown);
+    assert_eq!(agreed(shown.as_bytes()).0, load);
+    for end in 0..load.len() {
+        assert!(!show_differs(&load[..end]), "{end}");
     }
-}
-
-/// Every word of up to four of these parts as a member.
-#[test]
-fn every_short_member() {
-    let mut words = vec![String::new()];
-    for _ in 0..4 {
-        words = words
-            .iter()
-            .flat_map(|word| ["0", "7", "64", "x", "-", ",", ":"].map(|part| word.clone() + part))
-            .collect();
-        for word in &words {
-            agreed(format!("edition 3\nrig F 0\nset 0 1 1:1 {word}\n").as_bytes());
-        }
+    for edition in [1, 2] {
+        let mut other = load.clone();
+        other[0] = edition;
+        assert!(!show_differs(&other), "{edition}");
     }
 }
 
@@ -266,31 +218,6 @@ fn the_reasons() {
         ),
         ("Grace 1", "unknown call"),
         ("graces 1", "unknown call"),
-        (
-            "set",
-            "a number is missing: set CLOCK DESK GROUPS:LENGTH ..",
-        ),
-        (
-            "set 0",
-            "a number is missing: set CLOCK DESK GROUPS:LENGTH ..",
-        ),
-        ("set x y z", "clock is not a number"),
-        ("set 0 y z", "desk is not a number"),
-        ("set 0 256 z", "number too large"),
-        ("set 0 1 z", "a member is not GROUPS:LENGTH"),
-        ("set 0 1 1:1 F", "a member is not GROUPS:LENGTH"),
-        ("set 0 1 1:1:1", "a member is not GROUPS:LENGTH"),
-        ("set 0 1 ::", "a member is not GROUPS:LENGTH"),
-        ("set 0 1 :", "groups are not hex or a list"),
-        ("set 0 1 x:y", "groups are not hex or a list"),
-        ("set 0 1 F:", "length is not a number"),
-        ("set 0 1 F:y z", "length is not a number"),
-        ("set 0 1 64,:y", "group over 63"),
-        ("set 0 1 7-5:y", "range runs backward"),
-        ("set 0 1 10000000000000000:y", "number too large"),
-        ("set 0 1 1:4294967296", "number too large"),
-        ("Set 0 1", "unknown call"),
-        ("sets 0 1", "unknown call"),
         ("edition 3", "unknown call"),
         ("rig F 0", "rig must be first"),
     ] {
@@ -328,16 +255,6 @@ fn the_reasons() {
         ),
         ("grace 1\n", "line 1: unknown call\n"),
         ("rig F\ngrace 1\n", "line 2: unknown call\n"),
-        ("rig F\nset 0 1 1:1 2:1\n", "line 2: unknown call\n"),
-        ("edition 2\nrig F 0\nset\n", "line 3: unknown call\n"),
-        (
-            "edition 3\nset 0 1 1:1 2:1\n",
-            "line 2: rig must be first\n",
-        ),
-        (
-            "edition 3\nset 0 1 1:1 2\n",
-            "line 2: a member is not GROUPS:LENGTH\n",
-        ),
         ("rig F\ngrace x\n", "line 2: unknown call\n"),
         ("edition 2\nrig F 0\ngrace 1\n", "line 3: unknown call\n"),
         ("edition 2\nrig F 0\ngrace\n", "line 3: unknown call\n"),
@@ -385,15 +302,6 @@ fn every_byte_in_every_place() {
             b"edition 3\nrig F 7\ngrace?1\n",
             b"edition 3\nrig F 7\ngrace 1?\n",
             b"edition 3\nrig F 7\ngr?ace 1",
-            b"edition 3\nrig F 7\nset?0 1 1:1\n",
-            b"edition 3\nrig F 7\nset 0?1 1:1\n",
-            b"edition 3\nrig F 7\nset 0 1?1:1\n",
-            b"edition 3\nrig F 7\nset 0 1 1?1\n",
-            b"edition 3\nrig F 7\nset 0 1 1:?1\n",
-            b"edition 3\nrig F 7\nset 0 1 1?:1\n",
-            b"edition 3\nrig F 7\nset 0 1 1:1?",
-            b"edition 3\nrig F 7\nset 0 1 1:1?2:1\n",
-            b"edition 3\nrig F 7\ns?et 0 1 1:1",
             b"rig F\nclock 1?\nclock 2\n",
         ] {
             let text: Vec<u8> = text
@@ -509,21 +417,10 @@ fn loads_of_the_greatest_length() {
         "desk 1 1 1\ndesk 1 1 1\ndesk 1 1 1\ndesk 1 1 1\ndesk 1 1 1",
         "grace 1\ngrace 1\ngrace 1\ngrace 1",
         "grace 1\ngrace 1\ngrace 1\ngrace 1\ngrace 1",
-        "set 1 2\nset 1 2",
-        "set 1 2\nset 1 2\nset 1 2",
-        "set 1 2 1:1",
-        "set 1 2 1:1 2:2",
         "rig F 3",
     ] {
         agreed(format!("{full}{more}\n").as_bytes());
     }
-    // 21 sets of 255 members have 64,533 bytes.
-    let most = format!("set 0 1{}\n", " FFFFFFFFFFFFFFFF:4294967295".repeat(255));
-    let full = format!("edition 3\nrig F 3\n{}", most.repeat(21));
-    let load = agreed(full.as_bytes()).0;
-    assert_eq!(load.len(), 64_547);
-    assert!(!show_differs(&load));
-    agreed(format!("{full}{most}").as_bytes());
     for edition in [1, 2, 3] {
         for size in [65_535, 65_536, 65_537] {
             let load = generate::sized_load(edition, 1, size).expect("a load of that size");

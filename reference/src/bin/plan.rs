@@ -9,7 +9,6 @@
 //!
 //! ```text
 //! cargo run --release --manifest-path reference/Cargo.toml --bin plan < examples/overture.load > docs/overture.svg
-//! cargo run --release --manifest-path reference/Cargo.toml --bin plan < examples/reveal.load > docs/reveal.svg
 //! cargo run --release --manifest-path reference/Cargo.toml --bin plan < examples/spots.load > docs/spots.svg
 //! cargo run --release --manifest-path reference/Cargo.toml --bin plan < examples/overdue.load > docs/overdue.svg
 //! cargo run --release --manifest-path reference/Cargo.toml --bin plan < examples/collide.load > docs/collide.svg

@@ -2,15 +2,13 @@
 
 #![allow(dead_code)]
 
-pub mod appended;
-
 use std::io::Write;
 use std::ops::Range;
 use std::panic::{catch_unwind, resume_unwind, AssertUnwindSafe};
 use std::process::{Command, Output, Stdio};
 
 use reference::load::{self, Call};
-use reference::table::{Declaration, Member, TableCall, TimedCall};
+use reference::table::{Declaration, TableCall, TimedCall};
 
 /// Runs a case for each seed and prints the seed of one that fails.
 pub fn for_seeds(seeds: Range<u64>, mut case: impl FnMut(u64)) {
@@ -46,23 +44,6 @@ pub fn claim_of(client: u8, clock: u64, groups: u64, length: u32) -> TimedCall {
         units: 0,
         client,
     }
-}
-
-/// A set of a client: groups and length of each member.
-pub fn set_of(client: u8, clock: u64, members: &[(u64, u32)]) -> TimedCall {
-    let members = members
-        .iter()
-        .map(|&(groups, length)| Member { groups, length });
-    TimedCall::Set {
-        clock,
-        client,
-        members: members.collect(),
-    }
-}
-
-/// A set of client 1.
-pub fn set(clock: u64, members: &[(u64, u32)]) -> TimedCall {
-    set_of(1, clock, members)
 }
 
 pub fn declare(client: u8, reserved: u8, limit: u8) -> Declaration {
@@ -105,9 +86,9 @@ pub fn client_load_of(groups: u64, pool: u16, calls: &[TableCall]) -> Vec<u8> {
     load::join(3, &all(Call::Rig { groups, pool }, calls))
 }
 
-fn all<C: Clone + Into<Call>>(rig: Call, calls: &[C]) -> Vec<Call> {
+fn all<C: Copy + Into<Call>>(rig: Call, calls: &[C]) -> Vec<Call> {
     let mut all = vec![rig];
-    all.extend(calls.iter().map(|call| call.clone().into()));
+    all.extend(calls.iter().map(|&call| call.into()));
     all
 }
 

@@ -12,14 +12,14 @@ use Rattle.chains.proofs.link.Reads as link-reads
 use Rattle.chains.proofs.+follow.{statement}
 use Rattle.chains.proofs.+follow.Tie.{close}
 
-abbrev μ-follow : Measures 8 follow-kinds.ps ℕ
-μ-follow κs a = get_or a.1.1.0.now a.1.1.1.1.1.1.1.1.1.1.0 0
+abbrev μ-follow : Measures 7 follow-kinds.ps ℕ
+μ-follow κs a = get_or a.1.1.0.now a.1.1.1.1.1.1.1.1.1.0 0
 
-abbrev follow-at : ℕ → In 8 follow-kinds.ps
-follow-at t = and 8 follow-kinds.ps (is 8 follow-kinds.ps μ-follow t) follow.Pre
+abbrev follow-at : ℕ → In 7 follow-kinds.ps
+follow-at t = and 7 follow-kinds.ps (is 7 follow-kinds.ps μ-follow t) follow.Pre
 
-abbrev follow-below : ℕ → In 8 follow-kinds.ps
-follow-below t = and 8 follow-kinds.ps (falls 8 follow-kinds.ps ◌<◌ μ-follow t) follow.Pre
+abbrev follow-below : ℕ → In 7 follow-kinds.ps
+follow-below t = and 7 follow-kinds.ps (falls 7 follow-kinds.ps ◌<◌ μ-follow t) follow.Pre
 
 add-result : (t : ℕ) → follow-lts.Need-overflow-add-result (link-reads.Asked, link-reads.Learnt, follow-below t, follow.Post) (follow-at t) follow.Post
 add-result t c = omega (arith, room-here c.before.before.before.requires.1.3)

@@ -1,14 +1,13 @@
 -- The loop's invariant: the columns hold the claims so far.
-use mathlib.Core.Path.{◌≡◌, sym, ◌∙◌, subst}
-use mathlib.Core.Logic.{⊎_elim}
+use mathlib.Core.Path.{◌≡◌, subst}
 use Prim.Native.Nat.{ℕ, ◌-◌, ◌≤◌}
 use native.Mathlib.Omega.{arith}
 use borrow.Author.Rules.{rules}
 use Rattle.rules.specs.Calls.{setting_of}
 use Rattle.rules.specs.Tables.{model}
-use Rattle.holds.proofs.Rows.{row_small}
-use Rattle.chains.specs.Columns.{Columns, ReachColumn, Follows}
-use Rattle.chains.proofs.Columns.{columns-start, columns-more, reach-laid, reach-alone}
+use Rattle.plan.proofs.Rows.{row_small}
+use Rattle.chains.specs.Columns.{Columns, Follows}
+use Rattle.chains.proofs.Columns.{columns-start, columns-more}
 use Rattle.chains.proofs.Following.{follows-start, laid-is}
 use Rattle.chains.proofs.chain.Statement.{statement}
 use Rattle.chains.proofs.chain.Tie as tie
@@ -33,41 +32,30 @@ loop-again c =
       columns-more l.loop.invariant.1 (omega (arith, l.before.requires.0.few)) _ _ _ c.before.before.start-or-grant.ensures c.before.end_of_lem.ensures c.is-on.ensures,
     )
 
--- Behind the loop the columns hold all claims, and with the groups of the sets all is ready to follow the chain.
-gathered : (c : tie.After-loop invariant-loop decreases-loop) →
+-- Behind the loop all is ready to follow the chain.
+ready : (c : tie.After-loop invariant-loop decreases-loop) →
     let l = c.before.loop in
-    let t = c.before.before.args.t1 in
-    Columns (setting_of (model t)) t.claims t.count l.starts l.ends l.groups l.units l.tickets l.held
-gathered c =
-    let l = c.before.loop in
-    let t = c.before.before.args.t1 in
-    let e : l.j ≡ t.count = omega (arith, l.invariant.0, c.loop-test.false) in
-    subst (λ (n : ℕ). Columns (setting_of (model t)) t.claims n l.starts l.ends l.groups l.units l.tickets l.held) e l.invariant.1
-
-ready : (c : tie.Joined1 invariant-loop decreases-loop) →
-    let l = c.before.before.loop in
-    let a = c.before.before.before.args in
+    let a = c.before.before.args in
     let t = a.t1 in
-    Follows t.issued (setting_of (model t)) t.claims l.starts l.ends l.groups c.if1.reaches l.units l.tickets l.held t.count a.i 0
+    Follows t.issued (setting_of (model t)) t.claims l.starts l.ends l.groups l.units l.tickets l.held t.count a.i 0
 ready c =
-    let z = c.before.before.before in
-    follows-start z.requires.0 z.requires.2 (gathered c.before)
-    (⊎_elim
-    (λ a. subst (ReachColumn _ _) (sym a.1) (reach-alone z.requires.0 (sym z.requires.1 ∙ a.0.taken) (gathered c.before).group))
-    (λ a. reach-laid z.requires.0 _ (a.2 ∙ a.1.ensures))
-    c.if1.branch)
-    z.requires.3
+    let l = c.before.loop in
+    let z = c.before.before in
+    let e : l.j ≡ z.args.t1.count = omega (arith, l.invariant.0, c.loop-test.false) in
+    follows-start z.requires.0 z.requires.1
+    (subst (λ (n : ℕ). Columns (setting_of (model z.args.t1)) z.args.t1.claims n l.starts l.ends l.groups l.units l.tickets l.held) e l.invariant.1)
+    z.requires.2
 
 follow-requires : tie.Need-follow-requires invariant-loop decreases-loop
 follow-requires c κs =
-    let a = c.before.before.before.before.before.before.before.before in
-    let t = a.before.before.before.args.t1 in
+    let a = c.before.before.before.before.before.before.before in
+    let t = a.before.before.args.t1 in
     (t.issued, setting_of (model t), t.claims, ready a)
 
 returns : tie.Need-returns invariant-loop decreases-loop
 returns c =
-    let a = c.before.before.before.before.before.before.before.before.before in
-    let t = a.before.before.before.args.t1 in
+    let a = c.before.before.before.before.before.before.before.before in
+    let t = a.before.before.args.t1 in
     laid-is _ (omega (arith, (ready a).room)) _ _ (c.follow.ensures t.issued (setting_of (model t)) t.claims (ready a))
 
 pub chain-spec : {M : Type 1} → statement M
@@ -96,6 +84,5 @@ chain-spec =
     (λ c. omega arith)
     (λ c. omega arith)
     loop-again
-    (λ c κs. c.before.before.before.requires.0)
     follow-requires
     returns)

@@ -18,5 +18,4 @@ edition-3-spec =
     (λ c. rw c.match.keys5)
     (λ c. rw c.match.keys6)
     (λ c. rw c.match.keys7)
-    (λ c. rw c.match.keys8)
-    (λ c. no_row _ _ (no_kind 3 _ (8 ∷ 7 ∷ 6 ∷ 5 ∷ 4 ∷ 3 ∷ 2 ∷ 1 ∷ []) refl c.match.rest)))
+    (λ c. no_row _ _ (no_kind 3 _ (8 ∷ 6 ∷ 5 ∷ 4 ∷ 3 ∷ 2 ∷ 1 ∷ []) refl c.match.rest)))

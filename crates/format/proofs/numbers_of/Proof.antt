@@ -22,6 +22,5 @@ numbers-of-spec =
     (λ c. search rules)
     (λ c. omega (arith, c.struct-known8.given.1.1.1.1.1.1.1.1.1.0))
     (λ c. omega (arith, c.struct-known9.given.1.1.1.1.1.1.1.1.1.1.0))
-    (λ c. omega (arith, c.struct-known10.given.1.1.1.1.1.1.1.1.1.1.1.0))
-    (λ c. let m = c.struct-known10.given.1.1.1.1.1.1.1.1.1 in
-    (refl, typed_call _ (search rules, (search rules, (search rules, (search rules, (search rules, (search rules, (search rules, (search rules, (search rules, (omega (arith, m.0), (omega (arith, m.1.0), (omega (arith, m.1.1.0), tt)))))))))))))))
+    (λ c. let m = c.struct-known9.given.1.1.1.1.1.1.1.1.1 in
+    (refl, typed_call _ (search rules, (search rules, (search rules, (search rules, (search rules, (search rules, (search rules, (search rules, (search rules, (omega (arith, m.0), (omega (arith, m.1.0), tt))))))))))))))

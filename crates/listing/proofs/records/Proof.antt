@@ -10,11 +10,10 @@ use Rattle.rules.specs.Tables.{model}
 use Rattle.rules.specs.Calls.{new}
 use Rattle.table.specs.Valid.{Valid}
 use Rattle.table.specs.Outcomes.{outcome}
-use Rattle.load.specs.Reading.{record_at}
+use Rattle.format.specs.Records.{record_of}
 use Rattle.load.proofs.Reading.{step-next}
 use Rattle.replay.specs.Records.{alone_in, step_of}
 use Rattle.replay.proofs.Records.{step-rig, step-claim, step-leave, step-declare, step-grace, step-clock}
-use Rattle.replay.proofs.Handing.{step-handed}
 use Rattle.listing.proofs.RecordLoop.{Turn, turn-start, turn_more, run_end, run-refused, run-stop, few-granted}
 use Rattle.listing.proofs.records.Statement.{statement}
 use Rattle.listing.proofs.records.Tie as tie
@@ -30,27 +29,24 @@ called : (c : tie.At-match2-branch invariant-loop decreases-loop) →
     let k = c.before.before in
     let l = k.before.before.before in
     let a = l.before.before in
-    let s = a.before.before.before.args.load.now in
-    (c.match2.o ≡ outcome (step_of (alone_in s) (model l.loop.o.table) (record_at s l.loop.at k.call.given.0.0))) × Valid c.match2.o.table
+    (c.match2.o ≡ outcome (step_of (alone_in a.before.before.before.args.load.now) (model l.loop.o.table) (record_of k.call.given.0.0))) × Valid c.match2.o.table
 called c =
     let k = c.before.before in
     let call = k.call.given.0.0 in
     let a = k.before.before.before.before.before in
     ⊎_elim
-    (λ w. rw w.2 (w.1.ensures.0 ∙ ap (λ (b : Bool). outcome (new call.groups call.pool b)) a.alone-in.ensures ∙ ap outcome (step-rig _ _ _ _ w.0.keys1), w.1.ensures.1))
+    (λ w. rw w.2 (w.1.ensures.0 ∙ ap (λ (b : Bool). outcome (new call.groups call.pool b)) a.alone-in.ensures ∙ ap outcome (step-rig _ _ _ w.0.keys1), w.1.ensures.1))
     (⊎_elim
-    (λ w. rw w.2 (w.1.ensures.0 ∙ ap outcome (step-claim _ _ _ _ w.0.keys2), w.1.ensures.1))
+    (λ w. rw w.2 (w.1.ensures.0 ∙ ap outcome (step-claim _ _ _ w.0.keys2), w.1.ensures.1))
     (⊎_elim
-    (λ w. rw w.2 (w.1.ensures.0 ∙ ap outcome (step-declare _ _ _ _ w.0.keys3), w.1.ensures.1))
+    (λ w. rw w.2 (w.1.ensures.0 ∙ ap outcome (step-declare _ _ _ w.0.keys3), w.1.ensures.1))
     (⊎_elim
-    (λ w. rw w.5 (w.4.ensures.0 ∙ ap outcome (step-handed _ _ _ _ w.1.result w.0.keys4 w.1.ensures), w.4.ensures.1))
-    (⊎_elim
-    (λ w. rw w.2 (w.1.ensures.0 ∙ ap outcome (step-grace _ _ _ _ w.0.keys5), w.1.ensures.1))
+    (λ w. rw w.2 (w.1.ensures.0 ∙ ap outcome (step-grace _ _ _ w.0.keys4), w.1.ensures.1))
     (⊎_elim
     (λ w.
     let r = w.0.rest.0 in
-    rw w.4 (w.3.ensures.0 ∙ ap outcome (step-leave _ _ call _ (omega (arith, w.1.left, r.0.0.0.1, r.0.0.1, r.0.1, r.1)) (omega (arith, w.2.taken))), w.3.ensures.1))
-    (λ w. rw w.3 (w.2.ensures.0 ∙ ap outcome (step-clock _ _ _ _ (⊎_elim (λ v. inl v.taken) (λ v. inr v.1.left) w.1.came) w.0.rest.0.0.1 w.0.rest.0.1 w.0.rest.1), w.2.ensures.1)))))))
+    rw w.4 (w.3.ensures.0 ∙ ap outcome (step-leave _ _ call (omega (arith, w.1.left, r.0.0.1, r.0.1, r.1)) (omega (arith, w.2.taken))), w.3.ensures.1))
+    (λ w. rw w.3 (w.2.ensures.0 ∙ ap outcome (step-clock _ _ _ (⊎_elim (λ v. inl v.taken) (λ v. inr v.1.left) w.1.came) w.0.rest.0.1 w.0.rest.1), w.2.ensures.1))))))
     c.match2.branch
 
 returns : tie.Need-returns invariant-loop decreases-loop
@@ -91,13 +87,10 @@ records-spec =
     (λ c. turn-start _ _ _ _ _ (omega arith) (omega arith) c.new.ensures.0 c.new.ensures.1)
     (λ c κs. search rules)
     (λ c. search rules)
-    -- new-requires-2, claim-requires, declare-requires, members-at-requires, claim-set-requires, set-grace-requires, leave-requires,
-    -- clock-requires
+    -- new-requires-2, claim-requires, declare-requires, set-grace-requires, leave-requires, clock-requires
     (λ c κs. search rules)
     (λ c κs. c.before.before.before.before.before.loop.invariant.reached.valid)
     (λ c κs. c.before.before.before.before.before.loop.invariant.reached.valid)
-    (λ c κs. search rules)
-    (λ c κs. c.before.before.before.before.before.before.before.before.loop.invariant.reached.valid)
     (λ c κs. c.before.before.before.before.before.loop.invariant.reached.valid)
     (λ c κs. c.before.before.before.before.before.before.before.loop.invariant.reached.valid)
     (λ c κs. c.before.before.before.before.before.before.loop.invariant.reached.valid)

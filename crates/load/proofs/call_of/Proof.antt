@@ -14,10 +14,10 @@ use Rattle.load.proofs.call_of.Statement.{statement}
 use Rattle.load.proofs.call_of.Tie as tie
 
 abbrev invariant-loop : tie.invariant-loop
-invariant-loop edition kind bytes row ws ns₀ at₀ i₀ ns at i = Reading edition kind bytes ns at i
+invariant-loop edition kind bytes row ns₀ at₀ i₀ ns at i = Reading edition kind bytes ns at i
 
 abbrev decreases-loop : tie.decreases-loop
-decreases-loop edition kind bytes row ws ns₀ at₀ i₀ ns at i = length (fields_of edition kind) - i
+decreases-loop edition kind bytes row ns₀ at₀ i₀ ns at i = length (fields_of edition kind) - i
 
 -- What the row has at the loop's place, and its width.
 abbrev at_place : tie.At-loop invariant-loop decreases-loop → ℕ

@@ -23,10 +23,10 @@ abbrev Laying : List ℕ → ℕ → ℕ → Call → List ℕ → ℕ → ℕ �
 Laying out₀ at e c out n i = Going out₀ at (field_bytes (widths e c.kind) (values_of e c)) out n (bytes_left e c.kind i c)
 
 abbrev invariant-loop : tie.invariant-loop
-invariant-loop out₀ at edition row ws given n₀ i₀ out n i = (i < 8) × Laying out₀ at edition (made given) out n i
+invariant-loop out₀ at edition row given n₀ i₀ out n i = (i < 8) × Laying out₀ at edition (made given) out n i
 
 abbrev decreases-loop : tie.decreases-loop
-decreases-loop out₀ at edition row ws given n₀ i₀ out n i = 8 - i
+decreases-loop out₀ at edition row given n₀ i₀ out n i = 8 - i
 
 -- What the row has at the loop's place, and its width.
 abbrev at_place : tie.At-loop invariant-loop decreases-loop → ℕ

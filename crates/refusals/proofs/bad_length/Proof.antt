@@ -1,13 +1,12 @@
-use mathlib.Core.Path.{refl}
 use borrow.Author.Tests.{eq-eqb, ne_eqb}
 use Rattle.refusals.proofs.bad_length.Statement.{statement}
 use Rattle.refusals.proofs.bad_length.Tie as tie
 
 returns : tie.Need-returns
-returns c = rw (eq-eqb c.before.args.length 0 c.if1.true) refl
+returns c = rw (eq-eqb c.before.args.length 0 c.if1.true)
 
 returns-2 : tie.Need-returns-2
-returns-2 c = rw (ne_eqb c.before.args.length 0 c.if1.false) refl
+returns-2 c = rw (ne_eqb c.before.args.length 0 c.if1.false)
 
 pub bad-length-spec : {M : Type 1} → statement M
 bad-length-spec = tie.close (tie.spec returns returns-2)

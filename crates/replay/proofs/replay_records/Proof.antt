@@ -7,7 +7,7 @@ use Prim.Native.Nat.{◌-◌}
 use lib.ListN.{length}
 use Rattle.rules.specs.Tables.{model}
 use Rattle.table.specs.Outcomes.{outcome}
-use Rattle.load.specs.Reading.{record_at}
+use Rattle.format.specs.Records.{record_of}
 use Rattle.load.proofs.Reading.{step-next}
 use Rattle.replay.specs.Records.{alone_in, step_of}
 use Rattle.replay.proofs.Replaying.{Replaying, replay-start, replay-more, replayed-end, replayed-refused, replayed-stop}
@@ -24,13 +24,11 @@ decreases-loop load alone t₀ at₀ nth₀ t at nth = length load - at
 acted : (c : tie.After-act invariant-loop decreases-loop) →
     let l = c.before.before.before.before.before in
     let a = l.before.before.before in
-    let s = a.before.before.args.load.now in
-    c.act.result ≡ outcome (step_of (alone_in s) (model l.loop.t) (record_at s l.loop.at c.before.before.call.given.0.0))
+    c.act.result ≡ outcome (step_of (alone_in a.before.before.args.load.now) (model l.loop.t) (record_of c.before.before.call.given.0.0))
 acted c =
     let l = c.before.before.before.before.before in
     let a = l.before.before.before in
-    let s = a.before.before.args.load.now in
-    c.act.ensures.0 ∙ ap (λ (b : Bool). outcome (step_of b (model l.loop.t) (record_at s l.loop.at c.before.before.call.given.0.0))) a.alone-in.ensures
+    c.act.ensures.0 ∙ ap (λ (b : Bool). outcome (step_of b (model l.loop.t) (record_of c.before.before.call.given.0.0))) a.alone-in.ensures
 
 loop-holds : tie.Need-loop-init invariant-loop decreases-loop
 loop-holds c = let n = c.before.new in replay-start _ _ _ n.ensures.0 n.ensures.1

@@ -8,10 +8,10 @@ use lib.ListN.{take}
 use Rattle.rules.specs.Lists.{any}
 use Rattle.rules.specs.Tables.{model}
 use Rattle.rules.proofs.Bools.{clash}
-use Rattle.holds.specs.Parts.{ruled_in}
+use Rattle.plan.specs.Parts.{ruled_in}
 use Rattle.table.specs.Outcomes.{past_end}
-use Rattle.holds.proofs.Rows.{row_small, Left, left-start, left-next, left_end}
-use Rattle.table.proofs.Formed.{formed-row, formed-followers}
+use Rattle.plan.proofs.Rows.{row_small, Left, left-start, left-next, left_end}
+use Rattle.table.proofs.Formed.{formed-row}
 use Rattle.table.proofs.Steps.{advanced-is, idle-is, same-clock-idle, no-overrun-idle}
 use Rattle.table.proofs.at_clock.Statement.{statement}
 use Rattle.table.proofs.at_clock.Tie as tie
@@ -61,8 +61,6 @@ at-clock-spec =
     (λ c. omega arith)
     (λ c. omega arith)
     loop-again
-    (λ c κs.
-    let l = c.before.before.before in
-    (l.loop.invariant.row, formed-followers l.before.args.t1 l.before.requires.0.formed, refl))
+    (λ c κs. c.before.before.before.loop.invariant.row)
     returns
     returns-2)

@@ -1,6 +1,5 @@
 use mathlib.Core.Path.{◌≡◌, sym, ◌∙◌, ap}
 use mathlib.Core.Logic.{⊎_elim}
-use mathlib.Core.List.{[], ◌∷◌}
 use Prim.Native.Nat.{ℕ}
 use lib.ListN.{length}
 use native.Mathlib.Omega.{arith}
@@ -8,8 +7,7 @@ use Rattle.rules.specs.Shares.{share_of}
 use Rattle.rules.specs.Calls.{claim as claimCall}
 use Rattle.rules.specs.Tables.{model}
 use Rattle.rules.proofs.Bools.{and_l}
-use Rattle.rules.proofs.Lists.{here}
-use Rattle.rules.proofs.Calls.{Admissible, admissible, admissible-asks}
+use Rattle.rules.proofs.Calls.{Admissible, admissible}
 use Rattle.rules.proofs.Booking.{room-left}
 use Rattle.table.specs.Counts.{contested}
 use Rattle.table.specs.Outcomes.{counted_number}
@@ -43,7 +41,7 @@ share-number-requires c κs =
     (b.requires, and_l (share_of b.args.t.shares b.args.ask.client).declared _ (sym c.before.contested.ensures ∙ c.if1.true))
 
 -- What the tests let pass.
-passed : (c : tie.Else2) → let a = c.before.before.before.before.before.args in Admissible (model a.t) a.clock (a.ask ∷ [])
+passed : (c : tie.Else2) → let a = c.before.before.before.before.before.args in Admissible (model a.t) a.clock a.ask
 passed c = admissible _ _ _ (sym c.before.claim-number.ensures ∙ c.if2.false)
 
 returns : tie.Need-returns
@@ -61,16 +59,8 @@ admitted-requires c κs =
     let h = passed c.before in
     let u = c.at-clock.ensures in
     let k = advanced-counts b.args.t b.args.clock _ b.requires.formed u.0 in
-    let r = room-left (model b.args.t) b.args.clock (b.args.ask ∷ []) h b.requires.booked in (
-      u.1,
-      u.2,
-      omega (arith, k.0, r, formed-count b.args.t b.requires.formed),
-      omega (arith, k.1, (admissible-asks h).spare),
-      h.long _ here,
-      h.short _ here,
-      omega (arith, k.2, h.drawn _ here),
-      h.asking _ here,
-    )
+    let r = room-left (model b.args.t) b.args.clock b.args.ask h b.requires.booked in
+    (u.1, u.2, omega (arith, k.0, r, formed-count b.args.t b.requires.formed), omega (arith, k.1, h.spare), h.long, h.short, omega (arith, k.2, h.drawn))
 
 returns-2 : tie.Need-returns-2
 returns-2 c =

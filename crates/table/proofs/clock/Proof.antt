@@ -1,10 +1,8 @@
 use mathlib.Core.Path.{sym, ◌∙◌}
-use mathlib.Core.Logic.{⊎_elim}
 use Rattle.rules.specs.Calls.{clock as clockCall}
 use Rattle.rules.specs.Tables.{model}
-use Rattle.table.proofs.Formed.{formed-now}
 use Rattle.table.proofs.Tests.{time-ok, clock-timed}
-use Rattle.table.proofs.Steps.{refused, accepted, still-untied, none-barred, clock-is}
+use Rattle.table.proofs.Steps.{refused, accepted, clock-is}
 use borrow.Author.Rules.{rules}
 use Rattle.table.proofs.clock.Statement.{statement}
 use Rattle.table.proofs.clock.Tie as tie
@@ -21,22 +19,9 @@ at-clock-requires c κs =
     let o = time-ok (model b.args.t) _ (sym c.before.time-number.ensures ∙ c.if1.false) in
     (b.requires, o.later, o.early)
 
-barred-requires : tie.Need-barred-requires
-barred-requires c κs =
-    let u = c.before.before.at-clock in
-    (formed-now _ u.ensures.1, still-untied _ u.ensures.1 u.ensures.2)
-
-finished-requires : tie.Need-finished-requires
-finished-requires c κs =
-    let u = c.before.before.at-clock in (
-      u.ensures.1,
-      u.ensures.2,
-      ⊎_elim (λ k. rw k.2 k.1.ensures) (λ k. rw k.1 (none-barred _ u.ensures.1 k.0.left)) c.if2.branch,
-    )
-
 returns-2 : tie.Need-returns-2
 returns-2 c =
-    let u = c.before.before.before in
+    let u = c.before in
     let n = u.before.before in
     accepted _ (clockCall _) _ n.before.requires (clock-is n.before.args.t _ _ _ _ n.time-number.ensures u.before.if1.false u.at-clock.ensures.0 c.finished.ensures.0) c.finished.ensures.1
 
@@ -48,6 +33,5 @@ clock-spec =
     (λ c κs. search rules)
     returns
     at-clock-requires
-    barred-requires
-    finished-requires
+    (λ c κs. search rules)
     returns-2)

@@ -6,8 +6,8 @@ use lib.ListN.{take}
 use borrow.Author.Tests.{ne_eqb}
 use Rattle.rules.specs.Lists.{keep}
 use Rattle.rules.specs.Tests.{named}
-use Rattle.holds.specs.Parts.{ruled_in}
-use Rattle.holds.proofs.Rows.{Left, left-start, left-next, left_end}
+use Rattle.plan.specs.Parts.{ruled_in}
+use Rattle.plan.proofs.Rows.{Left, left-start, left-next, left_end}
 use Rattle.table.proofs.Formed.{formed-now}
 use Rattle.table.proofs.Finding.{found_here, found_none}
 use Rattle.table.proofs.find.Statement.{statement}

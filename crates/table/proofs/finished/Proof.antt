@@ -8,7 +8,7 @@ use Rattle.table.proofs.finished.Tie as tie
 grant-requires : tie.Need-grant-requires
 grant-requires c κs =
     let t = c.args.t in
-    (formed-now t c.requires.0, still-starts (model t) c.requires.1, c.requires.2)
+    (formed-now t c.requires.0, still-starts (model t) c.requires.1)
 
 returns : tie.Need-returns
 returns c =

@@ -8,8 +8,8 @@ use Rattle.rules.specs.Pool.{free_units}
 use Rattle.rules.specs.Calls.{at_pool}
 use Rattle.rules.specs.Tables.{model}
 use Rattle.rules.proofs.Lookup.{unrefused}
-use Rattle.holds.specs.Parts.{ruled_in}
-use Rattle.holds.proofs.Rows.{Left, left-start, left_here, left-next, left_end}
+use Rattle.plan.specs.Parts.{ruled_in}
+use Rattle.plan.proofs.Rows.{Left, left-start, left_here, left-next, left_end}
 use Rattle.table.proofs.Formed.{formed-now}
 use Rattle.plan.proofs.GrantingLoop.{Freeing, freeing-start, freeing-covers, freeing-more, freeing-end}
 use Rattle.table.proofs.free.Statement.{statement}

@@ -1,16 +1,13 @@
 use mathlib.Core.Path.{◌≡◌, sym, ◌∙◌, ap}
-use mathlib.Core.Logic.{⊎_elim}
 use native.Mathlib.Omega.{arith}
 use Rattle.rules.specs.declared.Table.{Table}
 use Rattle.rules.specs.Tests.{first_number}
-use Rattle.rules.specs.Calls.{Call, tests, standing_of}
+use Rattle.rules.specs.Calls.{Call, remove, tests}
 use Rattle.rules.specs.Tables.{model}
-use Rattle.table.specs.Outcomes.{departed, phase_number, leaving}
+use Rattle.table.specs.Outcomes.{phase_number, leaving}
 use Rattle.rules.proofs.Calls.{Clocked}
 use Rattle.table.proofs.Tests.{time-ok, leave-timed, departed-tests}
-use Rattle.table.proofs.Formed.{formed-now}
-use Rattle.table.proofs.Leaving.{taken-clock}
-use Rattle.table.proofs.Steps.{refused, accepted, still-untied, none-barred, departed-clock, leaves-is}
+use Rattle.table.proofs.Steps.{refused, accepted, departed-clock, leaves-is}
 use borrow.Author.Rules.{rules}
 use Rattle.table.proofs.leave.Statement.{statement}
 use Rattle.table.proofs.leave.Tie as tie
@@ -39,12 +36,6 @@ number_is c =
     departed-tests (model b.args.t) b.args.releasing _ b.args.ticket b.pre.formed.ranged.ranges.ascending (right e).later (right e).early
     ∙ sym (c.phase-number.ensures ∙ ap (phase_number _) l.removed.ensures.0)
 
--- By the phase that it found.
-phase-is : (c : tie.After-phase-number) →
-    let b = c.before.before.before.before in
-    phase_number b.args.releasing (standing_of b.args.ticket (departed (model b.args.t) b.args.clock).pending) ≡ c.phase-number.result
-phase-is c = sym (c.phase-number.ensures ∙ ap (phase_number _) c.before.removed.ensures.0)
-
 returns-2 : tie.Need-returns-2
 returns-2 c =
     let p = c.before.before in
@@ -52,41 +43,23 @@ returns-2 c =
     refused _ (call b) _ _ b.pre c.answering2.ensures (number_is p) c.before.if2.taken
 
 pulled-requires : tie.Need-pulled-requires
+unfolding remove
 pulled-requires c κs =
     let l = c.before.before.before in
     let e = l.before in (
       l.removed.ensures.2,
-      omega (
-        arith,
-        ap (λ (x : Table). x.clock) l.removed.ensures.1,
-        taken-clock (departed (model e.before.before.args.t) e.before.before.args.clock) e.before.before.args.ticket,
-        departed-clock (model e.before.before.args.t) _ (right e).later,
-      ),
+      omega (arith, ap (λ (x : Table). x.clock) l.removed.ensures.1, departed-clock (model e.before.before.args.t) _ (right e).later),
       (right e).early,
-    )
-
-barred-requires : tie.Need-barred-requires
-barred-requires c κs =
-    let u = c.before.before.pulled in
-    (formed-now _ u.ensures.1, still-untied _ u.ensures.1 u.ensures.2)
-
-finished-requires : tie.Need-finished-requires
-finished-requires c κs =
-    let u = c.before.before.pulled in (
-      u.ensures.1,
-      u.ensures.2,
-      ⊎_elim (λ k. rw k.2 k.1.ensures) (λ k. rw k.1 (none-barred _ u.ensures.1 k.0.left)) c.if3.came,
     )
 
 returns-3 : tie.Need-returns-3
 returns-3 c =
-    let u = c.before.before.before in
-    let r = u.before.before in
-    let p = r.before in
+    let r = c.before.before in
+    let p = r.before.before in
     let l = p.before in
     let b = l.before.before.before in
     accepted _ (call b) _ b.pre
-    (leaves-is b.args.t b.args.releasing _ _ _ _ _ b.pre.formed (number_is p ∙ r.if2.left) (phase-is p ∙ r.if2.left) l.removed.ensures.1 l.removed.ensures.2 u.pulled.ensures.0
+    (leaves-is b.args.t b.args.releasing _ _ _ _ _ b.pre.formed (number_is p ∙ r.before.if2.left) l.removed.ensures.1 l.removed.ensures.2 c.before.pulled.ensures.0
     c.finished.ensures.0)
     c.finished.ensures.1
 
@@ -103,6 +76,5 @@ leave_spec =
     (λ c κs. search rules)
     returns-2
     pulled-requires
-    barred-requires
-    finished-requires
+    (λ c κs. (c.pulled.ensures.1, c.pulled.ensures.2))
     returns-3)

@@ -4,8 +4,8 @@ use Prim.Native.Nat.{◌-◌}
 use native.Mathlib.Omega.{arith}
 use lib.ListN.{take}
 use Rattle.rules.specs.Calls.{standing_of}
-use Rattle.holds.specs.Parts.{ruled_in}
-use Rattle.holds.proofs.Rows.{row_small, Left, left-start, left_here, left-next, left_end}
+use Rattle.plan.specs.Parts.{ruled_in}
+use Rattle.plan.proofs.Rows.{row_small, Left, left-start, left_here, left-next, left_end}
 use Rattle.table.proofs.Formed.{formed-now}
 use Rattle.table.proofs.RemovalLoop.{found, passed-by}
 use Rattle.rules.proofs.Lookup.{lookup-told}

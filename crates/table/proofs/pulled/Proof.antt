@@ -8,9 +8,9 @@ use lib.ListN.{take}
 use Rattle.rules.specs.Lists.{any}
 use Rattle.rules.specs.Tables.{model}
 use Rattle.rules.proofs.Bools.{clash}
-use Rattle.holds.specs.Parts.{ruled_in}
-use Rattle.holds.proofs.Rows.{Left, left-start, left-next, left_end}
-use Rattle.table.proofs.Formed.{formed-row, formed-followers}
+use Rattle.plan.specs.Parts.{ruled_in}
+use Rattle.plan.proofs.Rows.{Left, left-start, left-next, left_end}
+use Rattle.table.proofs.Formed.{formed-row}
 use Rattle.table.proofs.Steps.{advanced-is, idle-is, waits, none-waits-idle}
 use borrow.Author.Rules.{rules}
 use Rattle.table.proofs.pulled.Statement.{statement}
@@ -57,8 +57,6 @@ pulled-spec =
     (λ c. omega arith)
     (λ c. omega arith)
     loop-again
-    (λ c κs.
-    let l = c.before.before in
-    (l.loop.invariant.row, formed-followers l.before.args.t1 l.before.requires.0, refl))
+    (λ c κs. c.before.before.loop.invariant.row)
     returns
     returns-2)

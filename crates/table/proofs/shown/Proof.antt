@@ -1,4 +1,4 @@
-use mathlib.Core.Path.{refl, ap}
+use mathlib.Core.Path.{ap}
 use native.Mathlib.Omega.{arith}
 use Rattle.rules.specs.Claims.{mark}
 use borrow.Author.Rules.{rules}
@@ -6,10 +6,10 @@ use Rattle.table.proofs.shown.Statement.{statement}
 use Rattle.table.proofs.shown.Tie as tie
 
 returns : tie.Need-returns
-returns c = rw c.before.p.given.1 refl
+returns c = rw c.before.p.given.1
 
 returns-2 : tie.Need-returns-2
-returns-2 c = rw (c.before.p2.given.1, c.before.before.before.wide.ensures.0) refl
+returns-2 c = rw (c.before.p2.given.1, c.before.before.before.wide.ensures.0)
 
 pub shown-spec : {M : Type 1} → statement M
 shown-spec =

@@ -10,7 +10,7 @@ use Rattle.rules.specs.Chains.{ChainValues, chain_of}
 use Rattle.rules.specs.Tables.{model}
 use Rattle.table.specs.Valid.{Valid}
 use Rattle.table.specs.Outcomes.{blocking}
-use Rattle.table.proofs.Formed.{formed-now, formed-followers}
+use Rattle.table.proofs.Formed.{formed-now}
 use Rattle.table.proofs.Finding.{found-place, no-chain, held-chain, waiting-chain}
 use Rattle.table.proofs.Promised.{chain-few}
 use Rattle.table.proofs.why.Statement.{statement}
@@ -55,5 +55,5 @@ why-spec =
     (λ c κs.
     let e = c.before.before.before in
     let f = e.before in
-    (formed-now _ f.before.requires.formed, formed-followers _ f.before.requires.formed, f.before.requires.settled, omega (arith, f.find.ensures.within, e.if1.false)))
+    (formed-now _ f.before.requires.formed, f.before.requires.settled, omega (arith, f.find.ensures.within, e.if1.false)))
     returns-3)

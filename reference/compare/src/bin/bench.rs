@@ -4,7 +4,7 @@
 use compare::{listing, listing_before, timed};
 use reference::generate::Prng;
 use reference::load::{self, Call};
-use reference::table::{Declaration, Member, State, Table, TableCall, TimedCall};
+use reference::table::{Declaration, State, Table, TableCall, TimedCall};
 use reference::table::{MAX_PENDING, ONLY_CLIENT};
 use reference::workload;
 use std::hint::black_box;
@@ -22,7 +22,7 @@ fn steady(pending: usize, rounds: usize) -> Vec<u8> {
     let mut prng = Prng::new(pending as u64);
     let (mut table, mut calls) = begun(0xFFFF, 0);
     let mut push = |table: &mut Table, call: TimedCall| {
-        table.call(&call);
+        table.call(call);
         calls.push(Call::Timed(call));
     };
     for clock in 1..=rounds as u64 {
@@ -71,7 +71,7 @@ fn crowded(groups: u64, late: bool, rounds: u64) -> Vec<u8> {
                 units: 0,
                 client: 1,
             };
-            table.call(&claim);
+            table.call(claim);
             calls.push(Call::Timed(claim));
         }
         let on = table
@@ -80,7 +80,7 @@ fn crowded(groups: u64, late: bool, rounds: u64) -> Vec<u8> {
             .find(|c| matches!(c.state, State::On(_)));
         if let Some(ticket) = on.map(|c| c.ticket) {
             let release = TimedCall::Release { clock, ticket };
-            table.call(&release);
+            table.call(release);
             calls.push(Call::Timed(release));
         }
     }
@@ -109,7 +109,7 @@ fn pooled(late: bool, rounds: u64) -> Vec<u8> {
                 units: prng.range(least, 20) as u16,
                 client: 1,
             };
-            table.call(&claim);
+            table.call(claim);
             calls.push(Call::Timed(claim));
         }
         let ends = table
@@ -119,7 +119,7 @@ fn pooled(late: bool, rounds: u64) -> Vec<u8> {
         if let Some((end, ticket)) = ends.min() {
             let clock = if late { clock } else { end };
             let release = TimedCall::Release { clock, ticket };
-            table.call(&release);
+            table.call(release);
             calls.push(Call::Timed(release));
         }
     }
@@ -154,9 +154,8 @@ fn shared(rounds: u64) -> Vec<u8> {
                 units: 0,
                 client: prng.range(1, 8) as u8,
             };
-            let accepted = table.call(&claim).accepted();
             calls.push(Call::Timed(claim));
-            accepted
+            table.call(claim).accepted()
         };
         while table.claims().len() < MAX_PENDING {
             claim(&mut table);
@@ -165,7 +164,7 @@ fn shared(rounds: u64) -> Vec<u8> {
         let on = table.claims().iter().find(|c| c.is_on());
         if let Some(ticket) = on.map(|c| c.ticket) {
             let release = TimedCall::Release { clock, ticket };
-            table.call(&release);
+            table.call(release);
             calls.push(Call::Timed(release));
         }
     }
@@ -182,7 +181,7 @@ fn overrunning(rounds: u64) -> Vec<u8> {
     let (mut table, _) = Table::without_clients(groups, pool);
     let mut calls = vec![Call::Rig { groups, pool }];
     let mut push = |table: &mut Table, call: TableCall| {
-        table.call(&call);
+        table.call(call);
         calls.push(call.into());
     };
     push(&mut table, TableCall::Grace(500));
@@ -212,105 +211,15 @@ fn overrunning(rounds: u64) -> Vec<u8> {
     load::join(3, &calls)
 }
 
-/// What comes between the sets of a load.
-#[derive(Clone, Copy, PartialEq, Eq)]
-enum Between {
-    /// Releases of holders.
-    Releases,
-    /// Releases, and single claims as often as sets.
-    Claims,
-    /// A withdrawal of a waiting member, and a release.
-    Withdrawals,
-    /// Releases, with every call past the promised ends of the holders.
-    Overruns,
-}
-
-/// A set of two to eight members, each of three of 64 groups.
-fn set_at(clock: u64, prng: &mut Prng) -> TimedCall {
-    let mut taken = 0u64;
-    let mut groups = |prng: &mut Prng| {
-        let before = taken;
-        while (taken ^ before).count_ones() < 3 {
-            taken |= 1 << prng.below(64);
-        }
-        taken ^ before
-    };
-    let members = (0..prng.range(2, 8)).map(|_| Member {
-        groups: groups(prng),
-        length: prng.range(1, 1000) as u32,
-    });
-    TimedCall::Set {
-        clock,
-        client: 1,
-        members: members.collect(),
-    }
-}
-
-/// A load of edition 3 that keeps about so many claims pending, or the members of
-/// one set: sets until there are so many, then what comes between them, and so on
-/// until this many sets are claimed. Most members wait, each in groups of its own.
-fn revealing(sets: usize, pending: usize, between: Between) -> Vec<u8> {
-    let mut prng = Prng::new(pending as u64);
-    let (groups, pool) = (u64::MAX, 0);
-    let (mut table, _) = Table::without_clients(groups, pool);
-    let mut calls = vec![Call::Rig { groups, pool }];
-    let mut push = |table: &mut Table, call: TableCall| {
-        assert!(table.call(&call).accepted());
-        calls.push(call.into());
-    };
-    push(&mut table, ONLY_CLIENT.into());
-    let mut clock = 0;
-    let mut claimed = 0;
-    while claimed < sets {
-        clock += if between == Between::Overruns {
-            2000
-        } else {
-            1
-        };
-        // There is room for any set, and for a claim behind it.
-        let room = if between == Between::Claims { 9 } else { 8 };
-        while claimed < sets && table.claims().len() + room <= pending {
-            push(&mut table, set_at(clock, &mut prng).into());
-            claimed += 1;
-            if between == Between::Claims {
-                let claim = TimedCall::Claim {
-                    clock,
-                    groups: 1 << prng.below(64) | 1 << prng.below(64),
-                    length: prng.range(1, 1000) as u32,
-                    units: 0,
-                    client: 1,
-                };
-                push(&mut table, claim.into());
-            }
-        }
-        if between == Between::Withdrawals {
-            let waiting = table.claims().iter().filter(|c| !c.is_on());
-            let waiting: Vec<u16> = waiting.map(|c| c.ticket).collect();
-            if !waiting.is_empty() {
-                let ticket = prng.pick(&waiting);
-                push(&mut table, TimedCall::Withdraw { clock, ticket }.into());
-            }
-        }
-        let on = table.claims().iter().find(|c| c.is_on());
-        if let Some(ticket) = on.map(|c| c.ticket) {
-            push(&mut table, TimedCall::Release { clock, ticket }.into());
-        }
-    }
-    load::join(3, &calls)
-}
-
 /// The shortest of many times of each, taken in turn.
 struct Times {
     proved: Duration,
     plain: Duration,
-    /// None also where the library before lists another thing, as one that has
-    /// no sets does.
     before: Option<Duration>,
 }
 
 fn times(load: &[u8], turns: usize) -> Times {
-    // Room for any listing: with less the library may count it first.
-    let mut out = vec![0u8; 1 << 21];
+    let mut out = vec![0u8; 1 << 20];
     let (mut proved, mut plain, mut before) = (Duration::MAX, Duration::MAX, Duration::MAX);
     let mut compared = false;
     for _ in 0..turns {
@@ -320,7 +229,8 @@ fn times(load: &[u8], turns: usize) -> Times {
         });
         assert_eq!(length, count);
         if let Some(old) = timed(&mut before, || listing_before(black_box(load), &mut out)) {
-            compared = old == count;
+            assert_eq!(old, count);
+            compared = true;
         }
     }
     Times {
@@ -383,16 +293,6 @@ fn main() {
     line("64 pending of eight clients", &shared(400), 50);
     let name = "64 pending, a grace, clock calls past promised ends";
     line(name, &overrunning(400), 50);
-    for (pending, between, name) in [
-        (8, Between::Releases, "300 sets, one pending at a time"),
-        (32, Between::Releases, "300 sets, up to 32 members pending"),
-        (64, Between::Releases, "300 sets, up to 64 pending"),
-        (64, Between::Claims, "300 sets and as many claims"),
-        (64, Between::Withdrawals, "300 sets, many withdrawn"),
-        (64, Between::Overruns, "300 sets, past promised ends"),
-    ] {
-        line(name, &revealing(300, pending, between), 50);
-    }
     println!("time of the proved library's writing of a workload, as a ratio to plain Rust");
     writing(200);
 }

@@ -4,14 +4,14 @@ use native.Mathlib.Omega.{arith}
 use lib.ListN.{length-take}
 use borrow.Author.Rules.{rules}
 use borrow.Author.Tests.{le-leb, lt-leb}
-use Rattle.load_text.specs.Parsing.{call_said, line_call}
+use Rattle.load_text.specs.Parsing.{call_said, line_says}
 use Rattle.load_text.proofs.Fields.{kind-some}
 use Rattle.load_text.proofs.Values.{line-with-values}
 use Rattle.load_text.proofs.parse.parse_line.Statement.{statement}
 use Rattle.load_text.proofs.parse.parse_line.Tie as tie
 
 returns-2 : tie.Need-returns-2
-unfolding line_call call_said
+unfolding line_says call_said
 returns-2 c =
     let l = c.before.before.before in
     let n = l.before in
@@ -19,7 +19,7 @@ returns-2 c =
     (rw (← n.before.before.said-end.ensures.1, n.next_word.ensures.words, lt-leb _ _ l.if1.false, sym c.before.kind-named.ensures ∙ c.if2.true))
 
 returns-3 : tie.Need-returns-3
-unfolding line_call call_said
+unfolding line_says call_said
 returns-3 c =
     let k = c.before.before in
     let l = k.before.before in
@@ -29,7 +29,7 @@ returns-3 c =
     (c.fill.ensures ∙ kind-some _ _ _ c.before.if2.false))
 
 pub parse-line-spec : {M : Type 1} → statement M
-unfolding line_call call_said
+unfolding line_says call_said
 parse-line-spec =
     tie.close
     (tie.spec

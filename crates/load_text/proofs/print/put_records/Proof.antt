@@ -12,14 +12,14 @@ use Rattle.load_text.proofs.print.put_records.Statement.{statement}
 use Rattle.load_text.proofs.print.put_records.Tie as tie
 
 abbrev invariant-loop : tie.invariant-loop
-invariant-loop out₀ from load at₀ k₀ n₀ out at k n = Turn (edition_of load) load out₀ from out at k n
+invariant-loop out₀ from load edition at₀ k₀ n₀ out at k n = Turn (edition_of load) load out₀ from out at k n
 
 abbrev decreases-loop : tie.decreases-loop
-decreases-loop out₀ from load at₀ k₀ n₀ out at k n = length load - at
+decreases-loop out₀ from load edition at₀ k₀ n₀ out at k n = length load - at
 
 -- The load opens, so that what the reader answers is what stands there.
-read : (c : tie.After-item-at invariant-loop decreases-loop) → item_at c.before.before.before.before.args.load.now c.before.loop.at ≡ c.item-at.result
-read c = item-opened _ _ _ refl c.before.before.before.before.requires ∙ sym c.item-at.ensures.0
+read : (c : tie.After-item-at invariant-loop decreases-loop) → item_at c.before.before.before.before.before.args.load.now c.before.loop.at ≡ c.item-at.result
+read c = item-opened _ _ _ refl c.before.before.before.before.before.requires ∙ sym c.item-at.ensures.0
 
 loop-less : tie.Need-loop-smaller invariant-loop decreases-loop
 loop-less c =
@@ -31,7 +31,7 @@ loop-again : tie.Need-loop-preserved invariant-loop decreases-loop
 loop-again c =
     let k = c.before.before.before.before.before in
     let i = k.before.before in
-    turn_more _ _ _ _ _ _ _ _ i.before.loop.invariant _ _ refl (open-known _ i.before.before.before.before.requires).2 _ _ (read i ∙ k.call.given.1) c.before.before.put_record.ensures
+    turn_more _ _ _ _ _ _ _ _ i.before.loop.invariant _ _ (open-known _ i.before.before.before.before.before.requires).2 refl _ _ (read i ∙ k.call.given.1) c.before.before.put-call.ensures
 
 same-length-2 : tie.Need-same-length-2 invariant-loop decreases-loop
 same-length-2 c = c.before.before.put-stop.auto.0 ∙ c.before.before.before.before.before.before.before.before.loop.invariant.going.size
@@ -46,7 +46,7 @@ pub put-records-spec : {M : Type 1} → statement M
 put-records-spec =
     tie.close
     (tie.spec
-    invariant-loop decreases-loop
+    invariant-loop decreases-loop (λ c. omega (arith, (open-known _ c.before.before.before.requires).0))
     (λ c. turn-start _ _ _ _ (omega arith) (omega arith)) (λ c κs. search rules) (λ c. search rules) (λ c κs. search rules)
     (λ c. let t = c.before.before.before.before.before.before.before.before.loop.invariant in omega (arith, t.few, t.inside))
     loop-less loop-again (λ c. search rules) (λ c. c.before.before.before.loop.invariant.going.size)

@@ -15,5 +15,4 @@ name-spec =
     (λ c. rw c.before.before.match.keys1) (λ c. rw c.before.before.match.keys2) (λ c. rw c.before.before.match.keys3) (λ c. rw c.before.before.match.keys4) (λ c. rw c.before.before.match.keys5)
     (λ c. rw c.before.before.match.keys6)
     (λ c. rw c.before.before.match.keys7)
-    (λ c. rw c.before.before.match.keys8)
-    (λ c. rw (no_name (8 ∷ 7 ∷ 6 ∷ 5 ∷ 4 ∷ 3 ∷ 2 ∷ 1 ∷ []) _ refl c.before.before.match.rest)))
+    (λ c. rw (no_name (8 ∷ 6 ∷ 5 ∷ 4 ∷ 3 ∷ 2 ∷ 1 ∷ []) _ refl c.before.before.match.rest)))

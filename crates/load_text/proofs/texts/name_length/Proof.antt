@@ -15,5 +15,5 @@ name-length-spec =
     (tie.spec
     (λ c. rw c.match.keys1 (refl, omega arith)) (λ c. rw c.match.keys2 (refl, omega arith)) (λ c. rw c.match.keys3 (refl, omega arith))
     (λ c. rw c.match.keys4 (refl, omega arith)) (λ c. rw c.match.keys5 (refl, omega arith)) (λ c. rw c.match.keys6 (refl, omega arith))
-    (λ c. rw c.match.keys7 (refl, omega arith)) (λ c. rw c.match.keys8 (refl, omega arith))
-    (λ c. rw (no_name (8 ∷ 7 ∷ 6 ∷ 5 ∷ 4 ∷ 3 ∷ 2 ∷ 1 ∷ []) _ refl c.match.rest) (refl, omega arith)))
+    (λ c. rw c.match.keys7 (refl, omega arith))
+    (λ c. rw (no_name (8 ∷ 6 ∷ 5 ∷ 4 ∷ 3 ∷ 2 ∷ 1 ∷ []) _ refl c.match.rest) (refl, omega arith)))

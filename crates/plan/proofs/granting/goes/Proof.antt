@@ -1,5 +1,5 @@
 -- `granting::goes` meets its contract: at each return the tests so far decide.
-use mathlib.Core.Path.{◌≡◌, refl, sym, ◌∙◌}
+use mathlib.Core.Path.{◌≡◌, sym, ◌∙◌}
 use mathlib.Core.Bool.{false}
 use borrow.Author.Rules.{rules}
 use Rattle.rules.specs.Claims.{on}
@@ -23,7 +23,7 @@ returns-4 : tie.Need-returns-4
 returns-4 c =
     let e = c.before in
     let p = e.before.before.before in
-    rw (← p.start-or-grant.ensures, waits p, eq-eqb _ _ e.before.before.if2.false, sym e.before.shares.ensures ∙ e.if3.false) refl
+    rw (← p.start-or-grant.ensures, waits p, eq-eqb _ _ e.before.before.if2.false, sym e.before.shares.ensures ∙ e.if3.false)
 
 pub goes-spec : {M : Type 1} → statement M
 goes-spec =

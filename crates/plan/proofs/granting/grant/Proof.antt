@@ -11,31 +11,31 @@ use Rattle.rules.specs.declared.Claim.{Claim}
 use Rattle.rules.specs.Granting.{goes}
 use Rattle.rules.specs.Tables.{vacant}
 use Rattle.plan.specs.Holders.{Held}
-use Rattle.holds.specs.Parts.{ruled_in, with_claims}
-use Rattle.holds.proofs.Rows.{other-claims, these-claims, Left, left-start, left_here, left-next, left_end}
+use Rattle.plan.specs.Parts.{ruled_in, with_claims}
+use Rattle.plan.proofs.Rows.{other-claims, these-claims, Left, left-start, left_here, left-next, left_end}
 use Rattle.plan.proofs.GrantingLoop.{Holding, holding-start, holding-more, holding-end, Freeing, freeing-start, freeing-covers, freeing-more, freeing-end, Written, written_start, written-rest, written-goes, written-covers, written-gone, written-stay, written-end}
 use Rattle.plan.proofs.granting.grant.Statement.{statement}
 use Rattle.plan.proofs.granting.grant.Tie as tie
 
 abbrev invariant-loop : tie.invariant-loop
-invariant-loop barred t count clock held₀ free i₀ held i = Left (λ r. Holding barred (take count t.claims) r held) (ruled_in t clock) t.claims count i
+invariant-loop t count clock held₀ free i₀ held i = Left (λ r. Holding (take count t.claims) r held) (ruled_in t clock) t.claims count i
 
 abbrev decreases-loop : tie.decreases-loop
-decreases-loop barred t count clock held₀ free i₀ held i = count - i
+decreases-loop t count clock held₀ free i₀ held i = count - i
 
 abbrev invariant-loop2 : tie.invariant-loop2
-invariant-loop2 barred t count clock held₀ free₀ i₀ held free i =
-    Left (λ r. Holding barred (take count t.claims) r held × Freeing t.pool (take count t.claims) r free) (ruled_in t clock) t.claims count i
+invariant-loop2 t count clock held₀ free₀ i₀ held free i =
+    Left (λ r. Holding (take count t.claims) r held × Freeing t.pool (take count t.claims) r free) (ruled_in t clock) t.claims count i
 
 abbrev decreases-loop2 : tie.decreases-loop2
-decreases-loop2 barred t count clock held₀ free₀ i₀ held free i = count - i
+decreases-loop2 t count clock held₀ free₀ i₀ held free i = count - i
 
 abbrev invariant-loop3 : tie.invariant-loop3
-invariant-loop3 barred t₀ count clock held free₀ i tickets₀ n₀ j₀ t free tickets n j =
+invariant-loop3 t₀ count clock held free₀ i tickets₀ n₀ j₀ t free tickets n j =
     (t ≡ with_claims t₀ t.claims) × Written (ruled_in t₀ clock) t₀.claims count j t.claims n tickets free
 
 abbrev decreases-loop3 : tie.decreases-loop3
-decreases-loop3 barred t₀ count clock held free₀ i tickets₀ n₀ j₀ t free tickets n j = count - j
+decreases-loop3 t₀ count clock held free₀ i tickets₀ n₀ j₀ t free tickets n j = count - j
 
 -- ── groups and units ──
 sub-free : tie.Need-overflow-sub-free invariant-loop decreases-loop invariant-loop2 decreases-loop2 invariant-loop3 decreases-loop3
@@ -49,7 +49,7 @@ loop2-again c =
 -- The groups that are held, where the pool has no units and where it has some.
 held-is : (c : tie.Joined1 invariant-loop decreases-loop invariant-loop2 decreases-loop2 invariant-loop3 decreases-loop3) →
     let t = c.before.args.t1 in
-    Held c.before.args.barred (take t.count t.claims) c.if1.held
+    Held (take t.count t.claims) c.if1.held
 held-is c =
     ⊎_elim
     (λ k. rw k.3 (holding-end (left_end k.1.inv k.2.left)))
@@ -74,7 +74,7 @@ goes-is : (c : tie.After-goes invariant-loop decreases-loop invariant-loop2 decr
     goes (ruled_in t t.clock) (take t.count t.claims) (get_or t.claims z.loop3.j vacant) ≡ c.goes.result
 goes-is c =
     let z = c.before.before.before in
-    written-goes z.loop3.invariant.1 (omega arith) z.before.before.requires.1 (held-is z.before) z.before.before.requires.2 ∙ sym c.goes.ensures
+    written-goes z.loop3.invariant.1 (omega arith) z.before.before.requires.1 (held-is z.before) ∙ sym c.goes.ensures
 
 sub-free-2 : tie.Need-overflow-sub-free-2 invariant-loop decreases-loop invariant-loop2 decreases-loop2 invariant-loop3 decreases-loop3
 sub-free-2 c =

@@ -10,8 +10,8 @@ use Rattle.rules.specs.Tables.{vacant}
 use Rattle.rules.specs.Calls.{clients_of}
 use Rattle.rules.proofs.Lists.{map-i}
 use Rattle.rules.proofs.Shares.{declared-range}
-use Rattle.holds.specs.Parts.{ruled_in}
-use Rattle.holds.proofs.Rows.{Left, left-start, left_here, left-next, left_end, row-member}
+use Rattle.plan.specs.Parts.{ruled_in}
+use Rattle.plan.proofs.Rows.{Left, left-start, left_here, left-next, left_end, row-member}
 use Rattle.table.proofs.Formed.{formed-now, formed-few}
 use Rattle.table.proofs.Counting.{Counting, counting-start, counting-small, counting_more, counting-end}
 use Rattle.table.proofs.shares.pending_each.Statement.{statement}

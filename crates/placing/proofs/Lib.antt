@@ -1,4 +1,0 @@
-pub mod Ranges
-pub mod Barring
-pub mod PlacingLoop
-pub mod SetPlacing
