@@ -1,5 +1,7 @@
 // Answers a question about the table that a load leaves. The question stands in the arguments, the load on standard input. A wrong question
 // is told on standard error, with the questions there are, and nothing is read.
+#![tactic(auto)]
+
 ghost use Rattle.std.specs.Prelude.{◌≤◌, length};
 
 use question::Asked;

@@ -1,5 +1,7 @@
 // A dance show on standard input to its listing on standard output.
 // A line that is wrong is reported on standard error, and then nothing is printed.
+#![tactic(auto)]
+
 ghost use Rattle.std.specs.Prelude.{◌≤◌, length};
 ghost use Rattle.frame_listing.specs.InParts.{part_room};
 

@@ -1,4 +1,6 @@
 // The calls for C in one static library: those of `listing`, `frame_listing` and `generator`, each under its own name.
+#![tactic(auto)]
+
 ghost use Rattle.std.specs.Prelude.{◌≡◌};
 ghost use Rattle.numerals.specs.Laid.{lent_out};
 ghost use Rattle.listing.specs.Text.{answer_of, listing_of};

@@ -2,6 +2,8 @@
 // over a table between calls. What a chain is, is defined in the rules' specs/Chains.antt; what the columns hold, in specs/Columns.antt.
 // A table handed into a recursion is copied at each step, so what a chain is told by goes into columns of 64 numbers once, and the
 // recursion goes over those by place.
+#![tactic(auto)]
+
 ghost use Rattle.std.specs.Prelude.{◌≡◌, ◌≤◌, ◌<◌, get_or};
 ghost use Rattle.rules.specs.Tables.{vacant, model};
 ghost use Rattle.rules.specs.Calls.{setting_of};

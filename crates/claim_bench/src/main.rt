@@ -1,6 +1,8 @@
 // Places a claim in a nearly full table again and again, for counting instructions: 63 claims pending, each of two groups of 16; every
 // byte on standard input stands for 100 claims, made at clock 0, or, where the first byte is 'o', at a clock past the holders' promised
 // ends. Prints the sum of the starts.
+#![tactic(auto)]
+
 ghost use Rattle.table.specs.Valid.{Valid};
 
 use rules::Table;

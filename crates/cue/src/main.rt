@@ -1,4 +1,6 @@
 // Reads a load on standard input and prints its listing. Where reading fails that is told, and nothing is printed.
+#![tactic(auto)]
+
 ghost use Rattle.std.specs.Prelude.{◌≡◌, length, ◌≤◌};
 ghost use Rattle.listing.specs.Room.{room_for};
 

@@ -2,6 +2,8 @@
 // wrong, and `report` tells it. Lines, words, sets of groups and reasons are those of the planner's text. No function asks anything of its
 // slices. What a line says is defined in specs/Lines.antt, what is wrong with a text in specs/Shows.antt, the forms of lines in
 // specs/Forms.antt.
+#![tactic(auto)]
+
 ghost use Rattle.std.specs.Prelude.{◌≡◌, ◌≤◌, length, drop};
 ghost use Rattle.numbers.specs.Numbers.{most_tickets};
 ghost use Rattle.words.specs.Parts.{words_in};

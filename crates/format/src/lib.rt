@@ -1,4 +1,6 @@
 // The load format: the kinds of each edition with their fields and lengths, and a call by its fields. All calls take any values.
+#![tactic(auto)]
+
 ghost use Rattle.std.specs.Prelude.{◌%◌, ◌^◌, ◌<◌, ◌≡◌, get_or};
 ghost use Rattle.format.specs.Format.{known, has_kind, fields_of, row_of, field_width, length_of, least_length};
 ghost use Rattle.format.specs.Calls.{numbers, value_of, fitted, made, with_value, bare, kept, same, Typed};

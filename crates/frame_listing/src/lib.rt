@@ -1,6 +1,8 @@
 // The listing of a dance show: its calls run on a frame table, and each prints what it answers. `listing` has it for any text and buffer,
 // and tells the first line that is wrong; `belgwyth_beat` is the same for C. `first_part` and `next_part` have it in parts, for a buffer
 // shorter than the listing. What is printed is defined in specs/Text.antt, parts in specs/InParts.antt.
+#![tactic(auto)]
+
 ghost use Rattle.std.specs.Prelude.{◌≡◌, ◌++◌, ◌≤◌, ◌<◌, leb, length, take};
 ghost use Rattle.numerals.specs.Laid.{Put};
 ghost use Rattle.dance_text.specs.Shows.{said_in, calls_in};

@@ -1,5 +1,7 @@
 // The frame table in code: new, claim, release. Each call takes a table by value and hands one back with its answer. A claim costs one pass
 // over the pending claims and a few instructions, a release one pass. A table is 1,056 bytes.
+#![tactic(auto)]
+
 ghost use Rattle.std.specs.Prelude.{◌≡◌, ◌≤◌, ◌<◌};
 ghost use Rattle.numbers.specs.Numbers.{most_pending, most_tickets};
 ghost use Rattle.rules.specs.Tests.{first_number};

@@ -1,5 +1,7 @@
 // The frame table as data, for dance shows, where everything lasts one beat: the uniform variant of C-RNLP (request P2: a beat profile).
 // A row is the claims of one frame; the head row is row 0, and is on.
+#![tactic(auto)]
+
 
 // A claim: its set of groups (2^g for group g), its ticket, and its row, counted from the head. 16 bytes.
 #[derive(Drop)]

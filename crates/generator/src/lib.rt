@@ -1,6 +1,8 @@
 // The workload of a seed and a count: an edition 1 load of so many claims on all 64 groups, with a release after about every other one.
 // What it is, is defined in specs/Workload.antt. Claims come from draws; releases from the table that the load so far leaves, which is run
 // beside the writing, one call for each record.
+#![tactic(auto)]
+
 ghost use Rattle.std.specs.Prelude.{◌≡◌, length};
 ghost use Rattle.numerals.specs.Laid.{Put};
 ghost use Rattle.load.specs.Answers.{written_values};

@@ -1,5 +1,7 @@
 // Sets of groups as 64-bit words: each question is answered for all 64 groups at once.
 // What is asked is defined in specs/Groups.antt; proofs/Groups.antt has its laws, and proofs/Words.antt what joins it to words.
+#![tactic(auto)]
+
 ghost use Rattle.std.specs.Prelude.{◌≡◌};
 ghost use Rattle.groups.specs.Groups.{common, shares, empty, within, union, without, only, lowest, lowest_missing, others};
 

@@ -1,5 +1,7 @@
 // A linear congruential generator of 32 bits. The step is a function on u32; over the struct that keeps the state stands one thin function,
 // proved by hand: `draw`, to which the generator is lent.
+#![tactic(auto)]
+
 ghost use Rattle.std.specs.Prelude.{◌≡◌};
 ghost use Rattle.lcg.specs.Draws.{state_after, draw_of, advanced};
 

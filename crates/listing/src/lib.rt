@@ -1,4 +1,6 @@
 // The listing of a load: the player's call. A load's records run on a table, and each prints what it answers.
+#![tactic(auto)]
+
 ghost use Rattle.std.specs.Prelude.{◌≡◌, ◌++◌, ◌≤◌, leb, length, take};
 ghost use Rattle.numbers.specs.Numbers.{most_bytes};
 ghost use Rattle.numerals.specs.Laid.{laid, lent_out, Put};

@@ -1,5 +1,7 @@
 // Loads: opening a load, reading the record at a position, testing a whole load, and appending a record.
 // All calls take any bytes and any values. A load is a slice of the caller's; nothing is copied to read it.
+#![tactic(auto)]
+
 ghost use Rattle.std.specs.Prelude.{◌≡◌, length};
 ghost use Rattle.numerals.specs.Laid.{behind, laid, Put};
 ghost use Rattle.format.specs.Format.{widths};

@@ -1,4 +1,6 @@
 // A load on standard input to lines of calls on standard output.
+#![tactic(auto)]
+
 use load_text::Printed;
 
 // `room` is for the text of any load.

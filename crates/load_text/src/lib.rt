@@ -1,6 +1,8 @@
 // Loads as text, a line for each call: `make` has a text to a load, `report` tells the line that is wrong, `show` has a load to its text,
 // `parse_line` and `put_line` one line. No public function asks anything of its slices. What a line says is defined in specs/Parsing.antt,
 // the load that lines make in specs/Making.antt, the lines of a load in specs/Lines.antt, and the forms of lines in specs/Forms.antt.
+#![tactic(auto)]
+
 ghost use Rattle.std.specs.Prelude.{◌≡◌, length};
 ghost use Rattle.load_text.specs.Answers.{made_values};
 ghost use Rattle.load_text.specs.Parsing.{line_says};

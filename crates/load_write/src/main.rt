@@ -1,5 +1,7 @@
 // Lines of calls on standard input to a load on standard output.
 // A line that is wrong is reported on standard error, and then nothing is written.
+#![tactic(auto)]
+
 use load_text::Made;
 
 fn fail(text: &[u8], line: u64, reason: u8) {

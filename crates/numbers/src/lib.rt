@@ -1,4 +1,6 @@
 // The numbers for a call that is turned down, and the limits, as in specs/Numbers.antt: their one home in code.
+#![tactic(auto)]
+
 pub const DARK: u8 = 1;
 
 pub const OFF_RIG: u8 = 2;

@@ -1,6 +1,8 @@
 // Numbers in bytes: read big-endian, and laid big-endian or in decimal into a lent buffer.
 // All take any place. The writers leave out what would go past the buffer's end, and answer the place after what was laid, at most the
 // greatest usize: a buffer ends before it, so that nothing is laid there.
+#![tactic(auto)]
+
 ghost use Rattle.std.specs.Prelude.{◌≡◌, [], ◌∷◌, ◌+◌, ◌-◌, ◌^◌, ◌≤◌, ◌<◌, min, length, take, drop, set};
 ghost use Rattle.numerals.specs.Laid.{behind, laid};
 ghost use Rattle.numerals.specs.Digits.{bytes_at, numeral, digits, decimal_of, width_of, column, pair};

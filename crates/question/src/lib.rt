@@ -1,5 +1,7 @@
 // Questions about the table that a load leaves: `answer` has the text for a load and a line that asks. No public function asks anything
 // of its slices. What a line asks is defined in specs/Questions.antt, what is answered in specs/Answers.antt.
+#![tactic(auto)]
+
 ghost use Rattle.std.specs.Prelude.{◌≡◌};
 ghost use Rattle.question.specs.Answers.{answer_values, asked_of, asked_out, asked_values};
 

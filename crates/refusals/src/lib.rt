@@ -1,4 +1,6 @@
 // The tests of a call in code, each on what it looks at; its number stands with it in rules, specs/Tests.antt. A comparison or two each.
+#![tactic(auto)]
+
 ghost use Rattle.std.specs.Prelude.{◌≡◌};
 ghost use Rattle.rules.specs.Tests.{late, backward, dark, stranger, no_client, nothing_asked, off_rig, spots, bad_length, full, full_for, over, begun, overbooked, bad_grace, ticketless};
 

@@ -1,4 +1,6 @@
 // What a load does to a table: each record is a call of it. And the table that they leave, with the stop that ends them early, if any.
+#![tactic(auto)]
+
 ghost use Rattle.std.specs.Prelude.{◌≡◌, ◌≤◌, length};
 ghost use Rattle.numbers.specs.Numbers.{most_bytes};
 ghost use Rattle.rules.specs.Tables.{model};

@@ -1,4 +1,6 @@
 // The claims table as data: a pending claim, what a claim asks for, the table that the calls take and give back, and what a lookup tells.
+#![tactic(auto)]
+
 ghost use Rattle.std.specs.Prelude.{◌≡◌};
 ghost use Rattle.rules.specs.Calls.{asking};
 

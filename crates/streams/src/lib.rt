@@ -1,5 +1,7 @@
 // A program's standard input, standard output and arguments. What fails is told on standard error, by the program's name. No contract can
 // say what is read or written.
+#![tactic(auto)]
+
 ghost use Rattle.std.specs.Prelude.{◌+◌, ◌≤◌, length};
 ghost use Rattle.io.specs.Counts.{IsPrefixLen};
 

@@ -2,6 +2,8 @@
 // hands one back with its answer. A claim and a clock call pack only where the clock moves and a holder overruns; a release and a
 // withdrawal only where somebody waits, and once more where a pending claim draws units, the clock moves and a holder overruns.
 // What packing and placing cost is told in `plan`, what a chain costs in `chains`; everything else is a few passes.
+#![tactic(auto)]
+
 ghost use Rattle.std.specs.Prelude.{◌≡◌, true, ◌+◌, ◌≤◌, ◌<◌};
 ghost use Rattle.numbers.specs.Numbers.{most_clock, most_length, most_pending, most_tickets};
 ghost use Rattle.rules.specs.Claims.{at};

@@ -1,6 +1,8 @@
 // Prints whole answers, for comparison with the second program: for each record of a load on standard input its number, ticket, start,
 // contention and start bound, then the units free, how each pending ticket stands, which group two of them share, and why each waits. A
 // listing prints less.
+#![tactic(auto)]
+
 ghost use Rattle.std.specs.Prelude.{◌≤◌, ◌<◌};
 ghost use Rattle.table.specs.Valid.{Valid};
 

@@ -3,6 +3,8 @@
 // answers to seven more calls on the load itself (a rig and a clock, then a rig with a pool and a claim with units, which edition 1 cannot
 // carry, then a claim of client 2, a declaration and a grace, which editions 1 and 2 cannot), each with room for any load and with room for
 // one byte, with whether the lent buffer kept its bytes.
+#![tactic(auto)]
+
 ghost use Rattle.std.specs.Prelude.{◌≡◌, length};
 
 use format::Call;

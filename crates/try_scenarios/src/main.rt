@@ -1,6 +1,8 @@
 // Runs the plots of document 01, "Plots to try", on the table, and prints a line for each: for every call its answer (number, ticket,
 // start, crowd, ceiling, then "on" with the tickets granted), for every look what it tells. Then it issues every ticket that a table has,
 // claim and release in turn, and shows what comes then. Last two clients with shares, and a grace.
+#![tactic(auto)]
+
 ghost use Rattle.table.specs.Valid.{Valid};
 
 use rules::{Request, Standing, Table};

@@ -1,6 +1,8 @@
 // Lines of text, their words, and the numbers that words say. Sets of groups are in `sets`, the reasons of a line that is wrong in `reasons`,
 // and the line that tells one in `reports`. Every function takes any slice and any place. What is read is defined in specs/Parts.antt (lines
 // and words) and specs/Words.antt (what a word says).
+#![tactic(auto)]
+
 ghost use Rattle.std.specs.Prelude.{◌≡◌, true, ◌||◌, ◌-◌, ◌≤◌, ◌<◌, max, length, take, drop};
 ghost use Rattle.words.specs.Answers.{word_values};
 ghost use Rattle.words.specs.Parts.{FirstWord, IsPart, chomped, edge_of, first_said, is, line_at, lines_in, none, place_of, said};

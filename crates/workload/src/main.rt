@@ -1,5 +1,7 @@
 // Writes the workload of a seed and a count, its two arguments, to standard output. A wrong argument is told on standard error, and then
 // nothing is written.
+#![tactic(auto)]
+
 use load::Written;
 use words::Field;
 

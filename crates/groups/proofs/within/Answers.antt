@@ -2,11 +2,7 @@
 -- Assumes nothing.
 use mathlib.Core.Path.{sym}
 use Rattle.groups.proofs.Words.{within_word}
-use Rattle.groups.proofs.within.Statement.{statement}
-use Rattle.groups.proofs.within.Tie as tie
+use Rattle.groups.proofs.within.Goals as goal
 
-returns : tie.Need-returns
+pub returns : goal.returns
 returns c = sym (within_word c.args.a c.args.b c.ranges.a.fits)
-
-pub within-spec : {M : Type 1} → statement M
-within-spec = tie.close (tie.spec returns)

@@ -2,11 +2,7 @@
 -- Assumes nothing.
 use mathlib.Core.Path.{sym}
 use Rattle.groups.proofs.Words.{empty-word}
-use Rattle.groups.proofs.empty.Statement.{statement}
-use Rattle.groups.proofs.empty.Tie as tie
+use Rattle.groups.proofs.empty.Goals as goal
 
-returns : tie.Need-returns
+pub returns : goal.returns
 returns c = sym (empty-word c.args.a c.ranges.a.fits)
-
-pub empty-spec : {M : Type 1} → statement M
-empty-spec = tie.close (tie.spec returns)
