@@ -18,7 +18,7 @@ ghost use Rattle.dance_text.specs.Shows.{line_number, has_call, survey_of};
 use words::{Field, Reported, reasons, sets};
 
 // A call of a dance show: a new rig, a claim of groups, a release of a ticket.
-#[derive(Drop)]
+#[derive(Clone, Copy)]
 pub enum Call {
     Rig(u64),
     Claim(u64),
@@ -26,7 +26,7 @@ pub enum Call {
 }
 
 // What a line says: nothing, a call, or what is wrong with it.
-#[derive(Drop)]
+#[derive(Clone, Copy)]
 pub enum Line {
     Silent,
     Said(Call),
@@ -34,7 +34,7 @@ pub enum Line {
 }
 
 // The call that a word names.
-#[derive(Drop)]
+#[derive(Clone, Copy)]
 pub enum Name {
     NewRig,
     NewClaim,
@@ -181,7 +181,7 @@ fn has_call(line: Line) -> bool
 }
 
 // What a text comes to: the first line that is wrong, counted from 1, and its number; or 0 and 0, and how many calls the lines say.
-#[derive(Drop)]
+#[derive(Clone, Copy)]
 pub struct Surveyed {
     pub line: u64,
     pub number: u8,

@@ -11,7 +11,7 @@ pub mod kinds;
 
 // One record of a load: its kind, and a value for each field that some kind has. A field that its kind lacks is 0, but for the client
 // (document 02: desk): a record without one is client 1's. `reserved` is document 02's guarantee; `grace` is the grace in ticks.
-#[derive(Drop)]
+#[derive(Clone, Copy)]
 pub struct Call {
     pub kind: u8,
     pub clock: u64,

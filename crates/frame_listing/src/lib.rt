@@ -77,7 +77,7 @@ fn stops_at(call: Call, number: u8) -> bool
 
 // A part of a listing: its count of bytes; and where the next begins: the place in the text, the number of the next call, and the table. Where
 // the place is not before the text's end the listing has ended.
-#[derive(Drop)]
+#[derive(Clone, Copy)]
 pub struct Part {
     pub length: usize,
     pub at: usize,
@@ -198,7 +198,7 @@ fn goes_into(text: &[u8], calls: u64, room: usize) -> bool
 }
 
 // The length of a listing that stands at the start of a lent buffer; or the first line that is wrong, and its number; or 15, at line 0.
-#[derive(Drop)]
+#[derive(Clone, Copy)]
 pub enum Listed {
     Length(usize),
     Mistake(u64, u8),

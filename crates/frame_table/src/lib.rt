@@ -16,7 +16,7 @@ use groups::MaybeGroup;
 
 // What a call hands back. `number` is 0 or the refusal's; `row` counts from the head, `contention` is the request's crowd; the first
 // `granted` of `grants` are the tickets granted, in ascending order.
-#[derive(Drop)]
+#[derive(Clone, Copy)]
 pub struct Outcome {
     pub table: Table,
     pub number: u8,
@@ -108,7 +108,7 @@ fn free_row(rows: u64) -> u16
 }
 
 // The pending claims that share a group with a set: their rows behind the head, and how many they are.
-#[derive(Drop)]
+#[derive(Clone, Copy)]
 pub struct Rivals {
     pub rows: u64,
     pub count: u16,

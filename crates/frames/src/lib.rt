@@ -4,7 +4,7 @@
 
 
 // A claim: its set of groups (2^g for group g), its ticket, and its row, counted from the head. 16 bytes.
-#[derive(Drop)]
+#[derive(Clone, Copy)]
 pub struct Claim {
     pub groups: u64,
     pub ticket: u16,
@@ -13,7 +13,7 @@ pub struct Claim {
 
 // The table. The first `count` places hold the pending claims in ascending order of ticket; the others are vacant. `held` of the claims
 // are in the head row.
-#[derive(Drop)]
+#[derive(Clone, Copy)]
 pub struct Table {
     pub rig: u64,
     pub issued: u16,

@@ -19,7 +19,7 @@ use load::Written;
 use rules::{Phase, Table};
 
 // The draws of one claim, in their order.
-#[derive(Drop)]
+#[derive(Clone, Copy)]
 pub struct Draws {
     pub advance: u32,
     pub first: u32,
@@ -29,14 +29,14 @@ pub struct Draws {
 }
 
 // A load so far: the table that it leaves, the clock of its last claim, and its length.
-#[derive(Drop)]
+#[derive(Clone, Copy)]
 pub struct Draft {
     pub table: Table,
     pub clock: u64,
     pub size: usize,
 }
 
-#[derive(Drop)]
+#[derive(Clone, Copy)]
 pub enum MaybeTicket {
     Ticket(u16),
     NoTicket,

@@ -6,7 +6,7 @@ ghost use Rattle.std.specs.Prelude.{◌≡◌};
 ghost use Rattle.groups.specs.Groups.{common, shares, empty, within, union, without, only, lowest, lowest_missing, others};
 
 // What a search for a group gives.
-#[derive(Drop)]
+#[derive(Clone, Copy)]
 pub enum MaybeGroup {
     Group(usize),
     NoGroup,

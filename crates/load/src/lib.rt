@@ -15,7 +15,7 @@ ghost use Rattle.load.specs.Writing.{grow_number, append_number, append_answer, 
 use format::{Call, fields, kinds};
 
 // What stands at a position: a record's call with the position after it, the end, or the number of a refusal.
-#[derive(Drop)]
+#[derive(Clone, Copy)]
 pub enum Item {
     Record(Call, usize),
     End,
@@ -23,7 +23,7 @@ pub enum Item {
 }
 
 // The writer's answer: the length of the load with one record more, or the number of a refusal.
-#[derive(Drop)]
+#[derive(Clone, Copy)]
 pub enum Written {
     Length(usize),
     Refusal(u8),

@@ -20,14 +20,14 @@ pub use print::{Printed, put_line, show};
 pub use reports::report;
 
 // The length of the load that a text makes; or the first line that is wrong, and its number; or 15, at line 0.
-#[derive(Drop)]
+#[derive(Clone, Copy)]
 pub enum Made {
     Load(usize),
     Mistake(u64, u8),
 }
 
 // The heading of a text: the number of what is wrong with it, or 0; the edition; the lines that it takes up, and the place after them.
-#[derive(Drop)]
+#[derive(Clone, Copy)]
 pub struct Start {
     pub number: u8,
     pub edition: u8,

@@ -13,7 +13,7 @@ use words::sets::groups_of;
 use words::{Field, next_word, number, reasons, said_end};
 
 // What a line says: nothing, a call, or what is wrong with it.
-#[derive(Drop)]
+#[derive(Clone, Copy)]
 pub enum Parsed {
     Nothing,
     Said(Call),
@@ -21,7 +21,7 @@ pub enum Parsed {
 }
 
 // What a line says as the first of a show: nothing, its edition, something else, or what is wrong with it.
-#[derive(Drop)]
+#[derive(Clone, Copy)]
 pub enum Head {
     Silent,
     Edition(u8),

@@ -14,7 +14,7 @@ use format::{Call, fields};
 use load::Item;
 
 // The length of a text that stands at the start of a lent buffer, or 15 for one that does not go in.
-#[derive(Drop)]
+#[derive(Clone, Copy)]
 pub enum Printed {
     Length(usize),
     Refusal(u8),

@@ -46,7 +46,7 @@ fn goes(clock: u64, held: u64, free: u16, c: Claim) -> bool
 }
 
 // What granting gives: the table with its grants, and their tickets in ascending order.
-#[derive(Drop)]
+#[derive(Clone, Copy)]
 pub struct Granted {
     pub table: Table,
     pub count: usize,

@@ -15,7 +15,7 @@ use groups::MaybeGroup;
 use rules::{Claim, Reply, Setting, Table};
 
 // What placing gives: the table with one claim more, and what the claim is answered.
-#[derive(Drop)]
+#[derive(Clone, Copy)]
 pub struct Placed {
     pub table: Table,
     pub reply: Reply,

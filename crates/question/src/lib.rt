@@ -11,7 +11,7 @@ mod sentences;
 pub use questions::{Question, is_question, question_of};
 
 // The count of bytes at the start of a lent buffer; or the line asks no question; or the text does not go in (15).
-#[derive(Drop)]
+#[derive(Clone, Copy)]
 pub enum Asked {
     Written(usize),
     NoSuch,

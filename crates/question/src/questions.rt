@@ -7,7 +7,7 @@ ghost use Rattle.question.specs.Questions.{and_number, and_value, if_named, is_q
 use words::Field;
 
 // A question: how a ticket stands, why it waits, which group two tickets share, how many units are free, or none that there is.
-#[derive(Drop)]
+#[derive(Clone, Copy)]
 pub enum Question {
     Lookup(u16),
     Why(u16),
@@ -17,7 +17,7 @@ pub enum Question {
 }
 
 // The numbers behind a question's name: none, one, two, or not such numbers.
-#[derive(Drop)]
+#[derive(Clone, Copy)]
 pub enum Numbers {
     Empty,
     One(u16),

@@ -11,7 +11,7 @@ ghost use Rattle.reader.specs.Shown.{record_part, record_start, further};
 
 use load::Item;
 
-#[derive(Drop)]
+#[derive(Clone, Copy)]
 pub struct Reader<'a> {
     pub load: &'a [u8],
     pub at: usize,
@@ -83,7 +83,7 @@ pub fn advanced<'a>(r: Reader<'a>) -> Reader<'a>
 }
 
 // What a reader gives of a load, from its opening to its stop: how many records, and the number of the refusal, 0 at the end.
-#[derive(Drop)]
+#[derive(Clone, Copy)]
 pub struct Scanned {
     pub records: usize,
     pub stop: u8,

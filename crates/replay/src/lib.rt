@@ -92,7 +92,7 @@ pub fn put_stop(out: &mut [u8], at: usize, number: u8, k: u64) -> usize
 // ── the table that a load leaves ──
 
 // That table, and the number and the record of the stop: 0 and 0 for a load that is read to its end.
-#[derive(Drop)]
+#[derive(Clone, Copy)]
 pub struct Replayed {
     pub table: Table,
     pub stop: u8,

@@ -5,7 +5,7 @@ ghost use Rattle.std.specs.Prelude.{◌≡◌};
 ghost use Rattle.rules.specs.Calls.{asking};
 
 // "A pending claim is either waiting, with a planned start, or on, with the clock of its grant."
-#[derive(Drop)]
+#[derive(Clone, Copy)]
 pub enum Phase {
     Waiting(u64),
     On(u64),
@@ -13,7 +13,7 @@ pub enum Phase {
 
 // A claim: its set of groups (2^g for group g), its phase, its declared length in ticks, its ticket, the units that it draws from the pool,
 // its client (document 02: desk). Fields in this order make it 40 bytes.
-#[derive(Drop)]
+#[derive(Clone, Copy)]
 pub struct Claim {
     pub groups: u64,
     pub phase: Phase,
@@ -24,7 +24,7 @@ pub struct Claim {
 }
 
 // What a claim asks for: a set of groups, a length in ticks, and units of the pool; and which client asks.
-#[derive(Drop)]
+#[derive(Clone, Copy)]
 pub struct Request {
     pub groups: u64,
     pub length: u32,
@@ -33,7 +33,7 @@ pub struct Request {
 }
 
 // What an accepted call answers, beside its grants. `contention` and `bound` are document 01's crowd and ceiling.
-#[derive(Drop)]
+#[derive(Clone, Copy)]
 pub struct Reply {
     pub ticket: u16,
     pub start: u64,
@@ -43,7 +43,7 @@ pub struct Reply {
 
 // What the rules of one call go by: its clock, the units in the pool (k followspots that do the same work), and the grace, the time in ticks
 // that a holder past its promised end is expected to need from the clock on.
-#[derive(Drop)]
+#[derive(Clone, Copy)]
 pub struct Setting {
     pub clock: u64,
     pub pool: u16,
@@ -51,7 +51,7 @@ pub struct Setting {
 }
 
 // A client's share of the table: whether it is declared, the places reserved for it (document 02: its guarantee), and its limit.
-#[derive(Drop)]
+#[derive(Clone, Copy)]
 pub struct Share {
     pub declared: bool,
     pub reserved: u8,
@@ -60,7 +60,7 @@ pub struct Share {
 
 // The table. The shares are those of clients 1 to 8. The first `count` places hold the pending claims in ascending order of ticket; the
 // others are vacant. Fields in this order make its head 56 bytes.
-#[derive(Drop)]
+#[derive(Clone, Copy)]
 pub struct Table {
     pub rig: u64,
     pub clock: u64,
@@ -73,7 +73,7 @@ pub struct Table {
 }
 
 // What a lookup tells of a ticket: not pending (8), waiting with its planned start, or on with its promised end.
-#[derive(Drop)]
+#[derive(Clone, Copy)]
 pub enum Standing {
     NotPending,
     Waits(u64),
@@ -81,7 +81,7 @@ pub enum Standing {
 }
 
 // What a lookup tells of two tickets: one of them is not pending (8), the lowest group that both their claims have, or none.
-#[derive(Drop)]
+#[derive(Clone, Copy)]
 pub enum Common {
     Unknown,
     Shared(usize),
@@ -90,7 +90,7 @@ pub enum Common {
 
 // What a lookup tells of why a ticket waits: 8 where it is not pending, 10 where it is on; else 0 and the tickets of its blocking chain, in
 // the first `count` places, 0 behind them.
-#[derive(Drop)]
+#[derive(Clone, Copy)]
 pub struct Blocking {
     pub number: u8,
     pub count: usize,

@@ -24,7 +24,7 @@ use rules::{Blocking, Claim, Common, Phase, Reply, Request, Setting, Share, Stan
 
 // What a call hands back. `number` is 0 or the refusal's; `contention` and `bound` are document 01's crowd and ceiling; the first
 // `granted` of `grants` are the tickets granted, in ascending order.
-#[derive(Drop)]
+#[derive(Clone, Copy)]
 pub struct Outcome {
     pub table: Table,
     pub number: u8,
@@ -363,7 +363,7 @@ fn phase_number(releasing: bool, s: Standing) -> u8
 }
 
 // How the claim of a ticket stood, and the table without it.
-#[derive(Drop)]
+#[derive(Clone, Copy)]
 pub struct Taken {
     pub standing: Standing,
     pub table: Table,

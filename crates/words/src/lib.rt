@@ -15,14 +15,14 @@ pub mod sets;
 pub use reports::{Reported, report, wants_form};
 
 // A word of a line, from its first byte to after its last. Both are equal where there is no word.
-#[derive(Drop)]
+#[derive(Clone, Copy)]
 pub struct Word {
     pub from: usize,
     pub to: usize,
 }
 
 // What a word says, or the reason why it says nothing.
-#[derive(Drop)]
+#[derive(Clone, Copy)]
 pub enum Field {
     Value(u64),
     Wrong(u8),
@@ -47,7 +47,7 @@ fn digit(b: u8) -> u64
 }
 
 // What a word may lack: a comma or a dash; a byte that is no digit of a base.
-#[derive(Drop)]
+#[derive(Clone, Copy)]
 pub enum Mark {
     Joint,
     NoDigit(u64),

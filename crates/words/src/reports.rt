@@ -105,7 +105,7 @@ fn put_report(out: &mut [u8], line: u64, reason: u8, form: &[u8]) -> usize
 }
 
 // Such a line, in the first bytes of 128. It has at most 122.
-#[derive(Drop)]
+#[derive(Clone, Copy)]
 pub struct Reported {
     pub text: [u8; 128],
     pub length: usize,

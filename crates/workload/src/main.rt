@@ -5,7 +5,7 @@
 use load::Written;
 use words::Field;
 
-#[derive(Drop)]
+#[derive(Clone, Copy)]
 pub enum MaybeNumber {
     Number(u32),
     NoNumber,
