@@ -1,0 +1,8 @@
+-- `pool::event` meets its contract. Assumes nothing.
+use mathlib.Core.Path.{refl}
+use Rattle.plan.specs.Events.{event_word}
+use Rattle.plan.proofs.pool.event.Goals as goal
+
+pub returns : goal.returns
+unfolding event_word
+returns c = refl
