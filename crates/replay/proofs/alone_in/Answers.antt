@@ -4,22 +4,17 @@ use mathlib.Core.List.{List, [], ◌∷◌}
 use mathlib.Core.Bool.{true}
 use Prim.Native.Nat.{ℕ}
 use lib.ListN.{length}
-use borrow.Author.Rules.{rules}
 use Rattle.replay.specs.Records.{alone_in}
-use Rattle.replay.proofs.alone_in.Statement.{statement}
-use Rattle.replay.proofs.alone_in.Tie as tie
+use Rattle.replay.proofs.alone_in.Goals as goal
 
 none : (s : List ℕ) → length s ≡ 0 → true ≡ alone_in s
 unfolding alone_in
 none [] e = refl
 none (x ∷ s) e = absurd (omega arith)
 
-returns : tie.Need-returns
-returns c = none _ c.if1.true
+pub returns-then-load-eq0 : goal.returns-then-load-eq0
+returns-then-load-eq0 c = none _ c.if-load-eq0.true
 
-returns-2 : tie.Need-returns-2
+pub returns : goal.returns
 unfolding alone_in
-returns-2 c = refl
-
-pub alone-in-spec : {M : Type 1} → statement M
-alone-in-spec = tie.close (tie.spec returns (λ c. search rules) returns-2)
+returns c = refl
