@@ -11,7 +11,7 @@ returns-then-out-n c =
 pub slice_bounds-own-end : goal.slice_bounds-own-end
 slice_bounds-own-end c =
     let n = own-length _ _ c.requires _ _ _ c.room-own.ensures c.lay-n.ensures in
-    omega (arith, n.0, n.1, c.lay-n.auto.1.1.0, c.room-own.ensures)
+    omega (arith, n.0, n.1, c.lay-n.auto.out, c.room-own.ensures)
 
 pub slice_bounds-put_bytes-end : goal.slice_bounds-put_bytes-end
 slice_bounds-put_bytes-end c =
