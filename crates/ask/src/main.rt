@@ -5,6 +5,7 @@
 ghost use Rattle.std.specs.Prelude.{◌≤◌, length};
 
 use question::Asked;
+use std::env::Env;
 
 // A space behind what a line has so far, if it has anything: the place after it.
 fn spaced(line: &mut [u8], at: usize) -> usize {
@@ -15,62 +16,62 @@ fn spaced(line: &mut [u8], at: usize) -> usize {
 }
 
 // The arguments joined by single spaces at the start of a line: its length. Where they do not go in it is empty, and asks nothing.
-fn joined(line: &mut [u8]) -> usize
+fn joined(rt: &impl Env, line: &mut [u8]) -> usize
     ensures { result ≤ length line.new }
 {
-    let count = os::arg_count();
     let mut n: usize = 0;
-    let mut i: usize = 1;
-    while i < count {
+    for i in 1..usize::MAX {
+        if !streams::has_argument(rt, i) {
+            break;
+        }
         let at = spaced(line, n);
         if line.len() < at {
             return 0;
         }
-        let size = os::arg(i, &mut line[at..]);
-        if os::errno() != 0 {
+        let Ok(size) = rt.arg(i, &mut line[at..]) else {
             return 0;
-        }
+        };
         n = at + size;
-        i += 1;
     }
     n
 }
 
-fn tell_usage() {
+fn tell_usage(rt: &impl Eprint) {
     streams::tell_usage(
-        b"ask lookup TICKET < LOAD\n       ask common TICKET TICKET < LOAD\n       ask free < LOAD\n       ask why TICKET < LOAD",
+        rt,
+        "ask lookup TICKET < LOAD\n       ask common TICKET TICKET < LOAD\n       ask free < LOAD\n       ask why TICKET < LOAD",
     );
 }
 
 // `text` is for any answer: the longest, a blocking chain of 64, is within 5,175 bytes.
-fn print(load: &[u8], line: &[u8]) {
+fn print(rt: &(impl Print + Eprint + Alloc), load: &[u8], line: &[u8]) {
     let mut text = [0u8; 5175];
     match question::answer(load, line, &mut text) {
         Asked::Written(n) => {
-            streams::write_output(b"ask", &text[..n]);
+            streams::write_output(rt, "ask", &text[..n]);
         }
-        Asked::NoSuch => tell_usage(),
+        Asked::NoSuch => tell_usage(rt),
         Asked::NoRoom => {}
     }
 }
 
 // `room` is for the longest load and one byte more.
-fn run(line: &[u8], mut room: [u8; 65537]) {
+fn run(rt: &(impl Input + Print + Eprint + Alloc), line: &[u8], mut room: [u8; 65537]) {
     let q = question::question_of(line);
     if !question::is_question(q) {
-        tell_usage();
+        tell_usage(rt);
         return;
     }
-    let input = streams::read_input(b"ask", &mut room);
+    let input = streams::read_input(rt, "ask", &mut room);
     if input.failed {
         return;
     }
     let n = input.length;
-    print(&room[..n], line);
+    print(rt, &room[..n], line);
 }
 
-fn main() {
-    let mut line = io::buffer();
-    let n = joined(&mut line);
-    run(&line[..n], [0; 65537]);
+fn main(rt: HostRuntime) {
+    let mut line = [0u8; 4096];
+    let n = joined(&rt, &mut line);
+    run(&rt, &line[..n], [0; 65537]);
 }

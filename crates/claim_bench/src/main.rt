@@ -34,15 +34,19 @@ fn hundred(t: Table, clock: u64, from: u64) -> u64
     let mut i: u64 = 0;
     while i < 100 {
         let r = table::claim(t, clock, rules::asking(pair(i, i * 5 + 1), 40));
-        sum = std::num::wrapping_add_u64(sum, r.start);
+        sum = sum.wrapping_add(r.start);
         i += 1;
     }
     sum
 }
 
-fn main() {
+fn main(rt: HostRuntime) {
     let mut input = [0u8; 4096];
-    let bytes = io::read_full(0, &mut input);
+    let read = streams::read_input(&rt, "claim_bench", &mut input);
+    if read.failed {
+        return;
+    }
+    let bytes = read.length;
     let t = pending();
     let mut clock: u64 = 0;
     if input[0] == b'o' {
@@ -54,6 +58,5 @@ fn main() {
         sum = hundred(t, clock, sum);
         i += 1;
     }
-    io::print_decimal(1, sum);
-    io::write_all(1, b"\n");
+    let _ = println!(rt; "{sum}");
 }

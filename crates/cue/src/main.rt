@@ -18,21 +18,21 @@ fn listing_buffer() -> [u8; 1409024]
     [0; 1409024]
 }
 
-fn print(load: &[u8]) {
+fn print(rt: &(impl Print + Eprint + Alloc), load: &[u8]) {
     let mut out = listing_buffer();
     let n = listing::belgwyth_listing(load, &mut out);
-    streams::write_output(b"cue", &out[..n]);
+    streams::write_output(rt, "cue", &out[..n]);
 }
 
-fn main() {
-    if streams::has_arguments(b"cue < LOAD") {
+fn main(rt: HostRuntime) {
+    if streams::has_arguments(&rt, "cue < LOAD") {
         return;
     }
     let mut load = load_buffer();
-    let input = streams::read_input(b"cue", &mut load);
+    let input = streams::read_input(&rt, "cue", &mut load);
     if input.failed {
         return;
     }
     let n = input.length;
-    print(&load[..n]);
+    print(&rt, &load[..n]);
 }

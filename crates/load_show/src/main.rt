@@ -4,28 +4,28 @@
 use load_text::Printed;
 
 // `room` is for the text of any load.
-fn print(load: &[u8], mut room: [u8; 196666]) {
+fn print(rt: &(impl Print + Eprint + Alloc), load: &[u8], mut room: [u8; 196666]) {
     match load_text::show(load, &mut room) {
         Printed::Length(n) => {
-            streams::write_output(b"load_show", &room[..n]);
+            streams::write_output(rt, "load_show", &room[..n]);
         }
         Printed::Refusal(_n) => {}
     }
 }
 
 // `room` is for the longest load and one byte more.
-fn run(mut room: [u8; 65537]) {
-    let input = streams::read_input(b"load_show", &mut room);
+fn run(rt: &(impl Input + Print + Eprint + Alloc), mut room: [u8; 65537]) {
+    let input = streams::read_input(rt, "load_show", &mut room);
     if input.failed {
         return;
     }
     let n = input.length;
-    print(&room[..n], [0; 196666]);
+    print(rt, &room[..n], [0; 196666]);
 }
 
-fn main() {
-    if streams::has_arguments(b"load_show < LOAD") {
+fn main(rt: HostRuntime) {
+    if streams::has_arguments(&rt, "load_show < LOAD") {
         return;
     }
-    run([0; 65537]);
+    run(&rt, [0; 65537]);
 }

@@ -4,40 +4,40 @@
 
 use load_text::Made;
 
-fn fail(text: &[u8], line: u64, reason: u8) {
+fn fail(rt: &impl Eprint, text: &[u8], line: u64, reason: u8) {
     let r = load_text::report(text, line, reason);
     let told = r.text;
     let n = r.length;
-    io::write_all(2, &told[..n]);
+    streams::tell(rt, &told[..n]);
 }
 
-fn write(text: &[u8]) {
-    let mut load = io::large_buffer();
+fn write(rt: &(impl Print + Eprint + Alloc), text: &[u8]) {
+    let mut load = [0u8; 65536];
     match load_text::make(text, &mut load) {
         Made::Load(n) => {
-            streams::write_output(b"load_write", &load[..n]);
+            streams::write_output(rt, "load_write", &load[..n]);
         }
-        Made::Mistake(line, reason) => fail(text, line, reason),
+        Made::Mistake(line, reason) => fail(rt, text, line, reason),
     }
 }
 
 // `room` is for the longest text and one byte more.
-fn run(mut room: [u8; 1048577]) {
-    let input = streams::read_input(b"load_write", &mut room);
+fn run(rt: &(impl Input + Print + Eprint + Alloc), mut room: [u8; 1048577]) {
+    let input = streams::read_input(rt, "load_write", &mut room);
     if input.failed {
         return;
     }
     let n = input.length;
     if 1048576 < n {
-        io::write_all(2, b"text over 1,048,576 bytes\n");
+        streams::tell(rt, b"text over 1,048,576 bytes\n");
         return;
     }
-    write(&room[..n]);
+    write(rt, &room[..n]);
 }
 
-fn main() {
-    if streams::has_arguments(b"load_write < SHOW > LOAD") {
+fn main(rt: HostRuntime) {
+    if streams::has_arguments(&rt, "load_write < SHOW > LOAD") {
         return;
     }
-    run([0; 1048577]);
+    run(&rt, [0; 1048577]);
 }

@@ -132,12 +132,12 @@ fn put_pairs(out: &mut [u8], t: Table) -> usize
 }
 
 // At most 193 pairs, a line of 23 bytes for each, go into this room.
-fn print_pairs(t: Table, mut room: [u8; 8192])
+fn print_pairs(rt: &impl Print, t: Table, mut room: [u8; 8192])
     requires { Valid t }
 {
     let n = put_pairs(&mut room, t);
     if n <= 8192 {
-        io::write_all(1, &room[..n]);
+        let _ = rt.write_all(&room[..n]);
     }
 }
 
@@ -200,17 +200,17 @@ fn put_chains(out: &mut [u8], t: Table) -> usize
 }
 
 // At most 65 chains, a line of 399 bytes for each, go into this room.
-fn print_chains(t: Table, mut room: [u8; 32768])
+fn print_chains(rt: &impl Print, t: Table, mut room: [u8; 32768])
     requires { Valid t }
 {
     let n = put_chains(&mut room, t);
     if n <= 32768 {
-        io::write_all(1, &room[..n]);
+        let _ = rt.write_all(&room[..n]);
     }
 }
 
 // A record's lines: at most 64 tickets are pending, so they go into this room.
-fn print(k: u64, o: Outcome, mut room: [u8; 4096])
+fn print(rt: &impl Print, k: u64, o: Outcome, mut room: [u8; 4096])
     requires { Valid o.table }
 {
     let a = put_answer(&mut room, k, o);
@@ -218,13 +218,13 @@ fn print(k: u64, o: Outcome, mut room: [u8; 4096])
     let m = put_free(&mut room, a, t);
     let n = put_standings(&mut room, m, t);
     if n <= 4096 {
-        io::write_all(1, &room[..n]);
+        let _ = rt.write_all(&room[..n]);
     }
 }
 
 // The records to the load's end or the first refusal of the reader; a rig without groups and a declaration that comes late end them too. A
 // load has fewer records than bytes.
-fn records(load: &[u8]) {
+fn records(rt: &impl Print, load: &[u8]) {
     let alone = replay::alone_in(load);
     let none = table::new(0, 0, true);
     let mut t = none.table;
@@ -235,9 +235,9 @@ fn records(load: &[u8]) {
         match load::record_at(load, at) {
             Item::Record(call, next) => {
                 let o = replay::act(t, alone, call);
-                print(k, o, [0; 4096]);
-                print_pairs(o.table, [0; 8192]);
-                print_chains(o.table, [0; 32768]);
+                print(rt, k, o, [0; 4096]);
+                print_pairs(rt, o.table, [0; 8192]);
+                print_chains(rt, o.table, [0; 32768]);
                 if k == 1 && o.number != 0 {
                     return;
                 }
@@ -257,14 +257,18 @@ fn records(load: &[u8]) {
     }
 }
 
-fn run(mut room: [u8; 65537]) {
-    let n = io::read_full(0, &mut room);
+fn run(rt: &(impl Input + Print + Eprint + Alloc), mut room: [u8; 65537]) {
+    let input = streams::read_input(rt, "try_answers", &mut room);
+    if input.failed {
+        return;
+    }
+    let n = input.length;
     let load = &room[..n];
     if load::open_number(load) == 0 {
-        records(load);
+        records(rt, load);
     }
 }
 
-fn main() {
-    run([0; 65537]);
+fn main(rt: HostRuntime) {
+    run(&rt, [0; 65537]);
 }

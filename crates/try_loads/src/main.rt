@@ -18,63 +18,68 @@ fn first(s: &[u8], n: usize) -> &[u8] {
     s
 }
 
+// Bytes on standard output. A write that fails is not told.
+fn say(rt: &impl Print, bytes: &[u8]) {
+    let _ = rt.write_all(bytes);
+}
+
 // A line: a word and a number.
-fn print_one(word: &[u8], a: u64) {
+fn print_one(rt: &impl Print, word: &[u8], a: u64) {
     let mut room = [0u8; 64];
     let m = numerals::put_bytes(&mut room, 0, word);
     let n = numerals::put_column(&mut room, m, a, 10);
-    io::write_all(1, first(&room, n));
+    say(rt, first(&room, n));
 }
 
 // A line: a word and two numbers.
-fn print_two(word: &[u8], a: u64, b: u64) {
+fn print_two(rt: &impl Print, word: &[u8], a: u64, b: u64) {
     let mut room = [0u8; 64];
     let m = numerals::put_bytes(&mut room, 0, word);
     let n = numerals::put_pair(&mut room, m, a, b, 10);
-    io::write_all(1, first(&room, n));
+    say(rt, first(&room, n));
 }
 
 // A line: a word and 1 or 0.
-fn print_test(word: &[u8], yes: bool) {
+fn print_test(rt: &impl Print, word: &[u8], yes: bool) {
     if yes {
-        print_one(word, 1);
+        print_one(rt, word, 1);
     } else {
-        print_one(word, 0);
+        print_one(rt, word, 0);
     }
 }
 
 // ---- reading
-fn scan(load: &[u8]) {
+fn scan(rt: &impl Print, load: &[u8]) {
     let s = reader::scan(load);
-    print_two(b"scan ", s.records as u64, s.stop as u64);
+    print_two(rt, b"scan ", s.records as u64, s.stop as u64);
 }
 
-fn print_record(load: &[u8], at: usize) {
+fn print_record(rt: &impl Print, load: &[u8], at: usize) {
     let part = reader::part_at(load, at);
-    print_two(b"record ", at as u64, part.len() as u64);
+    print_two(rt, b"record ", at as u64, part.len() as u64);
 }
 
-fn print_stop(at: usize, number: u8) {
-    print_two(b"stop ", at as u64, number as u64);
+fn print_stop(rt: &impl Print, at: usize, number: u8) {
+    print_two(rt, b"stop ", at as u64, number as u64);
 }
 
 // The records from the first on, and where the reader stops. A load has fewer records than bytes.
-fn records(load: &[u8]) {
+fn records(rt: &impl Print, load: &[u8]) {
     let mut at: usize = 1;
     let mut k: u64 = 0;
     while k < 65536 {
         match reader::item_at(load, at) {
             Item::Record(_call, _next) => {
-                print_record(load, at);
+                print_record(rt, load, at);
                 at = reader::position_after(load, at);
                 k += 1;
             }
             Item::End => {
-                print_stop(at, 0);
+                print_stop(rt, at, 0);
                 return;
             }
             Item::Refused(n) => {
-                print_stop(at, n);
+                print_stop(rt, at, n);
                 return;
             }
         }
@@ -83,14 +88,14 @@ fn records(load: &[u8]) {
 
 // ---- writing
 // The writer's answer in a line. Gives the new length, 0 where it is a refusal.
-fn print_written(w: Written) -> usize {
+fn print_written(rt: &impl Print, w: Written) -> usize {
     match w {
         Written::Length(n) => {
-            print_two(b"append ", 0, n as u64);
+            print_two(rt, b"append ", 0, n as u64);
             n
         }
         Written::Refusal(r) => {
-            print_two(b"append ", r as u64, 0);
+            print_two(rt, b"append ", r as u64, 0);
             0
         }
     }
@@ -111,38 +116,38 @@ fn equal(a: &[u8], b: &[u8]) -> bool {
 }
 
 // One call more after the n bytes of one buffer, into the other.
-fn grow(from: &[u8], n: usize, call: Call, to: &mut [u8]) -> usize {
+fn grow(rt: &impl Print, from: &[u8], n: usize, call: Call, to: &mut [u8]) -> usize {
     let load = first(from, n);
     let w = load::append(load, call, to);
-    print_written(w)
+    print_written(rt, w)
 }
 
 // The k-th call goes from the first buffer into the second where k is even, else back.
-fn turn(k: u64, n: usize, call: Call, a: &mut [u8], b: &mut [u8]) -> usize {
+fn turn(rt: &impl Print, k: u64, n: usize, call: Call, a: &mut [u8], b: &mut [u8]) -> usize {
     if k % 2 == 0 {
-        return grow(a, n, call, b);
+        return grow(rt, a, n, call, b);
     }
-    grow(b, n, call, a)
+    grow(rt, b, n, call, a)
 }
 
 // After k calls the n bytes written, against the part of the load that was read.
-fn compare(read: &[u8], k: u64, n: usize, a: &[u8], b: &[u8]) {
+fn compare(rt: &impl Print, read: &[u8], k: u64, n: usize, a: &[u8], b: &[u8]) {
     if k % 2 == 0 {
-        print_test(b"same ", equal(read, first(a, n)));
+        print_test(rt, b"same ", equal(read, first(a, n)));
     } else {
-        print_test(b"same ", equal(read, first(b, n)));
+        print_test(rt, b"same ", equal(read, first(b, n)));
     }
 }
 
 // The calls of a load, written again after its edition byte.
-fn rewrite(load: &[u8], a: &mut [u8], b: &mut [u8]) {
+fn rewrite(rt: &impl Print, load: &[u8], a: &mut [u8], b: &mut [u8]) {
     let mut n = numerals::put_bytes(a, 0, first(load, 1));
     let mut at: usize = 1;
     let mut k: u64 = 0;
     while k < 65536 {
         match reader::item_at(load, at) {
             Item::Record(call, next) => {
-                n = turn(k, n, call, a, b);
+                n = turn(rt, k, n, call, a, b);
                 at = next;
                 k += 1;
             }
@@ -154,7 +159,7 @@ fn rewrite(load: &[u8], a: &mut [u8], b: &mut [u8]) {
             }
         }
     }
-    compare(first(load, at), k, n, a, b);
+    compare(rt, first(load, at), k, n, a, b);
 }
 
 // A lent buffer with room for any load, each byte 170.
@@ -164,19 +169,19 @@ fn lent() -> [u8; 65536]
     [170; 65536]
 }
 
-fn attempt(load: &[u8], call: Call, out: &mut [u8]) {
+fn attempt(rt: &impl Print, load: &[u8], call: Call, out: &mut [u8]) {
     let before = lent();
     let w = load::append(load, call, out);
-    print_written(w);
-    print_test(b"kept ", equal(out, first(&before, out.len())));
+    print_written(rt, w);
+    print_test(rt, b"kept ", equal(out, first(&before, out.len())));
 }
 
 // A call appended to the load as it stands, with room for any load and with room for one byte.
-fn attempts(load: &[u8], call: Call) {
+fn attempts(rt: &impl Print, load: &[u8], call: Call) {
     let mut long = lent();
-    attempt(load, call, &mut long);
+    attempt(rt, load, call, &mut long);
     let mut short = [170u8; 1];
-    attempt(load, call, &mut short);
+    attempt(rt, load, call, &mut short);
 }
 
 // A call of client 1 without a ticket.
@@ -196,41 +201,45 @@ fn call(kind: u8, clock: u64, groups: u64, length: u32, pool: u16, units: u16) -
     }
 }
 
-fn rewritten(load: &[u8]) {
+fn rewritten(rt: &impl Print, load: &[u8]) {
     let mut a = lent();
     let mut b = lent();
-    rewrite(load, &mut a, &mut b);
+    rewrite(rt, load, &mut a, &mut b);
 }
 
-fn print(load: &[u8]) {
-    scan(load);
-    records(load);
+fn print(rt: &impl Print, load: &[u8]) {
+    scan(rt, load);
+    records(rt, load);
     if load::open_number(load) == 0 {
-        rewritten(load);
+        rewritten(rt, load);
     }
-    attempts(load, call(1, 0, 15, 0, 0, 0));
-    attempts(load, call(5, 1, 0, 0, 0, 0));
-    attempts(load, call(1, 0, 15, 0, 3, 0));
-    attempts(load, call(2, 1, 1, 1, 0, 2));
+    attempts(rt, load, call(1, 0, 15, 0, 0, 0));
+    attempts(rt, load, call(5, 1, 0, 0, 0, 0));
+    attempts(rt, load, call(1, 0, 15, 0, 3, 0));
+    attempts(rt, load, call(2, 1, 1, 1, 0, 2));
     let mut c = call(2, 1, 1, 1, 0, 0);
     c.client = 2;
-    attempts(load, c);
+    attempts(rt, load, c);
     let mut d = call(6, 0, 0, 0, 0, 0);
     d.client = 2;
     d.reserved = 3;
     d.limit = 4;
-    attempts(load, d);
+    attempts(rt, load, d);
     let mut e = call(8, 0, 0, 0, 0, 0);
     e.grace = 60000;
-    attempts(load, e);
+    attempts(rt, load, e);
 }
 
 // `room` is for the longest load and one byte more.
-fn run(mut room: [u8; 65537]) {
-    let n = io::read_full(0, &mut room);
-    print(&room[..n]);
+fn run(rt: &(impl Input + Print + Eprint + Alloc), mut room: [u8; 65537]) {
+    let input = streams::read_input(rt, "try_loads", &mut room);
+    if input.failed {
+        return;
+    }
+    let n = input.length;
+    print(rt, &room[..n]);
 }
 
-fn main() {
-    run([0; 65537]);
+fn main(rt: HostRuntime) {
+    run(&rt, [0; 65537]);
 }

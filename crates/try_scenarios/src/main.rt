@@ -8,104 +8,107 @@ ghost use Rattle.table.specs.Valid.{Valid};
 use rules::{Request, Standing, Table};
 use table::Outcome;
 
-fn number(n: u64) {
-    io::write_all(1, b" ");
-    io::print_decimal(1, n);
+// A write that fails is not told.
+fn say(rt: &impl Print, text: &str) {
+    let _ = rt.print(text);
 }
 
-fn plot(n: u64) {
-    io::print_decimal(1, n);
-    io::write_all(1, b":");
+fn number(rt: &impl Print, n: u64) {
+    let _ = print!(rt; " {n}");
 }
 
-fn grants(r: Outcome) {
+fn plot(rt: &impl Print, n: u64) {
+    let _ = print!(rt; "{n}:");
+}
+
+fn grants(rt: &impl Print, r: Outcome) {
     let granted = r.granted;
     if granted == 0 {
         return;
     }
-    io::write_all(1, b" on");
+    say(rt, " on");
     let mut i: usize = 0;
     while i < 64 {
         if granted <= i {
             return;
         }
-        number(r.grants[i] as u64);
+        number(rt, r.grants[i] as u64);
         i += 1;
     }
 }
 
-fn answer(r: Outcome) {
-    number(r.number as u64);
-    number(r.ticket as u64);
-    number(r.start);
-    number(r.contention);
-    number(r.bound);
-    grants(r);
-    io::write_all(1, b";");
+fn answer(rt: &impl Print, r: Outcome) {
+    number(rt, r.number as u64);
+    number(rt, r.ticket as u64);
+    number(rt, r.start);
+    number(rt, r.contention);
+    number(rt, r.bound);
+    grants(rt, r);
+    say(rt, ";");
 }
 
 // ── calls that are shown ──
 
-fn claim(t: Table, clock: u64, groups: u64, length: u32) -> Table
+fn claim(rt: &impl Print, t: Table, clock: u64, groups: u64, length: u32) -> Table
     requires { Valid t }
     ensures { Valid result }
 {
     let r = table::claim(t, clock, rules::asking(groups, length));
-    answer(r);
+    answer(rt, r);
     r.table
 }
 
-fn release(t: Table, clock: u64, ticket: u16) -> Table
+fn release(rt: &impl Print, t: Table, clock: u64, ticket: u16) -> Table
     requires { Valid t }
     ensures { Valid result }
 {
     let r = table::release(t, clock, ticket);
-    answer(r);
+    answer(rt, r);
     r.table
 }
 
-fn withdraw(t: Table, clock: u64, ticket: u16) -> Table
+fn withdraw(rt: &impl Print, t: Table, clock: u64, ticket: u16) -> Table
     requires { Valid t }
     ensures { Valid result }
 {
     let r = table::withdraw(t, clock, ticket);
-    answer(r);
+    answer(rt, r);
     r.table
 }
 
-fn clock(t: Table, clock: u64) -> Table
+fn clock(rt: &impl Print, t: Table, clock: u64) -> Table
     requires { Valid t }
     ensures { Valid result }
 {
     let r = table::clock(t, clock);
-    answer(r);
+    answer(rt, r);
     r.table
 }
 
-fn look(t: Table, ticket: u16)
+fn look(rt: &impl Print, t: Table, ticket: u16)
     requires { Valid t }
 {
-    number(ticket as u64);
+    number(rt, ticket as u64);
     let s = table::lookup(t, ticket);
     match s {
         Standing::NotPending => {
-            io::write_all(1, b" 8;");
+            say(rt, " 8;");
         }
         Standing::Waits(start) => {
-            io::write_all(1, b" waits");
-            number(start);
-            io::write_all(1, b";");
+            say(rt, " waits");
+            number(rt, start);
+            say(rt, ";");
         }
         Standing::Holds(end) => {
-            io::write_all(1, b" on until");
-            number(end);
-            io::write_all(1, b";");
+            say(rt, " on until");
+            number(rt, end);
+            say(rt, ";");
         }
     }
 }
 
-fn end() {
-    io::write_all(1, b"\n");
+fn end(rt: &impl Print) {
+    say(rt, "\n");
 }
 
 // ── calls that are not ──
@@ -143,68 +146,68 @@ fn three() -> Table
 
 // ── the plots ──
 
-fn plots_1_to_4() {
-    plot(1);
-    let t = claim(rig(0xF), 0, 0x8, 10);
-    end();
-    plot(2);
-    let u = claim(t, 0, 0xC, 10);
-    end();
-    plot(3);
-    claim(u, 0, 0x6, 11);
-    end();
-    plot(4);
-    claim(u, 0, 0x6, 10);
-    end();
+fn plots_1_to_4(rt: &impl Print) {
+    plot(rt, 1);
+    let t = claim(rt, rig(0xF), 0, 0x8, 10);
+    end(rt);
+    plot(rt, 2);
+    let u = claim(rt, t, 0, 0xC, 10);
+    end(rt);
+    plot(rt, 3);
+    claim(rt, u, 0, 0x6, 11);
+    end(rt);
+    plot(rt, 4);
+    claim(rt, u, 0, 0x6, 10);
+    end(rt);
 }
 
-fn plots_5_to_8() {
+fn plots_5_to_8(rt: &impl Print) {
     let s = three();
-    plot(5);
-    let t = claim(s, 0, 0x3, 20);
-    end();
-    plot(6);
-    claim(s, 0, 0x3, 21);
-    end();
-    plot(7);
-    let u = release(t, 4, 1);
-    look(u, 3);
-    end();
-    plot(8);
-    let v = release(s, 4, 1);
-    look(v, 3);
-    end();
+    plot(rt, 5);
+    let t = claim(rt, s, 0, 0x3, 20);
+    end(rt);
+    plot(rt, 6);
+    claim(rt, s, 0, 0x3, 21);
+    end(rt);
+    plot(rt, 7);
+    let u = release(rt, t, 4, 1);
+    look(rt, u, 3);
+    end(rt);
+    plot(rt, 8);
+    let v = release(rt, s, 4, 1);
+    look(rt, v, 3);
+    end(rt);
 }
 
-fn plots_9_and_10() {
+fn plots_9_and_10(rt: &impl Print) {
     let s = three();
-    plot(9);
-    withdraw(s, 0, 2);
-    end();
-    plot(10);
-    let t = clock(s, 12);
-    look(t, 2);
-    look(t, 3);
-    let u = clock(t, 11);
-    clock(u, 12);
-    end();
+    plot(rt, 9);
+    withdraw(rt, s, 0, 2);
+    end(rt);
+    plot(rt, 10);
+    let t = clock(rt, s, 12);
+    look(rt, t, 2);
+    look(rt, t, 3);
+    let u = clock(rt, t, 11);
+    clock(rt, u, 12);
+    end(rt);
 }
 
-fn plots_11_and_12() {
+fn plots_11_and_12(rt: &impl Print) {
     let t = rig(0xF);
-    plot(11);
-    let u = claim(t, 0, 0x10, 1);
-    let v = claim(u, 0, 0x1, 3_600_000);
-    let w = claim(v, 0, 0x1, 3_600_001);
-    claim(w, 0, 0x1, 0);
-    end();
+    plot(rt, 11);
+    let u = claim(rt, t, 0, 0x10, 1);
+    let v = claim(rt, u, 0, 0x1, 3_600_000);
+    let w = claim(rt, v, 0, 0x1, 3_600_001);
+    claim(rt, w, 0, 0x1, 0);
+    end(rt);
     let s = three();
-    plot(12);
-    release(s, 0, 2);
-    withdraw(s, 0, 1);
-    release(s, 0, 0);
-    withdraw(s, 0, 0);
-    end();
+    plot(rt, 12);
+    release(rt, s, 0, 2);
+    withdraw(rt, s, 0, 1);
+    release(rt, s, 0, 0);
+    withdraw(rt, s, 0, 0);
+    end(rt);
 }
 
 // 64 claims of one group, of which the first is on.
@@ -220,25 +223,23 @@ fn full() -> Table
     t
 }
 
-fn plots_13_and_14() {
+fn plots_13_and_14(rt: &impl Print) {
     let t = full();
-    plot(13);
-    let u = claim(t, 0, 0x2, 5);
-    let v = release(u, 0, 1);
-    claim(v, 0, 0x2, 5);
-    end();
-    plot(14);
-    let w = clock(rig(0xF), 5);
-    claim(w, 4, 0, 1);
-    end();
+    plot(rt, 13);
+    let u = claim(rt, t, 0, 0x2, 5);
+    let v = release(rt, u, 0, 1);
+    claim(rt, v, 0, 0x2, 5);
+    end(rt);
+    plot(rt, 14);
+    let w = clock(rt, rig(0xF), 5);
+    claim(rt, w, 4, 0, 1);
+    end(rt);
 }
 
 // ── every ticket issued ──
 
-fn line(text: &[u8], n: u64) {
-    io::write_all(1, text);
-    io::print_decimal(1, n);
-    io::write_all(1, b"\n");
+fn line(rt: &impl Print, text: &str, n: u64) {
+    let _ = println!(rt; "{text}{n}");
 }
 
 // The table after 65,535 claims, each released at once.
@@ -259,27 +260,27 @@ fn exhausted() -> Table
 }
 
 // No load is long enough to issue every ticket.
-fn tickets() {
+fn tickets(rt: &impl Print) {
     let t = exhausted();
-    line(b"tickets issued: ", t.issued as u64);
-    line(b"claims pending: ", t.count as u64);
+    line(rt, "tickets issued: ", t.issued as u64);
+    line(rt, "claims pending: ", t.count as u64);
     let c = table::claim(t, 0, rules::asking(0x1, 1));
-    line(b"a claim more: ", c.number as u64);
+    line(rt, "a claim more: ", c.number as u64);
     let u = c.table;
     let r = table::release(u, 0, 65_535);
-    line(b"release of the last ticket: ", r.number as u64);
+    line(rt, "release of the last ticket: ", r.number as u64);
     let d = table::clock(u, 7);
-    line(b"a clock call: ", d.number as u64);
+    line(rt, "a clock call: ", d.number as u64);
 }
 
 // ── clients with shares ──
 
-fn declare(t: Table, client: u8, reserved: u8, limit: u8) -> Table
+fn declare(rt: &impl Print, t: Table, client: u8, reserved: u8, limit: u8) -> Table
     requires { Valid t }
     ensures { Valid result }
 {
     let r = table::declare(t, client, reserved, limit);
-    number(r.number as u64);
+    number(rt, r.number as u64);
     r.table
 }
 
@@ -297,7 +298,7 @@ fn claim_by(t: Table, client: u8) -> Outcome
 }
 
 // 40 claims of a client, and their numbers.
-fn forty(from: Table, client: u8) -> Table
+fn forty(rt: &impl Print, from: Table, client: u8) -> Table
     requires { Valid from }
     ensures { Valid result }
 {
@@ -305,81 +306,81 @@ fn forty(from: Table, client: u8) -> Table
     let mut i: usize = 0;
     while i < 40 {
         let r = claim_by(t, client);
-        number(r.number as u64);
+        number(rt, r.number as u64);
         t = r.table;
         i += 1;
     }
-    end();
+    end(rt);
     t
 }
 
 // Two clients with 32 places reserved each ask for 40; then a declaration, which comes late.
-fn desks() {
+fn desks(rt: &impl Print) {
     let o = table::new(0xF, 0, false);
     let t = o.table;
-    io::write_all(1, b"desks 1 and 2, 32 and 32:");
-    let u = declare(t, 1, 32, 64);
-    let v = declare(u, 2, 32, 32);
-    end();
-    io::write_all(1, b"desk 1:");
-    let w = forty(v, 1);
-    io::write_all(1, b"desk 2:");
-    let x = forty(w, 2);
-    io::write_all(1, b"desk 3:");
-    declare(x, 3, 0, 0);
-    end();
+    say(rt, "desks 1 and 2, 32 and 32:");
+    let u = declare(rt, t, 1, 32, 64);
+    let v = declare(rt, u, 2, 32, 32);
+    end(rt);
+    say(rt, "desk 1:");
+    let w = forty(rt, v, 1);
+    say(rt, "desk 2:");
+    let x = forty(rt, w, 2);
+    say(rt, "desk 3:");
+    declare(rt, x, 3, 0, 0);
+    end(rt);
 }
 
 // ── a grace ──
 
-fn set_grace(t: Table, grace: u32) -> Table
+fn set_grace(rt: &impl Print, t: Table, grace: u32) -> Table
     requires { Valid t }
     ensures { Valid result }
 {
     let r = table::set_grace(t, grace);
-    answer(r);
+    answer(rt, r);
     r.table
 }
 
-fn looks(t: Table)
+fn looks(rt: &impl Print, t: Table)
     requires { Valid t }
 {
-    look(t, 1);
-    look(t, 2);
-    look(t, 3);
-    end();
+    look(rt, t, 1);
+    look(rt, t, 2);
+    look(rt, t, 3);
+    end(rt);
 }
 
 // S with a grace of 5: no grace at the promised end of ticket 1, then a grace after the clock, until its release.
-fn graces() {
-    io::write_all(1, b"graces of 60001, 60000 and 5:");
-    let t = set_grace(rig(0xF), 60_001);
-    let u = set_grace(t, 60_000);
-    let v = set_grace(u, 5);
-    end();
-    io::write_all(1, b"S at clock 10:");
-    let w = clock(three_on(v), 10);
-    looks(w);
-    io::write_all(1, b"at clock 12:");
-    let x = clock(w, 12);
-    looks(x);
-    io::write_all(1, b"at clock 14:");
-    looks(clock(x, 14));
-    io::write_all(1, b"a grace of 5:");
-    let y = set_grace(x, 5);
-    end();
-    io::write_all(1, b"a claim, and the release at clock 13:");
-    let z = claim(y, 12, 0x8, 3);
-    looks(release(z, 13, 1));
+fn graces(rt: &impl Print) {
+    say(rt, "graces of 60001, 60000 and 5:");
+    let t = set_grace(rt, rig(0xF), 60_001);
+    let u = set_grace(rt, t, 60_000);
+    let v = set_grace(rt, u, 5);
+    end(rt);
+    say(rt, "S at clock 10:");
+    let w = clock(rt, three_on(v), 10);
+    looks(rt, w);
+    say(rt, "at clock 12:");
+    let x = clock(rt, w, 12);
+    looks(rt, x);
+    say(rt, "at clock 14:");
+    looks(rt, clock(rt, x, 14));
+    say(rt, "a grace of 5:");
+    let y = set_grace(rt, x, 5);
+    end(rt);
+    say(rt, "a claim, and the release at clock 13:");
+    let z = claim(rt, y, 12, 0x8, 3);
+    looks(rt, release(rt, z, 13, 1));
 }
 
-fn main() {
-    plots_1_to_4();
-    plots_5_to_8();
-    plots_9_and_10();
-    plots_11_and_12();
-    plots_13_and_14();
-    tickets();
-    desks();
-    graces();
+fn main(rt: HostRuntime) {
+    plots_1_to_4(&rt);
+    plots_5_to_8(&rt);
+    plots_9_and_10(&rt);
+    plots_11_and_12(&rt);
+    plots_13_and_14(&rt);
+    tickets(&rt);
+    desks(&rt);
+    graces(&rt);
 }

@@ -3,6 +3,7 @@
 #![tactic(auto)]
 
 use load::Written;
+use std::env::Env;
 use words::Field;
 
 #[derive(Clone, Copy)]
@@ -12,48 +13,47 @@ pub enum MaybeNumber {
 }
 
 // The number that an argument says, in decimal and up to 4,294,967,295; or none.
-fn argument(i: usize) -> MaybeNumber {
-    let mut text = io::buffer();
-    let n = os::arg(i, &mut text);
-    if os::errno() != 0 {
+fn argument(rt: &impl Env, i: usize) -> MaybeNumber {
+    let mut text = [0u8; 4096];
+    let Ok(n) = rt.arg(i, &mut text) else {
         return MaybeNumber::NoNumber;
-    }
+    };
     match words::number(&text[..n], 10, 4294967295, 1, 1) {
         Field::Value(v) => MaybeNumber::Number(v as u32),
         Field::Wrong(_n) => MaybeNumber::NoNumber,
     }
 }
 
-fn tell_seed() {
-    io::write_all(2, b"seed is not a number from 0 to 4294967295\n");
+fn tell_seed(rt: &impl Eprint) {
+    streams::tell(rt, b"seed is not a number from 0 to 4294967295\n");
 }
 
-fn tell_count() {
-    io::write_all(2, b"count is not a number from 1 to 1000\n");
+fn tell_count(rt: &impl Eprint) {
+    streams::tell(rt, b"count is not a number from 1 to 1000\n");
 }
 
-fn write(seed: u32, count: u32) {
-    let mut load = io::large_buffer();
+fn write(rt: &(impl Print + Eprint + Alloc), seed: u32, count: u32) {
+    let mut load = [0u8; 65536];
     match generator::workload(seed, count, &mut load) {
         Written::Length(n) => {
-            streams::write_output(b"workload", &load[..n]);
+            streams::write_output(rt, "workload", &load[..n]);
         }
-        Written::Refusal(_n) => tell_count(),
+        Written::Refusal(_n) => tell_count(rt),
     }
 }
 
-fn main() {
-    if os::arg_count() != 3 {
-        streams::tell_usage(b"workload SEED COUNT > LOAD");
+fn main(rt: HostRuntime) {
+    if !streams::has_argument(&rt, 2) || streams::has_argument(&rt, 3) {
+        streams::tell_usage(&rt, "workload SEED COUNT > LOAD");
         return;
     }
-    let MaybeNumber::Number(seed) = argument(1) else {
-        tell_seed();
+    let MaybeNumber::Number(seed) = argument(&rt, 1) else {
+        tell_seed(&rt);
         return;
     };
-    let MaybeNumber::Number(count) = argument(2) else {
-        tell_count();
+    let MaybeNumber::Number(count) = argument(&rt, 2) else {
+        tell_count(&rt);
         return;
     };
-    write(seed, count);
+    write(&rt, seed, count);
 }
