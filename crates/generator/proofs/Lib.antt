@@ -7,5 +7,3 @@ pub mod Drafts
 pub mod Listed
 pub mod Whole
 pub mod Answering
-pub mod Again
-pub mod Walking

@@ -1,5 +1,5 @@
-// A linear congruential generator of 32 bits. The step is a function on u32; over the struct that keeps the state stands one thin function,
-// proved by hand: `draw`, to which the generator is lent.
+// A linear congruential generator of 32 bits. The step is a function on u32; `draw`, to which the generator is lent, stands over the
+// struct that keeps the state.
 #![tactic(auto)]
 
 ghost use Rattle.std.specs.Prelude.{◌≡◌};

@@ -1,7 +1,7 @@
 -- The answers that are enums, each by its number and values: "Where an answer is an enum, a definition gives this paper's number and values
 -- for each of its cases." A number is document 01's or a reason (crate words), 0 where nothing is wrong. A value that a case does not
 -- have is 0, or none.
-use Rattle.std.specs.Prelude.{ℕ, List, [], ◌∷◌, length}
+use Rattle.std.specs.Prelude.{ℕ, List, [], ◌∷◌}
 use Rattle.format.specs.declared.Call.{Call}
 use Rattle.words.specs.Answers.{TextValues}
 use Rattle.load.specs.Answers.{WrittenValues}

@@ -136,7 +136,7 @@ calls_in (p ∷ ps) = (parsed_values p).calls ++ calls_in ps
 
 -- A load that is answered with its length stands in the buffer's first bytes, and reads as the calls that the lines say, to its end; its
 -- edition is the show's.
--- proofs/Making has the proof: made-reads.
+-- proofs/Making has the proof: made_reads.
 abbrev pub MadeReads : Type 0
 MadeReads = (text out : List ℕ) (n : ℕ) → made_of text out ≡ Load n
     → (n ≤ length out) × (load_number (take n (made_out text out)) ≡ 0)

@@ -2,5 +2,3 @@ pub mod Items
 pub mod Turns
 pub mod AllSamples
 pub mod Counting
-pub mod Held
-pub mod Thin

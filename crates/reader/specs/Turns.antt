@@ -1,5 +1,5 @@
 -- A reader opened on a load and used in turn, as `next`, `advanced`, `next` and so on, claimed over what their contracts cite: `item_of` and
--- `position_after`, from the position 1 that `opened` promises. proofs/Turns has the proof of each claim: reads-once, written-read,
+-- `position_after`, from the position 1 that `opened` promises. proofs/Turns has the proof of each claim: reads-once, written_read,
 -- read-written.
 use Rattle.std.specs.Prelude.{ℕ, List, [], ◌∷◌, ◌≡◌}
 use Rattle.format.specs.declared.Call.{Call}

@@ -1,6 +1,6 @@
 // A reader keeps the load that it was opened on, and its position. It tests that load: one that does not open gives its refusal at every
 // position, which costs three comparisons a record. The work is done by three functions on a slice and a position; over the struct that
-// holds the slice stand thin ones, each proved by hand.
+// holds the slice stand thin ones.
 #![tactic(auto)]
 
 ghost use Rattle.std.specs.Prelude.{◌≡◌, length};

@@ -5,7 +5,7 @@ use mathlib.Core.Path.{◌≡◌, ◌∙◌}
 use Prim.Native.Nat.{ℕ, ◌<◌}
 use lib.ListN.{get_or}
 use Rattle.format.specs.Format.{field_widths, field_count, fields_of}
-use Rattle.format.specs.Calls.{made, filled}
+use Rattle.format.specs.Calls.{filled}
 use Rattle.format.proofs.Calls.{made-fitted, made_again, value-at}
 use Rattle.format.proofs.Format.{row_field, row_under}
 use Rattle.format.proofs.Rows.{Keeping, keeping_start, keeping-early, keeping-next, row-end}

@@ -26,7 +26,7 @@ next : (c : In-loop-f)
     let f = c.loop-f.f - 1 in
     (eqb (get_or c.numbers_of-p.result f 0) (get_or c.numbers_of-q.result f 0) && same_below f a.a a.b) ≡ same a.a a.b
 next c =
-    same_next _ _ _ _ (omega arith) _ _ (value-at _ _ c.numbers_of-p.ensures.0 _) (value-at _ _ c.numbers_of-q.ensures.0 _) ∙ whole c
+    same_next _ _ _ _ (omega arith) _ _ (value-at _ _ c.numbers_of-p.ensures.0 _) (value-at _ _ c.numbers_of-q.ensures.0 _) ∙ rw (made_again _ _ c.numbers_of-p.ensures.0, made_again _ _ c.numbers_of-q.ensures.0) at c.loop-f.invariant.1
 
 pub returns-then-p-f : goal.returns-then-p-f
 returns-then-p-f c = rw (ne_eqb _ _ c.if-p-f.true) at (next (goal.at.returns-then-p-f c).In-loop-f)

@@ -15,7 +15,10 @@ pub loop-i-preserved : goal.loop-i-preserved
 loop-i-preserved c =
     let w = c.loop-i.invariant in
     let s = sym c.shares.ensures in
-    elim c.if-shares.branch [ then-shares w ↦ rw (w.rows-is, w.n-is) (left-next w (omega arith) (λ h. gather-rival h (s ∙ w.if-shares.true) _ w.with_row-rows.ensures)) | else-shares w ↦ rw (w.rows-is, w.n-is) (left-next w (omega arith) (λ h. gather-other h (s ∙ w.if-shares.false))) ]
+    elim c.if-shares.branch [
+      | then-shares k ↦ rw (k.rows-is, k.n-is) (left-next w (omega arith) (λ h. gather-rival h (s ∙ k.if-shares.true) _ k.with_row-rows.ensures))
+      | else-shares k ↦ rw (k.rows-is, k.n-is) (left-next w (omega arith) (λ h. gather-other h (s ∙ k.if-shares.false)))
+    ]
 
 pub loop-i-init : goal.loop-i-init
 loop-i-init c = left-start (valid-row _ c.requires) gather-start

@@ -1,15 +1,13 @@
 -- `removed` meets its contract. The loop's invariant is `Taking`: of the claims done those that stay are in the first places.
 use mathlib.Core.Path.{◌≡◌, refl, sym, ◌∙◌, ap}
-use mathlib.Core.Logic.{⊎_elim}
 use mathlib.Core.Bool.{cond}
 use native.Mathlib.Omega.{arith}
-use borrow.Author.Tests.{not-true, not-false}
 use Rattle.rules.specs.Tables.{pad}
 use Rattle.frames.specs.Tables.{model, vacant}
 use Rattle.frame_table.specs.Parts.{remaining}
 use Rattle.frame_table.proofs.Tables.{valid-row, valid-claims, with_claims, other-claims}
 use Rattle.frame_table.proofs.RemovalLoop.{taking-start, taking-gone, taking-on, taking-behind, taking-one, taking-none, removed-last, removed-other}
-use Rattle.frame_table.proofs.removed.Goals.{Joined-last, Joined-n-count, else-last, else-n-count, then-last, then-n-count}
+use Rattle.frame_table.proofs.removed.Goals.{Joined-last, Joined-n-count, else-last, else-n-count, then-last, then-n-count, then-c-ticket, else-c-ticket+then-d-eq0, else-c-ticket+else-d-eq0}
 use Rattle.frame_table.proofs.removed.Goals as goal
 
 pub loop-i-preserved : goal.loop-i-preserved
@@ -18,12 +16,11 @@ loop-i-preserved c =
     let t₀ = c.args.t in
     let e = c.loop-i.invariant.0 in
     let w = c.loop-i.invariant.1 in
-    ⊎_elim
-    (λ k. rw (k.2, k.3, k.4, k.5, k.6) (e, taking-gone w (omega arith) k.0.taken _ k.1.ensures))
-    (⊎_elim
-    (λ k. rw (k.4, k.5, k.6, k.7, k.8) (other-claims t t₀ _ e, taking-on w (omega arith) k.0.left _ k.1.ensures k.3.taken))
-    (λ k. rw (k.4, k.5, k.6, k.7, k.8) (other-claims t t₀ _ e, taking-behind w (omega arith) k.0.left _ k.1.ensures k.3.left)))
-    c.if-c-ticket.branch-raw
+    elim c.if-c-ticket.branch [
+      | then-c-ticket k ↦ rw (k.t-is, k.number-is, k.grants-is, k.held-is, k.n-is) (e, taking-gone w (omega arith) k.if-c-ticket.true _ k.row_number-number.ensures)
+      | else-c-ticket+then-d-eq0 k ↦ rw (k.t-is, k.number-is, k.grants-is, k.held-is, k.n-is) (other-claims t t₀ _ e, taking-on w (omega arith) k.if-c-ticket.false _ k.nearer-d.ensures k.if-d-eq0.true)
+      | else-c-ticket+else-d-eq0 k ↦ rw (k.t-is, k.number-is, k.grants-is, k.held-is, k.n-is) (other-claims t t₀ _ e, taking-behind w (omega arith) k.if-c-ticket.false _ k.nearer-d.ensures k.if-d-eq0.false)
+    ]
 
 -- The others come a row nearer where the claim is the last of the head row.
 by-is : (c : Joined-last) → c.if-last.by ≡ cond c.args.last 1 0
@@ -38,17 +35,20 @@ left_is c =
     let w = c.loop-i.invariant.1 in
     let h = c.loop-i-test.false in
     let full = sym (valid-claims _ c.requires) in
-    elim c.if-n-count.branch [ then-n-count w ↦ w.t-is ∙ other-claims _ t₀ _ e ∙ ap (with_claims t₀) (taking-one w h full w.if-n-count.true) | else-n-count w ↦ w.t-is ∙ e ∙ ap (with_claims t₀) (taking-none w h full w.if-n-count.false) ]
+    elim c.if-n-count.branch [
+      | then-n-count k ↦ k.t-is ∙ other-claims _ t₀ _ e ∙ ap (with_claims t₀) (taking-one w h full k.if-n-count.true)
+      | else-n-count k ↦ k.t-is ∙ e ∙ ap (with_claims t₀) (taking-none w h full k.if-n-count.false)
+    ]
 
 pub returns-then-not-last : goal.returns-then-not-last
 returns-then-not-last c =
     let last = c.args.last in
-    removed-other last c.loop-i.invariant.1 c.loop-i-test.false (by-is (goal.at.returns-then-not-last c).Joined-last) (left_is (goal.at.returns-then-not-last c).Joined-n-count) (not-true last c.if-not-last.true-raw)
+    removed-other last c.loop-i.invariant.1 c.loop-i-test.false (by-is (goal.at.returns-then-not-last c).Joined-last) (left_is (goal.at.returns-then-not-last c).Joined-n-count) c.if-not-last.true
 
 pub returns-else-not-last : goal.returns-else-not-last
 returns-else-not-last c =
     let last = c.args.last in
-    removed-last last c.loop-i.invariant.1 c.loop-i-test.false (by-is (goal.at.returns-else-not-last c).Joined-last) (left_is (goal.at.returns-else-not-last c).Joined-n-count) (not-false last c.if-not-last.false-raw)
+    removed-last last c.loop-i.invariant.1 c.loop-i-test.false (by-is (goal.at.returns-else-not-last c).Joined-last) (left_is (goal.at.returns-else-not-last c).Joined-n-count) c.if-not-last.false
 
 pub loop-i-init : goal.loop-i-init
 loop-i-init c = (refl, taking-start (valid-row _ c.requires))

@@ -28,14 +28,14 @@ held-is : (c : Joined-free-eq0) →
     let t = c.args.t in
     Held (take t.count t.claims) c.if-free-eq0.held
 held-is c =
-    elim c.if-free-eq0.branch [ then-free-eq0+else-loop-i-test w ↦ rw w.held-is (holding-end (left_end w.loop-i.inv w.loop-i-test.false)) | else-free-eq0+else-loop-i-else-free-eq0-test w ↦ rw w.held-is (holding-end (left_end w.loop-i-else-free-eq0.inv w.loop-i-else-free-eq0-test.false).0) ]
+    elim c.if-free-eq0.branch [ then-free-eq0+else-loop-i-test w ↦ rw w.held-is (holding-end (left_end w.loop-i.invariant w.loop-i-test.false)) | else-free-eq0+else-loop-i-else-free-eq0-test w ↦ rw w.held-is (holding-end (left_end w.loop-i-else-free-eq0.invariant w.loop-i-else-free-eq0-test.false).0) ]
 
 -- What is left of the pool, likewise.
 pub loop-j-init : goal.loop-j-init
 loop-j-init c =
     let r = c.requires.0 in (
       refl,
-      elim c.if-free-eq0.branch [ then-free-eq0+else-loop-i-test w ↦ rw w.free-is (written_start r _ (omega (arith, r.ranges.stock, w.if-free-eq0.true))) | else-free-eq0+else-loop-i-else-free-eq0-test w ↦ rw w.free-is (written_start r _ (freeing-end (left_end w.loop-i-else-free-eq0.inv w.loop-i-else-free-eq0-test.false).1)) ],
+      elim c.if-free-eq0.branch [ then-free-eq0+else-loop-i-test w ↦ rw w.free-is (written_start r _ (omega (arith, r.ranges.stock, w.if-free-eq0.true))) | else-free-eq0+else-loop-i-else-free-eq0-test w ↦ rw w.free-is (written_start r _ (freeing-end (left_end w.loop-i-else-free-eq0.invariant w.loop-i-else-free-eq0-test.false).1)) ],
     )
 
 -- ── the grants ──
@@ -43,7 +43,7 @@ goes-is : (c : After-goes) →
     let t = c.args.t in
     goes (ruled_in t t.clock) (take t.count t.claims) (get_or t.claims c.loop-j.j vacant) ≡ c.goes.result
 goes-is c =
-    written-goes c.loop-j.invariant.1 (omega arith) c.requires.1 (held-is c) ∙ sym c.goes.ensures
+    written-goes c.loop-j.invariant.1 (omega arith) c.requires.1 (held-is c.before.before.before.before) ∙ sym c.goes.ensures
 
 pub overflow_sub-free-then-goes : goal.overflow_sub-free-then-goes
 overflow_sub-free-then-goes c =
@@ -54,7 +54,7 @@ pub loop-j-preserved : goal.loop-j-preserved
 loop-j-preserved c =
     let w = c.loop-j.invariant.1 in
     let g = goes-is (goal.at.loop-j-preserved c).After-goes in
-    elim c.if-goes.branch [ then-goes w ↦ rw (w.t-is, w.free-is, w.tickets-is, w.n-is) (other-claims c.loop-j.t c.args.t _ c.loop-j.invariant.0, written-gone w (omega arith) _ (g ∙ w.if-goes.true) w.on_since.ensures) | else-goes w ↦ rw (w.t-is, w.free-is, w.tickets-is, w.n-is) (c.loop-j.invariant.0, written-stay w (omega arith) (g ∙ w.if-goes.false)) ]
+    elim c.if-goes.branch [ then-goes k ↦ rw (k.t-is, k.free-is, k.tickets-is, k.n-is) (other-claims c.loop-j.t c.args.t _ c.loop-j.invariant.0, written-gone w (omega arith) _ (g ∙ k.if-goes.true) k.on_since.ensures) | else-goes k ↦ rw (k.t-is, k.free-is, k.tickets-is, k.n-is) (c.loop-j.invariant.0, written-stay w (omega arith) (g ∙ k.if-goes.false)) ]
 
 pub returns : goal.returns
 returns c =

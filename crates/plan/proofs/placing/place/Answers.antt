@@ -49,15 +49,15 @@ loop-i-preserved c =
     let l = c.loop-i.invariant.0 in
     let x = c.loop-i.invariant.2 in
     elim c.if-shares.branch [
-      | then-shares w ↦ let e = sym c.shares.ensures ∙ w.if-shares.true in (
-        rw (w.rivals-is, w.time-is, w.time_left-time.ensures) (left-next l (omega arith) (λ h. count-rival h e)),
-        omega (arith, w.places-is, w.union-places.ok),
-        rw (w.places-is, w.union-places.ensures, w.only.ensures) (rivals-more _ _ x),
+      | then-shares k ↦ let e = sym c.shares.ensures ∙ k.if-shares.true in (
+        rw (k.rivals-is, k.time-is, k.time_left-time.ensures) (left-next l (omega arith) (λ h. count-rival h e)),
+        omega (arith, k.places-is, k.union-places.type_inv),
+        rw (k.places-is, k.union-places.ensures, k.only.ensures) (rivals-more _ _ x),
       )
-      | else-shares w ↦ let e = sym c.shares.ensures ∙ w.if-shares.false in (
-        rw (w.rivals-is, w.time-is) (left-next l (omega arith) (λ h. count-other h e)),
-        omega (arith, w.places-is, c.loop-i.invariant.1),
-        rw w.places-is (rivals-other _ _ x e),
+      | else-shares k ↦ let e = sym c.shares.ensures ∙ k.if-shares.false in (
+        rw (k.rivals-is, k.time-is) (left-next l (omega arith) (λ h. count-other h e)),
+        omega (arith, k.places-is, c.loop-i.invariant.1),
+        rw k.places-is (rivals-other _ _ x e),
       )
     ]
 
@@ -78,22 +78,22 @@ inside c =
     (i.0, c.loop-j.invariant.3.inside _ i.0 i.1)
 
 -- The end to which the search jumps is after the candidate, and not after the planned start.
-nearer : (c : After-end_of-s) →
+nearer : (c : After-end_of-s) → c.in-Group.j < c.args.t.count →
     let t = c.args.t in
     (c.candidates.s < c.end_of-s.result) × (c.end_of-s.result ≤ place (ruled_in t t.clock) (take t.count t.claims) c.args.w)
-nearer c =
+nearer c within =
     let t = c.args.t in
-    let m = row-member c.requires.0 c.in-Group.j (inside c).1 in
+    let m = row-member c.requires.0 c.in-Group.j within in
     let e = sym c.clears.ensures ∙ not-true _ c.if-not-clears.true-raw in
     let k = jump (ruled_in t t.clock) c.args.w c.loop-j.s _ c.requires.1.sane (omega (arith, c.loop-j.invariant.0, c.candidates.invariant.1)) _ m e in
     (omega (arith, c.end_of-s.ensures, k.0, c.loop-j.invariant.0), omega (arith, c.end_of-s.ensures, k.1))
 
 pub candidates-preserved : goal.candidates-preserved
 candidates-preserved c =
-    let n = nearer (goal.at.candidates-preserved c).After-end_of-s in (
+    let n = nearer (goal.at.candidates-preserved c).After-end_of-s (inside (goal.at.candidates-preserved c).In-Group).1 in (
       omega (arith, n, c.candidates.invariant.0),
       n.1,
-      omega (arith, c.without-left.type-inv),
+      omega (arith, c.without-left.type_inv),
       rw (c.without-left.ensures, c.only-then-not-clears.ensures, c.loop-j.invariant.1) (passed-jump _ _ _ _ c.candidates.invariant.3 _ _ (omega (arith, n)) c.end_of-s.ensures),
     )
 
@@ -137,13 +137,13 @@ loop-g-preserved c =
     let s = claim-early _ _ _ r c.requires.2 c.loop-g.g (omega (arith, turn)) in
     let here : c.loop-g.g < length c.args.t.claims = omega (arith, turn, r.few, r.places) in
     elim c.if-u-ne0.branch [
-      | then-u-ne0 w ↦ rw (w.starts-is, w.ends-is, w.k-is) (
+      | then-u-ne0 k ↦ rw (k.starts-is, k.ends-is, k.k-is) (
         omega arith,
         omega (arith, turn),
-        gather-more _ _ _ _ here c.loop-g.invariant.2 _ c.bars_by-u.ensures (row_sized r _ (omega (arith, turn))) (omega (arith, c.bars_by-u.type-inv)) (omega (arith, s)) (omega (arith, turn, r.few))
-            _ _ w.start_or_grant.ensures w.end_of.ensures _ _ w.enter.ensures,
+        gather-more _ _ _ _ here c.loop-g.invariant.2 _ c.bars_by-u.ensures (row_sized r _ (omega (arith, turn))) (omega (arith, c.bars_by-u.type_inv)) (omega (arith, s)) (omega (arith, turn, r.few))
+            _ _ k.start_or_grant.ensures k.end_of.ensures _ _ k.enter.ensures,
       )
-      | else-u-ne0 w ↦ rw (w.starts-is, w.ends-is, w.k-is) (omega arith, omega (arith, turn), gather_none _ _ _ _ here c.loop-g.invariant.2 _ c.bars_by-u.ensures w.if-u-ne0.false)
+      | else-u-ne0 k ↦ rw (k.starts-is, k.ends-is, k.k-is) (omega arith, omega (arith, turn), gather_none _ _ _ _ here c.loop-g.invariant.2 _ c.bars_by-u.ensures k.if-u-ne0.false)
     ]
 
 pub enter_first_fit-start-requires : goal.enter_first_fit-start-requires
@@ -160,11 +160,11 @@ start_is c =
     let t = c.args.t in
     let w = c.args.w in
     elim c.if-w-eq0.branch [
-      | then-w-eq0+in-NoGroup w ↦ w.FIELD6 ∙ found_plain (ruled_in t t.clock) w w.loop-j.s _ c.requires.1.sane (omega (arith, w.candidates.inv.1, w.loop-j.inv.0)) (omega (arith, w.candidates.inv.0, w.loop-j.inv.0))
-          (tried-all _ _ _ _ w.loop-j.inv.3 (sym w.lowest.ensures ∙ w.start-is.given.1) c.requires.0.few) w.if-w-eq0.true
-      | else-w-eq0+else-loop-g-test w ↦ let e : w.loop-g.g ≡ t.count = omega (arith, w.loop-g.inv, w.loop-g-test.false) in
-          let p = subst (λ (n : ℕ). Plot t.clock w.loop-g.starts w.loop-g.ends w.loop-g.k (λ x. barred (ruled_in t t.clock) w x (take n t.claims))) e w.loop-g.inv.2 in
-          w.start-is ∙ drawn-start (ruled_in t t.clock) t.claims t.count w c.requires.0 c.requires.1 (omega (arith, w.if-w-eq0.false)) c.requires.0.ranges.pooled p w.enter_first_fit-start.ensures.0
+      | then-w-eq0+in-NoGroup k ↦ k.start-is ∙ found_plain (ruled_in t t.clock) w k.loop-j.s _ c.requires.1.sane (omega (arith, k.candidates.invariant.1, k.loop-j.invariant.0)) (omega (arith, k.candidates.invariant.0, k.loop-j.invariant.0))
+          (tried-all _ _ _ _ k.loop-j.invariant.3 (sym k.lowest.ensures ∙ k.in-NoGroup.is) c.requires.0.few) k.if-w-eq0.true
+      | else-w-eq0+else-loop-g-test k ↦ let e : k.loop-g.g ≡ t.count = omega (arith, k.loop-g.invariant, k.loop-g-test.false) in
+          let p = subst (λ (n : ℕ). Plot t.clock k.loop-g.starts k.loop-g.ends k.loop-g.k (λ x. barred (ruled_in t t.clock) w x (take n t.claims))) e k.loop-g.invariant.2 in
+          k.start-is ∙ drawn-start (ruled_in t t.clock) t.claims t.count w c.requires.0 c.requires.1 (omega (arith, k.if-w-eq0.false)) c.requires.0.ranges.pooled p k.enter_first_fit-start.ensures.0
     ]
 
 pub returns : goal.returns
@@ -203,7 +203,7 @@ end_of-s-requires c = let row = c.requires.0 in
     (row_small row _ (inside (goal.at.end_of-s-requires c).In-Group).1, row.ranges.timely)
 
 pub candidates-smaller : goal.candidates-smaller
-candidates-smaller c = omega (arith, nearer (goal.at.candidates-smaller c).After-end_of-s)
+candidates-smaller c = omega (arith, nearer (goal.at.candidates-smaller c).After-end_of-s (inside (goal.at.candidates-smaller c).In-Group).1)
 
 pub end_of-requires : goal.end_of-requires
 end_of-requires c = let row = c.requires.0 in

@@ -1,0 +1,16 @@
+use mathlib.Core.Path.{◌≡◌}
+use mathlib.Core.Bool.{◌||◌}
+use Prim.Native.Nat.{◌-◌}
+use lib.ListN.{take}
+use Rattle.rules.specs.Lists.{any}
+use Rattle.plan.specs.Parts.{ruled_in}
+use Rattle.table.specs.Outcomes.{past_end}
+use Rattle.plan.proofs.Rows.{Left}
+use Rattle.table.proofs.at_clock.Given as goal
+
+abbrev pub invariant-loop-i : goal.invariant-loop-i
+invariant-loop-i l =
+    Left (λ r. (l.packs || any (past_end l.clock) r) ≡ any (past_end l.clock) (take l.count l.t.claims)) (ruled_in l.t l.clock) l.t.claims l.count l.i
+
+abbrev pub decreases-loop-i : goal.decreases-loop-i
+decreases-loop-i l = l.count - l.i
