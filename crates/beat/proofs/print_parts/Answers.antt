@@ -1,0 +1,10 @@
+-- A part that is not the last ends before the text does, and the next one behind it.
+use native.Mathlib.Omega.{arith}
+use Rattle.frame_listing.proofs.InParts.{next_grows}
+use Rattle.beat.proofs.print_parts.Goals as goal
+
+pub loop-p-smaller : goal.loop-p-smaller
+loop-p-smaller g c =
+    let l = c.loop-p in
+    let d = next_grows _ l.out _ _ l.invariant.2 c.if-text-p.false c.next_part-p.ensures.answer in
+    omega (arith, c.if-text-p.false)
