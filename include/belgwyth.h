@@ -2,11 +2,11 @@
  * Belgwyth: what a load of light-cue calls does to a claims table, as a listing; what a dance show does to a frame table; and loads that
  * are worked out from a seed.
  *
- * Link with the static library that `rt staticlib belgwyth` writes:
+ * Link with the static library that `tools/build.sh belgwyth` writes:
  *
  *     gcc -O2 -Iinclude -o player player.c target/staticlib/libbelgwyth.a
  *
- * or, for one call alone, with that of `rt staticlib listing`, `rt staticlib frame_listing` or `rt staticlib generator`.
+ * or, for one call alone, with that of `tools/build.sh listing`, `tools/build.sh frame_listing` or `tools/build.sh generator`.
  *
  * Every call is reentrant: it keeps no state between calls, has no static data that is written, takes no memory but its stack, and may run
  * in several threads at once on different buffers. Of the C library it wants memcpy, memmove and memset, nothing else. x86-64 under Linux

@@ -1,5 +1,5 @@
 #!/usr/bin/env bash
-# Runs ask (built by `rt check ask load_write`) on small loads: a line for each question. The last line is 'N passed, M failed'.
+# Runs ask (built by `tools/build.sh ask load_write`) on small loads: a line for each question. The last line is 'N passed, M failed'.
 set -u -o pipefail
 cd "$(dirname "$0")/.." || exit 2
 . tests/lib.sh || exit 2

@@ -1,5 +1,5 @@
 #!/usr/bin/env bash
-# Runs beat (built by `rt check beat`) on small dance shows: a line for each. The last line is 'N passed, M failed'.
+# Runs beat (built by `tools/build.sh beat`) on small dance shows: a line for each. The last line is 'N passed, M failed'.
 set -u -o pipefail
 cd "$(dirname "$0")/.." || exit 2
 . tests/lib.sh || exit 2

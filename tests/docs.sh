@@ -1,6 +1,6 @@
 #!/usr/bin/env bash
-# Holds the documents against the tree and the programs (built by `rt check`): links, README's length, its show and its listing, the samples
-# of docs/SHOWS.md with their answers, the duet of docs/FORMAT.md, statements by name. The last line is 'N passed, M failed'.
+# Holds the documents against the tree and the programs (built by `tools/build.sh`): links, README's length, its show and its listing, the
+# samples of docs/SHOWS.md with their answers, the duet of docs/FORMAT.md, statements by name. The last line is 'N passed, M failed'.
 set -u -o pipefail
 cd "$(dirname "$0")/.." || exit 2
 . tests/lib.sh || exit 2

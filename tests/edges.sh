@@ -1,6 +1,6 @@
 #!/usr/bin/env bash
-# What the programs (built by `rt check`) say where reading or writing fails, of arguments they do not take, and that a stack of 3 MB is
-# enough for the longest input. The last line is 'N passed, M failed'.
+# What the programs (built by `tools/build.sh`) say where reading or writing fails, of arguments they do not take, and that a stack of 3 MB
+# is enough for the longest input. The last line is 'N passed, M failed'.
 set -u -o pipefail
 cd "$(dirname "$0")/.." || exit 2
 . tests/lib.sh || exit 2
@@ -51,6 +51,11 @@ reads() {
     writes "$input" "$program" "$@"
 }
 
+# closed_pipe COMMAND..: runs a command whose standard output is a pipe that nobody reads.
+closed_pipe() {
+    perl -e 'pipe(my $r, my $w); close($r); open(STDOUT, ">&", $w) or die; exec(@ARGV)' "$@"
+}
+
 # writes INPUT PROGRAM WORD..: a program with the arguments it takes, and an input that it takes.
 writes() {
     local input=$1 program=$2
@@ -60,9 +65,11 @@ writes() {
     says '' "$program: standard output: No space left on device\n" "$program: a full disk"
     "$bin/$program" "$@" <"$input" 2>"$tmp/err" >&-
     says '' "$program: standard output: Bad file descriptor\n" "$program: a closed output"
-    # Where the signal of a closed pipe is ignored; else it ends the program.
-    (trap '' PIPE && perl -e 'pipe(my $r, my $w); close($r); open(STDOUT, ">&", $w) or die; exec(@ARGV)' "$bin/$program" "$@") <"$input" 2>"$tmp/err"
+    # Its signal ends no program, whether it was ignored before or not.
+    (trap '' PIPE && closed_pipe "$bin/$program" "$@") <"$input" 2>"$tmp/err"
     says '' "$program: standard output: Broken pipe\n" "$program: a closed pipe"
+    closed_pipe "$bin/$program" "$@" <"$input" 2>"$tmp/err"
+    says '' "$program: standard output: Broken pipe\n" "$program: a closed pipe that gives a signal"
     "$bin/$program" "$@" <"$input" >"$tmp/out" 2>"$tmp/err"
     if [ -s "$tmp/out" ] && [ ! -s "$tmp/err" ]; then ok "$program: nothing said where nothing is wrong"; else fail "$program: nothing said where nothing is wrong"; fi
 }

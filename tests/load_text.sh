@@ -1,5 +1,5 @@
 #!/usr/bin/env bash
-# Runs load_write and load_show (built by `rt check load_write load_show`) on small cases: a line for each. The last line is 'N passed,
+# Runs load_write and load_show (built by `tools/build.sh load_write load_show`) on small cases: a line for each. The last line is 'N passed,
 # M failed'.
 set -u -o pipefail
 cd "$(dirname "$0")/.." || exit 2

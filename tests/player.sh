@@ -24,7 +24,7 @@ lists_as() {
 }
 
 library=target/staticlib/liblisting.a
-try "rt staticlib listing" quiet rt staticlib listing
+try "the library listing is built" quiet tools/build.sh listing
 try "player.c builds with warnings as errors" gcc -std=c99 -O2 -Wall -Wextra -Wpedantic -Werror -Iinclude -o "$work/player" examples/player.c "$library"
 printf '#include "belgwyth.h"\nint main() { uint8_t l[1] = {1}, o[64]; return belgwyth_listing(l, 1, o, sizeof o) == 24 ? 0 : 1; }\n' >"$work/header.cpp"
 try "the header serves C++" g++ -Wall -Wextra -Werror -Iinclude -o "$work/header" "$work/header.cpp" "$library"
@@ -79,7 +79,7 @@ EOF
 dances_as() {
     "$work/dance" <"$1" >"$work/dance.out" && cmp "$work/dance.out" "$2"
 }
-try "rt staticlib frame_listing" quiet rt staticlib frame_listing
+try "the library frame_listing is built" quiet tools/build.sh frame_listing
 try "a caller in C builds with both libraries" gcc -std=c99 -O2 -Wall -Wextra -Wpedantic -Werror -Iinclude -o "$work/dance" "$work/dance.c" "$library" target/staticlib/libframe_listing.a
 try "the sample dance show from C" dances_as examples/duet.show examples/duet.listing
 
@@ -115,7 +115,7 @@ EOF
 works() {
     "$work/workload" >"$work/c.load" && cmp "$work/c.load" examples/workshop.load && target/bin/workload 1 20 >"$work/program.load" && cmp "$work/program.load" examples/workshop.load
 }
-try "rt staticlib generator" quiet rt staticlib generator
+try "the library generator is built" quiet tools/build.sh generator
 try "a caller in C builds with all libraries" gcc -std=c99 -O2 -Wall -Wextra -Wpedantic -Werror -Iinclude -o "$work/workload" "$work/workload.c" "$library" target/staticlib/libframe_listing.a target/staticlib/libgenerator.a
 try "the sample workload from C and from the program" works
 
@@ -130,7 +130,7 @@ wants() {
 unwritten() {
     [ "$(size "$1" | awk 'NR > 1 { code += $1; data += $2 + $3 } END { print (code > 0) + 0, data + 0 }')" = "1 0" ]
 }
-try "rt staticlib belgwyth" quiet rt staticlib belgwyth
+try "the library belgwyth is built" quiet tools/build.sh belgwyth
 # shellcheck disable=SC2086
 for name in dance workload; do
     try "$name.c builds with the one library" gcc $warned -o "$work/$name" "$work/$name.c" "$one"

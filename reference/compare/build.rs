@@ -1,6 +1,5 @@
-//! Links the proved libraries, which `rt staticlib listing`, `rt staticlib frame_listing` and `rt staticlib generator`
-//! write, and for a benchmark an earlier one of the first: the file that the environment variable LISTING_BEFORE names,
-//! its call under another name.
+//! Links the proved libraries, which `tools/build.sh listing frame_listing generator` writes, and for a benchmark an
+//! earlier one of the first: the file that the environment variable LISTING_BEFORE names, its call under another name.
 
 use std::path::Path;
 use std::process::Command;

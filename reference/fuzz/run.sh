@@ -4,7 +4,7 @@
 set -eu
 cd "$(dirname "$0")/../.."
 seconds=${1:-600}
-rt staticlib listing >/dev/null
+tools/build.sh listing
 (cd reference && cargo build --offline --release -p fuzz -p reference)
 rm -rf target/fuzz && mkdir -p target/fuzz/in
 reference/target/release/generate 1 400 target/fuzz/in >/dev/null 2>&1

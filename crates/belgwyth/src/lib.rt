@@ -1,4 +1,4 @@
-// The calls for C in one static library: those of `listing`, `frame_listing` and `generator`, each under its own name.
+// The calls for C in one library: those of `listing`, `frame_listing` and `generator`, each under its own name.
 #![tactic(auto)]
 
 ghost use Rattle.std.specs.Prelude.{◌≡◌};

@@ -73,7 +73,7 @@ pub fn listing_before(_load: &[u8], _out: &mut [u8]) -> Option<usize> {
     None
 }
 
-/// A program of the repository, as `rt check` built it.
+/// A program of the repository, as `tools/build.sh` built it.
 pub fn program(name: &str) -> PathBuf {
     PathBuf::from(env!("CARGO_MANIFEST_DIR"))
         .join("../../target/bin")
@@ -94,7 +94,7 @@ pub fn outputs_with(name: &str, arguments: &[&[u8]], input: &[u8]) -> (Vec<u8>, 
         .stdout(Stdio::piped())
         .stderr(Stdio::piped())
         .spawn()
-        .unwrap_or_else(|e| panic!("{name} does not start ({e}): run rt check first"));
+        .unwrap_or_else(|e| panic!("{name} does not start ({e}): run tools/build.sh first"));
     let mut stdin = child.stdin.take().expect("a pipe");
     let mut output = thread::scope(|scope| {
         scope.spawn(move || {
