@@ -65,6 +65,18 @@ from_or (suc k) g p q = rw (from_or k (suc g) p q) (go (p g) (q g) (some_from k 
     go false true c = sym (or-true c)
     go false false c = refl
 
+-- The lowest of the k groups from g on that passes p is one of them, passes, and no group below it does.
+lowest-from : (k g : ℕ) (p : ℕ → Bool) (h : ℕ) → lowest_from k g p ≡ Group h → (j : ℕ) × (j < k) × (g + j ≡ h) × (p h ≡ true) × (some_from j g p ≡ false)
+unfolding some_from lowest_from
+lowest-from zero g p h e = let z : ◌≡◌ {A = ℕ} 0 1 = cc in absurd (omega arith)
+lowest-from (suc k) g p h e = go (lowest-from k (suc g) p h) (p g) refl e
+  where
+    go : (lowest_from k (suc g) p ≡ Group h → (j : ℕ) × (j < k) × (suc g + j ≡ h) × (p h ≡ true) × (some_from j (suc g) p ≡ false)) → (t : Bool) → p g ≡ t
+        → cond t (Group g) (lowest_from k (suc g) p) ≡ Group h
+        → (j : ℕ) × (j < suc k) × (g + j ≡ h) × (p h ≡ true) × (some_from j g p ≡ false)
+    go later true q e = let z : g ≡ h = cc e in (0, omega arith, omega arith, ap p (sym z) ∙ q, refl)
+    go later false q e = let r = later e in (suc r.0, omega arith, omega (arith, r.2), r.3, rw (q, r.4))
+
 -- One passes exactly where the lowest that does is not none.
 found_from : (k g : ℕ) (p : ℕ → Bool) → found (lowest_from k g p) ≡ some_from k g p
 unfolding lowest_from some_from
@@ -201,19 +213,7 @@ pub without-has : (a b g : ℕ) → g < 64 → has (without a b) g ≡ (has a g 
 unfolding without
 without-has a b g h = has-set _ g h
 
--- The lowest of the k groups from g on that passes p is one of them, passes, and no group below it does.
-lowest-from : (k g : ℕ) (p : ℕ → Bool) (h : ℕ) → lowest_from k g p ≡ Group h → (j : ℕ) × (j < k) × (g + j ≡ h) × (p h ≡ true) × (some_from j g p ≡ false)
-unfolding some_from lowest_from
-lowest-from zero g p h e = let z : ◌≡◌ {A = ℕ} 0 1 = cc in absurd (omega arith)
-lowest-from (suc k) g p h e = go (lowest-from k (suc g) p h) (p g) refl e
-  where
-    go : (lowest_from k (suc g) p ≡ Group h → (j : ℕ) × (j < k) × (suc g + j ≡ h) × (p h ≡ true) × (some_from j (suc g) p ≡ false)) → (t : Bool) → p g ≡ t
-        → cond t (Group g) (lowest_from k (suc g) p) ≡ Group h
-        → (j : ℕ) × (j < suc k) × (g + j ≡ h) × (p h ≡ true) × (some_from j g p ≡ false)
-    go later true q e = let z : g ≡ h = cc e in (0, omega arith, omega arith, ap p (sym z) ∙ q, refl)
-    go later false q e = let r = later e in (suc r.0, omega arith, omega (arith, r.2), r.3, rw (q, r.4))
-
--- Where there is none, no group passes.
+-- Where there is no lowest, no group passes.
 none_from : (k g : ℕ) (p : ℕ → Bool) → lowest_from k g p ≡ NoGroup → some_from k g p ≡ false
 unfolding some_from lowest_from
 none_from zero g p e = refl

@@ -27,7 +27,7 @@ use Rattle.rules.specs.declared.Common.TheVariants.{Unknown}
 use Rattle.rules.specs.declared.Standing.TheVariants.{Waits, Holds}
 use Rattle.rules.specs.Tests.{named}
 use Rattle.rules.specs.declared.Reply.{Reply}
-use Rattle.rules.specs.Calls.{Model, with_grace, ruled, setting_of, Call, timed, looks, sets_up, claim, release, withdraw, clock, declare, set_grace, is_timed, is_look, Answer, Step, unchanged, advance, plain, finish, join, remove, fresh, placing, admit, declared, step, blank, new, standing, standing_of, between, common_of}
+use Rattle.rules.specs.Calls.{Model, with_grace, ruled, setting_of, Call, timed, looks, sets_up, claim, release, withdraw, clock, declare, set_grace, is_timed, is_look, Answer, Step, unchanged, advance, plain, finish, join, remove, fresh, placing, admit, declared, step, blank, standing, standing_of, between, common_of}
 use Rattle.rules.specs.Plans.{Ascending, NoOverrunAt}
 use Rattle.rules.specs.Invariants.{IsSpaced, Invariant, IsBooked}
 use Rattle.rules.proofs.Bools.{split, by-test, clash, and_i}

@@ -22,7 +22,7 @@ use Rattle.rules.specs.Granting.{taken_before, goes, granted, grant, grants}
 use Rattle.rules.specs.Pool.{held_by, held_units}
 use Rattle.rules.specs.Tests.{named}
 use Rattle.rules.specs.declared.Reply.{Reply}
-use Rattle.rules.specs.Calls.{Model, ruled, setting_of, Call, timed, looks, sets_up, clock, is_timed, declared, with_grace, Step, advance, plain, finish, join, remove, fresh, admit, step}
+use Rattle.rules.specs.Calls.{Model, ruled, setting_of, Call, timed, looks, sets_up, is_timed, declared, with_grace, Step, advance, plain, finish, join, remove, fresh, admit, step}
 use Rattle.rules.specs.Invariants.{IsSpaced, IsPacked, Still, Invariant}
 use Rattle.rules.proofs.Bools.{clash, by-test}
 use Rattle.rules.proofs.Lists.{map-e, map-i, keep-e, keep-i, named_keep, sum-map, sum-le, sum_both}

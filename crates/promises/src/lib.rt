@@ -2,4 +2,3 @@
 // specs/WholeCalls.antt has the sentences about whole calls, specs/Worthless.antt wrong calls that the theorem is false of.
 // All are about the definitions of `rules`; no code is here.
 #![tactic(auto)]
-

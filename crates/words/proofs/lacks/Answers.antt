@@ -1,6 +1,5 @@
 -- `words::lacks` meets its contract: a loop that looks for such a byte, by the laws of `Seeking` in proofs/Parts.
 use mathlib.Core.Path.{sym, ◌∙◌}
-use Rattle.words.specs.Words.{passes}
 use Rattle.words.proofs.Parts.{seek-start, seek-next, seek-some, seek-none}
 use Rattle.words.proofs.lacks.Goals as goal
 
