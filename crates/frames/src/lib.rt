@@ -2,7 +2,6 @@
 // A row is the claims of one frame; the head row is row 0, and is on.
 #![tactic(auto)]
 
-
 // A claim: its set of groups (2^g for group g), its ticket, and its row, counted from the head. 16 bytes.
 #[derive(Clone, Copy)]
 pub struct Claim {
