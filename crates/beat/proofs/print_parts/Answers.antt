@@ -1,4 +1,3 @@
-use Prim.Native.Nat.{◌<◌}
 use native.Mathlib.Omega.{arith}
 use Rattle.frame_listing.proofs.InParts.{next_grows}
 use Rattle.beat.proofs.print_parts.Goals as goal
