@@ -1,3 +1,4 @@
+-- A part that is not the last ends before the text does, and the next one farther on.
 use native.Mathlib.Omega.{arith}
 use Rattle.frame_listing.proofs.InParts.{next_grows}
 use Rattle.beat.proofs.print_parts.Goals as goal
