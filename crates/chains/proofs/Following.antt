@@ -1,6 +1,6 @@
 -- Following a chain over the columns, a claim at a time: the claim that is on ends it, and from one that waits it goes on at its link.
 use mathlib.Core.Path.{◌≡◌, refl, sym, ◌∙◌, ap}
-use mathlib.Core.Bool.{Bool, true, false}
+use mathlib.Core.Bool.{Bool, false}
 use mathlib.Core.List.{List, [], ◌∷◌, map}
 use Prim.Native.Nat.{ℕ, suc, ◌+◌, ◌≤◌, ◌<◌}
 use native.Mathlib.Omega.{arith}
@@ -37,15 +37,6 @@ module _ {q : ℕ} {v : Setting} {claims : List Claim} {starts ends groups units
       let r = chain-true q v (take n claims) f.settled (get_or claims i vacant) member in
       let e : length (chain_at v claims n i) ≡ suc (length r.0) = length-map (chain v (take n claims) (get_or claims i vacant)) (λ (c : Claim). c.ticket) ∙ ap length r.1 in
       omega (arith, f.room)
-
-  -- ── a claim that is on ──
-  pub ends-here : get_or held i false ≡ true → (old : List ℕ)
-      → (k + 1 ≡ k + length (chain_at v claims n i)) × (set old k (get_or tickets i 0) ≡ sets old k (chain_at v claims n i))
-  ends-here o old =
-      let e : chain_at v claims n i ≡ get_or tickets i 0 ∷ [] =
-      ap (map (λ (c : Claim). c.ticket)) (chain-on v (take n claims) (get_or claims i vacant) (sym (f.columns.phase.each i f.place) ∙ o))
-      ∙ ap (λ (x : ℕ). x ∷ []) (sym (f.columns.ticket.each i f.place)) in
-      rw e (refl, refl)
 
   -- ── a claim that waits ──
   module _ (o : get_or held i false ≡ false) where
@@ -95,6 +86,10 @@ module _ {q : ℕ} {v : Setting} {claims : List Claim} {starts ends groups units
           let e : length (chain_at v claims n i) ≡ suc (length (chain_at v claims n r)) = ap length next in
           let p : m ≡ k + length (chain_at v claims n i) = omega (arith, h.0) in
           (p, h.1 ∙ ap (λ (j : ℕ). sets (set old k (get_or tickets i 0)) j (chain_at v claims n r)) (add-one k) ∙ ap (sets old k) (sym next))
+
+-- ── a claim that is on ──
+-- It ends the chain.
+pub ruleset ends_here = (chain-on)
 
 -- ── the whole chain ──
 pub follows-start : {q : ℕ} {v : Setting} {claims : List Claim} {starts ends groups units tickets : List ℕ} {held : List Bool} {n i : ℕ}

@@ -56,6 +56,7 @@ fn link(
 
 // Lays the tickets of the chain of the claim at place `i` from place `k` of `chain` on, and tells the place behind them. The start falls
 // from claim to claim, so it ends. Cost: one pass at most for each waiting claim of the chain.
+#[tactic(auto, using(crate::proofs::Following::ends_here))]
 fn follow(
     chain: &mut [u16; 64],
     k: usize,

@@ -1,7 +1,7 @@
 -- A turn of the listing's loop: a line that says no call, a call, and the ways out; then what is answered.
 -- Rests on the laws of a listing up to a limit (InParts) and on pieces laid one after the other (numerals/proofs/Laying).
 use mathlib.Core.Path.{◌≡◌, refl, sym, ap, ◌∙◌}
-use mathlib.Core.Logic.{◌≢◌, ◌⊎◌, ⊎_elim}
+use mathlib.Core.Logic.{◌⊎◌, ⊎_elim}
 use mathlib.Core.Bool.{Bool, true, false, cond}
 use mathlib.Core.List.{List, [], ◌++◌, append_assoc, append-nil}
 use Prim.Native.Nat.{ℕ, zero, suc, ◌+◌, ◌-◌, ◌^◌, ◌≤◌, ◌<◌}
@@ -211,15 +211,6 @@ module _ (text : List ℕ) (s : Surveyed) (e : s ≡ survey_of text) where
   calls-all z = ap (λ (x : Surveyed). x.calls) e ∙ survey-calls text (none-wrong z)
 
   module _ (out : List ℕ) where
-    -- A line is wrong.
-    pub listed-wrong : s.number ≢ 0 → Lists text out (Mistake s.line s.number) out
-    unfolding listed_of listed_out
-    listed-wrong z = lists text out _ out (rw (← e) (go s.number z, rw (ne_eqb s.number 0 z)))
-      where
-        go : (n : ℕ) → n ≢ 0 → Mistake s.line n ≡ mistake_or s.line n (length_or (space_number (text_of text) out) (length (text_of text)))
-        go zero z = absurd (z refl)
-        go (suc n) z = refl
-
     -- The listing goes in,
     pub listed-all : s.number ≡ 0 → leb (length (text_of text)) (length out) ≡ true → length out < 2 ^ 64 → (r : ℕ) (p : List ℕ) → Put out 0 (text_of text) r p
         → Lists text out (Length r) p

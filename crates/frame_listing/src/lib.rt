@@ -206,6 +206,7 @@ pub enum Listed {
 
 // The listing of a dance show at the start of a lent buffer. Cost: two passes over the text, and a call of the table for each call of the
 // show; two calls where the buffer has under 42 + 129 * (count of calls) bytes.
+#[tactic(auto, unfolding(crate::specs::Text::listed_of, crate::specs::Text::listed_out, crate::specs::Text::listing_values))]
 pub fn listing(text: &[u8], out: &mut [u8]) -> Listed
     ensures answer { result ≡ listed_of text.now out.old }
     ensures buffer { out.new ≡ listed_out text.now out.old }

@@ -6,7 +6,7 @@ use Prim.Native.Nat.{ℕ, ◌+◌, ◌*◌, ◌≤◌, ◌<◌}
 use native.Mathlib.Omega.{arith}
 use lib.Dec.{leb}
 use lib.ListN.{length, take}
-use borrow.Author.Tests.{le-leb, lt-leb, leb-true}
+use borrow.Author.Tests.{le-leb, leb-true}
 use Rattle.numerals.specs.Laid.{laid, Put, space_number}
 use Rattle.numerals.proofs.Laying.{lent_none, lent-known, put-short, laid-first}
 use Rattle.load.specs.declared.Written.TheVariants.{Length, Refusal}
@@ -19,14 +19,6 @@ use Rattle.generator.specs.Drafts.{Answers}
 use Rattle.generator.proofs.Whole.{workload-most}
 
 -- ── the count ──
-pub count_none : (n : ℕ) → n ≡ 0 → claims_number n ≡ 20
-unfolding claims_number
-count_none n e = rw e refl
-
-pub count-many : (n : ℕ) → 1000 < n → claims_number n ≡ 20
-unfolding claims_number
-count-many n h = rw (le-leb 1 n (omega arith), lt-leb n 1000 h) refl
-
 pub count-right : (n : ℕ) → (n ≡ 0 → ⊥) → n ≤ 1000 → claims_number n ≡ 0
 unfolding claims_number
 count-right n z h = let k : 1 ≤ n = omega arith in rw (le-leb 1 n k, le-leb n 1000 h) refl
@@ -39,10 +31,6 @@ right-count n e = either (leb 1 n && leb n 1000) (λ b. leb-true n 1000 (both (l
 module _ (seed count : ℕ) (out : List ℕ) where
   abbrev load : List ℕ
   load = workload_of seed count
-
-  pub answers-count : claims_number count ≡ 20 → Answers seed count out (Refusal 20) out
-  unfolding workload_answer workload_out workload_values workload_number
-  answers-count e = let a = refused load out (workload_number seed count out) 20 (rw e refl) (λ z. omega arith) in record { answer = a.0; buffer = a.1.0; values = a.1.1 }
 
   module _ (right : claims_number count ≡ 0) where
     pub answers-short : (n : ℕ) → n ≡ length load → length out < n → Answers seed count out (Refusal 15) out

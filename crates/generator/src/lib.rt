@@ -209,6 +209,7 @@ fn copied(seed: u32, count: u32, out: &mut [u8]) -> Written
 
 // The workload at the start of a lent buffer, and its length; 20 for a count outside 1 to 1,000, then 15, and the buffer is untouched.
 // Cost: one call of the table for each record. Where the buffer has under 12 + 36 * count bytes the load is copied once.
+#[tactic(auto, unfolding(crate::specs::Workload::claims_number, crate::specs::Workload::workload_number, crate::specs::Workload::workload_answer, crate::specs::Workload::workload_out, crate::specs::Workload::workload_values))]
 pub fn workload(seed: u32, count: u32, out: &mut [u8]) -> Written
     ensures answer { result ≡ workload_answer seed count out.old }
     ensures buffer { out.new ≡ workload_out seed count out.old }

@@ -31,6 +31,7 @@ pub enum Written {
 
 // ---- reading
 // 0 for a load that opens; else 14, 12 for an empty one, or 11. Looks at the length and the first byte alone.
+#[tactic(auto, unfolding(crate::specs::Reading::open_number))]
 pub fn open_number(load: &[u8]) -> u8
     ensures { result ≡ open_number load.now }
 {

@@ -5,7 +5,7 @@ use mathlib.Core.Path.{◌≡◌, sym, ap, ◌∙◌}
 use native.Mathlib.Omega.{arith}
 use mathlib.Core.Bool.{true, false, ◌||◌}
 use lib.Dec.{leb}
-use borrow.Author.Tests.{leb-true, leb-false, le-leb, lt-leb}
+use borrow.Author.Tests.{leb-true, leb-false, lt-leb}
 use lib.ListN.{length, length-append}
 use Rattle.numerals.specs.Laid.{Put}
 use Rattle.numerals.proofs.Laying.{put_as}
@@ -87,9 +87,6 @@ text-read s n e q w l =
 
 -- A text of n bytes goes into room for any, or into as many bytes.
 module _ (n room : ℕ) where
-  pub text-any : 196666 ≤ room → true ≡ (leb 196666 room || leb n room)
-  text-any h = rw (le-leb 196666 room h)
-
   pub text-counted : room < 196666 → leb n room ≡ (leb 196666 room || leb n room)
   text-counted h = rw (lt-leb 196666 room h)
 

@@ -7,8 +7,7 @@ use Prim.Native.Nat.{ℕ, ◌+◌, ◌≤◌, ◌<◌}
 use native.Mathlib.Omega.{arith}
 use lib.ListN.{length}
 use lib.Dec.{eqb}
-use borrow.Author.Tests.{eqb-false, eq-eqb, ne_eqb, le-leb, lt-leb}
-use Rattle.numbers.specs.Numbers.{dark_number, edition_number, overlong_number}
+use borrow.Author.Tests.{eqb-false, eq-eqb, ne_eqb}
 use Rattle.rules.specs.declared.Table.{Table}
 use Rattle.rules.specs.Calls.{Model, claim, clock, declare, set_grace, step, new}
 use Rattle.rules.specs.Tables.{model}
@@ -67,27 +66,6 @@ module _ (alone : Bool) (m : Model) (c : Call) where
       rw (n 1 (omega arith) (omega arith), n 2 (omega arith) (omega arith), n 3 (omega arith) (omega arith), n 4 (omega arith) (omega arith), ne_eqb c.kind 6 o, ne_eqb c.kind 8 o')
 
 -- ── the number by which a record ends the load ──
-module _ (k n : ℕ) where
-  pub dark-rig-ends : n ≡ dark_number → k ≡ 1 → n ≡ ending k n
-  unfolding ending
-  dark-rig-ends e f = rw (lt-leb edition_number n (omega arith), eq-eqb n dark_number e, eq-eqb k 1 f)
-
-  pub dark-goes-on : n ≡ dark_number → k ≢ 1 → 0 ≡ ending k n
-  unfolding ending
-  dark-goes-on e f = rw (lt-leb edition_number n (omega arith), eq-eqb n dark_number e, ne_eqb k 1 f)
-
-  pub low-goes-on : n ≢ dark_number → n < edition_number → 0 ≡ ending k n
-  unfolding ending
-  low-goes-on e l = rw (lt-leb edition_number n l, ne_eqb n dark_number e)
-
-  pub high-goes-on : n ≢ dark_number → edition_number ≤ n → overlong_number < n → 0 ≡ ending k n
-  unfolding ending
-  high-goes-on e l h = rw (le-leb edition_number n l, lt-leb n overlong_number h, ne_eqb n dark_number e)
-
-  pub within-ends : edition_number ≤ n → n ≤ overlong_number → n ≡ ending k n
-  unfolding ending
-  within-ends l h = rw (le-leb edition_number n l, le-leb n overlong_number h)
-
 -- That of an outcome of the rules is the step's.
 pub ends_as : (alone : Bool) (m : Model) (r : Record) (o : Outcome) → o ≡ outcome (step_of alone m r) → (k n : ℕ) → n ≡ ending k o.number
     → n ≡ ending k (step_of alone m r).answer.number

@@ -63,6 +63,7 @@ pub fn alone_in(load: &[u8]) -> bool
 // ── the stop ──
 
 // The number by which a record ends the load early, 0 for none.
+#[tactic(auto, unfolding(crate::specs::Records::ending))]
 pub fn ending_of(k: u64, number: u8) -> u8
     ensures { result ≡ ending k number }
 {

@@ -3,13 +3,10 @@ use mathlib.Core.Path.{ap, ◌∙◌}
 use native.Mathlib.Omega.{arith}
 use lib.Dec.{leb}
 use Rattle.numerals.proofs.Laying.{put-short}
-use Rattle.load_text.proofs.Showing.{text-any, text-counted}
+use Rattle.load_text.proofs.Showing.{text-counted}
 use Rattle.load_text.proofs.print.goes_into.Goals as goal
 
 pub returns : goal.returns
 returns c =
     let t = c.put_text.ensures in
-    ap (λ n. leb n c.args.room) (put-short (omega (arith, t.brief)) t.laid).0 ∙ text-counted _ _ c.if-room-ge196666.false
-
-pub returns-then-room-ge196666 : goal.returns-then-room-ge196666
-returns-then-room-ge196666 c = text-any _ _ c.if-room-ge196666.true
+    ap (λ n. leb n c.args.room) (put-short (omega (arith, t.brief)) t.laid).0 ∙ text-counted _ _ (omega arith)
