@@ -48,9 +48,9 @@ enum belgwyth_number {
 };
 
 /* Bytes of stack that suffice for each call: measured (tests/stack.c), not proved. */
-#define BELGWYTH_LISTING_STACK 49152
+#define BELGWYTH_LISTING_STACK 32768
 #define BELGWYTH_BEAT_STACK 8192
-#define BELGWYTH_WORKLOAD_STACK 45056
+#define BELGWYTH_WORKLOAD_STACK 36864
 
 /*
  * A load's first byte is its edition: 1; 2, with a pool of followspots in its rig and units of them in its claims; or 3, with a desk in

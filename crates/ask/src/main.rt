@@ -39,7 +39,7 @@ fn joined(rt: &impl Env, line: &mut [u8]) -> usize
 fn tell_usage(rt: &impl Eprint) {
     streams::tell_usage(
         rt,
-        "ask lookup TICKET < LOAD\n       ask common TICKET TICKET < LOAD\n       ask free < LOAD\n       ask why TICKET < LOAD",
+        b"ask lookup TICKET < LOAD\n       ask common TICKET TICKET < LOAD\n       ask free < LOAD\n       ask why TICKET < LOAD",
     );
 }
 
@@ -48,7 +48,7 @@ fn print(rt: &(impl Print + Eprint + Alloc), load: &[u8], line: &[u8]) {
     let mut text = [0u8; 5175];
     match question::answer(load, line, &mut text) {
         Asked::Written(n) => {
-            streams::write_output(rt, "ask", &text[..n]);
+            streams::write_output(rt, b"ask", &text[..n]);
         }
         Asked::NoSuch => tell_usage(rt),
         Asked::NoRoom => {}
@@ -62,7 +62,7 @@ fn run(rt: &(impl Input + Print + Eprint + Alloc), line: &[u8], mut room: [u8; 6
         tell_usage(rt);
         return;
     }
-    let input = streams::read_input(rt, "ask", &mut room);
+    let input = streams::read_input(rt, b"ask", &mut room);
     if input.failed {
         return;
     }

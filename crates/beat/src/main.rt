@@ -19,7 +19,7 @@ fn print_parts(rt: &(impl Print + Eprint + Alloc), text: &[u8], out: &mut [u8])
     let mut p = frame_listing::first_part(text, out);
     loop {
         let n = p.length;
-        if !streams::write_output(rt, "beat", &out[..n]) {
+        if !streams::write_output(rt, b"beat", &out[..n]) {
             break;
         }
         if text.len() <= p.at {
@@ -42,7 +42,7 @@ fn print(rt: &(impl Print + Eprint + Alloc), text: &[u8]) {
 
 // `room` is for the longest text and one byte more.
 fn run(rt: &(impl Input + Print + Eprint + Alloc), mut room: [u8; 1048577]) {
-    let input = streams::read_input(rt, "beat", &mut room);
+    let input = streams::read_input(rt, b"beat", &mut room);
     if input.failed {
         return;
     }
@@ -55,7 +55,7 @@ fn run(rt: &(impl Input + Print + Eprint + Alloc), mut room: [u8; 1048577]) {
 }
 
 fn main(rt: HostRuntime) {
-    if streams::has_arguments(&rt, "beat < SHOW") {
+    if streams::has_arguments(&rt, b"beat < SHOW") {
         return;
     }
     run(&rt, [0; 1048577]);

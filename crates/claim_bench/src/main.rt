@@ -42,7 +42,7 @@ fn hundred(t: Table, clock: u64, from: u64) -> u64
 
 fn main(rt: HostRuntime) {
     let mut input = [0u8; 4096];
-    let read = streams::read_input(&rt, "claim_bench", &mut input);
+    let read = streams::read_input(&rt, b"claim_bench", &mut input);
     if read.failed {
         return;
     }

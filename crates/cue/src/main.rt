@@ -21,15 +21,15 @@ fn listing_buffer() -> [u8; 1409024]
 fn print(rt: &(impl Print + Eprint + Alloc), load: &[u8]) {
     let mut out = listing_buffer();
     let n = listing::belgwyth_listing(load, &mut out);
-    streams::write_output(rt, "cue", &out[..n]);
+    streams::write_output(rt, b"cue", &out[..n]);
 }
 
 fn main(rt: HostRuntime) {
-    if streams::has_arguments(&rt, "cue < LOAD") {
+    if streams::has_arguments(&rt, b"cue < LOAD") {
         return;
     }
     let mut load = load_buffer();
-    let input = streams::read_input(&rt, "cue", &mut load);
+    let input = streams::read_input(&rt, b"cue", &mut load);
     if input.failed {
         return;
     }

@@ -45,6 +45,7 @@ fn put_grants(out: &mut [u8], at: usize, clock: u64, grants: [u16; 64], granted:
     n
 }
 
+#[inline(never)]
 fn put_entry(out: &mut [u8], at: usize, k: u64, o: Outcome) -> usize
     requires { o.granted ≤ 64 }
     ensures { Put out.old at (line_of k o.number o.ticket o.start ++ on_lines o.table.clock (take o.granted o.grants)) result out.new }
@@ -116,6 +117,7 @@ fn records(load: &[u8], out: &mut [u8], from: usize) -> usize
 }
 
 // The whole listing laid over a buffer, as far as that goes, and its length.
+#[inline(never)]
 fn run(load: &[u8], out: &mut [u8]) -> usize
     ensures { (result ≡ length (listing_of load.now)) × (out.new ≡ laid out.old 0 (listing_of load.now)) }
 {

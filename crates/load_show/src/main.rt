@@ -7,7 +7,7 @@ use load_text::Printed;
 fn print(rt: &(impl Print + Eprint + Alloc), load: &[u8], mut room: [u8; 196666]) {
     match load_text::show(load, &mut room) {
         Printed::Length(n) => {
-            streams::write_output(rt, "load_show", &room[..n]);
+            streams::write_output(rt, b"load_show", &room[..n]);
         }
         Printed::Refusal(_n) => {}
     }
@@ -15,7 +15,7 @@ fn print(rt: &(impl Print + Eprint + Alloc), load: &[u8], mut room: [u8; 196666]
 
 // `room` is for the longest load and one byte more.
 fn run(rt: &(impl Input + Print + Eprint + Alloc), mut room: [u8; 65537]) {
-    let input = streams::read_input(rt, "load_show", &mut room);
+    let input = streams::read_input(rt, b"load_show", &mut room);
     if input.failed {
         return;
     }
@@ -24,7 +24,7 @@ fn run(rt: &(impl Input + Print + Eprint + Alloc), mut room: [u8; 65537]) {
 }
 
 fn main(rt: HostRuntime) {
-    if streams::has_arguments(&rt, "load_show < LOAD") {
+    if streams::has_arguments(&rt, b"load_show < LOAD") {
         return;
     }
     run(&rt, [0; 65537]);

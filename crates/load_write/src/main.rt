@@ -15,7 +15,7 @@ fn write(rt: &(impl Print + Eprint + Alloc), text: &[u8]) {
     let mut load = [0u8; 65536];
     match load_text::make(text, &mut load) {
         Made::Load(n) => {
-            streams::write_output(rt, "load_write", &load[..n]);
+            streams::write_output(rt, b"load_write", &load[..n]);
         }
         Made::Mistake(line, reason) => fail(rt, text, line, reason),
     }
@@ -23,7 +23,7 @@ fn write(rt: &(impl Print + Eprint + Alloc), text: &[u8]) {
 
 // `room` is for the longest text and one byte more.
 fn run(rt: &(impl Input + Print + Eprint + Alloc), mut room: [u8; 1048577]) {
-    let input = streams::read_input(rt, "load_write", &mut room);
+    let input = streams::read_input(rt, b"load_write", &mut room);
     if input.failed {
         return;
     }
@@ -36,7 +36,7 @@ fn run(rt: &(impl Input + Print + Eprint + Alloc), mut room: [u8; 1048577]) {
 }
 
 fn main(rt: HostRuntime) {
-    if streams::has_arguments(&rt, "load_write < SHOW > LOAD") {
+    if streams::has_arguments(&rt, b"load_write < SHOW > LOAD") {
         return;
     }
     run(&rt, [0; 1048577]);

@@ -25,7 +25,11 @@ fn read_more(from: &mut impl Read, room: &mut [u8], done: usize) -> Result<usize
 
 // Reads standard input to the start of a lent buffer until it ends or the buffer is full. A read that fails is told, and nothing counts as
 // read, whatever stands in the buffer. Cost: one read for each part that the system hands over, straight into its place.
-pub fn read_input(rt: &(impl std::io::Input + Eprint + Alloc), name: &str, room: &mut [u8]) -> Input
+pub fn read_input(
+    rt: &(impl std::io::Input + Eprint + Alloc),
+    name: &[u8],
+    room: &mut [u8],
+) -> Input
     ensures within { result.length ≤ length room.new }
     ensures prefix { result.length ≡ length (take result.length room.new) }
 {
@@ -53,7 +57,7 @@ pub fn read_input(rt: &(impl std::io::Input + Eprint + Alloc), name: &str, room:
 }
 
 // Writes bytes to standard output: whether all were written. A write that fails is told.
-pub fn write_output(rt: &(impl Print + Eprint + Alloc), name: &str, bytes: &[u8]) -> bool {
+pub fn write_output(rt: &(impl Print + Eprint + Alloc), name: &[u8], bytes: &[u8]) -> bool {
     match rt.write_all(bytes) {
         Ok(()) => true,
         Err(error) => {
@@ -72,7 +76,8 @@ fn words_of(said: &str) -> &str {
 }
 
 // `NAME: standard input: Is a directory`. Without memory for the words they stand there with their number.
-fn tell_error(rt: &(impl Eprint + Alloc), name: &str, stream: &str, error: Error) {
+fn tell_error(rt: &(impl Eprint + Alloc), name: &[u8], stream: &str, error: Error) {
+    let name = Ascii(name);
     let _ = match format!(in rt.alloc(); "{error}") {
         Ok(said) => eprintln!(rt; "{name}: {stream}: {}", words_of(said.as_str())),
         Err(_) => eprintln!(rt; "{name}: {stream}: {error}"),
@@ -98,7 +103,8 @@ pub fn tell(rt: &impl Eprint, text: &[u8]) {
 }
 
 // Tells how a program is used on standard error.
-pub fn tell_usage(rt: &impl Eprint, usage: &str) {
+pub fn tell_usage(rt: &impl Eprint, usage: &[u8]) {
+    let usage = Ascii(usage);
     let _ = eprintln!(rt; "usage: {usage}");
 }
 
@@ -108,7 +114,7 @@ pub fn has_argument(rt: &impl Env, place: usize) -> bool {
 }
 
 // Whether a program that takes no arguments was given some, which is told by how it is used.
-pub fn has_arguments(rt: &(impl Env + Eprint), usage: &str) -> bool {
+pub fn has_arguments(rt: &(impl Env + Eprint), usage: &[u8]) -> bool {
     if !has_argument(rt, 1) {
         return false;
     }

@@ -276,6 +276,7 @@ fn at_clock(mut t: Table, clock: u64) -> Table
 
 // Sets the clock of a table from which a claim was taken, and packs. Where nobody waits packing would change nothing.
 // Cost: one pass at most, and that packing.
+#[inline(always)]
 fn pulled(mut t: Table, clock: u64) -> Table
     requires { Formed t × (t.clock ≤ clock) × (clock ≤ most_clock) }
     ensures { (result ≡ encode (advance (model t) clock)) × Formed result × Still (model result) }
@@ -309,6 +310,7 @@ fn pulled(mut t: Table, clock: u64) -> Table
 }
 
 // Grants in a table where packing again would change nothing, and answers.
+#[inline(always)]
 fn finished(t: Table, r: Reply) -> Outcome
     requires { Formed t × Still (model t) }
     ensures { (result ≡ outcome (finish (model t) r)) × Formed result.table }
@@ -372,6 +374,7 @@ pub struct Taken {
 // Takes the claim of a ticket out of a table; those after it move up, and the last place becomes vacant. Where a pending claim draws units
 // the table is packed first, if a holder overruns. Cost: one pass to find it, one more where there is a pool, one move of those after it, and
 // that packing.
+#[inline(always)]
 fn removed(mut t: Table, clock: u64, ticket: u16) -> Taken
     requires { Valid t × (t.clock ≤ clock) × (clock ≤ most_clock) }
     ensures { (result.standing ≡ standing_of ticket (departed (model t) clock).pending) × (result.table ≡ encode (remove (departed (model t) clock) ticket))
@@ -428,6 +431,7 @@ fn removed(mut t: Table, clock: u64, ticket: u16) -> Taken
 }
 
 // Takes away the claim of a ticket: a release, or else a withdrawal. Refused as these are.
+#[inline(always)]
 pub fn leave(t: Table, releasing: bool, clock: u64, ticket: u16) -> Outcome
     requires { Valid t }
     ensures { (result ≡ outcome (step (model t) (leaving releasing clock ticket))) × Valid result.table }
@@ -572,6 +576,7 @@ fn claim_number(t: Table, clock: u64, ask: Request, counted: u8) -> u8
 }
 
 // A claim that no test refuses, in a table that is packed.
+#[inline(always)]
 fn admitted(t: Table, ask: Request) -> Outcome
     requires { Formed t × Still (model t) × (t.count < most_pending) × (t.issued < most_tickets) × (1 ≤ ask.length) × (ask.length ≤ most_length)
         × (ask.units ≤ t.pool) }
@@ -593,6 +598,7 @@ fn admitted(t: Table, ask: Request) -> Outcome
 
 // Claims what is asked for. Refused: 5, 4, 17, 1, 2, 16, 3, 6, 18, 7. Counting what clients have pending stands here and not in
 // `claim_number`: a table handed on is a table copied, so it is handed on only where they have to be counted.
+#[inline(always)]
 pub fn claim(t: Table, clock: u64, ask: Request) -> Outcome
     requires { Valid t }
     ensures { (result ≡ outcome (step (model t) (timed clock (claims ask)))) × Valid result.table }

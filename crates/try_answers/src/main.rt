@@ -258,7 +258,7 @@ fn records(rt: &impl Print, load: &[u8]) {
 }
 
 fn run(rt: &(impl Input + Print + Eprint + Alloc), mut room: [u8; 65537]) {
-    let input = streams::read_input(rt, "try_answers", &mut room);
+    let input = streams::read_input(rt, b"try_answers", &mut room);
     if input.failed {
         return;
     }

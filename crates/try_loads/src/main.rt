@@ -232,7 +232,7 @@ fn print(rt: &impl Print, load: &[u8]) {
 
 // `room` is for the longest load and one byte more.
 fn run(rt: &(impl Input + Print + Eprint + Alloc), mut room: [u8; 65537]) {
-    let input = streams::read_input(rt, "try_loads", &mut room);
+    let input = streams::read_input(rt, b"try_loads", &mut room);
     if input.failed {
         return;
     }

@@ -36,7 +36,7 @@ fn write(rt: &(impl Print + Eprint + Alloc), seed: u32, count: u32) {
     let mut load = [0u8; 65536];
     match generator::workload(seed, count, &mut load) {
         Written::Length(n) => {
-            streams::write_output(rt, "workload", &load[..n]);
+            streams::write_output(rt, b"workload", &load[..n]);
         }
         Written::Refusal(_n) => tell_count(rt),
     }
@@ -44,7 +44,7 @@ fn write(rt: &(impl Print + Eprint + Alloc), seed: u32, count: u32) {
 
 fn main(rt: HostRuntime) {
     if !streams::has_argument(&rt, 2) || streams::has_argument(&rt, 3) {
-        streams::tell_usage(&rt, "workload SEED COUNT > LOAD");
+        streams::tell_usage(&rt, b"workload SEED COUNT > LOAD");
         return;
     }
     let MaybeNumber::Number(seed) = argument(&rt, 1) else {
