@@ -7,7 +7,7 @@ usage: turn_proofs.py [FN..]        in the crate's folder, after the kit's port 
 It runs `rt check --generated` twice, for the old and the new name of each goal and for the branches that join; the crates below have to
 prove. A file that is turned is gone: git has it. What it cannot turn it names, and leaves as it is. The rest is by hand, by what the check says:
 an arm that binds a name of its own, a law over one place that is cited at a deeper one, a function with several clauses (which owes a record),
-one with a bound (whose answers take `g` first). Of 292 files it turned all but some ten, and some forty wanted a line or more by hand.
+one with a bound (whose answers take `g` first).
 """
 import functools
 import json
