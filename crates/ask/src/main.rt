@@ -4,7 +4,7 @@
 
 ghost use Rattle.std.specs.Prelude.{◌≤◌, length};
 
-use question::Asked;
+use question::AskError;
 use std::env::Env;
 
 // A space behind what a line has so far, if it has anything: the place after it.
@@ -47,26 +47,23 @@ fn tell_usage(rt: &impl Eprint) {
 fn print(rt: &(impl Print + Eprint + Alloc), load: &[u8], line: &[u8]) {
     let mut text = [0u8; 5175];
     match question::answer(load, line, &mut text) {
-        Asked::Written(n) => {
+        Ok(n) => {
             streams::write_output(rt, b"ask", &text[..n]);
         }
-        Asked::NoSuch => tell_usage(rt),
-        Asked::NoRoom => {}
+        Err(AskError::NoSuch) => tell_usage(rt),
+        Err(AskError::NoRoom) => {}
     }
 }
 
 // `room` is for the longest load and one byte more.
 fn run(rt: &(impl Input + Print + Eprint + Alloc), line: &[u8], mut room: [u8; 65537]) {
-    let q = question::question_of(line);
-    if !question::is_question(q) {
+    if question::question_of(line).is_none() {
         tell_usage(rt);
         return;
     }
-    let input = streams::read_input(rt, b"ask", &mut room);
-    if input.failed {
+    let Some(n) = streams::read_input(rt, b"ask", &mut room) else {
         return;
-    }
-    let n = input.length;
+    };
     print(rt, &room[..n], line);
 }
 

@@ -1,109 +1,82 @@
--- Following a chain over the columns, a claim at a time: the claim that is on ends it, and from one that waits it goes on at its link.
-use mathlib.Core.Path.{◌≡◌, refl, sym, ◌∙◌, ap}
-use mathlib.Core.Bool.{Bool, false}
-use mathlib.Core.List.{List, [], ◌∷◌, map}
-use Prim.Native.Nat.{ℕ, suc, ◌+◌, ◌≤◌, ◌<◌}
-use native.Mathlib.Omega.{arith}
-use native.Mathlib.Numerals.{add-one}
-use lib.ListN.{length, take, get_or, set, replicate, length-map}
-use lib.Seq.{sets}
-use Rattle.rules.specs.declared.Blocking.{Blocking}
+-- Following a chain, a claim at a time: the first claim of the row that passes is the link; from a claim that waits the chain goes on at its
+-- link, and one that is on ends it.
+use Rattle.std.proofs.Common.{◌≡◌, ℕ, ◌+◌, ◌≤◌, ◌<◌, true, false, ◌&&◌, List, [], ◌∷◌, ◌++◌, map, eqb, length, drop, get_or, refl, sym, ◌∙◌, ap, arith, append_assoc, length-append}
+use Rattle.std.proofs.lemmas.List.{length-map, drop_all}
 use Rattle.rules.specs.declared.Claim.{Claim}
 use Rattle.rules.specs.declared.Setting.{Setting}
-use Rattle.rules.specs.Lists.{◌∈◌}
-use Rattle.rules.specs.Claims.{on, at}
-use Rattle.rules.specs.Chains.{counts_as, links, link, chain}
+use Rattle.rules.specs.Lists.{◌∈◌, first_with}
+use Rattle.rules.specs.Claims.{on, at, end_of}
+use Rattle.rules.specs.Order.{meets}
+use Rattle.rules.specs.Vacant.{vacant}
+use Rattle.rules.specs.Chains.{counts_as, links, link, chain, chain_within}
 use Rattle.rules.specs.Invariants.{Settled}
-use Rattle.rules.specs.Tables.{vacant}
-use Rattle.rules.proofs.Chains.{links-i, link-true, link-sooner, chain-on, chain-waits, chain-true, chain_length}
-use Rattle.rules.proofs.Places.{Storing, store-end, pad-stored}
-use Rattle.plan.specs.Rows.{InPlaces}
-use Rattle.plan.proofs.Rows.{row-member, row_count}
-use Rattle.chains.specs.Blocking.{blocking}
-use Rattle.chains.specs.Columns.{meets_by, links_at, FirstPlace, Columns, chain_at, Follows}
-use Rattle.chains.proofs.Columns.{first-is}
+use Rattle.rules.proofs.Chains.{link-true, chain-on, chain-waits, chain_length}
+use Rattle.plan.specs.Rows.{InRange}
+use Rattle.plan.proofs.Rows.{row_step}
 
-module _ {q : ℕ} {v : Setting} {claims : List Claim} {starts ends groups units tickets : List ℕ} {held : List Bool} {n i k : ℕ}
-    (f : Follows q v claims starts ends groups units tickets held n i k) where
-  pub here : i < 64
-  here = omega (arith, f.place, f.row.few)
+-- ── the link ──
+module _ (v : Setting) (ps : List Claim) (w : Claim) where
+  -- The link, as far as it is looked for in the claims that are left.
+  abbrev pub link_in : List Claim → Claim
+  link_in l = first_with (λ d. links v ps d w) w l
 
-  member : get_or claims i vacant ∈ take n claims
-  member = row-member f.row i f.place
+  -- The claim at hand passes, or it does not.
+  pub link_here : (i : ℕ) → i < length ps → eqb (end_of v (get_or ps i vacant)) (at w) ≡ true → meets (get_or ps i vacant) w ≡ true
+      → link_in (drop i ps) ≡ get_or ps i vacant
+  unfolding first_with links counts_as
+  link_here i h e m = rw (row_step ps i h, e, m) refl
 
-  -- There is room for the claim itself.
-  pub room-here : k < 64
-  room-here =
-      let r = chain-true q v (take n claims) f.settled (get_or claims i vacant) member in
-      let e : length (chain_at v claims n i) ≡ suc (length r.0) = length-map (chain v (take n claims) (get_or claims i vacant)) (λ (c : Claim). c.ticket) ∙ ap length r.1 in
-      omega (arith, f.room)
+  pub link_on : (i : ℕ) → i < length ps → (eqb (end_of v (get_or ps i vacant)) (at w) && meets (get_or ps i vacant) w) ≡ false
+      → link_in (drop i ps) ≡ link_in (drop (i + 1) ps)
+  unfolding first_with links counts_as
+  link_on i h e = rw (row_step ps i h, e) refl
 
-  -- ── a claim that waits ──
-  module _ (o : get_or held i false ≡ false) where
-    waits : on (get_or claims i vacant) ≡ false
-    waits = sym (f.columns.phase.each i f.place) ∙ o
+  -- None is left.
+  pub link_none : (i : ℕ) → length ps ≤ i → w ≡ link_in (drop i ps)
+  unfolding first_with
+  link_none i h = rw (drop_all i ps h) refl
 
-    -- The columns tell which claims it can be linked to.
-    told : (j : ℕ) → j < n → links_at ends groups units (get_or starts i 0) (get_or groups i 0) (get_or units i 0) j ≡ links v (take n claims) (get_or claims j vacant) (get_or claims i vacant)
-    unfolding links_at meets_by links counts_as
-    told j b =
-        let c = f.columns in
-        let p = f.place in
-        rw (c.end.each j b, c.start.each i p, c.group.each j b, c.group.each i p, c.unit.each j b, c.unit.each i p) refl
+-- ── the chain ──
+abbrev pub told : List Claim → List ℕ
+told l = map (λ (c : Claim). c.ticket) l
 
-    module _ (r : ℕ) (first : FirstPlace (links_at ends groups units (get_or starts i 0) (get_or groups i 0) (get_or units i 0)) n r) where
-      linked : (r < n) × (get_or claims r vacant ≡ link v (take n claims) (get_or claims i vacant))
-      unfolding link
-      linked =
-          let w = get_or claims i vacant in
-          let t = link-true q v (take n claims) f.settled w member waits in
-          first-is f.row (links_at ends groups units (get_or starts i 0) (get_or groups i 0) (get_or units i 0)) (λ c. links v (take n claims) c w) told r first
-          w (link v (take n claims) w) t.pending (links-i v (take n claims) (link v (take n claims) w) w t.ends t.common)
+-- The tickets so far end at the claim c; with the chain of c in its place they are those of the chain of w.
+pub record Followed (v : Setting) (ps : List Claim) (w : Claim) (tickets : List ℕ) (c : Claim) : Type 0 where
+  pub member : c ∈ ps
+  pub front : List ℕ
+  pub far : tickets ≡ front ++ (c.ticket ∷ [])
+  pub whole : front ++ told (chain v ps c) ≡ told (chain v ps w)
 
-      next : chain_at v claims n i ≡ get_or tickets i 0 ∷ chain_at v claims n r
+-- A chain has its claim.
+chain_first : (v : Setting) (ps : List Claim) (c : Claim) → 0 < length (chain v ps c)
+unfolding chain chain_within
+chain_first v ps c = omega arith
+
+module _ {q : ℕ} {v : Setting} {ps : List Claim} {w : Claim} (row : InRange v ps) (s : Settled q v ps) where
+  pub followed-start : w ∈ ps → Followed v ps w ([] ++ (w.ticket ∷ [])) w
+  followed-start m = record { member = m; front = []; far = refl; whole = refl }
+
+  module _ {tickets : List ℕ} {c : Claim} (f : Followed v ps w tickets c) where
+    pub followed-end : on c ≡ true → tickets ≡ told (chain v ps w)
+    followed-end o = f.far ∙ ap (λ (l : List Claim). f.front ++ told l) (sym (chain-on v ps c o)) ∙ f.whole
+
+    module _ (o : on c ≡ false) where
+      pub linked : link v ps c ∈ ps
+      linked = (link-true q v ps s c f.member o).pending
+
+      next : tickets ++ told (chain v ps (link v ps c)) ≡ told (chain v ps w)
       next =
-          ap (map (λ (c : Claim). c.ticket)) (chain-waits q v (take n claims) f.settled (get_or claims i vacant) member waits)
-          ∙ ap (λ (x : ℕ). x ∷ map (λ (c : Claim). c.ticket) (chain v (take n claims) (link v (take n claims) (get_or claims i vacant)))) (sym (f.columns.ticket.each i f.place))
-          ∙ ap (λ (c : Claim). get_or tickets i 0 ∷ map (λ (d : Claim). d.ticket) (chain v (take n claims) c)) (sym linked.1)
+          ap (λ (l : List ℕ). l ++ told (chain v ps (link v ps c))) f.far
+          ∙ append_assoc f.front (c.ticket ∷ []) (told (chain v ps (link v ps c)))
+          ∙ ap (λ (l : List Claim). f.front ++ told l) (sym (chain-waits q v ps s c f.member o))
+          ∙ f.whole
 
-      -- Its link starts sooner.
-      pub sooner : get_or starts r 0 < get_or starts i 0
-      sooner =
-          omega (
-            arith,
-            link-sooner q v (take n claims) f.settled (get_or claims i vacant) member waits,
-            f.columns.start.each i f.place,
-            f.columns.start.each r linked.0 ∙ ap (λ (c : Claim). at c) linked.1,
-          )
+      pub followed-more : Followed v ps w (tickets ++ ((link v ps c).ticket ∷ [])) (link v ps c)
+      followed-more = record { member = linked; front = tickets; far = refl; whole = next }
 
-      pub goes_on : Follows q v claims starts ends groups units tickets held n r (k + 1)
-      goes_on = record { row = f.row; settled = f.settled; columns = f.columns; place = linked.0; room = omega (arith, f.room, ap length next) }
-
-      pub goes-on-so : (m : ℕ) (old new : List ℕ)
-          → (m ≡ k + 1 + length (chain_at v claims n r)) × (new ≡ sets (set old k (get_or tickets i 0)) (k + 1) (chain_at v claims n r))
-          → (m ≡ k + length (chain_at v claims n i)) × (new ≡ sets old k (chain_at v claims n i))
-      goes-on-so m old new h =
-          let e : length (chain_at v claims n i) ≡ suc (length (chain_at v claims n r)) = ap length next in
-          let p : m ≡ k + length (chain_at v claims n i) = omega (arith, h.0) in
-          (p, h.1 ∙ ap (λ (j : ℕ). sets (set old k (get_or tickets i 0)) j (chain_at v claims n r)) (add-one k) ∙ ap (sets old k) (sym next))
-
--- ── a claim that is on ──
--- It ends the chain.
-pub ruleset ends_here = (chain-on)
-
--- ── the whole chain ──
-pub follows-start : {q : ℕ} {v : Setting} {claims : List Claim} {starts ends groups units tickets : List ℕ} {held : List Bool} {n i : ℕ}
-    → InPlaces v claims n → Settled q v (take n claims) → Columns v claims n starts ends groups units tickets held → i < n
-    → Follows q v claims starts ends groups units tickets held n i 0
-follows-start {q} {v} {claims} {n = n} {i} row s c h =
-    let w = get_or claims i vacant in
-    let e : length (chain_at v claims n i) ≡ length (chain v (take n claims) w) = length-map (chain v (take n claims) w) (λ (d : Claim). d.ticket) in
-    record { row = row; settled = s; columns = c; place = h; room = omega (arith, chain_length q v (take n claims) s w (row-member row i h), row_count row, row.few) }
-
--- Laid in zeros from the first place on, the tickets are what a lookup hands back.
-pub laid-is : (l : List ℕ) → length l ≤ 64 → (m : ℕ) (new : List ℕ) → (m ≡ 0 + length l) × (new ≡ sets (replicate 64 0) 0 l)
-    → ◌≡◌ {A = Blocking} (record { number = 0; count = m; tickets = new }) (blocking (record { number = 0; tickets = l }))
-laid-is l h m new p =
-    let s : Storing (replicate 64 0) l [] m new = record { stores = p.1; counts = omega (arith, p.0) } in
-    let r = store-end s (omega arith) in
-    rw (r.0, r.1 ∙ pad-stored 0 l) refl
+      -- There is room for its link.
+      pub followed_room : w ∈ ps → length tickets < 64
+      followed_room m =
+          let a = chain_length q v ps s w m in
+          let b = chain_first v ps (link v ps c) in
+          omega (arith, ap length next, length-append tickets (told (chain v ps (link v ps c))), length-map (chain v ps (link v ps c)) (λ (d : Claim). d.ticket), length-map (chain v ps w) (λ (d : Claim). d.ticket), row.few)

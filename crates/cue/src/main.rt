@@ -29,10 +29,8 @@ fn main(rt: HostRuntime) {
         return;
     }
     let mut load = load_buffer();
-    let input = streams::read_input(&rt, b"cue", &mut load);
-    if input.failed {
+    let Some(n) = streams::read_input(&rt, b"cue", &mut load) else {
         return;
-    }
-    let n = input.length;
+    };
     print(&rt, &load[..n]);
 }

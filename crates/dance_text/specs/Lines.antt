@@ -1,55 +1,58 @@
 -- What a line of a dance show says: `rig GROUPS`, `claim GROUPS` or `release TICKET`. Lines, words, sets of groups and reasons are those of
 -- the planner's text (crate words).
-use Rattle.std.specs.Prelude.{ℕ, Bool, true, false, cond, List, [], ◌∷◌, eqb}
+use Rattle.std.specs.Prelude.{ℕ, cond, List, [], ◌∷◌, eqb, Option, Some, None, Result, Ok, Err}
 use Rattle.numbers.specs.Numbers.{most_tickets}
 use Rattle.numerals.specs.Texts.{bytes}
-use Rattle.words.specs.declared.Field.{Field}
-use Rattle.words.specs.declared.Field.TheVariants.{Value}
-use Rattle.words.specs.declared.Field.TheVariants as field
+use Rattle.words.specs.declared.reasons.Reason.{Reason}
+use Rattle.words.specs.declared.reasons.Reason.TheVariants.{Unknown, Missing, TooMany, NoTicket, TooLarge}
 use Rattle.words.specs.Answers.{WordValues}
 use Rattle.words.specs.Parts.{words_in, said}
 use Rattle.words.specs.Sets.{groups_in, groups_values}
 use Rattle.words.specs.Words.{is_word, number_in, number_values}
-use Rattle.words.specs.Reasons.{unknown_reason, missing_reason, too_many_reason, no_ticket_reason, too_large_reason}
+use Rattle.words.specs.Reasons.{unknown_reason, missing_reason, too_many_reason, no_ticket_reason, too_large_reason, reason_number}
 use Rattle.dance_text.specs.declared.Call.{Call}
 use Rattle.dance_text.specs.declared.Call.TheVariants.{Rig, Claim, Release}
-use Rattle.dance_text.specs.declared.Line.{Line}
-use Rattle.dance_text.specs.declared.Line.TheVariants.{Silent, Said, Wrong}
 use Rattle.dance_text.specs.declared.Name.{Name}
-use Rattle.dance_text.specs.declared.Name.TheVariants.{NewRig, NewClaim, EndClaim, NoCall}
+use Rattle.dance_text.specs.declared.Name.TheVariants.{NewRig, NewClaim, EndClaim}
 
 -- The call that a word names.
-unfoldable pub call_named : List ℕ → Name
-call_named w = cond (is_word w (bytes "rig")) NewRig (cond (is_word w (bytes "claim")) NewClaim (cond (is_word w (bytes "release")) EndClaim NoCall))
-
-abbrev pub is_call : Name → Bool
-is_call NewRig = true
-is_call NewClaim = true
-is_call EndClaim = true
-is_call NoCall = false
+unfoldable pub call_named : List ℕ → Option Name
+call_named w =
+    cond (is_word w (bytes "rig")) (Some NewRig) (cond (is_word w (bytes "claim")) (Some NewClaim) (cond (is_word w (bytes "release")) (Some EndClaim) None))
 
 -- The call of what a word says; what is wrong stays so.
-abbrev pub call_or : (ℕ → Call) → Field → Line
-call_or call (Value v) = Said (call v)
-call_or call (field.Wrong n) = Wrong n
+abbrev pub call_or : (ℕ → Call) → Result ℕ Reason → Result Call Reason
+call_or call (Ok v) = Ok (call v)
+call_or call (Err r) = Err r
 
 -- What the word after a call's name says.
-abbrev pub word_says : Name → List ℕ → Line
+abbrev pub word_says : Name → List ℕ → Result Call Reason
 word_says NewRig w = call_or Rig (groups_in w)
 word_says NewClaim w = call_or Claim (groups_in w)
-word_says EndClaim w = call_or Release (number_in 10 most_tickets no_ticket_reason too_large_reason w)
-word_says NoCall w = Wrong unknown_reason
+word_says EndClaim w = call_or Release (number_in 10 most_tickets NoTicket TooLarge w)
 
 -- What the words after it say. How many there are is judged before what they say.
-unfoldable pub words_say : Name → List (List ℕ) → Line
-words_say n [] = Wrong missing_reason
+unfoldable pub words_say : Name → List (List ℕ) → Result Call Reason
+words_say n [] = Err Missing
 words_say n (w ∷ []) = word_says n w
-words_say n (w ∷ v ∷ ws) = Wrong too_many_reason
+words_say n (w ∷ v ∷ ws) = Err TooMany
 
--- The first word names the call.
+-- What a line says: a call or nothing, or what is wrong with it.
+abbrev pub Line : Type 0
+Line = Result (Option Call) Reason
+
+abbrev pub calling : Result Call Reason → Line
+calling (Ok c) = Ok (Some c)
+calling (Err r) = Err r
+
+-- By the call that the first word names, and the words after it.
+abbrev pub named_says : Option Name → List (List ℕ) → Line
+named_says None ws = Err Unknown
+named_says (Some n) ws = calling (words_say n ws)
+
 unfoldable pub call_said : List (List ℕ) → Line
-call_said [] = Silent
-call_said (k ∷ ws) = cond (is_call (call_named k)) (words_say (call_named k) ws) (Wrong unknown_reason)
+call_said [] = Ok None
+call_said (k ∷ ws) = named_says (call_named k) ws
 
 -- What a line says.
 unfoldable pub line_says : List ℕ → Line
@@ -62,22 +65,20 @@ pub record LineValues : Type 0 where
   pub calls : List Call
 
 abbrev pub line_values : Line → LineValues
-line_values Silent = record { number = 0; calls = [] }
-line_values (Said c) = record { number = 0; calls = c ∷ [] }
-line_values (Wrong n) = record { number = n; calls = [] }
+line_values (Ok None) = record { number = 0; calls = [] }
+line_values (Ok (Some c)) = record { number = 0; calls = c ∷ [] }
+line_values (Err r) = record { number = reason_number r; calls = [] }
 
 -- The same by the line's words. What the word behind a call's name says, and the call of it.
 abbrev pub word_as : Name → List ℕ → WordValues
 word_as NewRig w = groups_values w
 word_as NewClaim w = groups_values w
 word_as EndClaim w = number_values 10 most_tickets no_ticket_reason too_large_reason w
-word_as NoCall w = record { number = unknown_reason; value = 0 }
 
 abbrev pub call_with : Name → ℕ → List Call
 call_with NewRig v = Rig v ∷ []
 call_with NewClaim v = Claim v ∷ []
 call_with EndClaim v = Release v ∷ []
-call_with NoCall v = []
 
 abbrev pub no_call_for : ℕ → LineValues
 no_call_for n = record { number = n; calls = [] }
@@ -88,9 +89,13 @@ words_values n [] = no_call_for missing_reason
 words_values n (w ∷ []) = record { number = (word_as n w).number; calls = cond (eqb (word_as n w).number 0) (call_with n (word_as n w).value) [] }
 words_values n (w ∷ v ∷ ws) = no_call_for too_many_reason
 
+abbrev pub values_named : Option Name → List (List ℕ) → LineValues
+values_named None ws = no_call_for unknown_reason
+values_named (Some n) ws = words_values n ws
+
 unfoldable pub named_values : List (List ℕ) → LineValues
 named_values [] = no_call_for 0
-named_values (k ∷ ws) = cond (is_call (call_named k)) (words_values (call_named k) ws) (no_call_for unknown_reason)
+named_values (k ∷ ws) = values_named (call_named k) ws
 
 unfoldable pub parse_values : List ℕ → LineValues
 parse_values l = named_values (words_in (said l))

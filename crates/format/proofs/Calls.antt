@@ -1,18 +1,18 @@
 -- Calls and their values, there and back: by one induction over the fields of a row, given that they differ (`proper`).
-use Prim.Native.Nat.{ℕ, zero, suc, ◌+◌, ◌%◌, ◌^◌, ◌≤◌, ◌<◌}
-use mathlib.Core.Bool.{true, false, not, ◌&&◌, ◌||◌}
+use Prim.Native.Nat.{ℕ, zero, suc, ◌^◌, ◌≤◌, ◌<◌}
+use mathlib.Core.Bool.{Bool, true, false, false≢true, not, ◌&&◌, ◌||◌}
 use mathlib.Core.List.{List, [], ◌∷◌}
 use mathlib.Core.Logic.{⊎_elim}
 use mathlib.Core.Path.{◌≡◌, refl, sym, ap, subst, ◌∙◌}
 use native.Mathlib.Omega.{arith}
-use native.Mathlib.Nat.{one-le-pow, mod-eq_of_lt}
+use native.Mathlib.Nat.{one-le-pow}
 use lib.Dec.{ltb, eqb}
 use borrow.Author.Tests.{eqb-true, eqb-false, eq-eqb, ne_eqb, lt-ltb, not-true}
 use lib.ListN.{length, drop, get_or, set, length-set, get_or-eq_default}
 use lib.Seq.{get_or-set_same, get_or-set_other, set_out, ext_get_or}
 use Rattle.format.specs.declared.Call.{Call}
 use Rattle.format.specs.Format.{the_client, format, field_widths, field_count, field_width, defaults, default, has_kind, fields_of}
-use Rattle.format.specs.Calls.{numbers, made, fitted_to, fitted, value_of, with_value, bare, filled, call_of, values_in, values_of, same_below, same, kept, keeps, Typed, OlderCallClient}
+use Rattle.format.specs.Calls.{numbers, made, value_of, with_value, bare, filled, call_of, values_in, values_of, same_below, same, kept, keeps, Typed, OlderCallClient}
 use Rattle.format.proofs.Format.{both, either, neither, has, all_rows, tested, proper, proper-parts, fields-proper}
 
 -- ── one field ──
@@ -37,37 +37,6 @@ numbers-made : (ns : List ℕ) → length ns ≡ field_count → numbers (made n
 unfolding numbers made listed field_widths
 numbers-made ns h = subst (λ (n : ℕ). listed (λ i. get_or ns i (default i)) n ≡ ns) h (listed-is default ns)
 
--- Of numbers that go into their fields nothing is left out.
-fitted-length : (f : ℕ) (ws ns : List ℕ) → length (fitted_to f ws ns) ≡ length ws
-unfolding fitted_to
-fitted-length f [] ns = refl
-fitted-length f (w ∷ ws) ns = ap suc (fitted-length (suc f) ws ns)
-
-fitted-at : (f : ℕ) (ws ns : List ℕ) (i : ℕ) → i < length ws → get_or (fitted_to f ws ns) i 0 ≡ get_or ns (f + i) 0 % 256 ^ get_or ws i 0
-unfolding fitted_to
-fitted-at f [] ns i h = absurd (omega arith)
-fitted-at f (w ∷ ws) ns zero h = ap (λ (k : ℕ). get_or ns k 0 % 256 ^ w) (omega arith)
-fitted-at f (w ∷ ws) ns (suc i) h = fitted-at (suc f) ws ns i (omega arith) ∙ ap (λ (k : ℕ). get_or ns k 0 % 256 ^ get_or ws i 0) (omega arith)
-
-pub made-fitted : (ns : List ℕ) → length ns ≡ field_count → Typed (made ns) → made (fitted ns) ≡ made ns
-unfolding fitted value_of field_width
-made-fitted ns l h =
-    ap made
-    (ext_get_or 0 (fitted_to 0 field_widths ns) ns (fitted-length 0 field_widths ns ∙ sym l)
-    (λ i k. fitted-at 0 field_widths ns i (omega (arith, fitted-length 0 field_widths ns))
-    ∙ ap (λ (j : ℕ). get_or ns j 0 % 256 ^ get_or field_widths i 0) (omega arith)
-    ∙ mod-eq_of_lt {n = get_or ns i 0} {m = 256 ^ get_or field_widths i 0} (subst (λ (x : List ℕ). get_or x i 0 < 256 ^ get_or field_widths i 0) (numbers-made ns l) (h i))))
-
--- The numbers of a call make it, and have its values at their places.
-module _ (ns : List ℕ) (c : Call) (e : ns ≡ numbers c) where
-  pub made_again : made ns ≡ c
-  unfolding made numbers
-  made_again = ap made e
-
-  pub value-at : (f : ℕ) → get_or ns f 0 ≡ value_of f c
-  unfolding value_of
-  value-at f = ap (λ (xs : List ℕ). get_or xs f 0) e
-
 with-numbers : (f v : ℕ) (c : Call) → numbers (with_value f v c) ≡ set (numbers c) f v
 unfolding with_value numbers field_widths
 with-numbers f v c = numbers-made (set (numbers c) f v) (length-set (numbers c) f v)
@@ -80,19 +49,10 @@ pub value-other : (f g v : ℕ) (c : Call) → eqb f g ≡ false → value_of f 
 unfolding value_of
 value-other f g v c h = ap (λ (xs : List ℕ). get_or xs f 0) (with-numbers g v c) ∙ get_or-set_other (numbers c) g f v 0 (eqb-false f g h)
 
-pub no_value : (f : ℕ) (c : Call) → field_count ≤ f → (0 ≡ value_of f c) × (0 < 256 ^ field_width f)
-unfolding value_of numbers field_widths
-no_value f c h = (sym (get_or-eq_default (numbers c) 0 h), one-le-pow (field_width f) 256 (omega arith))
-
 -- A value put into no field.
 pub with_none : (f w : ℕ) (c : Call) → field_count ≤ f → c ≡ with_value f w c
 unfolding with_value made numbers field_widths
 with_none f w c h = ap made (sym (set_out (numbers c) f w h))
-
--- Or among the numbers that a call is made of.
-pub with-made : (f v : ℕ) (ns : List ℕ) → length ns ≡ field_count → made (set ns f v) ≡ with_value f v (made ns)
-unfolding with_value
-with-made f v ns h = ap (λ (xs : List ℕ). made (set xs f v)) (sym (numbers-made ns h))
 
 same-below : (n : ℕ) (c d : Call) → same_below n c d ≡ true → (f : ℕ) → f < n → value_of f c ≡ value_of f d
 unfolding same_below
@@ -100,11 +60,6 @@ same-below zero c d h f l = absurd (omega arith)
 same-below (suc n) c d h f l =
     let q = both (eqb (value_of n c) (value_of n d)) (same_below n c d) h in
     either (eqb f n) (λ p. rw (eqb-true f n p) (eqb-true (value_of n c) (value_of n d) q.0)) (λ p. same-below n c d q.1 f (omega (arith, eqb-false f n p)))
-
--- One number after the other, the last first.
-pub same_next : (n m : ℕ) (c d : Call) → n ≡ suc m → (x y : ℕ) → x ≡ value_of m c → y ≡ value_of m d → (eqb x y && same_below m c d) ≡ same_below n c d
-unfolding same_below
-same_next n m c d e x y p q = rw (e, p, q)
 
 -- Two calls with the same values are one.
 pub same-call : (c d : Call) → same c d ≡ true → c ≡ d
@@ -115,6 +70,35 @@ same_self : (n : ℕ) (c d : Call) → c ≡ d → same_below n c d ≡ true
 unfolding same_below
 same_self zero c d e = refl
 same_self (suc n) c d e = rw (eq-eqb (value_of n c) (value_of n d) (ap (value_of n) e), same_self n c d e)
+
+-- The same by the code's comparison, one field after the other.
+abbrev pub each_same : Call → Call → Bool
+each_same c d = eqb c.kind d.kind && (eqb c.clock d.clock && (eqb c.groups d.groups && (eqb c.length d.length && (eqb c.ticket d.ticket && (eqb c.pool d.pool && (eqb c.units d.units && (eqb c.client d.client && (eqb c.reserved d.reserved && (eqb c.limit d.limit && (eqb c.grace d.grace))))))))))
+
+each-call : (c d : Call) → each_same c d ≡ true → c ≡ d
+unfolding made numbers
+each-call c d h =
+    let q0 = both (eqb c.kind d.kind) _ h in
+    let q1 = both (eqb c.clock d.clock) _ q0.1 in
+    let q2 = both (eqb c.groups d.groups) _ q1.1 in
+    let q3 = both (eqb c.length d.length) _ q2.1 in
+    let q4 = both (eqb c.ticket d.ticket) _ q3.1 in
+    let q5 = both (eqb c.pool d.pool) _ q4.1 in
+    let q6 = both (eqb c.units d.units) _ q5.1 in
+    let q7 = both (eqb c.client d.client) _ q6.1 in
+    let q8 = both (eqb c.reserved d.reserved) _ q7.1 in
+    let q9 = both (eqb c.limit d.limit) _ q8.1 in
+    let n : numbers c ≡ numbers d = rw (eqb-true c.kind d.kind q0.0, eqb-true c.clock d.clock q1.0, eqb-true c.groups d.groups q2.0, eqb-true c.length d.length q3.0, eqb-true c.ticket d.ticket q4.0, eqb-true c.pool d.pool q5.0, eqb-true c.units d.units q6.0, eqb-true c.client d.client q7.0, eqb-true c.reserved d.reserved q8.0, eqb-true c.limit d.limit q9.0, eqb-true c.grace d.grace q9.1) in
+    ap made n
+
+each-self : (c : Call) → each_same c c ≡ true
+each-self c = rw (eq-eqb c.kind c.kind refl, eq-eqb c.clock c.clock refl, eq-eqb c.groups c.groups refl, eq-eqb c.length c.length refl, eq-eqb c.ticket c.ticket refl, eq-eqb c.pool c.pool refl, eq-eqb c.units c.units refl, eq-eqb c.client c.client refl, eq-eqb c.reserved c.reserved refl, eq-eqb c.limit c.limit refl, eq-eqb c.grace c.grace refl)
+
+pub each-same : (c d : Call) → each_same c d ≡ same c d
+each-same c d =
+    either (each_same c d)
+    (λ p. p ∙ sym (same_self field_count c d (each-call c d p)))
+    (λ p. p ∙ sym (either (same c d) (λ q. absurd (false≢true (sym p ∙ subst (λ (x : Call). each_same c x ≡ true) (same-call c d q) (each-self c)))) (λ q. q)))
 
 -- ── the fields of a row ──
 no-kind-byte : (fs : List ℕ) → proper fs ≡ true → has 0 fs ≡ false

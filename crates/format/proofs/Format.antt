@@ -8,9 +8,9 @@ use native.Mathlib.Omega.{arith}
 use lib.Dec.{ltb, leb, eqb}
 use borrow.Author.Tests.{ltb-true, ltb-false, lt-ltb, le-ltb, leb-true, eqb-true, eqb-false, eq-eqb, ne_eqb, not-true}
 use native.Mathlib.Numerals.{add-one}
-use lib.ListN.{length, drop, get_or, replicate, get_or-eq_default}
+use lib.ListN.{length, drop, get_or, get_or-eq_default}
 use lib.Seq.{drop-nil}
-use Rattle.format.specs.Format.{rig_kind, Row, field_widths, field_count, field_width, format, known_in, known, is_row, has_in, has_kind, row_in, fields_of, widths, total, padded, row_of, length_in, length_of, least_in, least_length}
+use Rattle.format.specs.Format.{rig_kind, Row, field_widths, field_count, field_width, format, known_in, known, is_row, has_in, has_kind, row_in, fields_of, widths, total, length_in, length_of, least_in, least_length}
 
 -- ── computed tests ──
 pub both : (a b : Bool) → (a && b) ≡ true → (a ≡ true) × (b ≡ true)
@@ -185,27 +185,6 @@ known_is e = either (known e) (λ p. p ∙ sym (known-tested (λ i. has_kind i r
     go [] p = refl
     go (r ∷ rs) p = let q = neither (eqb r.edition e) (known_in rs e) p in rw (q.0, go rs q.1)
 
--- The places of a row.
-padded-at : (n : ℕ) (fs : List ℕ) (i : ℕ) → i < n → get_or (padded n fs) i 0 ≡ get_or fs i 0
-unfolding padded
-padded-at zero fs i h = absurd (omega arith)
-padded-at (suc n) fs zero h = refl
-padded-at (suc n) [] (suc i) h = padded-at n [] i (omega arith)
-padded-at (suc n) (f ∷ fs) (suc i) h = padded-at n fs i (omega arith)
-
-module _ (e k : ℕ) (row : List ℕ) (r : row ≡ row_of e k) where
-  pub row_field : (i : ℕ) → i < 8 → get_or row i 0 ≡ get_or (fields_of e k) i 0
-  unfolding row_of
-  row_field i h = rw r (padded-at 8 (fields_of e k) i h)
-
-  pub row_under : (i : ℕ) → i < 8 → get_or row i 0 < field_count
-  row_under i h = omega (arith, row_field i h, place-under (fields_of e k) i (fields-proper e k))
-
--- No row.
-pub no_row : (e k : ℕ) → has_kind e k ≡ false → replicate 8 0 ≡ row_of e k
-unfolding row_of padded
-no_row e k n = rw (no_fields e k n)
-
 -- What a match knows in its last arm: the number is none of its keys, here from the last to the first.
 abbrev pub Unlisted : List ℕ → ℕ → Type 0
 Unlisted [] n = Unit {0}
@@ -225,16 +204,6 @@ no_kind e k js t u =
     either (has_kind e k)
     (λ h. let q = kind-tested (λ d j fs. not (eqb d e) || has j js) e k t h in absurd (false≢true (sym (unlisted js k u) ∙ rw (eq-eqb e e refl) at q)))
     (λ h. h)
-
-pub no_field : (e k i : ℕ) → 7 < i → 0 ≡ get_or (fields_of e k) i 0
-no_field e k i h = sym (get_or-eq_default (fields_of e k) 0 (omega (arith, fields-few e k)))
-
--- The keys of a match are all fields.
-pub no-such-field : (js : List ℕ) (f : ℕ) → all_below field_count (λ i. has i js) ≡ true → Unlisted js f → field_count ≤ f
-no-such-field js f t u =
-    either (ltb f field_count)
-    (λ h. absurd (false≢true (sym (unlisted js f u) ∙ below-passes field_count (λ i. has i js) t f (ltb-true f field_count h))))
-    (λ h. ltb-false f field_count h)
 
 pub no-width : (f : ℕ) → field_count ≤ f → field_width f ≡ 0
 unfolding field_width

@@ -1,9 +1,9 @@
 -- A call as numbers, and its values in the fields of an edition, there and back.
-use Rattle.std.specs.Prelude.{ℕ, zero, suc, ◌%◌, ◌^◌, ◌<◌, Bool, true, ◌&&◌, List, [], ◌∷◌, map, ◌≡◌, eqb, drop, get_or, set}
+use Rattle.std.specs.Prelude.{ℕ, zero, suc, ◌^◌, ◌<◌, Bool, true, ◌&&◌, List, [], ◌∷◌, map, ◌≡◌, eqb, drop, get_or, set}
 use Rattle.format.specs.declared.Call.{Call}
 use Rattle.format.specs.Format.{rig_kind, claim_kind, release_kind, withdraw_kind, clock_kind, declaration_kind, grace_kind}
 use Rattle.format.specs.Format.{the_kind, the_clock, the_groups, the_length, the_ticket, the_pool, the_units, the_client, the_reserved, the_limit, the_grace}
-use Rattle.format.specs.Format.{field_widths, field_count, field_width, default, has_kind, fields_of}
+use Rattle.format.specs.Format.{field_count, field_width, default, has_kind, fields_of}
 
 -- Each number stands at the place that names its field.
 unfoldable pub numbers : Call → List ℕ
@@ -28,14 +28,6 @@ made ns = record {
   limit = given ns the_limit;
   grace = given ns the_grace;
 }
-
--- As much of each number as goes into its field's width.
-unfoldable pub fitted_to : ℕ → List ℕ → List ℕ → List ℕ
-fitted_to f [] ns = []
-fitted_to f (w ∷ ws) ns = get_or ns f 0 % 256 ^ w ∷ fitted_to (suc f) ws ns
-
-unfoldable pub fitted : List ℕ → List ℕ
-fitted ns = fitted_to 0 field_widths ns
 
 unfoldable pub value_of : ℕ → Call → ℕ
 value_of f c = get_or (numbers c) f 0

@@ -1,8 +1,10 @@
 -- The load format as one table: document 01, "The load", and editions 2 and 3 of document 02. Reader, writer and round trip are driven by
 -- it. An edition and a kind are rows of `format`; a field is a name and a width here, and a number of a call (specs/Calls). Quotations are
 -- from document 01, of editions 2 and 3 from document 02.
-use Rattle.std.specs.Prelude.{ℕ, zero, suc, ◌+◌, ◌*◌, min, Bool, false, ◌&&◌, ◌||◌, cond, List, [], ◌∷◌, ◌++◌, map, eqb, length, drop, get_or}
+use Rattle.std.specs.Prelude.{ℕ, ◌+◌, ◌*◌, min, Bool, false, ◌&&◌, ◌||◌, cond, List, [], ◌∷◌, ◌++◌, map, eqb, length, drop, get_or}
 use Rattle.numerals.specs.Texts.{bytes}
+use Rattle.format.specs.declared.fields.Field.{Field}
+use Rattle.format.specs.declared.fields.Field.TheVariants.{Clock, Groups, Length, Ticket, Pool, Units, Client, Reserved, Limit, Grace}
 
 -- ── kinds ──
 abbrev pub rig_kind : ℕ
@@ -63,6 +65,19 @@ the_limit = 9
 
 abbrev pub the_grace : ℕ
 the_grace = 10
+
+-- The numbers of the code's fields, which has none for the kind byte.
+abbrev pub field_number : Field → ℕ
+field_number Clock = the_clock
+field_number Groups = the_groups
+field_number Length = the_length
+field_number Ticket = the_ticket
+field_number Pool = the_pool
+field_number Units = the_units
+field_number Client = the_client
+field_number Reserved = the_reserved
+field_number Limit = the_limit
+field_number Grace = the_grace
 
 -- Their widths in bytes, in that order: kind 1, clock 8, groups 8, length 4, ticket 2, pool 2, units 2, client 1, reserved 1, limit 1,
 -- grace 4.
@@ -204,11 +219,3 @@ names = [] ∷ bytes "rig" ∷ bytes "claim" ∷ bytes "release" ∷ bytes "with
 -- The name of a kind; none for one that the edition lacks.
 unfoldable pub name_of : ℕ → ℕ → List ℕ
 name_of e k = cond (has_kind e k) (get_or names k []) []
-
--- A row as the code has it: the fields, and 0 in the places after them up to the eighth.
-unfoldable pub padded : ℕ → List ℕ → List ℕ
-padded zero fs = []
-padded (suc n) fs = get_or fs 0 0 ∷ padded n (drop 1 fs)
-
-unfoldable pub row_of : ℕ → ℕ → List ℕ
-row_of e k = padded 8 (fields_of e k)

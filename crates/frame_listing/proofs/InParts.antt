@@ -10,17 +10,11 @@ use lib.ListN.{length, take, drop, length-take, length-drop}
 use borrow.Author.Tests.{lt-ltb, le-ltb, le-leb, lt-leb}
 use Rattle.numerals.specs.Laid.{behind, Put}
 use Rattle.numerals.proofs.Laying.{laid-fits, behind-none, behind-under, put_as, put-short}
-use Rattle.frames.specs.declared.Table.{Table}
-use Rattle.frames.specs.Calls.{Model, Step, new}
-use Rattle.frames.specs.Tables.{encode, model}
-use Rattle.frame_table.specs.Outcomes.{outcome}
-use Rattle.frame_table.proofs.Promised.{outcome-model}
 use Rattle.words.specs.Parts.{is_feed, place_of, lines_in}
 use Rattle.words.proofs.Cases.{either, below}
 use Rattle.words.proofs.Parts.{lines_cut, place-low, place-high}
-use Rattle.dance_text.specs.declared.Line.{Line}
-use Rattle.dance_text.specs.declared.Line.TheVariants.{Silent, Said, Wrong}
-use Rattle.dance_text.specs.Lines.{line_says}
+use Rattle.std.specs.Prelude.{Some, None, Ok, Err}
+use Rattle.dance_text.specs.Lines.{Line, line_says}
 use Rattle.dance_text.specs.Shows.{said_in, calls_in, calls_of}
 use Rattle.dance_text.proofs.Shows.{said_from, calls-cut, calls-end}
 use Rattle.frame_listing.specs.declared.Part.{Part}
@@ -32,10 +26,10 @@ use Rattle.frame_listing.specs.InParts.{Progress, called, heard, up_to, entry_ro
 -- A line takes the place on, or to the text's end.
 heard-at : (size : ℕ) (s : Progress) (l : Line) → ((heard size s l).at ≡ s.at) ⊎ ((heard size s l).at ≡ size)
 unfolding called
-heard-at size s Silent = inl refl
-heard-at size s (Said c) =
+heard-at size s (Ok None) = inl refl
+heard-at size s (Ok (Some c)) =
     either (stops c (step_of s.table c).answer.number) (λ e. inr (rw e refl)) (λ e. inl (rw e refl))
-heard-at size s (Wrong n) = inl refl
+heard-at size s (Err r) = inl refl
 
 -- Behind the line that ends at place j, before it is heard, and then.
 abbrev behind_line : Progress → ℕ → Progress
@@ -99,13 +93,13 @@ module _ (text : List ℕ) (limit : ℕ) where
       where
         go : (l : Line) → (heard (length text) (behind_line s j) l).laid ++ left text (heard (length text) (behind_line s j) l)
             ≡ s.laid ++ lines_of s.call s.table (calls_of l ++ calls_in (said_from text (j + 1)))
-        go Silent = refl
-        go (Said c) =
+        go (Ok None) = refl
+        go (Ok (Some c)) =
             let t = step_of s.table c in
             either (stops c t.answer.number)
             (λ e. rw (e, calls-end text (length text) (omega arith)) (append-nil (s.laid ++ stop_line)))
-            (λ e. rw e (append_assoc s.laid (entry_of s.call t) (lines_of (s.call + 1) t.model (calls_in (said_from text (j + 1))))))
-        go (Wrong n) = refl
+            (λ e. rw e (append_assoc s.laid (entry_of s.call t.answer) (lines_of (s.call + 1) t.model (calls_in (said_from text (j + 1))))))
+        go (Err r) = refl
 
   -- What every line keeps holds at the end, where the text has ended or more is laid than the limit.
   module _ (P : Progress → Type 0) (step : (s : Progress) (h : s.at < length text) → P s → P (turned text s (place_of is_feed text s.at))) where
@@ -155,10 +149,6 @@ whole-put text o p r q e w =
     put_as w.reached.laid (text_of text) i w.put
 
 -- ── parts ──
--- What the table of a model means is that model.
-model-encode : (m : Model) → model (encode m) ≡ m
-model-encode m = let s : Step = record { model = m; answer = (new 0).answer } in outcome-model (outcome s) s refl
-
 module _ (text : List ℕ) (room : ℕ) (h : part_room ≤ room) where
   -- A part is a listing up to its limit.
   part-is : (xs : List ℕ) (p : Part) → part_behind text xs p room ≡ from text (room - entry_room) (progress xs p)
@@ -186,12 +176,10 @@ module _ (text : List ℕ) (room : ℕ) (h : part_room ≤ room) where
   parts-left zero s d = sym (append-nil s.laid) ∙ ap (λ (xs : List ℕ). s.laid ++ xs) (sym (left-none text s (omega arith)))
   parts-left (suc n) s d =
       let p = part_of s in
-      let e : progress [] p ≡ record { laid = []; at = s.at; call = s.call; table = s.table } =
-      ap (λ (m : Model). record { laid = []; at = s.at; call = s.call; table = m }) (model-encode s.table) in
       let f : length text - (next_part text p room).at ≤ n =
       below s.at (length text) (λ l. omega (arith, part-grows p l))
       (λ l. omega (arith, l, ap (λ (v : Progress). v.at) (part-is [] p ∙ on-ended text (room - entry_room) (progress [] p) l))) in
-      ap (λ (xs : List ℕ). s.laid ++ xs) (parts-left n (next_part text p room) f ∙ part_left [] p ∙ ap (left text) e)
+      ap (λ (xs : List ℕ). s.laid ++ xs) (parts-left n (next_part text p room) f ∙ part_left [] p)
 
 -- ── what is answered ──
 -- It ends farther on in the text than the part before it.
@@ -207,10 +195,7 @@ pub part_none : (text xs : List ℕ) (p : Part) (out : List ℕ) → Ready p →
     → Lays (part_behind text xs p (length out)) out (record { length = 0; at = p.at; call = p.call; table = p.table }) out
 unfolding part_behind
 part_none text xs p out v h =
-    rw (lt-ltb (length out) part_room h) (
-      ap (λ (t : Table). record { length = 0; at = p.at; call = p.call; table = t }) (sym v.valid.whole),
-      (refl, (record { valid = v.valid; few = v.few }, omega arith)),
-    )
+    rw (lt-ltb (length out) part_room h) (refl, (refl, (record { valid = v.valid; few = v.few }, omega arith)))
 
 -- and one that is not.
 pub part-laid : (text xs : List ℕ) (p : Part) (out : List ℕ) → part_room ≤ length out → length out < 2 ^ 64

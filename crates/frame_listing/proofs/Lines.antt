@@ -1,17 +1,13 @@
--- The lengths of lines, and `on` lines laid one by one.
-use mathlib.Core.Path.{◌≡◌}
+-- The lengths of lines.
 use mathlib.Core.List.{List, [], ◌∷◌, ◌++◌}
-use Prim.Native.Nat.{ℕ, ◌+◌, ◌*◌, ◌≤◌, ◌<◌}
+use Prim.Native.Nat.{ℕ, ◌*◌, ◌≤◌}
 use native.Mathlib.Omega.{arith}
-use native.Mathlib.Numerals.{add-one}
-use lib.ListN.{length, take, drop, get_or, length-append, length-take, drop_of_length-le}
-use lib.Seq.{drop-cons, get_or-take}
+use lib.ListN.{length, length-append}
 use Rattle.numerals.specs.Digits.{column, pair}
 use Rattle.numerals.specs.Texts.{space, line_feed}
 use Rattle.numerals.proofs.Laying.{column-length, pair-length}
 use Rattle.frame_listing.specs.Lines.{line_of, on_line, on_lines}
 
--- ── lengths ──
 -- The line of a call has five numbers of at most 20 digits, and a byte after each.
 pub line-length : (k n t r c : ℕ) → length (line_of k n t r c) ≤ 105
 unfolding line_of
@@ -28,16 +24,3 @@ pub ons-length : (ks : List ℕ) → length (on_lines ks) ≤ 24 * length ks
 unfolding on_lines
 ons-length [] = omega arith
 ons-length (k ∷ ks) = omega (arith, length-append (on_line k) (on_lines ks), on-length k, ons-length ks)
-
--- ── the grants of an array ──
--- From place i on: the line of the grant there, and those after it;
-pub ons-step : (l : List ℕ) (n i : ℕ) → i < n → n ≤ length l → on_lines (drop i (take n l)) ≡ on_line (get_or l i 0) ++ on_lines (drop (i + 1) (take n l))
-unfolding on_lines
-ons-step l n i h k =
-    let q : i < length (take n l) = simp length-take (omega arith) in
-    rw (drop-cons (take n l) i 0 q, add-one, get_or-take n l i 0 h)
-
--- behind the last grant none.
-pub ons-end : (l : List ℕ) (n i : ℕ) → n ≤ i → on_lines (drop i (take n l)) ≡ []
-unfolding on_lines
-ons-end l n i h = rw (drop_of_length-le (take n l) {i = i} (simp length-take (omega arith)))

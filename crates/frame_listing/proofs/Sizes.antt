@@ -10,7 +10,7 @@ use lib.ListN.{length, length-append}
 use borrow.Author.Tests.{le-leb, lt-leb}
 use Rattle.numerals.specs.Laid.{behind, Put}
 use Rattle.words.proofs.Cases.{either, below}
-use Rattle.frames.specs.Calls.{Model, Step, blank}
+use Rattle.frames.specs.Calls.{Model, Answer, blank}
 use Rattle.frame_table.proofs.Promised.{waiting, granted-once, none-waits}
 use Rattle.dance_text.specs.declared.Call.{Call}
 use Rattle.dance_text.specs.Shows.{said_in, calls_in}
@@ -20,10 +20,9 @@ use Rattle.frame_listing.proofs.Lines.{line-length, ons-length}
 use Rattle.frame_listing.proofs.Calls.{promised}
 
 -- The lines of a call.
-entry_length : (k : ℕ) (s : Step) → length (entry_of k s) ≤ 105 + 24 * length s.answer.grants
+entry_length : (k : ℕ) (a : Answer) → length (entry_of k a) ≤ 105 + 24 * length a.grants
 unfolding entry_of
-entry_length k s =
-    let a = s.answer in
+entry_length k a =
     omega (arith, length-append (line_of k a.number a.ticket a.row a.contention) (on_lines a.grants), line-length k a.number a.ticket a.row a.contention, ons-length a.grants)
 
 -- Those of calls: a stop line ends them, or each call has its own line, and those granted waited before or were claimed.
@@ -35,7 +34,7 @@ lines-length k m (c ∷ cs) =
     let rest = lines_of (k + 1) s.model cs in
     let h = lines-length (k + 1) s.model cs in
     either (stops c s.answer.number) (λ e. rw e (omega arith))
-    (λ e. rw e (omega (arith, length-append (entry_of k s) rest, entry_length k s, granted-once (promised m c))))
+    (λ e. rw e (omega (arith, length-append (entry_of k s.answer) rest, entry_length k s.answer, granted-once (promised m c))))
 
 -- So with the header, which has 33 bytes; before the first call nobody waits.
 pub listing-bounded : (text : List ℕ) → length (text_of text) ≤ 42 + 129 * length (calls_in (said_in text))

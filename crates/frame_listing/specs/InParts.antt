@@ -1,14 +1,11 @@
 -- The listing of a dance show in parts. Each has the whole lines of some calls, and surely goes into its buffer; the next begins where it ends.
-use Rattle.std.specs.Prelude.{◌≡◌, ◌&&◌, cond, List, [], ◌∷◌, ◌++◌, ℕ, zero, suc, ◌+◌, ◌-◌, ◌≤◌, ◌<◌, ltb, leb, length, drop}
+use Rattle.std.specs.Prelude.{◌≡◌, ◌&&◌, cond, List, [], ◌∷◌, ◌++◌, ℕ, zero, suc, ◌+◌, ◌-◌, ◌≤◌, ◌<◌, ltb, leb, length, drop, Some, None, Ok, Err}
 use Rattle.numerals.specs.Laid.{behind, Put}
 use Rattle.words.specs.Parts.{lines_in}
 use Rattle.frames.specs.Calls.{Model, blank}
-use Rattle.frames.specs.Tables.{encode, model}
 use Rattle.frame_table.specs.Valid.{Valid}
 use Rattle.dance_text.specs.declared.Call.{Call}
-use Rattle.dance_text.specs.declared.Line.{Line}
-use Rattle.dance_text.specs.declared.Line.TheVariants.{Silent, Said, Wrong}
-use Rattle.dance_text.specs.Lines.{line_says}
+use Rattle.dance_text.specs.Lines.{Line, line_says}
 use Rattle.dance_text.specs.Shows.{said_in, calls_in}
 use Rattle.frame_listing.specs.declared.Part.{Part}
 use Rattle.frame_listing.specs.Lines.{header, stop_line}
@@ -32,13 +29,13 @@ called size s c =
     let t = step_of s.table c in
     cond (stops c t.answer.number)
     (record { laid = s.laid ++ stop_line; at = size; call = s.call; table = t.model })
-    (record { laid = s.laid ++ entry_of s.call t; at = s.at; call = s.call + 1; table = t.model })
+    (record { laid = s.laid ++ entry_of s.call t.answer; at = s.at; call = s.call + 1; table = t.model })
 
 -- What a line says.
 abbrev pub heard : ℕ → Progress → Line → Progress
-heard size s Silent = s
-heard size s (Said c) = called size s c
-heard size s (Wrong n) = s
+heard size s (Ok None) = s
+heard size s (Ok (Some c)) = called size s c
+heard size s (Err r) = s
 
 -- The lines from there on, until the text ends or more bytes are laid than a limit. The greatest usize is no limit: no place is behind it.
 unfoldable pub up_to : ℕ → ℕ → Progress → List (List ℕ) → Progress
@@ -56,11 +53,11 @@ part_room = 1674
 
 -- Behind part p, with xs laid.
 abbrev pub progress : List ℕ → Part → Progress
-progress xs p = record { laid = xs; at = p.at; call = p.call; table = model p.table }
+progress xs p = record { laid = xs; at = p.at; call = p.call; table = p.table }
 
 -- What a part of n bytes hands on; of all bytes that are laid. The buffer begins with these, and its later bytes keep their contents.
 abbrev pub part_as : ℕ → Progress → Part
-part_as n s = record { length = n; at = s.at; call = s.call; table = encode s.table }
+part_as n s = record { length = n; at = s.at; call = s.call; table = s.table }
 
 abbrev pub part_of : Progress → Part
 part_of s = part_as (length s.laid) s
@@ -74,7 +71,7 @@ part_behind text xs p room = cond (ltb room part_room) (progress [] p) (up_to (l
 
 -- The first part has the header in front.
 abbrev pub start : Part
-start = record { length = 0; at = 0; call = 1; table = encode (blank 0) }
+start = record { length = 0; at = 0; call = 1; table = blank 0 }
 
 abbrev pub first_part : List ℕ → ℕ → Progress
 first_part text room = part_behind text header start room

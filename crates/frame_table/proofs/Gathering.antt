@@ -1,15 +1,18 @@
 -- The row of a new claim: the rows in which a claim shares a group, gathered claim by claim as a set, and the first that is not in it.
 -- Rests on the laws of groups/proofs/Groups about the union, the set of one group and the lowest missing group.
-use mathlib.Core.Path.{◌≡◌, sym, ◌∙◌, ap}
+use mathlib.Core.Path.{◌≡◌, refl, sym, ◌∙◌, ap}
 use mathlib.Core.Bool.{Bool, true, false, ◌||◌, or_assoc, or-false}
 use mathlib.Core.List.{List, [], ◌∷◌}
 use Prim.Native.Nat.{ℕ, suc, ◌+◌, ◌-◌, ◌≤◌, ◌<◌}
 use native.Mathlib.Omega.{arith}
 use lib.Dec.{eqb}
-use lib.ListN.{length}
+use lib.ListN.{length, get_or, drop, drop_of_length-le}
+use lib.Seq.{drop-cons}
+use native.Mathlib.Numerals.{add-one}
+use Rattle.frames.specs.Vacant.{vacant}
 use borrow.Author.Tests.{eqb-true, eq-eqb, ne_eqb}
 use Rattle.groups.specs.Groups.{has, union, only, lowest_missing}
-use Rattle.groups.specs.declared.MaybeGroup.TheVariants.{Group, NoGroup}
+use Rattle.std.proofs.Common.{Some, None}
 use Rattle.groups.proofs.Groups.{union-has, only-has, missing-lowest, missing-none}
 use Rattle.groups.proofs.Words.{zero_has}
 use Rattle.rules.specs.Lists.{any, keep}
@@ -58,18 +61,26 @@ module _ {g : ℕ} {ps : List Claim} where
   unfolding taken any contention keep
   gather-other s q = record { all = λ j h. rw q at (s.all j h); counts = rw q at s.counts }
 
-  -- No more are counted than there are.
-  pub gather-few : {rest : List Claim} {rows n : ℕ} → Gathering g ps rest rows n → n ≤ length ps
-  gather-few s = omega (arith, s.counts, contention-few g ps)
+  -- What is left at place i: the claim there, and what is left after it.
+  pub next-left : {i rows n : ℕ} → Gathering g ps (drop i ps) rows n → i < length ps → Gathering g ps (get_or ps i vacant ∷ drop (i + 1) ps) rows n
+  next-left {i} w h = rw add-one (rw (drop-cons ps i vacant h) at w)
+
+  -- A claim that is counted is one more of those that there are.
+  pub gather-few : {c : Claim} {rest : List Claim} {rows n : ℕ} → Gathering g ps (c ∷ rest) rows n → rival g c ≡ true → n < length ps
+  unfolding contention keep
+  gather-few s q = let e = rw q at s.counts in omega (arith, e, contention-few g ps)
 
   -- Behind the last claim.
-  pub gather-end : {rows n : ℕ} → Gathering g ps [] rows n → RivalsOf ps g (record { rows = rows; count = n })
+  pub gather-end : {i rows n : ℕ} → Gathering g ps (drop i ps) rows n → length ps ≤ i → RivalsOf ps g (record { rows = rows; count = n })
   unfolding taken any contention keep
-  gather-end {rows} s = record { rows = λ j h. sym (or-false (has rows j)) ∙ s.all j h; count = omega (arith, s.counts) }
+  gather-end {i} {rows} w h =
+      let z : drop i ps ≡ [] = drop_of_length-le ps h in
+      let s = rw z at w in
+      record { rows = λ j h. sym (or-false (has rows j)) ∙ s.all j h; count = omega (arith, s.counts) }
 
 -- ── the first free row ──
 -- A row is free,
-pub free-some : (rows g : ℕ) → lowest_missing rows ≡ Group g → FreeRow rows (g + 1)
+pub free-some : (rows g : ℕ) → lowest_missing rows ≡ Some g → FreeRow rows (g + 1)
 free-some rows g e =
     let r = missing-lowest rows g e in
     let q : g + 1 - 1 ≡ g = omega arith in
@@ -81,7 +92,7 @@ free-some rows g e =
     }
 
 -- or none of 64.
-pub free-none : (rows : ℕ) → lowest_missing rows ≡ NoGroup → FreeRow rows 65
+pub free-none : (rows : ℕ) → lowest_missing rows ≡ None → FreeRow rows 65
 free-none rows e = record { low = omega arith; high = omega arith; below = λ j h. missing-none rows e j (omega arith); free = λ h. absurd (omega arith) }
 
 -- Of the rows that are taken it is the row that a new claim joins.
@@ -109,7 +120,7 @@ module _ (g : ℕ) (ps : List Claim) (some : 1 ≤ length ps) (few : length ps <
       clash (first (row_for g ps) (k.behind there-is) (omega (arith, row-bound g ps, contention-few g ps))) k.free)
 
   -- The row that is free with all before it taken is that of the rules.
-  pub free-is : r ≡ row_for g ps
+  free-is : r ≡ row_for g ps
   free-is =
       let q : suc (r - 1) ≡ r = omega (arith, f.low) in
       row-unique g ps r
@@ -119,3 +130,14 @@ module _ (g : ℕ) (ps : List Claim) (some : 1 ≤ length ps) (few : length ps <
         free = rw q at (sym (s.rows (r - 1) (omega (arith, free-small, f.low))) ∙ f.free free-small);
         first = first;
       })
+
+-- ── the row of a new claim ──
+-- With nothing pending it is the head row;
+pub row-none : (g : ℕ) (ps : List Claim) → ps ≡ [] → 0 ≡ row_for g ps
+unfolding row_for
+row-none g ps e = rw e
+
+-- and else the first that is free.
+pub row-some : (g : ℕ) (ps : List Claim) → (ps ≡ [] → ⊥) → length ps < 64 → (v : Rivals) → RivalsOf ps g v → (r : ℕ) → FreeRow v.rows r → r ≡ row_for g ps
+row-some g [] n h v s r f = absurd (n refl)
+row-some g (c ∷ ps) n h v s r f = free-is g (c ∷ ps) (omega arith) h v s r f

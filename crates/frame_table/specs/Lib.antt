@@ -1,3 +1,3 @@
 pub mod Valid
-pub mod Outcomes
+pub mod Answers
 pub mod Parts

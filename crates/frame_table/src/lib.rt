@@ -1,90 +1,169 @@
-// The frame table in code: new, claim, release. Each call takes a table by value and hands one back with its answer. A claim costs one pass
-// over the pending claims and a few instructions, a release one pass. A table is 1,056 bytes.
+// The frame table in code: new, claim, release. A claim costs one pass over the pending claims and a few instructions, a release a pass to
+// find its claim and one over the claims behind it, and a pass more where it empties the head row. A table is 1,048 bytes.
 #![tactic(auto)]
 
-ghost use Rattle.std.specs.Prelude.{◌≡◌, ◌≤◌, ◌<◌};
-ghost use Rattle.numbers.specs.Numbers.{most_pending, most_tickets};
+ghost use Rattle.std.specs.Prelude.{◌≡◌, ◌≤◌, ◌<◌, length, remove, position, IfOk};
+ghost use Rattle.std.specs.List.{list_any};
+ghost use Rattle.numbers.specs.Refusals.{number_in};
 ghost use Rattle.rules.specs.Tests.{first_number};
-ghost use Rattle.frames.specs.Calls.{Call, new, step, tests, admit};
-ghost use Rattle.frames.specs.Tables.{model};
-ghost use Rattle.frame_table.specs.Valid.{Valid};
-ghost use Rattle.frame_table.specs.Parts.{nearer_by, row_number, WithRow, FreeRow, RivalsOf, removed_in};
-ghost use Rattle.frame_table.specs.Outcomes.{outcome, unchanged_in};
+ghost use Rattle.frames.specs.Rows.{on, named, row_for, turned, head_tickets, turned_on};
+ghost use Rattle.frames.specs.Calls.{Call, new, step, tests, lacking, admit};
+ghost use Rattle.frame_table.specs.Valid.{HasRoom};
+ghost use Rattle.frame_table.specs.Answers.{answer_of, accepted};
+ghost use Rattle.frame_table.specs.Parts.{WithRow, FreeRow, RivalsOf};
 
-use frames::{Claim, Table};
-use groups::MaybeGroup;
+use frames::{Claim, Pending};
+use numbers::Refusal;
+use rules::Tickets;
+use std::marker::Model;
 
-// What a call hands back. `number` is 0 or the refusal's; `row` counts from the head, `contention` is the request's crowd; the first
-// `granted` of `grants` are the tickets granted, in ascending order.
-#[derive(Clone, Copy)]
-pub struct Outcome {
-    pub table: Table,
-    pub number: u8,
+// What an accepted call answers: the claim's ticket, its row, counted from the head, its contention (the request's crowd), and the tickets
+// granted, in ascending order.
+#[derive(Drop)]
+pub struct Accepted {
     pub ticket: u16,
     pub row: u16,
     pub contention: u16,
-    pub granted: usize,
-    pub grants: [u16; 64],
+    pub grants: Tickets,
 }
 
-// The table handed in, and a number.
-fn unchanged(t: Table, number: u8) -> Outcome
-    ensures { result ≡ unchanged_in t number }
-{
-    Outcome {
-        table: t,
-        number: number,
-        ticket: 0,
-        row: 0,
-        contention: 0,
-        granted: 0,
-        grants: [0u16; 64],
+// A rig, how many tickets are issued, and the pending claims in ascending order of ticket.
+#[derive(Drop)]
+pub struct Table {
+    rig: u64,
+    issued: u16,
+    pending: Pending,
+}
+
+impl Model for Table {
+    ghost use Rattle.frames.specs.Calls.{Model};
+
+    ghost Value = { Model };
+
+    ghost use Rattle.frame_table.specs.Valid.{model, Valid};
+
+    ghost view = { model };
+
+    ghost invariant = { λ t. Valid (model t) };
+}
+
+impl Table {
+    // A table with nothing pending. A rig without groups is refused (1), and gives a table without groups.
+    #[tactic(auto, unfolding(frames::specs::Calls::new))]
+    pub fn new(rig: u64) -> (Table, Result<Accepted, Refusal>)
+        ensures table { result.0 ≡ (new rig).model }
+        ensures answer { answer_of result.1 ≡ (new rig).answer }
+    {
+        let table = Table {
+            rig,
+            issued: 0,
+            pending: Pending::new(),
+        };
+        if groups::empty(rig) {
+            return (table, Err(Refusal::Dark));
+        }
+        let nothing = Accepted {
+            ticket: 0,
+            row: 0,
+            contention: 0,
+            grants: Tickets::new(),
+        };
+        (table, Ok(nothing))
+    }
+
+    // Claims groups for a beat. Refused: 1, 2, 6, 7.
+    pub fn claim(&mut self, groups: u64) -> Result<Accepted, Refusal>
+        ensures table { self.new ≡ (step self.old (Call.claim groups)).model }
+        ensures answer { answer_of result ≡ (step self.old (Call.claim groups)).answer }
+    {
+        self.test_claim(groups)?;
+        Ok(self.admit(groups))
+    }
+
+    // Takes away a claim that is on. Where it was the last of the head row, the next row becomes the head and goes on. Refused: 8, 9.
+    pub fn release(&mut self, ticket: u16) -> Result<Accepted, Refusal>
+        ensures table { self.new ≡ (step self.old (Call.release ticket)).model }
+        ensures answer { answer_of result ≡ (step self.old (Call.release ticket)).answer }
+    {
+        let place = self.test_release(ticket)?;
+        self.pending.remove(place);
+        let grants = turn(&mut self.pending);
+        Ok(Accepted {
+            ticket,
+            row: 0,
+            contention: 0,
+            grants,
+        })
+    }
+
+    // The first of its tests that a claim fails.
+    #[tactic(auto, unfolding(frames::specs::Calls::tests, rules::specs::Tests::first_number))]
+    fn test_claim(&self, groups: u64) -> Result<(), Refusal>
+        ensures { number_in result ≡ first_number (tests self.now (Call.claim groups)) }
+    {
+        if refusals::dark(groups) {
+            return Err(Refusal::Dark);
+        }
+        if refusals::off_rig(self.rig, groups) {
+            return Err(Refusal::OffRig);
+        }
+        if refusals::full(self.pending.len()) {
+            return Err(Refusal::Full);
+        }
+        if refusals::ticketless(self.issued) {
+            return Err(Refusal::Ticketless);
+        }
+        Ok(())
+    }
+
+    // The first of its tests that a release fails, or the place of the ticket's claim.
+    fn test_release(&self, ticket: u16) -> Result<usize, Refusal>
+        ensures number { number_in result ≡ first_number (tests self.now (Call.release ticket)) }
+        ensures place { IfOk result (λ i. (i < length self.now.pending) × (remove self.now.pending i ≡ lacking ticket self.now.pending)) }
+    {
+        let Some(place) = place_of(&self.pending, ticket) else {
+            return Err(Refusal::Unknown);
+        };
+        if !self.pending.get(place).is_on() {
+            return Err(Refusal::NotYetOn);
+        }
+        Ok(place)
+    }
+
+    // A claim that no test refuses gets the next ticket and its row.
+    fn admit(&mut self, groups: u64) -> Accepted
+        requires { HasRoom self.old }
+        ensures table { self.new ≡ (admit self.old groups).model }
+        ensures answer { accepted result ≡ (admit self.old groups).answer }
+    {
+        let rivals = gather(self.pending.as_slice(), groups);
+        let row = if self.pending.is_empty() {
+            0
+        } else {
+            free_row(rivals.rows)
+        };
+        let ticket = self.issued + 1;
+        let claim = Claim {
+            groups,
+            ticket,
+            row,
+        };
+        self.issued = ticket;
+        self.pending.push(claim);
+        let mut grants = Tickets::new();
+        if claim.is_on() {
+            grants.push(ticket);
+        }
+        Accepted {
+            ticket,
+            row,
+            contention: rivals.count,
+            grants,
+        }
     }
 }
 
-// A table with nothing pending. A rig without groups is refused (1).
-pub fn new(rig: u64) -> Outcome
-    ensures { (result ≡ outcome (new rig)) × Valid result.table }
-{
-    let vacant = Claim {
-        groups: 0,
-        ticket: 0,
-        row: 0,
-    };
-    let t = Table {
-        rig: rig,
-        issued: 0,
-        held: 0,
-        count: 0,
-        claims: [vacant; 64],
-    };
-    if groups::empty(rig) {
-        return unchanged(t, numbers::DARK);
-    }
-    unchanged(t, 0)
-}
-
-// ── claim ──
-
-// The first of its tests that a claim fails, or 0.
-fn claim_number(t: Table, groups: u64) -> u8
-    requires { Valid t }
-    ensures { result ≡ first_number (tests (model t) (Call.claim groups)) }
-{
-    if refusals::dark(groups) {
-        return numbers::DARK;
-    }
-    if refusals::off_rig(t.rig, groups) {
-        return numbers::OFF_RIG;
-    }
-    if refusals::full(t.count) {
-        return numbers::FULL;
-    }
-    if refusals::ticketless(t.issued) {
-        return numbers::TICKETLESS;
-    }
-    0
-}
+// ── the row of a new claim ──
 
 // The rows behind the head as a set, row r standing for group r - 1: those in which a claim shares a group, with one row more.
 fn with_row(rows: u64, row: u16) -> u64
@@ -93,7 +172,7 @@ fn with_row(rows: u64, row: u16) -> u64
     if row == 0 {
         return rows;
     }
-    let g = (row - 1) as usize;
+    let g = usize::from(row - 1);
     groups::union(rows, groups::only(g))
 }
 
@@ -102,200 +181,75 @@ fn free_row(rows: u64) -> u16
     ensures { FreeRow rows result }
 {
     match groups::lowest_missing(rows) {
-        MaybeGroup::Group(g) => g as u16 + 1,
-        MaybeGroup::NoGroup => 65,
+        Some(g) => g as u16 + 1,
+        None => 65,
     }
 }
 
 // The pending claims that share a group with a set: their rows behind the head, and how many they are.
 #[derive(Clone, Copy)]
-pub struct Rivals {
-    pub rows: u64,
-    pub count: u16,
+struct Rivals {
+    rows: u64,
+    count: u16,
 }
 
 // Cost: one pass. A word for the rows and not one for each row: nothing is cleared, and the first free row is found at once.
-fn gather(t: Table, groups: u64) -> Rivals
-    requires { Valid t }
-    ensures { RivalsOf (model t).pending groups result }
+fn gather(pending: &[Claim], groups: u64) -> Rivals
+    requires { length pending.now ≤ 64 }
+    ensures { RivalsOf pending.now groups result }
 {
-    let count = t.count;
     let mut rows: u64 = 0;
-    let mut n: u16 = 0;
-    let mut i: usize = 0;
-    while i < count {
-        let c = t.claims[i];
+    let mut count: u16 = 0;
+    for c in pending {
         if groups::shares(c.groups, groups) {
             rows = with_row(rows, c.row);
-            n += 1;
+            count += 1;
         }
-        i += 1;
     }
-    Rivals {
-        rows: rows,
-        count: n,
-    }
+    Rivals { rows, count }
 }
 
-// A claim that no test refuses, with nothing pending: it is on.
-fn alone(mut t: Table, groups: u64) -> Outcome
-    requires { Valid t × (t.count ≡ 0) × (t.issued < most_tickets) }
-    ensures { (result ≡ outcome (admit (model t) groups)) × Valid result.table }
+// ── a release ──
+
+// The place of the claim with a ticket.
+fn place_of(pending: &Pending, ticket: u16) -> Option<usize>
+    ensures { result ≡ position (named ticket) pending.now }
 {
-    let ticket = t.issued + 1;
-    t.claims[0] = Claim {
-        groups: groups,
-        ticket: ticket,
-        row: 0,
-    };
-    t.issued = ticket;
-    t.held = 1;
-    t.count = 1;
-    let mut grants = [0u16; 64];
-    grants[0] = ticket;
-    Outcome {
-        table: t,
-        number: 0,
-        ticket: ticket,
-        row: 0,
-        contention: 0,
-        granted: 1,
-        grants: grants,
-    }
+    pending.as_slice().iter().position(|c| c.ticket == ticket)
 }
 
-// The same with claims pending: it waits in the first row behind the head that is free.
-fn behind(mut t: Table, groups: u64) -> Outcome
-    requires { Valid t × (1 ≤ t.count) × (t.count < most_pending) × (t.issued < most_tickets) }
-    ensures { (result ≡ outcome (admit (model t) groups)) × Valid result.table }
+// Whether a claim is in the head row.
+fn some_on(pending: &Pending) -> bool
+    ensures { result ≡ list_any on pending.now }
 {
-    let count = t.count;
-    let v = gather(t, groups);
-    let row = free_row(v.rows);
-    let ticket = t.issued + 1;
-    t.claims[count] = Claim {
-        groups: groups,
-        ticket: ticket,
-        row: row,
-    };
-    t.issued = ticket;
-    t.count = count + 1;
-    Outcome {
-        table: t,
-        number: 0,
-        ticket: ticket,
-        row: row,
-        contention: v.count,
-        granted: 0,
-        grants: [0u16; 64],
-    }
+    pending.as_slice().iter().any(Claim::is_on)
 }
 
-// Claims groups for a beat. Refused: 1, 2, 6, 7.
-pub fn claim(t: Table, groups: u64) -> Outcome
-    requires { Valid t }
-    ensures { (result ≡ outcome (step (model t) (Call.claim groups))) × Valid result.table }
+// The tickets of the head row.
+fn head_tickets(pending: &[Claim]) -> Tickets
+    requires { length pending.now ≤ 64 }
+    ensures { result ≡ head_tickets pending.now }
 {
-    let number = claim_number(t, groups);
-    if number != 0 {
-        return unchanged(t, number);
-    }
-    if t.count == 0 {
-        return alone(t, groups);
-    }
-    behind(t, groups)
-}
-
-// ── release ──
-
-// A claim so many rows nearer to the head.
-fn nearer(c: Claim, by: u16) -> Claim
-    ensures { result ≡ nearer_by by c }
-{
-    let mut row: u16 = 0;
-    if by < c.row {
-        row = c.row - by;
-    }
-    Claim {
-        groups: c.groups,
-        ticket: c.ticket,
-        row: row,
-    }
-}
-
-// The number for the release of a claim in a row.
-fn row_number(row: u16) -> u8
-    ensures { result ≡ row_number row }
-{
-    if row == 0 {
-        return 0;
-    }
-    numbers::NOT_YET_ON
-}
-
-// What the release of a ticket comes to: its number, and with number 0 all that it hands back. The table is without its claim, those after
-// it move up and the last place becomes vacant; where the claim is the `last` of the head row, the others come one row nearer to the head,
-// and those in the new head row are granted. Cost: one pass.
-fn removed(mut t: Table, ticket: u16, last: bool) -> Outcome
-    requires { Valid t }
-    ensures { result ≡ removed_in t ticket last }
-{
-    let by: u16 = if last { 1 } else { 0 };
-    let count = t.count;
-    let mut number = numbers::UNKNOWN;
-    let mut grants = [0u16; 64];
-    let mut held: usize = 0;
-    let mut n: usize = 0;
-    let mut i: usize = 0;
-    while i < count {
-        let c = t.claims[i];
-        if c.ticket == ticket {
-            number = row_number(c.row);
-        } else {
-            let d = nearer(c, by);
-            t.claims[n] = d;
-            n += 1;
-            if d.row == 0 {
-                grants[held] = d.ticket;
-                held += 1;
-            }
+    let mut grants = Tickets::new();
+    for c in pending {
+        if c.is_on() {
+            grants.push(c.ticket);
         }
-        i += 1;
     }
-    if n < count {
-        t.claims[n] = Claim {
-            groups: 0,
-            ticket: 0,
-            row: 0,
-        };
-    }
-    t.held = held;
-    t.count = n;
-    let mut granted = held;
-    if !last {
-        grants = [0u16; 64];
-        granted = 0;
-    }
-    Outcome {
-        table: t,
-        number: number,
-        ticket: ticket,
-        row: 0,
-        contention: 0,
-        granted: granted,
-        grants: grants,
-    }
+    grants
 }
 
-// Takes away a claim that is on. Where it was the last of the head row, the next row becomes the head and goes on. Refused: 8, 9.
-pub fn release(t: Table, ticket: u16) -> Outcome
-    requires { Valid t }
-    ensures { (result ≡ outcome (step (model t) (Call.release ticket))) × Valid result.table }
+// Where the head row has emptied, the next row becomes the head and goes on.
+#[tactic(auto, using(crate::proofs::Releasing::stays_on, crate::proofs::Releasing::none_granted))]
+fn turn(pending: &mut Pending) -> Tickets
+    ensures pending { pending.new ≡ turned pending.old }
+    ensures grants { result ≡ turned_on pending.old }
 {
-    let last = t.held == 1;
-    let r = removed(t, ticket, last);
-    if r.number != 0 {
-        return unchanged(t, r.number);
+    if some_on(pending) {
+        return Tickets::new();
     }
-    r
+    for i in 0..pending.len() {
+        pending.set(i, pending.get(i).nearer());
+    }
+    head_tickets(pending.as_slice())
 }

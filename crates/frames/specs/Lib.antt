@@ -1,5 +1,5 @@
 pub mod Rows
 pub mod Calls
-pub mod Tables
+pub mod Vacant
 pub mod Invariants
 pub mod Scenarios

@@ -1,6 +1,12 @@
-// The frame table as data, for dance shows, where everything lasts one beat: the uniform variant of C-RNLP (request P2: a beat profile).
-// A row is the claims of one frame; the head row is row 0, and is on.
+// The claims of a frame table as data, for dance shows, where everything lasts one beat: the uniform variant of C-RNLP (request P2: a beat
+// profile). A row is the claims of one frame; the head row is row 0, and is on.
 #![tactic(auto)]
+
+ghost use Rattle.std.specs.Prelude.{◌≡◌};
+
+mod pending;
+
+pub use pending::Pending;
 
 // A claim: its set of groups (2^g for group g), its ticket, and its row, counted from the head. 16 bytes.
 #[derive(Clone, Copy)]
@@ -10,13 +16,23 @@ pub struct Claim {
     pub row: u16,
 }
 
-// The table. The first `count` places hold the pending claims in ascending order of ticket; the others are vacant. `held` of the claims
-// are in the head row.
-#[derive(Clone, Copy)]
-pub struct Table {
-    pub rig: u64,
-    pub issued: u16,
-    pub held: usize,
-    pub count: usize,
-    pub claims: [Claim; 64],
+impl Claim {
+    ghost use Rattle.frames.specs.Rows.{on, nearer};
+
+    // Whether it is in the head row.
+    pub fn is_on(&self) -> bool
+        ensures { result ≡ on self.now }
+    {
+        self.row == 0
+    }
+
+    // The claim one row nearer to the head.
+    pub fn nearer(self) -> Claim
+        ensures { result ≡ nearer self }
+    {
+        Claim {
+            row: self.row.saturating_sub(1),
+            ..self
+        }
+    }
 }

@@ -1,20 +1,17 @@
--- The records of a batch laid in a buffer, and the table that they leave: what the code has after each call is what the batch says.
+-- The records of a batch laid on a page, and the table that they leave: what the code has after each call is what the batch says.
 use mathlib.Core.Path.{◌≡◌, refl, sym, ap, ◌∙◌}
 use mathlib.Core.Bool.{true}
-use mathlib.Core.List.{List, [], ◌∷◌, append-nil}
+use mathlib.Core.List.{[], ◌∷◌, append-nil}
 use Prim.Native.Nat.{ℕ, ◌%◌, ◌^◌, ◌<◌}
-use native.Mathlib.Omega.{arith}
 use lib.ListN.{length}
 use borrow.Author.Tests.{eq-eqb, ne_eqb}
-use Rattle.numerals.specs.Laid.{behind, laid, Put}
-use Rattle.numerals.proofs.Laying.{laid_none, behind-none, put_then}
+use Rattle.std.specs.Prelude.{Some, None}
+use Rattle.numerals.specs.declared.page.Page.{Page}
+use Rattle.numerals.specs.Pages.{Lays}
+use Rattle.numerals.proofs.Pages.{lays_then, lays_none}
 use Rattle.groups.specs.Groups.{set_from}
-use Rattle.rules.specs.Calls.{Step, step, asking, new, claim as claimCall, release as releaseCall}
-use Rattle.rules.specs.Tables.{model}
-use Rattle.table.specs.declared.Outcome.{Outcome}
-use Rattle.table.specs.Valid.{Valid}
-use Rattle.table.specs.Outcomes.{outcome}
-use Rattle.table.proofs.Promised.{outcome-model}
+use Rattle.rules.specs.declared.Request.{Request}
+use Rattle.rules.specs.Calls.{Model, Step, step, asking, new, claim as claimCall, release as releaseCall}
 use Rattle.format.specs.declared.Call.{Call}
 use Rattle.format.specs.Calls.{rig, claim, release}
 use Rattle.load.specs.Bytes.{records_bytes, load_bytes, call_bytes, calls_bytes}
@@ -22,7 +19,6 @@ use Rattle.load.proofs.Bytes.{calls-append}
 use Rattle.replay.specs.Records.{unrigged}
 use Rattle.generator.specs.declared.Draft.{Draft}
 use Rattle.generator.specs.declared.Draws.{Draws}
-use Rattle.generator.specs.declared.MaybeTicket.TheVariants.{Ticket, NoTicket}
 use Rattle.generator.specs.Workload.{Batch, clock_for, groups_for, length_for, claim_batch, lowest_on, release_batch, followed_by, batch_of, all_groups}
 use Rattle.generator.specs.Drafts.{Enters, RigLaid}
 use Rattle.generator.proofs.Records.{claim-does, release-does, rig-does}
@@ -32,55 +28,49 @@ one-bytes : (c : Call) → calls_bytes 1 (c ∷ []) ≡ call_bytes 1 c
 unfolding records_bytes
 one-bytes c = append-nil (call_bytes 1 c)
 
--- Laid where a record is put.
-puts_one : (o : List ℕ) (at : ℕ) (b c : Call) (r : ℕ) (q : List ℕ) → b ≡ c → (r ≡ behind at (length (call_bytes 1 b))) × (q ≡ laid o at (call_bytes 1 b)) → Put o at (calls_bytes 1 (c ∷ [])) r q
-puts_one o at b c r q e p = rw (one-bytes c, sym e) (record { next = p.0; is = p.1 })
+lays_one : {p q : Page} (b c : Call) → b ≡ c → Lays p (call_bytes 1 b) q → Lays p (calls_bytes 1 (c ∷ [])) q
+lays_one b c e l = rw (one-bytes c, sym e) l
 
-module _ (w : Draft) (o q : List ℕ) (r : ℕ) (b : Call) (p : (r ≡ behind w.size (length (call_bytes 1 b))) × (q ≡ laid o w.size (call_bytes 1 b))) (u : Outcome) where
+module _ {p q : Page} (w : Draft) (b : Call) (m : Model) (l : Lays p (call_bytes 1 b) q) where
   -- A claim.
-  pub claim-enters : (d : Draws) (t g n : ℕ) → t ≡ clock_for w.clock d → g ≡ groups_for d → n ≡ length_for d → b ≡ claim t g n
-      → (u ≡ outcome (step (model w.table) (claimCall t (asking g n)))) × Valid u.table
-      → Enters w (claim_batch w.clock (model w.table) d) o (record { table = u.table; clock = t; size = r }) q
-  claim-enters d t g n et eg en e v = rw (← et, ← eg, ← en) (record {
-    lays = puts_one o w.size b (claim t g n) r q e p;
+  pub claim-enters : (d : Draws) (t g n : ℕ) (ask : Request) → t ≡ clock_for w.clock d → g ≡ groups_for d → n ≡ length_for d → b ≡ claim t g n
+      → ask ≡ asking g n → m ≡ (step w.table (claimCall t ask)).model
+      → Enters p w (claim_batch w.clock w.table d) q (record { table = m; clock = t })
+  claim-enters d t g n ask et eg en e a v = rw (← et, ← eg, ← en) (record {
+    lays = lays_one b (claim t g n) e l;
     clock = refl;
-    left = outcome-model u _ v.0 ∙ ap (λ (s : Step). s.model) (sym (claim-does (model w.table) t g n));
-    valid = v.1;
+    left = v ∙ ap (λ (x : Request). (step w.table (claimCall t x)).model) a ∙ ap (λ (s : Step). s.model) (sym (claim-does w.table t g n));
   })
 
   -- A release.
-  pub release-enters : (k : ℕ) → lowest_on (model w.table) ≡ Ticket k → b ≡ release w.clock k
-      → (u ≡ outcome (step (model w.table) (releaseCall w.clock k))) × Valid u.table
-      → Enters w (release_batch w.clock (model w.table)) o (record { table = u.table; clock = w.clock; size = r }) q
-  release-enters k l e v = rw l (record {
-    lays = puts_one o w.size b (release w.clock k) r q e p;
+  pub release-enters : (k : ℕ) → lowest_on w.table ≡ Some k → b ≡ release w.clock k → m ≡ (step w.table (releaseCall w.clock k)).model
+      → Enters p w (release_batch w.clock w.table) q (record { table = m; clock = w.clock })
+  release-enters k o e v = rw o (record {
+    lays = lays_one b (release w.clock k) e l;
     clock = refl;
-    left = outcome-model u _ v.0 ∙ ap (λ (s : Step). s.model) (sym (release-does (model w.table) w.clock k));
-    valid = v.1;
+    left = v ∙ ap (λ (s : Step). s.model) (sym (release-does w.table w.clock k));
   })
 
 -- No release.
-pub none-enters : (w : Draft) (o : List ℕ) → w.size < 2 ^ 64 → lowest_on (model w.table) ≡ NoTicket → Valid w.table → Enters w (release_batch w.clock (model w.table)) o w o
+pub none-enters : (p : Page) (w : Draft) → length p.out.now < 2 ^ 64 → lowest_on w.table ≡ None → Enters p w (release_batch w.clock w.table) p w
 unfolding records_bytes
-none-enters w o h l v = rw l (record { lays = record { next = sym (behind-none w.size h); is = sym (laid_none o w.size) }; clock = refl; left = refl; valid = v })
+none-enters p w h o = rw o (record { lays = lays_none p h; clock = refl; left = refl })
 
 -- ── a batch ──
-module _ (w : Draft) (d : Draws) (o : List ℕ) (c : Draft) (p : List ℕ) (e : Enters w (claim_batch w.clock (model w.table) d) o c p) where
-  pub batch-even : d.last % 2 ≡ 0 → Enters w (batch_of w.clock (model w.table) d) o c p
+module _ {p q : Page} {w r : Draft} (d : Draws) (e : Enters p w (claim_batch w.clock w.table d) q r) where
+  pub batch-even : (d.last % 2 ≡ 1 → ⊥) → Enters p w (batch_of w.clock w.table d) q r
   unfolding batch_of
-  batch-even z = rw (ne_eqb (d.last % 2) 1 (λ x. omega arith)) e
+  batch-even z = rw (ne_eqb (d.last % 2) 1 z) e
 
-  pub batch-odd : length o < 2 ^ 64 → (d.last % 2 ≡ 0 → ⊥) → (r : Draft) (q : List ℕ) → Enters c (release_batch c.clock (model c.table)) p r q → Enters w (batch_of w.clock (model w.table) d) o r q
+  pub batch-odd : {s : Page} {u : Draft} → d.last % 2 ≡ 1 → Enters q r (release_batch r.clock r.table) s u → Enters p w (batch_of w.clock w.table d) s u
   unfolding batch_of
-  batch-odd h z r q f =
-      let x : Batch = claim_batch w.clock (model w.table) d in
-      let y : Batch = release_batch c.clock (model c.table) in
-      let odd : d.last % 2 ≡ 1 = omega arith in
-      let both : Enters w (followed_by x y) o r q = record {
-        lays = rw (calls-append 1 x.records y.records) (put_then o w.size (calls_bytes 1 x.records) (calls_bytes 1 y.records) c.size r.size p q h e.lays f.lays);
+  batch-odd {s} {u} odd f =
+      let x : Batch = claim_batch w.clock w.table d in
+      let y : Batch = release_batch r.clock r.table in
+      let both : Enters p w (followed_by x y) s u = record {
+        lays = rw (calls-append 1 x.records y.records) (lays_then e.lays f.lays);
         clock = f.clock;
         left = f.left;
-        valid = f.valid;
       } in
       rw (eq-eqb (d.last % 2) 1 odd) (rw (e.clock, e.left) at both)
 
@@ -89,16 +79,13 @@ all-groups : all_groups ≡ 18446744073709551615
 unfolding set_from
 all-groups = refl
 
-pub rig-begins : (o p q : List ℕ) (a r g : ℕ) (b : Call) (u : Outcome) → g ≡ 18446744073709551615 → length o < 2 ^ 64 → (a ≡ behind 0 1) × (p ≡ laid o 0 (1 ∷ []))
-    → (r ≡ behind a (length (call_bytes 1 b))) × (q ≡ laid p a (call_bytes 1 b)) → b ≡ rig g
-    → (u ≡ outcome (new g 0 true)) × Valid u.table → RigLaid o (record { table = u.table; clock = 0; size = r }) q
+pub rig-begins : {p q s : Page} (b : Call) (g : ℕ) (m : Model) → g ≡ 18446744073709551615 → Lays p (1 ∷ []) q → Lays q (call_bytes 1 b) s → b ≡ rig g
+    → m ≡ (new g 0 true).model → RigLaid p s (record { table = m; clock = 0 })
 unfolding load_bytes
-rig-begins o p q a r g b u k h f z e v =
+rig-begins b g m k f l e v =
     let n : g ≡ all_groups = k ∙ sym all-groups in
-    let w = rw n at v.0 in
     record {
-      lays = put_then o 0 (1 ∷ []) (calls_bytes 1 (rig all_groups ∷ [])) a r p q h (record { next = f.0; is = f.1 }) (puts_one p a b (rig all_groups) r q (e ∙ ap rig n) z);
+      lays = lays_then f (lays_one b (rig all_groups) (e ∙ ap rig n) l);
       clock = refl;
-      left = outcome-model u _ w ∙ ap (λ (s : Step). s.model) (sym (rig-does unrigged all_groups));
-      valid = v.1;
+      left = v ∙ ap (λ (x : ℕ). (new x 0 true).model) n ∙ ap (λ (x : Step). x.model) (sym (rig-does unrigged all_groups));
     }

@@ -6,10 +6,11 @@ use mathlib.Core.List.{List, [], ◌∷◌, ◌++◌}
 use Prim.Native.Nat.{ℕ, zero, suc, ◌+◌, ◌-◌, ◌*◌, ◌^◌, ◌≤◌, ◌<◌}
 use native.Mathlib.Omega.{arith}
 use lib.ListN.{length, length-append}
+use Rattle.std.specs.Prelude.{Option, Some, None}
 use Rattle.groups.specs.Groups.{some_from, empty, set_from, union}
 use Rattle.groups.proofs.Groups.{set-under}
 use Rattle.rules.specs.declared.Claim.{Claim}
-use Rattle.rules.specs.Lists.{◌∈◌, keep, least}
+use Rattle.rules.specs.Lists.{◌∈◌, keep}
 use Rattle.rules.specs.Claims.{on}
 use Rattle.rules.specs.Calls.{Model, Step, asking, claim as claimCall, release as releaseCall, new}
 use Rattle.rules.specs.Invariants.{Invariant}
@@ -29,8 +30,6 @@ use Rattle.lcg.specs.Draws.{state_in}
 use Rattle.replay.specs.Records.{step_of, ending, alone_in, unrigged}
 use Rattle.replay.specs.Replay.{replay_from, replay_in, replay_of}
 use Rattle.generator.specs.declared.Draws.{Draws}
-use Rattle.generator.specs.declared.MaybeTicket.{MaybeTicket}
-use Rattle.generator.specs.declared.MaybeTicket.TheVariants.{Ticket, NoTicket}
 use Rattle.generator.specs.Workload.{Batch, draws_from, clock_for, groups_for, length_for, after_record, tickets_on, lowest_of, lowest_on, batch_of, records_from, all_groups, workload_calls, workload_of}
 use Rattle.generator.specs.Whole.{claims_in, WorkloadReads, LongerThanNumbers}
 use Rattle.generator.proofs.Records.{by-fields, claim-does, release-does, rig-does, rig-length, claim-length, release_length, rig-sound, claim-sound, release-sound}
@@ -43,9 +42,9 @@ unfolding groups_for union
 groups-under d = set-under 64 0 _
 
 -- ── tables ──
-abbrev ticket_of : MaybeTicket → ℕ
-ticket_of (Ticket k) = k
-ticket_of NoTicket = 0
+abbrev ticket_of : Option ℕ → ℕ
+ticket_of (Some k) = k
+ticket_of None = 0
 
 module _ (m : Model) (i : Invariant m) where
   pending-issued : (n : ℕ) → n ∈ tickets_on m.pending → n ≤ m.issued
@@ -55,7 +54,7 @@ module _ (m : Model) (i : Invariant m) where
       let q = x.2 in
       omega arith
 
-  lowest-issued : (k : ℕ) → lowest_on m ≡ Ticket k → k ≤ m.issued
+  lowest-issued : (k : ℕ) → lowest_on m ≡ Some k → k ≤ m.issued
   unfolding lowest_on
   lowest-issued k e = subst (λ (n : ℕ). n ≤ m.issued) (ap ticket_of e) (go (tickets_on m.pending) pending-issued)
     where

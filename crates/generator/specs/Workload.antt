@@ -1,6 +1,8 @@
 -- The workload of a seed and a count. Quotations are from document 02, P5.
-use Rattle.std.specs.Prelude.{true, ◌&&◌, cond, List, [], ◌∷◌, ◌++◌, map, ℕ, zero, suc, ◌+◌, ◌%◌, leb, eqb, length}
+use Rattle.std.specs.Prelude.{true, ◌&&◌, cond, List, [], ◌∷◌, ◌++◌, map, ℕ, zero, suc, ◌+◌, ◌%◌, leb, eqb, length, Option, Some, None, Result, Ok, Err}
+use Rattle.numbers.specs.declared.Refusal.{Refusal}
 use Rattle.numbers.specs.Numbers.{count_number, most_claims, or_else}
+use Rattle.numbers.specs.Refusals.{number_of}
 use Rattle.numerals.specs.Laid.{space_number}
 use Rattle.groups.specs.Groups.{set_where, only, union}
 use Rattle.rules.specs.declared.Claim.{Claim}
@@ -9,8 +11,6 @@ use Rattle.rules.specs.Claims.{on}
 use Rattle.rules.specs.Calls.{Model}
 use Rattle.lcg.specs.Draws.{state_in, draw_in}
 use Rattle.format.specs.declared.Call.{Call}
-use Rattle.load.specs.declared.Written.{Written}
-use Rattle.load.specs.declared.Written.TheVariants.{Length, Refusal}
 use Rattle.load.specs.Answers.{WrittenValues}
 use Rattle.format.specs.Calls.{rig, claim, release}
 use Rattle.format.specs.Records.{record_of}
@@ -18,8 +18,6 @@ use Rattle.load.specs.Bytes.{load_of}
 use Rattle.load.specs.Writing.{answered, answered_values, begun, lent}
 use Rattle.replay.specs.Records.{step_of, unrigged}
 use Rattle.generator.specs.declared.Draws.{Draws}
-use Rattle.generator.specs.declared.MaybeTicket.{MaybeTicket}
-use Rattle.generator.specs.declared.MaybeTicket.TheVariants.{Ticket, NoTicket}
 
 -- ── draws ──
 -- "For each claim draw in turn: clock advance .., two groups .., length .., and one draw more": from a state on; the state is then `state_in 5`.
@@ -60,17 +58,17 @@ claim_batch before m d =
 abbrev pub tickets_on : List Claim → List ℕ
 tickets_on ps = map (λ (c : Claim). c.ticket) (keep on ps)
 
-abbrev pub lowest_of : List ℕ → MaybeTicket
-lowest_of [] = NoTicket
-lowest_of (k ∷ ks) = Ticket (least (λ n. true) k ks)
+abbrev pub lowest_of : List ℕ → Option ℕ
+lowest_of [] = None
+lowest_of (k ∷ ks) = Some (least (λ n. true) k ks)
 
-unfoldable pub lowest_on : Model → MaybeTicket
+unfoldable pub lowest_on : Model → Option ℕ
 lowest_on m = lowest_of (tickets_on m.pending)
 
 -- "if .. a claim is on, a release of the lowest on ticket follows at the same clock"
-abbrev pub release_of : ℕ → Model → MaybeTicket → Batch
-release_of t m NoTicket = record { records = []; clock = t; left = m }
-release_of t m (Ticket k) = record { records = release t k ∷ []; clock = t; left = after_record m (release t k) }
+abbrev pub release_of : ℕ → Model → Option ℕ → Batch
+release_of t m None = record { records = []; clock = t; left = m }
+release_of t m (Some k) = record { records = release t k ∷ []; clock = t; left = after_record m (release t k) }
 
 abbrev pub release_batch : ℕ → Model → Batch
 release_batch t m = release_of t m (lowest_on m)
@@ -111,8 +109,8 @@ claims_number count = cond (leb 1 count && leb count most_claims) 0 count_number
 unfoldable pub workload_number : ℕ → ℕ → List ℕ → ℕ
 workload_number seed count out = or_else (claims_number count) (space_number (workload_of seed count) out)
 
--- The load's length, or the number.
-unfoldable pub workload_answer : ℕ → ℕ → List ℕ → Written
+-- The load's length, or the refusal.
+unfoldable pub workload_answer : ℕ → ℕ → List ℕ → Result ℕ Refusal
 workload_answer seed count out = answered (workload_number seed count out) (length (workload_of seed count))
 
 unfoldable pub workload_values : ℕ → ℕ → List ℕ → WrittenValues
@@ -123,6 +121,6 @@ unfoldable pub workload_out : ℕ → ℕ → List ℕ → List ℕ
 workload_out seed count out = lent (workload_number seed count out) (begun (workload_of seed count) out) out
 
 -- For C: the length or the number. (No length is a number: `LongerThanNumbers` in Whole.)
-abbrev pub returned : Written → ℕ
-returned (Length n) = n
-returned (Refusal k) = k
+abbrev pub returned : Result ℕ Refusal → ℕ
+returned (Ok n) = n
+returned (Err r) = number_of r

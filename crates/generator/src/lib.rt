@@ -3,23 +3,27 @@
 // beside the writing, one call for each record.
 #![tactic(auto)]
 
-ghost use Rattle.std.specs.Prelude.{◌≡◌, length};
+ghost use Rattle.std.specs.Prelude.{◌≡◌, ◌^◌, ◌<◌};
+ghost use Rattle.std.specs.List.{find};
+ghost use Rattle.std.specs.Option.{option_map};
+ghost use Rattle.rules.specs.Claims.{on};
 ghost use Rattle.numerals.specs.Laid.{Put};
+ghost use Rattle.numerals.specs.Pages.{Lays};
 ghost use Rattle.load.specs.Answers.{written_values};
 ghost use Rattle.format.specs.Calls.{claim, release};
 ghost use Rattle.lcg.specs.Draws.{state_in};
-ghost use Rattle.table.specs.Valid.{Valid};
-ghost use Rattle.rules.specs.Tables.{model};
 ghost use Rattle.generator.specs.Workload.{draws_from, groups_for, claim_batch, release_batch, batch_of, lowest_on, workload_of, claims_number, workload_answer, workload_out, workload_values, returned};
-ghost use Rattle.generator.specs.Drafts.{Ready, RigLaid, Enters, Answers};
+ghost use Rattle.generator.specs.Drafts.{RigLaid, Enters, Answers};
 
 use format::{Call, kinds};
 use lcg::Generator;
-use load::Written;
-use rules::{Phase, Table};
+use numbers::Refusal;
+use numerals::Page;
+use rules::Claim;
+use table::Table;
 
 // The draws of one claim, in their order.
-#[derive(Clone, Copy)]
+#[derive(Clone, Copy, Debug, PartialEq, Eq)]
 pub struct Draws {
     pub advance: u32,
     pub first: u32,
@@ -28,39 +32,29 @@ pub struct Draws {
     pub last: u32,
 }
 
-// A load so far: the table that it leaves, the clock of its last claim, and its length.
-#[derive(Clone, Copy)]
+// What a load so far leaves: the table, and the clock of its last claim.
+#[derive(Drop)]
 pub struct Draft {
     pub table: Table,
     pub clock: u64,
-    pub size: usize,
 }
 
-#[derive(Clone, Copy)]
-pub enum MaybeTicket {
-    Ticket(u16),
-    NoTicket,
-}
-
-// Five draws. The generator is lent on, draw by draw.
+// Five draws.
+#[tactic(auto, unfolding(crate::specs::Workload::draws_from, lcg::specs::Draws::state_in))]
 fn next_draws(g: &mut Generator) -> Draws
     ensures { (result ≡ draws_from g.old.state) × (g.new.state ≡ state_in 5 g.old.state) }
 {
-    let advance = lcg::draw(g);
-    let first = lcg::draw(g);
-    let second = lcg::draw(g);
-    let length = lcg::draw(g);
-    let last = lcg::draw(g);
     Draws {
-        advance,
-        first,
-        second,
-        length,
-        last,
+        advance: g.draw(),
+        first: g.draw(),
+        second: g.draw(),
+        length: g.draw(),
+        last: g.draw(),
     }
 }
 
 // ---- one claim, and the release that may follow
+#[tactic(auto, unfolding(crate::specs::Workload::groups_for))]
 fn groups_for(d: Draws) -> u64
     ensures { result ≡ groups_for d }
 {
@@ -72,160 +66,133 @@ fn groups_for(d: Draws) -> u64
 fn claim_record(clock: u64, groups: u64, length: u32) -> Call
     ensures { result ≡ claim clock groups length }
 {
-    let mut c = format::bare(kinds::CLAIM);
-    c.clock = clock;
-    c.groups = groups;
-    c.length = length;
-    c
+    Call {
+        clock,
+        groups,
+        length,
+        ..Call::bare(kinds::CLAIM)
+    }
 }
 
 fn release_record(clock: u64, ticket: u16) -> Call
     ensures { result ≡ release clock ticket }
 {
-    let mut c = format::bare(kinds::RELEASE);
-    c.clock = clock;
-    c.ticket = ticket;
-    c
-}
-
-// The lowest ticket that is on, or none. Cost: a test for each claim up to the first that is on, since tickets ascend.
-fn lowest_on(t: Table) -> MaybeTicket
-    requires { Valid t }
-    ensures { result ≡ lowest_on (model t) }
-{
-    let count = t.count;
-    let mut i: usize = 0;
-    while i < count {
-        let c = t.claims[i];
-        let phase = c.phase;
-        match phase {
-            Phase::Waiting(_s) => {
-                i += 1;
-            }
-            Phase::On(_g) => {
-                return MaybeTicket::Ticket(c.ticket);
-            }
-        }
+    Call {
+        clock,
+        ticket,
+        ..Call::bare(kinds::RELEASE)
     }
-    MaybeTicket::NoTicket
 }
 
-fn claimed(out: &mut [u8], w: Draft, d: Draws) -> Draft
-    requires { Ready w }
-    ensures { Enters w (claim_batch w.clock (model w.table) d) out.old result out.new }
+// The ticket of the first claim that is on.
+fn first_on(claims: &[Claim]) -> Option<u16>
+    ensures { result ≡ option_map (λ c. c.ticket) (find on claims.now) }
 {
-    let clock = w.clock + (d.advance % 8) as u64;
+    claims.iter().find(|c| c.is_on()).map(|c| c.ticket)
+}
+
+// The lowest ticket that is on. Cost: a test for each claim up to the first that is on, since tickets ascend.
+fn lowest_on(t: &Table) -> Option<u16>
+    ensures { result ≡ lowest_on t.now }
+{
+    first_on(t.pending())
+}
+
+fn claimed(page: &mut Page<'_>, w: &mut Draft, d: Draws)
+    requires { w.old.clock < 2 ^ 63 }
+    ensures { Enters page.old w.old (claim_batch w.old.clock w.old.table d) page.new w.new }
+{
+    w.clock += u64::from(d.advance % 8);
     let groups = groups_for(d);
     let length = d.length % 1000 + 1;
-    let call = claim_record(clock, groups, length);
-    let size = load::put_record(out, w.size, 1, call);
-    let ask = rules::asking(groups, length);
-    let o = table::claim(w.table, clock, ask);
-    let table = o.table;
-    Draft { table, clock, size }
+    load::put_record(page, 1, claim_record(w.clock, groups, length));
+    let _ = w.table.claim(w.clock, rules::asking(groups, length));
 }
 
-fn released(out: &mut [u8], w: Draft) -> Draft
-    requires { Valid w.table }
-    ensures { Enters w (release_batch w.clock (model w.table)) out.old result out.new }
+fn released(page: &mut Page<'_>, w: &mut Draft)
+    ensures { Enters page.old w.old (release_batch w.old.clock w.old.table) page.new w.new }
 {
-    match lowest_on(w.table) {
-        MaybeTicket::NoTicket => w,
-        MaybeTicket::Ticket(ticket) => {
-            let call = release_record(w.clock, ticket);
-            let size = load::put_record(out, w.size, 1, call);
-            let o = table::release(w.table, w.clock, ticket);
-            let table = o.table;
-            let clock = w.clock;
-            Draft { table, clock, size }
-        }
+    if let Some(ticket) = lowest_on(&w.table) {
+        load::put_record(page, 1, release_record(w.clock, ticket));
+        let _ = w.table.release(w.clock, ticket);
     }
 }
 
 // The records of one claim's draws laid after a load, and the table that they leave.
-fn entered(out: &mut [u8], w: Draft, d: Draws) -> Draft
-    requires { Ready w }
-    ensures { Enters w (batch_of w.clock (model w.table) d) out.old result out.new }
+fn entered(page: &mut Page<'_>, w: &mut Draft, d: Draws)
+    requires { w.old.clock < 2 ^ 63 }
+    ensures { Enters page.old w.old (batch_of w.old.clock w.old.table d) page.new w.new }
 {
-    let c = claimed(out, w, d);
-    if d.last % 2 == 0 {
-        return c;
+    claimed(page, w, d);
+    if d.last % 2 == 1 {
+        released(page, w);
     }
-    released(out, c)
 }
 
 // The edition byte and the rig.
-fn begun(out: &mut [u8]) -> Draft
-    ensures { RigLaid out.old result out.new }
+fn begun(page: &mut Page<'_>) -> Draft
+    ensures { RigLaid page.old page.new result }
 {
-    let mut c = format::bare(kinds::RIG);
-    c.groups = u64::MAX;
-    let at = numerals::put_byte(out, 0, 1);
-    let size = load::put_record(out, at, 1, c);
-    let o = table::new(u64::MAX, 0, true);
-    let table = o.table;
-    Draft {
-        table,
-        clock: 0,
-        size,
-    }
+    let rig = Call {
+        groups: u64::MAX,
+        ..Call::bare(kinds::RIG)
+    };
+    page.byte(1);
+    load::put_record(page, 1, rig);
+    let (table, _) = Table::new(u64::MAX, 0, true);
+    Draft { table, clock: 0 }
 }
 
-// The workload laid over a buffer, as far as that goes, and its length. One generator, lent for each claim's draws.
-fn lay(seed: u32, count: u32, out: &mut [u8]) -> usize
-    ensures { Put out.old 0 (workload_of seed count) result out.new }
+// The workload laid on a page.
+fn lay(page: &mut Page<'_>, seed: u32, count: u32)
+    ensures { Lays page.old (workload_of seed count) page.new }
 {
     let mut g = Generator { state: seed };
-    let mut w = begun(out);
-    let mut k: u32 = 0;
-    while k < count {
+    let mut w = begun(page);
+    for _ in 0..count {
         let d = next_draws(&mut g);
-        w = entered(out, w, d);
-        k += 1;
+        entered(page, &mut w, d);
     }
-    w.size
 }
 
-// Room for the longest workload.
-fn room() -> [u8; 36012]
-    ensures { 36012 ≡ length result }
+// The workload laid over a buffer, as far as that goes, and its length.
+fn lay_over(out: &mut [u8], seed: u32, count: u32) -> usize
+    ensures { Put out.old 0 (workload_of seed count) result out.new }
 {
-    [0; 36012]
+    let mut page = Page::new(out);
+    lay(&mut page, seed, count);
+    page.at
 }
 
-// A workload for a buffer that may be too short: laid in a buffer of its own, and copied where it goes in.
-fn copied(seed: u32, count: u32, out: &mut [u8]) -> Written
+// A workload for a buffer that may be too short: laid in a buffer of its own, which the longest goes into, and copied where it goes in.
+fn copied(seed: u32, count: u32, out: &mut [u8]) -> Result<usize, Refusal>
     requires { claims_number count ≡ 0 }
     ensures { Answers seed count out.old result out.new }
 {
-    let mut own = room();
-    let n = lay(seed, count, &mut own);
+    let mut own = [0; 36012];
+    let n = lay_over(&mut own, seed, count);
     if out.len() < n {
-        return Written::Refusal(numbers::NO_SPACE);
+        return Err(Refusal::NoSpace);
     }
-    numerals::put_bytes(out, 0, &own[..n]);
-    Written::Length(n)
+    out[..n].copy_from_slice(&own[..n]);
+    Ok(n)
 }
 
 // The workload at the start of a lent buffer, and its length; 20 for a count outside 1 to 1,000, then 15, and the buffer is untouched.
 // Cost: one call of the table for each record. Where the buffer has under 12 + 36 * count bytes the load is copied once.
 #[tactic(auto, unfolding(crate::specs::Workload::claims_number, crate::specs::Workload::workload_number, crate::specs::Workload::workload_answer, crate::specs::Workload::workload_out, crate::specs::Workload::workload_values))]
-pub fn workload(seed: u32, count: u32, out: &mut [u8]) -> Written
+pub fn workload(seed: u32, count: u32, out: &mut [u8]) -> Result<usize, Refusal>
     ensures answer { result ≡ workload_answer seed count out.old }
     ensures buffer { out.new ≡ workload_out seed count out.old }
     ensures values { written_values result ≡ workload_values seed count out.old }
 {
-    if count == 0 {
-        return Written::Refusal(numbers::COUNT);
-    }
-    if numbers::MOST_CLAIMS < count {
-        return Written::Refusal(numbers::COUNT);
+    if count == 0 || numbers::MOST_CLAIMS < count {
+        return Err(Refusal::Count);
     }
     if out.len() < 12 + 36 * (count as usize) {
         return copied(seed, count, out);
     }
-    let n = lay(seed, count, out);
-    Written::Length(n)
+    Ok(lay_over(out, seed, count))
 }
 
 // The same for C: the length, or the number. No workload is as short as a number.
@@ -235,7 +202,7 @@ pub extern "C" fn belgwyth_workload(seed: u32, count: u32, out: &mut [u8]) -> us
     ensures buffer { out.new ≡ workload_out seed count out.old }
 {
     match workload(seed, count, out) {
-        Written::Length(n) => n,
-        Written::Refusal(number) => number as usize,
+        Ok(n) => n,
+        Err(refusal) => usize::from(u8::from(refusal)),
     }
 }

@@ -9,8 +9,9 @@ use native.Mathlib.Omega.{arith}
 use lib.Dec.{eqb, ltb}
 use lib.Pow.{shr-shr}
 use borrow.Author.Tests.{eqb-true, eqb-false, ltb-true, ltb-false, not-true, not-false}
-use Rattle.groups.specs.declared.MaybeGroup.TheVariants.{Group, NoGroup}
-use Rattle.groups.specs.Groups.{has, some_from, some_group, common, CommonLowest, found, shares, empty, within, set_from, set_where, union, without, only, lowest_from, lowest, lowest_missing, others}
+use Rattle.std.proofs.Common.{Some, None}
+use Rattle.std.proofs.Common.{is_some}
+use Rattle.groups.specs.Groups.{has, some_from, some_group, common, CommonLowest, shares, empty, within, set_from, set_where, union, without, only, lowest_from, lowest, lowest_missing, others}
 
 -- Group j + 1 from g on is group j from the next one on.
 next : (g j : ℕ) → g + suc j ≡ suc g + j
@@ -66,24 +67,24 @@ from_or (suc k) g p q = rw (from_or k (suc g) p q) (go (p g) (q g) (some_from k 
     go false false c = refl
 
 -- The lowest of the k groups from g on that passes p is one of them, passes, and no group below it does.
-lowest-from : (k g : ℕ) (p : ℕ → Bool) (h : ℕ) → lowest_from k g p ≡ Group h → (j : ℕ) × (j < k) × (g + j ≡ h) × (p h ≡ true) × (some_from j g p ≡ false)
+lowest-from : (k g : ℕ) (p : ℕ → Bool) (h : ℕ) → lowest_from k g p ≡ Some h → (j : ℕ) × (j < k) × (g + j ≡ h) × (p h ≡ true) × (some_from j g p ≡ false)
 unfolding some_from lowest_from
 lowest-from zero g p h e = let z : ◌≡◌ {A = ℕ} 0 1 = cc in absurd (omega arith)
 lowest-from (suc k) g p h e = go (lowest-from k (suc g) p h) (p g) refl e
   where
-    go : (lowest_from k (suc g) p ≡ Group h → (j : ℕ) × (j < k) × (suc g + j ≡ h) × (p h ≡ true) × (some_from j (suc g) p ≡ false)) → (t : Bool) → p g ≡ t
-        → cond t (Group g) (lowest_from k (suc g) p) ≡ Group h
+    go : (lowest_from k (suc g) p ≡ Some h → (j : ℕ) × (j < k) × (suc g + j ≡ h) × (p h ≡ true) × (some_from j (suc g) p ≡ false)) → (t : Bool) → p g ≡ t
+        → cond t (Some g) (lowest_from k (suc g) p) ≡ Some h
         → (j : ℕ) × (j < suc k) × (g + j ≡ h) × (p h ≡ true) × (some_from j g p ≡ false)
     go later true q e = let z : g ≡ h = cc e in (0, omega arith, omega arith, ap p (sym z) ∙ q, refl)
     go later false q e = let r = later e in (suc r.0, omega arith, omega (arith, r.2), r.3, rw (q, r.4))
 
 -- One passes exactly where the lowest that does is not none.
-found_from : (k g : ℕ) (p : ℕ → Bool) → found (lowest_from k g p) ≡ some_from k g p
+found_from : (k g : ℕ) (p : ℕ → Bool) → is_some (lowest_from k g p) ≡ some_from k g p
 unfolding lowest_from some_from
 found_from zero g p = refl
 found_from (suc k) g p = go (found_from k (suc g) p) (p g)
   where
-    go : found (lowest_from k (suc g) p) ≡ some_from k (suc g) p → (t : Bool) → found (cond t (Group g) (lowest_from k (suc g) p)) ≡ (t || some_from k (suc g) p)
+    go : is_some (lowest_from k (suc g) p) ≡ some_from k (suc g) p → (t : Bool) → is_some (cond t (Some g) (lowest_from k (suc g) p)) ≡ (t || some_from k (suc g) p)
     go later true = refl
     go later false = later
 
@@ -172,7 +173,7 @@ common-sym a b = lowest-same _ 0 _ _ (λ g h. and_comm (has a g) (has b g))
 
 pub shares-sym : (a b : ℕ) → shares a b ≡ shares b a
 unfolding shares
-shares-sym a b = ap found (common-sym a b)
+shares-sym a b = ap is_some (common-sym a b)
 
 -- Two sets that share a group have a group in both.
 pub shares-elim : (a b : ℕ) → shares a b ≡ true → (g : ℕ) × (g < 64) × (has a g ≡ true) × (has b g ≡ true)
@@ -214,12 +215,12 @@ unfolding without
 without-has a b g h = has-set _ g h
 
 -- Where there is no lowest, no group passes.
-none_from : (k g : ℕ) (p : ℕ → Bool) → lowest_from k g p ≡ NoGroup → some_from k g p ≡ false
+none_from : (k g : ℕ) (p : ℕ → Bool) → lowest_from k g p ≡ None → some_from k g p ≡ false
 unfolding some_from lowest_from
 none_from zero g p e = refl
 none_from (suc k) g p e = go (none_from k (suc g) p) (p g) e
   where
-    go : (lowest_from k (suc g) p ≡ NoGroup → some_from k (suc g) p ≡ false) → (t : Bool) → cond t (Group g) (lowest_from k (suc g) p) ≡ NoGroup
+    go : (lowest_from k (suc g) p ≡ None → some_from k (suc g) p ≡ false) → (t : Bool) → cond t (Some g) (lowest_from k (suc g) p) ≡ None
         → (t || some_from k (suc g) p) ≡ false
     go later true e = let z : ◌≡◌ {A = ℕ} 0 1 = cc in absurd (omega arith)
     go later false e = later e
@@ -245,17 +246,17 @@ common-lowest a b = record {
     apart h f p q = false≢true (sym f ∙ rw (p, q) refl)
 
 -- The lowest group of a set is in it.
-pub lowest-in : (a g : ℕ) → lowest a ≡ Group g → (g < 64) × (has a g ≡ true)
+pub lowest-in : (a g : ℕ) → lowest a ≡ Some g → (g < 64) × (has a g ≡ true)
 unfolding lowest
 lowest-in a g e = let r = lowest-from _ 0 _ g e in (omega (arith, r.1, r.2), r.3)
 
 -- A set without a lowest group has none.
-pub lowest-none : (a : ℕ) → lowest a ≡ NoGroup → (g : ℕ) → g < 64 → has a g ≡ false
+pub lowest-none : (a : ℕ) → lowest a ≡ None → (g : ℕ) → g < 64 → has a g ≡ false
 unfolding lowest
 lowest-none a e = none-elim (has a) (none_from _ 0 _ e)
 
 -- The lowest group that is not in a set: those below it are. Where there is none, all are in it.
-pub missing-lowest : (a g : ℕ) → lowest_missing a ≡ Group g → (g < 64) × (has a g ≡ false) × ((h : ℕ) → h < g → has a h ≡ true)
+pub missing-lowest : (a g : ℕ) → lowest_missing a ≡ Some g → (g < 64) × (has a g ≡ false) × ((h : ℕ) → h < g → has a h ≡ true)
 unfolding lowest_missing
 missing-lowest a g e =
     let r = lowest-from _ 0 _ g e in (
@@ -264,12 +265,12 @@ missing-lowest a g e =
       λ h l. not-false (has a h) (rw zero-add at (from-none r.0 0 (λ g. not (has a g)) r.4 h (omega (arith, r.2)))),
     )
 
-pub missing-none : (a : ℕ) → lowest_missing a ≡ NoGroup → (g : ℕ) → g < 64 → has a g ≡ true
+pub missing-none : (a : ℕ) → lowest_missing a ≡ None → (g : ℕ) → g < 64 → has a g ≡ true
 unfolding lowest_missing
 missing-none a e g h = not-false (has a g) (none-elim (λ g. not (has a g)) (none_from _ 0 _ e) g h)
 
 -- Its others are all but that one.
-pub others-has : (a g : ℕ) → lowest a ≡ Group g → (h : ℕ) → h < 64 → has (others a) h ≡ (has a h && not (eqb h g))
+pub others-has : (a g : ℕ) → lowest a ≡ Some g → (h : ℕ) → h < 64 → has (others a) h ≡ (has a h && not (eqb h g))
 unfolding lowest others
 others-has a g e h l = has-set _ h l ∙ go (eqb h g) refl (ltb g h) refl
   where

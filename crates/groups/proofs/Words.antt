@@ -12,7 +12,7 @@ use lib.Count.{count_trailing_zeros, under}
 use lib.Dec.{eqb}
 use lib.Pow.{shr-shr, pow_mono}
 use borrow.Author.Tests.{eq-eqb, ne_eqb, eqb-true, eqb-false, not-false}
-use Rattle.groups.specs.declared.MaybeGroup.TheVariants.{Group, NoGroup}
+use Rattle.std.proofs.Common.{Some, None}
 use Rattle.groups.specs.Groups.{has, some_from, some_group, common, shares, empty, within, set_from, union, without, only, lowest_from, lowest, lowest_missing, others}
 use Rattle.groups.proofs.Groups.{one-add, from-same, from_next, lowest-same, shares-some, none-intro, none-elim, set_same, without-has, lowest-in}
 
@@ -197,29 +197,29 @@ missing-word a = lowest-same 64 0 _ _ (λ g h. without-has 18446744073709551615 
 
 -- ── the lowest group ──
 -- Of a word with a digit from group g on, k of them, the zeros below the first tell the lowest group.
-zeros-from : (k g x : ℕ) → 0 < x / 2 ^ g → x / 2 ^ g < 2 ^ k → lowest_from k g (has x) ≡ Group (g + count_trailing_zeros k (x / 2 ^ g))
+zeros-from : (k g x : ℕ) → 0 < x / 2 ^ g → x / 2 ^ g < 2 ^ k → lowest_from k g (has x) ≡ Some (g + count_trailing_zeros k (x / 2 ^ g))
 unfolding lowest_from count_trailing_zeros
 zeros-from zero g x p h = absurd (omega arith)
 zeros-from (suc k) g x p h =
     let s = shifted x g in
     let q = two-pow-succ k in
-    go (x / 2 ^ g % 2) (λ o. zeros-from k (suc g) x (omega arith) (omega arith) ∙ ap (λ n. Group (suc g + count_trailing_zeros k n)) s) (omega arith)
+    go (x / 2 ^ g % 2) (λ o. zeros-from k (suc g) x (omega arith) (omega arith) ∙ ap (λ n. Some (suc g + count_trailing_zeros k n)) s) (omega arith)
   where
-    go : (r : ℕ) → (r ≡ 0 → lowest_from k (suc g) (has x) ≡ Group (suc g + count_trailing_zeros k (x / 2 ^ g / 2))) → r < 2
-        → cond (eqb r 1) (Group g) (lowest_from k (suc g) (has x)) ≡ Group (g + under r (count_trailing_zeros k (x / 2 ^ g / 2)))
-    go zero later l = later refl ∙ ap Group (one_more (count_trailing_zeros k (x / 2 ^ g / 2)))
+    go : (r : ℕ) → (r ≡ 0 → lowest_from k (suc g) (has x) ≡ Some (suc g + count_trailing_zeros k (x / 2 ^ g / 2))) → r < 2
+        → cond (eqb r 1) (Some g) (lowest_from k (suc g) (has x)) ≡ Some (g + under r (count_trailing_zeros k (x / 2 ^ g / 2)))
+    go zero later l = later refl ∙ ap Some (one_more (count_trailing_zeros k (x / 2 ^ g / 2)))
       where
         one_more : (z : ℕ) → suc g + z ≡ g + suc z
         one_more z = omega arith
-    go (suc zero) later l = ap Group (sym (add-zero g))
+    go (suc zero) later l = ap Some (sym (add-zero g))
     go (suc (suc r)) later l = absurd (omega arith)
 
 -- The lowest group of a word that is not 0; 0 has none.
-pub lowest-word : (a : ℕ) → 0 < a → a < 2 ^ 64 → lowest a ≡ Group (count_trailing_zeros 64 a)
+pub lowest-word : (a : ℕ) → 0 < a → a < 2 ^ 64 → lowest a ≡ Some (count_trailing_zeros 64 a)
 unfolding lowest
 lowest-word a p h = simp (div-one, zero-add) at (zeros-from 64 0 a (simp div-one p) (simp div-one h))
 
-pub lowest-zero : lowest 0 ≡ NoGroup
+pub lowest-zero : lowest 0 ≡ None
 unfolding lowest lowest_from
 lowest-zero = refl
 
@@ -264,7 +264,7 @@ pub zero_has : (g : ℕ) → has 0 g ≡ false
 zero_has g = ap (λ d. eqb d 1) (no_digit g)
 
 -- A walk through the groups of a set ends.
-pub others-less : (a g : ℕ) → a < 2 ^ 64 → lowest a ≡ Group g → others a < a
+pub others-less : (a g : ℕ) → a < 2 ^ 64 → lowest a ≡ Some g → others a < a
 others-less a g h e = go (eqb a 0) refl
   where
     go : (t : Bool) → eqb a 0 ≡ t → others a < a

@@ -1,37 +1,30 @@
 -- Sets of groups. Document 01: "Groups are numbered 0 to 63; a set of groups is a 64-bit number, group g standing for 2^g."
 -- What is said here is said of the groups 0 to 63, one by one; that the code may work on all bits at once is proved.
-use Rattle.std.specs.Prelude.{◌≡◌, Bool, true, false, not, ◌&&◌, ◌||◌, cond, ℕ, zero, suc, ◌+◌, ◌*◌, ◌/◌, ◌%◌, ◌^◌, ◌<◌, eqb}
-use Rattle.groups.specs.declared.MaybeGroup.{MaybeGroup}
-use Rattle.groups.specs.declared.MaybeGroup.TheVariants.{Group, NoGroup}
+use Rattle.std.specs.Prelude.{◌≡◌, Bool, true, false, not, ◌&&◌, ◌||◌, cond, ℕ, zero, suc, ◌+◌, ◌*◌, ◌/◌, ◌%◌, ◌^◌, ◌<◌, eqb, Option, Some, None, is_some}
 
 -- Group g is in the set s.
 abbrev pub has : ℕ → ℕ → Bool
 has s g = eqb (s / 2 ^ g % 2) 1
 
--- Not none.
-abbrev pub found : MaybeGroup → Bool
-found (Group g) = true
-found NoGroup = false
-
 -- The lowest of the k groups from g on that passes p, or none.
-unfoldable pub lowest_from : ℕ → ℕ → (ℕ → Bool) → MaybeGroup
-lowest_from zero g p = NoGroup
-lowest_from (suc k) g p = cond (p g) (Group g) (lowest_from k (suc g) p)
+unfoldable pub lowest_from : ℕ → ℕ → (ℕ → Bool) → Option ℕ
+lowest_from zero g p = None
+lowest_from (suc k) g p = cond (p g) (Some g) (lowest_from k (suc g) p)
 
 -- "the lowest common group number, or none": the first from group 0 up that is in both sets.
-unfoldable pub common : ℕ → ℕ → MaybeGroup
+unfoldable pub common : ℕ → ℕ → Option ℕ
 common a b = lowest_from 64 0 (λ g. has a g && has b g)
 
 -- What these words say: a group that is in both sets, and no lower one is; none only where no group is. proofs/Groups has the theorem, of
 -- any two sets.
 pub record CommonLowest (a b : ℕ) : Type 0 where
-  pub in_both : (g : ℕ) → common a b ≡ Group g → (g < 64) × (has a g ≡ true) × (has b g ≡ true)
-  pub none_lower : (g : ℕ) → common a b ≡ Group g → (h : ℕ) → h < g → has a h ≡ true → has b h ≡ true → ⊥
-  pub none_common : common a b ≡ NoGroup → (h : ℕ) → h < 64 → has a h ≡ true → has b h ≡ true → ⊥
+  pub in_both : (g : ℕ) → common a b ≡ Some g → (g < 64) × (has a g ≡ true) × (has b g ≡ true)
+  pub none_lower : (g : ℕ) → common a b ≡ Some g → (h : ℕ) → h < g → has a h ≡ true → has b h ≡ true → ⊥
+  pub none_common : common a b ≡ None → (h : ℕ) → h < 64 → has a h ≡ true → has b h ≡ true → ⊥
 
 -- "share a group": yes or no of that.
 unfoldable pub shares : ℕ → ℕ → Bool
-shares a b = found (common a b)
+shares a b = is_some (common a b)
 
 -- One of the k groups from g on passes p.
 unfoldable pub some_from : ℕ → ℕ → (ℕ → Bool) → Bool
@@ -72,11 +65,11 @@ unfoldable pub only : ℕ → ℕ
 only g = set_where (λ h. eqb h g)
 
 -- The lowest group of a set, or none.
-unfoldable pub lowest : ℕ → MaybeGroup
+unfoldable pub lowest : ℕ → Option ℕ
 lowest a = lowest_from 64 0 (has a)
 
 -- The lowest group that is not in a set, or none.
-unfoldable pub lowest_missing : ℕ → MaybeGroup
+unfoldable pub lowest_missing : ℕ → Option ℕ
 lowest_missing a = lowest_from 64 0 (λ g. not (has a g))
 
 -- A set without its lowest group: those of its groups that have another of them below.

@@ -5,28 +5,19 @@
 ghost use Rattle.std.specs.Prelude.{◌≡◌};
 ghost use Rattle.groups.specs.Groups.{common, shares, empty, within, union, without, only, lowest, lowest_missing, others};
 
-// What a search for a group gives.
-#[derive(Clone, Copy)]
-pub enum MaybeGroup {
-    Group(usize),
-    NoGroup,
-}
-
 // The lowest group that two sets have in common, or none. Cost: an instruction on 64 bits, a comparison and one more instruction.
-pub fn common(a: u64, b: u64) -> MaybeGroup
+pub fn common(a: u64, b: u64) -> Option<usize>
     ensures { result ≡ common a b }
 {
     lowest(a & b)
 }
 
 // Whether two sets have a group in common. Cost: an instruction on 64 bits and a comparison: the compiler leaves out the search.
+#[tactic(auto, unfolding(crate::specs::Groups::shares))]
 pub fn shares(a: u64, b: u64) -> bool
     ensures { result ≡ shares a b }
 {
-    match common(a, b) {
-        MaybeGroup::Group(_g) => true,
-        MaybeGroup::NoGroup => false,
-    }
+    common(a, b).is_some()
 }
 
 // Whether no group is in a set. Cost: one comparison.
@@ -68,17 +59,17 @@ pub fn only(g: usize) -> u64
 }
 
 // The lowest group of a set, or none. Cost: a comparison and one instruction.
-pub fn lowest(a: u64) -> MaybeGroup
+pub fn lowest(a: u64) -> Option<usize>
     ensures { result ≡ lowest a }
 {
     if a == 0 {
-        return MaybeGroup::NoGroup;
+        return None;
     }
-    MaybeGroup::Group(u64::trailing_zeros(a) as usize)
+    Some(u64::trailing_zeros(a) as usize)
 }
 
 // The lowest group that is not in a set, or none. Cost: a comparison and two instructions.
-pub fn lowest_missing(a: u64) -> MaybeGroup
+pub fn lowest_missing(a: u64) -> Option<usize>
     ensures { result ≡ lowest_missing a }
 {
     lowest(without(u64::MAX, a))

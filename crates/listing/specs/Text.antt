@@ -7,13 +7,11 @@ use Rattle.format.specs.Records.{Record}
 use Rattle.load.specs.Reading.{Walk, walk, open_number}
 use Rattle.replay.specs.Records.{alone_in, step_of, ending, unrigged}
 use Rattle.replay.specs.StopLine.{stop_or}
-use Rattle.listing.specs.Lines.{header, line_of, on_lines}
+use Rattle.listing.specs.Lines.{header, answer_lines}
 
 -- "one line for each record .. Each grant adds `on TICKET CLOCK`": the call's clock, which is the table's after it.
 unfoldable pub entry_of : ℕ → Step → List ℕ
-entry_of k s =
-    let a = s.answer in
-    line_of k a.number a.ticket a.start ++ on_lines s.model.clock a.grants
+entry_of k s = answer_lines k s.model.clock s.answer
 
 -- The lines from record k on, in table m: of the records rs, then the stop by what follows them (0: the load ends there).
 unfoldable pub lines_from : Bool → ℕ → Model → List Record → ℕ → List ℕ

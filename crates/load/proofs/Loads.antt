@@ -16,12 +16,13 @@ use Rattle.format.specs.Calls.{call_of, values_of}
 use Rattle.format.specs.Records.{Member, Record, member_count, TypedRecord, carries}
 use Rattle.format.proofs.Calls.{kind-of-call, values-of-call, call-of-values, call-keeps, keeps-kind}
 use Rattle.format.proofs.Records.{carries-parts, carried, with-total, with-bounded}
-use Rattle.load.specs.declared.Item.TheVariants as item
+use Rattle.load.specs.Answers.{one_record}
+use Rattle.load.proofs.Answers.{number-some}
 use Rattle.load.specs.Bytes.{big, field_bytes, field_values, members_bytes, members_read, record_bytes, records_bytes, load_bytes}
 use Rattle.load.specs.Reading.{agree, length_field, kind_field, misfit, call_in, count_in, read_at, edition_of, record_at, item_at, open_number, onto, walk_in, walk}
 use Rattle.load.specs.RoundTrip.{Bytes}
 use Rattle.load.proofs.Bytes.{Fit, bytes_drop, field-bytes-length, values-of-bytes, bytes-of-values, values-fit, values_length, typed-fits, fits-typed, members-of-bytes, bytes-of-members, members-typed, members-many, record-length}
-use Rattle.load.proofs.Reading.{read-record, stands, step-next, step-refused, step_end, step_past, misfit-not, misfit-none, by-item, walk-record, walk_end, open-known}
+use Rattle.load.proofs.Reading.{read-record, stands, step-next, step_end, step_past, misfit-not, misfit-none, by-item, walk-record, walk_end, open-known}
 
 -- A record that may stand first, or after the first.
 pub record Sound (e : ℕ) (first : Bool) (r : Record) : Type 0 where
@@ -59,7 +60,7 @@ module _ (e at : ℕ) (r : Record) (rest : List ℕ) (v : Sound e (eqb at 1) r) 
       let d = drop_at (field_bytes ws vs) (members_bytes r.members ++ rest) (total ws) (field-bytes-length ws vs) in
       rw (behind-kind, d, ← (carries-parts e r v.carried).1) (members-of-bytes r.members v.typed.1 rest)
 
-  record-reads : read_at e at (record_bytes e r ++ rest) ≡ item.Record r.call (at + length (record_bytes e r))
+  record-reads : read_at e at (record_bytes e r ++ rest) ≡ one_record r.call (at + length (record_bytes e r))
   unfolding record_bytes digits
   record-reads =
       let c = r.call in
@@ -156,7 +157,7 @@ walk-good e s first rs (Loadable.one {r = r} {rs = qs} v g) at p q h d =
     let c = r.call in
     let n = at + length (record_bytes e r) in
     let u : Sound e (eqb at 1) r = rw p v in
-    let x : item_at s at ≡ item.Record c n = rw (q, d) (record-reads e at r (records_bytes e qs) u) in
+    let x : item_at s at ≡ one_record c n = rw (q, d) (record-reads e at r (records_bytes e qs) u) in
     let y : record_at s at c ≡ r = ap (λ (ms : List Member). record { call = c; members = ms }) (rw (q, d) (members-read e at r (records_bytes e qs) u)) in
     let l = record-length e r (carried-kind e r v.carried) in
     let t : drop n s ≡ records_bytes e qs = sym (drop-drop (length (record_bytes e r)) at s) ∙ ap (drop (length (record_bytes e r))) d
@@ -168,7 +169,7 @@ unfolding load_bytes
 reads-back e cs g = walk-good e (load_bytes e cs) true cs g 1 refl refl (omega arith) refl
 
 -- ── what reads to its end is the bytes of its records ──
-step-bytes : (s : List ℕ) (at : ℕ) (c : Call) (next : ℕ) → Bytes s → item_at s at ≡ item.Record c next → drop at s ≡ record_bytes (edition_of s) (record_at s at c) ++ drop next s
+step-bytes : (s : List ℕ) (at : ℕ) (c : Call) (next : ℕ) → Bytes s → item_at s at ≡ one_record c next → drop at s ≡ record_bytes (edition_of s) (record_at s at c) ++ drop next s
 step-bytes s at c next b h =
     let x = stands s at c next h in
     let bs = drop at s in
@@ -186,7 +187,7 @@ walk-back (suc k) s at b h f z =
     by-item (item_at s at)
     (λ c n q. let l = step-next s at c n q in rw q (step-bytes s at c n b q ∙ ap (λ r. record_bytes (edition_of s) (record_at s at c) ++ r) (walk-back k s n b l.1 (omega (arith, l.0)) (rw q at z))))
     (λ q. rw q (step_end s at q))
-    (λ n q. absurd (omega (arith, step-refused s at n q, rw q at z)))
+    (λ n q. absurd (omega (arith, number-some n, rw q at z)))
 
 pub is_read : (s : List ℕ) → Bytes s → open_number s ≡ 0 → (walk s 1).stop ≡ 0 → s ≡ load_bytes (edition_of s) (walk s 1).records
 unfolding walk load_bytes

@@ -6,7 +6,7 @@ use mathlib.Core.Path.{◌≡◌, refl, sym, ap, ◌∙◌}
 use native.Mathlib.Omega.{arith}
 use lib.ListN.{length, take, drop}
 use lib.Seq.{take_at}
-use Rattle.load.specs.declared.Written.TheVariants.{Length}
+use Rattle.std.specs.Prelude.{Ok}
 use Rattle.format.specs.Format.{known}
 use Rattle.load.specs.Bytes.{records_bytes, load_bytes}
 use Rattle.load.specs.Reading.{edition_of, walk, load_number}
@@ -34,7 +34,7 @@ appended-is : (s : List ℕ) (r : Record) (out : List ℕ) → append_number s r
 unfolding append_out
 appended-is s r out z = rw z (take_at (grown s r) (drop (length (grown s r)) out) (length (grown s r)) refl)
 
-pub answer-length : (k m n : ℕ) → answered k m ≡ Length n → (k ≡ 0) × (m ≡ n)
+pub answer-length : (k m n : ℕ) → answered k m ≡ Ok n → (k ≡ 0) × (m ≡ n)
 answer-length zero m n h = (refl, cc)
 answer-length (suc k) m n h = let z : ◌≡◌ {A = ℕ} 0 1 = cc in absurd (omega arith)
 

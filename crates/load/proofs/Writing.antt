@@ -9,10 +9,12 @@ use borrow.Author.Tests.{lt-ltb, le-ltb, ltb-false, not-false}
 use lib.ListN.{length, length-append}
 use Rattle.numerals.specs.Laid.{Put}
 use Rattle.numerals.proofs.Laying.{laid-fits, put-short}
-use Rattle.load.specs.declared.Written.{Written}
-use Rattle.load.specs.declared.Written.TheVariants.{Length, Refusal}
+use Rattle.std.specs.Prelude.{Result, Ok, Err}
+use Rattle.numbers.specs.declared.Refusal.{Refusal}
+use Rattle.numbers.specs.Refusals.{number_of}
 use Rattle.format.specs.Records.{Record, carries}
 use Rattle.load.specs.Answers.{written_values}
+use Rattle.load.proofs.Answers.{number-some, refusal-is}
 use Rattle.load.specs.Bytes.{record_bytes}
 use Rattle.load.specs.Reading.{is_in_place, edition_of, load_number}
 use Rattle.load.specs.Writing.{grown, room_number, grow_number, append_number, answered, answered_values, lent, begun}
@@ -78,18 +80,18 @@ append-grows s r room h = grow-known s r room (append-parts s r room h).1
 
 -- ── the answer and the buffer ──
 -- k is the number, and g the load to be written.
-abbrev pub Answers : List ℕ → List ℕ → ℕ → Written → List ℕ → Type 0
+abbrev pub Answers : List ℕ → List ℕ → ℕ → Result ℕ Refusal → List ℕ → Type 0
 Answers g out k r p = (r ≡ answered k (length g)) × ((p ≡ lent k (begun g out) out) × (written_values r ≡ answered_values k (length g)))
 
-pub refused : (g out : List ℕ) (k n : ℕ) → n ≡ k → (n ≡ 0 → ⊥) → Answers g out k (Refusal n) out
-refused g out zero n p q = absurd (q p)
-refused g out (suc k) n p q = (ap Refusal p, (refl, ap (λ (m : ℕ). written_values (Refusal m)) p))
+pub refused : (g out : List ℕ) (k : ℕ) (r : Refusal) → number_of r ≡ k → Answers g out k (Err r) out
+refused g out zero r p = absurd (omega (arith, number-some r))
+refused g out (suc k) r p = (ap Err (refusal-is r (suc k) p), (refl, ap (λ (m : ℕ). record { number = m; length = 0 }) p))
 
 -- A text g that goes in and is laid at the start.
-pub accepted : (g out : List ℕ) (k : ℕ) (p : List ℕ) (r : ℕ) → k ≡ 0 → length g ≤ 65536 → length g ≤ length out → Put out 0 g r p → Answers g out k (Length r) p
+pub accepted : (g out : List ℕ) (k : ℕ) (p : List ℕ) (r : ℕ) → k ≡ 0 → length g ≤ 65536 → length g ≤ length out → Put out 0 g r p → Answers g out k (Ok r) p
 accepted g out k p r h b l w =
     let e = put-short (omega arith) w in
-    rw h (ap Length e.0, (e.1 ∙ laid-fits out g l, ap (λ (m : ℕ). written_values (Length m)) e.0))
+    rw h (ap Ok e.0, (e.1 ∙ laid-fits out g l, ap (λ (m : ℕ). written_values (Ok m)) e.0))
 
-pub written : (s : List ℕ) (r : Record) (out : List ℕ) (k : ℕ) (p : List ℕ) (n : ℕ) → k ≡ 0 → Grows s r (length out) → Put out 0 (grown s r) n p → Answers (grown s r) out k (Length n) p
+pub written : (s : List ℕ) (r : Record) (out : List ℕ) (k : ℕ) (p : List ℕ) (n : ℕ) → k ≡ 0 → Grows s r (length out) → Put out 0 (grown s r) n p → Answers (grown s r) out k (Ok n) p
 written s r out k p n h g w = accepted (grown s r) out k p n h g.bounded g.goes_in w

@@ -1,15 +1,14 @@
 -- The reader. A position is a count of bytes from the load's start; the first record stands at 1. "A load [is tested in the order] 14, 12,
 -- 11, then each record 12, 13." "Reader and writer pass fields on without judging them; the table judges."
-use Rattle.std.specs.Prelude.{ℕ, zero, suc, ◌+◌, ◌<◌, Bool, true, false, not, ◌&&◌, ◌||◌, cond, List, [], ◌∷◌, ◌≡◌, ltb, eqb, length, take, drop, get_or}
+use Rattle.std.specs.Prelude.{ℕ, zero, suc, ◌+◌, ◌<◌, Bool, true, false, not, ◌&&◌, ◌||◌, cond, List, [], ◌∷◌, ◌≡◌, ltb, eqb, length, take, drop, get_or, Some, None, Ok, Err}
+use Rattle.numbers.specs.declared.Refusal.TheVariants.{Short, Misfit}
+use Rattle.numbers.specs.Refusals.{number_of}
 use Rattle.numbers.specs.Numbers.{short_number, misfit_number, overlong_number, edition_number, most_bytes, or_else}
 use Rattle.format.specs.declared.Call.{Call}
-use Rattle.load.specs.declared.Item.{Item}
-use Rattle.load.specs.declared.Item.TheVariants as item
-use Rattle.load.specs.declared.Item.TheVariants.{End, Refused}
 use Rattle.format.specs.Format.{rig_kind, known, has_kind, widths, total, length_with}
 use Rattle.format.specs.Calls.{call_of}
 use Rattle.format.specs.Records.{Member, Record, record_of, records_of, calls_of, member_count}
-use Rattle.load.specs.Answers.{ItemValues, item_values}
+use Rattle.load.specs.Answers.{Answer, one_record, the_end, ItemValues, item_values}
 use Rattle.load.specs.Bytes.{big_value, field_values, members_read}
 
 -- ── one record ──
@@ -46,12 +45,12 @@ abbrev pub count_in : ℕ → List ℕ → ℕ
 count_in e bs = member_count e (call_in e bs)
 
 -- What the bytes from a position to the load's end begin with: "Behind the last record it says that the load has ended".
-unfoldable pub read_at : ℕ → ℕ → List ℕ → Item
+unfoldable pub read_at : ℕ → ℕ → List ℕ → Answer
 read_at e at bs =
-    cond (eqb (length bs) 0) End
-    (cond (short bs) (Refused short_number)
-    (cond (misfit e at (length_field bs) (kind_field bs) (count_in e bs)) (Refused misfit_number)
-    (item.Record (call_in e bs) (at + (2 + length_field bs)))))
+    cond (eqb (length bs) 0) the_end
+    (cond (short bs) (Err Short)
+    (cond (misfit e at (length_field bs) (kind_field bs) (count_in e bs)) (Err Misfit)
+    (one_record (call_in e bs) (at + (2 + length_field bs)))))
 
 -- A load's edition is its first byte.
 abbrev pub edition_of : List ℕ → ℕ
@@ -71,7 +70,7 @@ abbrev pub NoMembers : Type 0
 NoMembers = (s : List ℕ) (at : ℕ) (c : Call) → record_at s at c ≡ record_of c
 
 -- What stands at a position of a load: a record's call with the next position, the end, or a refusal.
-unfoldable pub item_at : List ℕ → ℕ → Item
+unfoldable pub item_at : List ℕ → ℕ → Answer
 item_at s at = read_at (edition_of s) at (drop at s)
 
 -- The number of what stands there: "each record 12, 13"; 0 for a record and at the end.
@@ -102,12 +101,12 @@ ItemValued = (s : List ℕ) (at : ℕ) → item_values at (item_at s at) ≡ rec
 
 -- Document 02 of pool and units: "edition 1 reads as 0 for both". (Proved in proofs/Reading: edition-1-bare.)
 abbrev pub Edition1Bare : Type 0
-Edition1Bare = (s : List ℕ) (at : ℕ) (c : Call) (next : ℕ) → edition_of s ≡ 1 → item_at s at ≡ item.Record c next → (c.pool ≡ 0) × (c.units ≡ 0)
+Edition1Bare = (s : List ℕ) (at : ℕ) (c : Call) (next : ℕ) → edition_of s ≡ 1 → item_at s at ≡ one_record c next → (c.pool ≡ 0) × (c.units ≡ 0)
 
 -- Of the client: "Older editions start with desk 1 declared", and every call of theirs is client 1's. (Proved in proofs/Reading:
 -- older-client-1.)
 abbrev pub OlderClient1 : Type 0
-OlderClient1 = (s : List ℕ) (at : ℕ) (c : Call) (next : ℕ) → edition_of s < 3 → item_at s at ≡ item.Record c next → c.client ≡ 1
+OlderClient1 = (s : List ℕ) (at : ℕ) (c : Call) (next : ℕ) → edition_of s < 3 → item_at s at ≡ one_record c next → c.client ≡ 1
 
 -- ── a whole load ──
 -- 14 "load over 65,536 bytes", 12 "the load is empty", 11 "first byte of a load names no edition the reader knows"; 0 for none of them.
@@ -126,10 +125,10 @@ abbrev pub onto : Record → Walk → Walk
 onto r w = record { records = r ∷ w.records; stop = w.stop }
 
 -- From what stands at a position on, where `f` walks from another on.
-abbrev pub follow : List ℕ → ℕ → (ℕ → Walk) → Item → Walk
-follow s at f (item.Record c next) = onto (record_at s at c) (f next)
-follow s at f End = ended 0
-follow s at f (Refused n) = ended n
+abbrev pub follow : List ℕ → ℕ → (ℕ → Walk) → Answer → Walk
+follow s at f (Ok (Some item)) = onto (record_at s at item.call) (f item.next)
+follow s at f (Ok None) = ended 0
+follow s at f (Err r) = ended (number_of r)
 
 -- At most k items. A record takes up bytes, so that a load has no more of them than bytes, and `walk` comes to its end or a refusal.
 unfoldable pub walk_in : ℕ → List ℕ → ℕ → Walk

@@ -1,8 +1,7 @@
 -- The round trip, claimed over what the calls' contracts cite: `append_answer` and `append_out` of the writer, `walk` and `load_number` of the
 -- reader. proofs/RoundTrip has the proof of each claim: written-reads, read-written, read-bounded.
-use Rattle.std.specs.Prelude.{ℕ, ◌≤◌, ◌<◌, true, List, [], ◌∷◌, ◌++◌, ◌≡◌, length, take, get_or}
+use Rattle.std.specs.Prelude.{ℕ, ◌≤◌, ◌<◌, true, List, [], ◌∷◌, ◌++◌, ◌≡◌, length, take, get_or, Ok}
 use Rattle.numbers.specs.Numbers.{most_bytes}
-use Rattle.load.specs.declared.Written.TheVariants.{Length}
 use Rattle.format.specs.Format.{known}
 use Rattle.format.specs.Records.{Record, TypedRecord}
 use Rattle.load.specs.Bytes.{load_bytes}
@@ -17,7 +16,7 @@ Bytes s = (i : ℕ) → get_or s i 0 < 256
 -- the load so far and answered with a length n; the load is then the first n bytes of the lent buffer, whatever that held.
 pub data Appended (e : ℕ) : List Record → List ℕ → Type 0 where
   none : known e ≡ true → Appended e [] (e ∷ [])
-  one : {rs : List Record} {s : List ℕ} (r : Record) (out : List ℕ) (n : ℕ) → Appended e rs s → TypedRecord r → append_answer s r out ≡ Length n
+  one : {rs : List Record} {s : List ℕ} (r : Record) (out : List ℕ) (n : ℕ) → Appended e rs s → TypedRecord r → append_answer s r out ≡ Ok n
       → Appended e (rs ++ (r ∷ [])) (take n (append_out s r out))
 
 -- (a) What the writer makes of records reads as those records and then the end.

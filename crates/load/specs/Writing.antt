@@ -1,11 +1,10 @@
 -- The writer. "The writer is given a load and one call, puts that load with one record more behind it at the start of a lent buffer, and
 -- answers the new length; later bytes of the buffer keep their contents."
-use Rattle.std.specs.Prelude.{ℕ, zero, suc, ◌+◌, not, ◌||◌, cond, List, ◌++◌, ltb, length, drop}
+use Rattle.std.specs.Prelude.{ℕ, zero, suc, ◌+◌, not, ◌||◌, cond, List, ◌++◌, ltb, length, drop, Result, Ok, Err}
+use Rattle.numbers.specs.declared.Refusal.{Refusal}
 use Rattle.numbers.specs.Numbers.{misfit_number, overlong_number, no_space_number, most_bytes, or_else}
-use Rattle.load.specs.declared.Written.{Written}
-use Rattle.load.specs.declared.Written.TheVariants.{Length, Refusal}
 use Rattle.format.specs.Records.{Record, carries}
-use Rattle.load.specs.Answers.{WrittenValues}
+use Rattle.load.specs.Answers.{refusal_of, WrittenValues}
 use Rattle.load.specs.Bytes.{record_bytes}
 use Rattle.load.specs.Reading.{is_in_place, edition_of, load_number, unless_refused}
 
@@ -25,10 +24,10 @@ grow_number e n r room = cond (not (is_in_place r.call.kind n) || not (carries e
 unfoldable pub append_number : List ℕ → Record → ℕ → ℕ
 append_number s r room = or_else (load_number s) (grow_number (edition_of s) (length s) r room)
 
--- The answer: a length where the number is 0, else the number.
-abbrev pub answered : ℕ → ℕ → Written
-answered zero n = Length n
-answered (suc k) n = Refusal (suc k)
+-- The answer: a length where the number is 0, else the refusal of the number.
+abbrev pub answered : ℕ → ℕ → Result ℕ Refusal
+answered zero n = Ok n
+answered (suc k) n = Err (refusal_of (suc k))
 
 -- The lent buffer: the new contents where the number is 0, else "no byte of a lent buffer differs".
 abbrev pub lent : ℕ → List ℕ → List ℕ → List ℕ
@@ -40,7 +39,7 @@ abbrev pub answered_values : ℕ → ℕ → WrittenValues
 answered_values k n = record { number = k; length = unless_refused k (λ m. 0) n }
 
 -- What the writer answers: "the new length", or the refusal.
-unfoldable pub append_answer : List ℕ → Record → List ℕ → Written
+unfoldable pub append_answer : List ℕ → Record → List ℕ → Result ℕ Refusal
 append_answer s r out = answered (append_number s r (length out)) (length (grown s r))
 
 unfoldable pub append_values : List ℕ → Record → List ℕ → WrittenValues

@@ -13,15 +13,13 @@ use Rattle.load.specs.Reading.{walk}
 use Rattle.replay.specs.Records.{says_call, alone_in, unrigged}
 use Rattle.replay.specs.StopLine.{stop_or}
 use Rattle.replay.specs.Replay.{replay_of}
-use Rattle.listing.specs.Lines.{header, line_of, on_lines}
+use Rattle.listing.specs.Lines.{header, line_of, answer_lines}
 use Rattle.listing.specs.Text.{listing_of}
 
 -- What is printed of record k, by its call and the answer: "its number from 1, the answer (0 accepted), the ticket concerned, the start .. Each
 -- grant adds `on TICKET CLOCK`".
 abbrev pub turn_lines : ℕ → Turn → List ℕ
-turn_lines k t =
-    let a = t.answer in
-    line_of k a.number a.ticket a.start ++ on_lines (clock_of t.call) a.grants
+turn_lines k t = answer_lines k (clock_of t.call) t.answer
 
 -- And of the records from k on.
 unfoldable pub turns_lines : ℕ → List Turn → List ℕ

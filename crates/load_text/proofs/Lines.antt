@@ -1,48 +1,74 @@
 -- Laws of lines: hex digit by digit, and lengths, none of which is long.
 use Prim.Native.Nat.{ℕ, zero, suc, ◌+◌, ◌-◌, ◌*◌, ◌/◌, ◌^◌, ◌≤◌, ◌<◌, min, max}
-use mathlib.Core.Bool.{Bool, true, false, ◌&&◌, ◌||◌, false≢true}
+use mathlib.Core.Bool.{Bool, true, false, ◌&&◌, cond}
 use mathlib.Core.List.{List, [], ◌∷◌, ◌++◌}
-use mathlib.Core.Path.{◌≡◌, refl, sym, ap, ◌∙◌}
+use mathlib.Core.Path.{◌≡◌, refl, ap}
 use native.Mathlib.Nat.{pow-suc}
 use native.Mathlib.Omega.{arith}
 use lib.Dec.{ltb, leb, eqb}
 use lib.ListN.{length, get_or, length-append}
-use borrow.Author.Tests.{ne_eqb, lt-ltb, leb-true}
-use Rattle.numbers.specs.Numbers.{no_space_number}
+use borrow.Author.Tests.{lt-ltb, le-ltb, lt-leb, le-leb, leb-true}
+use Rattle.std.specs.Prelude.{Result, Ok, Err}
+use Rattle.numbers.specs.declared.Refusal.{Refusal}
+use Rattle.numbers.specs.declared.Refusal.TheVariants.{NoSpace}
+use Rattle.numerals.specs.declared.page.Page.{Page}
 use Rattle.numerals.specs.Digits.{digits, width_up_to, width_of, decimal_of, column}
-use Rattle.numerals.specs.Laid.{Put, space_number, lent_out}
+use Rattle.numerals.specs.Laid.{space_number, lent_out}
+use Rattle.numerals.specs.Pages.{Lays}
 use Rattle.numerals.proofs.Laying.{decimal-length, pair-length, put-short, lent-all, lent_none, lent-known}
+use Rattle.numerals.proofs.Pages.{lays_then, lays_as}
 use Rattle.format.specs.declared.Call.{Call}
+use Rattle.format.specs.declared.fields.Field.{Field}
+use Rattle.format.specs.declared.fields.Field.TheVariants as field
 use Rattle.format.specs.Records.{record_of}
-use Rattle.format.specs.Format.{the_groups, field_widths, field_count, field_width, format, known, fields_of, has_kind, total, length_in, names, name_of}
+use Rattle.format.specs.Format.{the_groups, field_number, field_widths, field_count, field_width, format, known, fields_of, has_kind, total, length_in, names, name_of}
 use Rattle.format.specs.Calls.{value_of}
 use Rattle.format.proofs.Format.{both, all_below, below-passes, all_rows, kind-tested, known-tested, no_fields, length-of, no-width}
+use Rattle.load.specs.Answers.{refusal_of, written_values}
+use Rattle.load.specs.Writing.{answered}
 use Rattle.load.proofs.Bytes.{record-some, call_length}
 use Rattle.numerals.specs.Texts.{line_feed}
 use Rattle.words.proofs.Cases.{either, below}
-use Rattle.load.specs.Reading.{unless_refused}
-use Rattle.load.specs.Writing.{answered_values}
-use Rattle.load_text.specs.declared.print.Printed.{Printed}
-use Rattle.load_text.specs.declared.print.Printed.TheVariants.{Length, Refusal}
-use Rattle.load_text.specs.Answers.{printed_values}
 use Rattle.load_text.specs.Lines.{glyph_of, hex_up_to, word_of, fields_text, line_of, word_most, fields_most, Brief, stop_line, header_of, printed, print_values}
-use Rattle.load_text.proofs.Cases.{not-refused}
 
 -- ── hex ──
-module _ (v b : ℕ) (g : b ≡ glyph_of v) where
-  pub hex-last : (k : ℕ) → (eqb k 0 || ltb v 16) ≡ true → b ∷ [] ≡ hex_up_to k v
-  unfolding hex_up_to
-  hex-last zero h = rw g
-  hex-last (suc k) h = rw (rw (ne_eqb (suc k) 0 (λ z. omega arith)) at h, g)
+-- The digits in front of the lowest.
+abbrev pub higher : ℕ → ℕ → List ℕ
+higher k v = cond (ltb 0 k && leb 16 v) (hex_up_to (k - 1) (v / 16)) []
 
-  pub hex-more : (k : ℕ) → (eqb k 0 || ltb v 16) ≡ false → hex_up_to (k - 1) (v / 16) ++ (b ∷ []) ≡ hex_up_to k v
-  unfolding hex_up_to
-  hex-more zero h = absurd (false≢true (sym h))
-  hex-more (suc k) h = let e : suc k - 1 ≡ k = omega arith in rw (rw (ne_eqb (suc k) 0 (λ z. omega arith)) at h, e, g)
+hex-split : (k v : ℕ) → higher k v ++ (glyph_of v ∷ []) ≡ hex_up_to k v
+unfolding hex_up_to
+hex-split zero v = refl
+hex-split (suc k) v =
+    let e : suc k - 1 ≡ k = omega arith in
+    let z = lt-ltb 0 (suc k) (omega arith) in
+    below v 16 (λ h. rw (z, lt-ltb v 16 h, lt-leb 16 v h)) (λ h. rw (z, le-ltb v 16 h, le-leb 16 v h, e))
 
-pub hex-some : (k : ℕ) (t : Bool) → (eqb k 0 || t) ≡ false → 0 < k
-hex-some zero t h = absurd (false≢true (sym h))
-hex-some (suc k) t h = omega arith
+module _ (k v : ℕ) where
+  pub higher-some : 0 < k → 16 ≤ v → hex_up_to (k - 1) (v / 16) ≡ higher k v
+  higher-some p q = rw (lt-ltb 0 k p, le-leb 16 v q)
+
+  pub higher-one : k ≡ 0 → [] ≡ higher k v
+  higher-one p = rw (le-ltb 0 k (omega arith))
+
+  pub higher-small : v < 16 → [] ≡ higher k v
+  higher-small q = below 0 k (λ p. rw (lt-ltb 0 k p, lt-leb 16 v q)) (λ p. rw (le-ltb 0 k p))
+
+  pub hex-laid : (g : ℕ) → g ≡ glyph_of v → {a b d : Page} → Lays a (higher k v) b → Lays b (g ∷ []) d → Lays a (hex_up_to k v) d
+  hex-laid g e p q = lays_as _ _ (rw e (hex-split k v)) (lays_then p q)
+
+-- ── a field other than the groups ──
+pub not-groups : (f : Field) → (f ≡ field.Groups → ⊥) → eqb (field_number f) the_groups ≡ false
+not-groups field.Clock h = refl
+not-groups field.Groups h = absurd (h refl)
+not-groups field.Length h = refl
+not-groups field.Ticket h = refl
+not-groups field.Pool h = refl
+not-groups field.Units h = refl
+not-groups field.Client h = refl
+not-groups field.Reserved h = refl
+not-groups field.Limit h = refl
+not-groups field.Grace h = refl
 
 hex-length : (k v : ℕ) → length (hex_up_to k v) ≤ suc k
 unfolding hex_up_to
@@ -120,40 +146,30 @@ stop-length n k = omega (arith, pair-length n k line_feed)
 
 -- ── what is answered ──
 -- The answer on a text for a lent buffer o, which becomes p.
-abbrev Prints : List ℕ → List ℕ → Printed → List ℕ → Type 0
-Prints text o r p = (r ≡ printed text o) × ((p ≡ lent_out text o) × (printed_values r ≡ print_values text o))
+abbrev Prints : List ℕ → List ℕ → Result ℕ Refusal → List ℕ → Type 0
+Prints text o r p = (r ≡ printed text o) × ((p ≡ lent_out text o) × (written_values r ≡ print_values text o))
 
-prints : (text o p : List ℕ) (r : Printed) → r ≡ printed text o → p ≡ lent_out text o → Prints text o r p
+pub print-none : (text o : List ℕ) → length o < length text → Prints text o (Err NoSpace) o
+unfolding printed print_values refusal_of
+print-none text o h = let l = lent_none text o h in (rw l.0 refl, (l.1, rw l.0 refl))
+
+-- The text laid on a page over the buffer.
+pub print-all : (text o : List ℕ) {a b : Page} → length text < 2 ^ 64 → length text ≤ length o → (a.out.now ≡ o) × (a.at ≡ 0) → Lays a text b → Prints text o (Ok b.at) b.out.now
 unfolding printed print_values
-prints text o p r e l = (e, (l, ap printed_values e ∙ go (space_number text o)))
-  where
-    go : (k : ℕ) → printed_values (unless_refused k Refusal (Length (length text))) ≡ answered_values k (length text)
-    go zero = refl
-    go (suc k) = refl
+print-all text o {a} {b} s h z w =
+    let e = put-short s (rw (z.0, z.1) at w.put) in
+    let l = lent-all text o b.out.now h e.1 in
+    (rw l.0 (ap Ok e.0), (l.1, rw l.0 (ap (λ (n : ℕ). record { number = 0; length = n }) e.0)))
 
-pub print-none : (text o : List ℕ) → length o < length text → Prints text o (Refusal no_space_number) o
-unfolding printed
-print-none text o h = let l = lent_none text o h in prints text o o _ (rw l.0) l.1
-
-pub print-all : (text o p : List ℕ) (r : ℕ) → length text < 2 ^ 64 → length text ≤ length o → Put o 0 text r p → Prints text o (Length r) p
-unfolding printed
-print-all text o p r s h w =
-    let e = put-short s w in
-    let l = lent-all text o p h e.1 in
-    prints text o p _ (rw l.0 (ap Length e.0)) l.1
-
--- A text that was counted on one byte: it goes in or not.
-module _ (text : List ℕ) (s : length text < 2 ^ 64) {o₁ p₁ : List ℕ} {n : ℕ} (w : Put o₁ 0 text n p₁) (o : List ℕ) where
-  pub counted_none : length o < n → Prints text o (Refusal no_space_number) o
-  counted_none h = print-none text o (omega (arith, (put-short s w).0))
-
-  pub counted-all : n ≤ length o → (p : List ℕ) (r : ℕ) → Put o 0 text r p → Prints text o (Length r) p
-  counted-all h p r z = print-all text o p r s (omega (arith, (put-short s w).0)) z
+-- A text is counted by laying it on a page.
+pub counted : (text : List ℕ) {a b : Page} → length text < 2 ^ 64 → a.at ≡ 0 → Lays a text b → b.at ≡ length text
+counted text s z w = (put-short s (rw z at w.put)).0
 
 -- A length that is answered is one of the buffer.
-pub printed-within : (text o : List ℕ) (n : ℕ) → printed text o ≡ Length n → n ≤ length o
+pub printed-within : (text o : List ℕ) (n : ℕ) → printed text o ≡ Ok n → n ≤ length o
 unfolding printed
-printed-within text o n e =
-    let a = not-refused Refusal (Length (length text)) (space_number text o) (Length n) (λ k c. let z : ◌≡◌ {A = ℕ} 0 1 = cc in omega arith) e in
-    let m : length text ≡ n = cc in
-    omega (arith, (lent-known text o a.0).0)
+printed-within text o n e = go (space_number text o) refl e
+  where
+    go : (k : ℕ) → space_number text o ≡ k → answered k (length text) ≡ Ok n → n ≤ length o
+    go zero q h = let m : length text ≡ n = cc in omega (arith, (lent-known text o q).0)
+    go (suc k) q h = absurd (cc)

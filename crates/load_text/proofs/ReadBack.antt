@@ -8,14 +8,14 @@ use native.Mathlib.Omega.{arith}
 use lib.Dec.{ltb, leb, eqb}
 use lib.ListN.{length, get_or, length-append}
 use borrow.Author.Tests.{eqb-true, ltb-true, leb-false, leb-true, lt-ltb, le-ltb, le-leb, lt-leb, not-true}
-use Rattle.numbers.specs.Numbers.{edition_number}
+use Rattle.std.specs.Prelude.{Option, Some, Ok}
 use Rattle.numerals.specs.Digits.{digits, width_up_to, width_of, decimal_of, column}
 use Rattle.format.specs.declared.Call.{Call}
 use Rattle.format.specs.Format.{the_groups, field_width, format, known, fields_of, has_kind, names, name_of}
 use Rattle.format.specs.Calls.{value_of, with_value, bare, filled, call_of, values_in, values_of, keeps, Typed}
 use Rattle.format.specs.Records.{Record, calls_of}
 use Rattle.numerals.specs.Texts.{bytes, space, line_feed}
-use Rattle.words.specs.declared.Field.TheVariants.{Value}
+use Rattle.words.specs.declared.reasons.Reason.{Reason}
 use Rattle.words.specs.Parts.{carriage_return, hash, none, bytes_before, parts, in_front, not_empty, is, is_feed, is_blank, is_joint, lines_in, words_in, chomped, said}
 use Rattle.words.specs.Sets.{is_list, groups_in}
 use Rattle.words.specs.Words.{digit_of, is_no_digit, digits_in, value_in, number_in, is_word, place_in}
@@ -30,12 +30,11 @@ use Rattle.load.proofs.Reading.{load-parts, load-known}
 use Rattle.format.proofs.Records.{carries-parts, call-carried}
 use Rattle.load.proofs.Loads.{Sound, Loadable, read-loadable}
 use Rattle.load_text.specs.declared.parse.Head.TheVariants.{Edition, Other}
-use Rattle.load_text.specs.declared.parse.Parsed.TheVariants.{Nothing, Said}
+use Rattle.load_text.specs.Answers.{nothing, a_call}
 use Rattle.load_text.specs.Lines.{glyph_of, hex_up_to, word_of, fields_text, line_of, lines_of, rest_of, header_of, text_of}
 use Rattle.load_text.specs.Making.{no_heading, heading_in, heading, said_in}
-use Rattle.load_text.specs.Parsing.{field_in, filled_in, kind_of, kind_named, kind_says, call_said, line_says, edition_word, edition_or, edition_in, head_in, head_says}
+use Rattle.load_text.specs.Parsing.{field_in, filled_in, kind_of, kind_named, calling, kind_says, call_said, line_says, edition_word, heads, edition_in, head_in, head_says}
 use Rattle.load_text.specs.ReadBack.{LineReadBack, TextReadBack}
-use Rattle.load_text.proofs.Fields.{kind-some}
 
 -- ── parts of a text in front of a byte that ends one ──
 module _ (p : ℕ → Bool) where
@@ -160,7 +159,7 @@ says-more base u v b w s h e = record {
   value = value-snoc base 0 w b ∙ ap (λ n. n * base + digit_of b) s.value ∙ e;
 }
 
-number-said : (base most lack large v : ℕ) (w : List ℕ) → Says base v w → v ≤ most → number_in base most lack large w ≡ Value v
+number-said : (base most : ℕ) (lack large : Reason) (v : ℕ) (w : List ℕ) → Says base v w → v ≤ most → number_in base most lack large w ≡ Ok v
 unfolding number_in
 number-said base most lack large v w s h = rw (lt-ltb 0 (length w) s.some, s.digit, s.value, le-leb v most h)
 
@@ -196,7 +195,7 @@ module _ (f v : ℕ) (h : v < 256 ^ field_width f) where
   in-word : v < 2 ^ 64
   in-word = let wide : 256 ^ field_width f ≤ 256 ^ 8 = pow-le-pow_right (omega arith) (width-most f) in omega arith
 
-  word-said : Plain (word_of f v) × (field_in f (word_of f v) ≡ Value v)
+  word-said : Plain (word_of f v) × (field_in f (word_of f v) ≡ Ok v)
   unfolding word_of field_in groups_in is_list decimal_of width_of
   word-said =
       let x = hex_up_to 15 v in
@@ -218,7 +217,7 @@ module _ (c : Call) (t : Typed c) where
   fields-plain [] = nil
   fields-plain (f ∷ fs) = also (word-said f (value_of f c) (t f)).0 (fields-plain fs)
 
-  fields-said : (fs : List ℕ) (d : Call) → filled_in fs (words_of fs c) (Said d) ≡ Said (filled fs (values_in fs c) d)
+  fields-said : (fs : List ℕ) (d : Call) → filled_in fs (words_of fs c) (Ok d) ≡ Ok (filled fs (values_in fs c) d)
   unfolding words_of filled_in filled
   fields-said [] d = refl
   fields-said (f ∷ fs) d = rw (word-said f (value_of f c) (t f)).1 (fields-said fs (with_value f (value_of f c) d))
@@ -241,7 +240,7 @@ name-test k =
 
 record Named (e k : ℕ) : Type 0 where
   some : 0 < k
-  kind : kind_named e (name_of e k) ≡ k
+  kind : kind_named e (name_of e k) ≡ Some k
   other : is_word (name_of e k) edition_word ≡ false
   word : Plain (name_of e k)
 
@@ -268,8 +267,8 @@ named e k h = go (kind-tested (λ e k fs. ltb 0 k && name-test k) e k refl h)
 record Line (e : ℕ) (c : Call) (rest : List ℕ) : Type 0 where
   line : List ℕ
   front : lines_in (line_of e c ++ rest) ≡ line ∷ lines_in rest
-  says : line_says e line ≡ Said c
-  head : head_says line ≡ Other
+  says : line_says e line ≡ a_call c
+  head : head_says line ≡ Ok Other
 
 line-of : (e : ℕ) (c : Call) → keeps e c ≡ true → Typed c → (rest : List ℕ) → Line e c rest
 unfolding line_of line_says call_said head_says head_in values_of call_of
@@ -283,7 +282,7 @@ line-of e c h t rest =
     record {
       line = spaced name (words_of fs c);
       front = ap lines_in (fields-spaced c rest name fs) ∙ line-front name (words_of fs c) n.word ps rest;
-      says = ap (call_said e) words ∙ ap (λ (x : ℕ). kind_says e x (words_of fs c)) n.kind ∙ sym (kind-some e k _ (λ z. omega (arith, n.some))) ∙ fields-said c t fs (bare k) ∙ ap Said (call-of-values e c h);
+      says = ap (call_said e) words ∙ ap (λ (x : Option ℕ). kind_says e x (words_of fs c)) n.kind ∙ ap calling (fields-said c t fs (bare k)) ∙ ap a_call (call-of-values e c h);
       head = ap head_in words ∙ rw n.other;
     }
 
@@ -294,12 +293,12 @@ line-read-back e c h t rest = let l = line-of e c (sym (call-carried e c) ∙ h)
 record-read-back : (e : ℕ) (b : Bool) (r : Record) → Sound e b r → (rest : List ℕ) → Line e r.call rest
 record-read-back e b r v rest = line-of e r.call (carries-parts e r v.carried).0 v.typed.0 rest
 
-lines-read-back : (e k : ℕ) (b : Bool) (rs : List Record) → Loadable e b rs → map (line_says e) (lines_in (lines_of e k rs 0)) ≡ map Said (calls_of rs)
+lines-read-back : (e k : ℕ) (b : Bool) (rs : List Record) → Loadable e b rs → map (line_says e) (lines_in (lines_of e k rs 0)) ≡ map a_call (calls_of rs)
 unfolding lines_of lines_in parts
 lines-read-back e k b [] Loadable.none = refl
 lines-read-back e k b (r ∷ rs) (Loadable.one v g) =
     let l = record-read-back e b r v (lines_of e (k + 1) rs 0) in
-    rw (l.front, l.says) (ap (λ l. Said r.call ∷ l) (lines-read-back e (k + 1) false rs g))
+    rw (l.front, l.says) (ap (λ l. a_call r.call ∷ l) (lines-read-back e (k + 1) false rs g))
 
 -- Lines of calls have no heading.
 lines-unheaded : (e k : ℕ) (b : Bool) (rs : List Record) → Loadable e b rs → (i : ℕ) → heading_in i (map head_says (lines_in (lines_of e k rs 0))) ≡ no_heading
@@ -309,7 +308,7 @@ lines-unheaded e k b (r ∷ rs) (Loadable.one v g) i = let l = record-read-back 
 
 -- The header of another edition than 1 says it.
 edition-says : (e : ℕ) → known e ≡ true → (t : List ℕ)
-    → (lines_in (((edition_word ++ bytes " ") ++ column e line_feed) ++ t) ≡ spaced edition_word (decimal_of e ∷ []) ∷ lines_in t) × (head_says (spaced edition_word (decimal_of e ∷ [])) ≡ Edition e)
+    → (lines_in (((edition_word ++ bytes " ") ++ column e line_feed) ++ t) ≡ spaced edition_word (decimal_of e ∷ []) ∷ lines_in t) × (head_says (spaced edition_word (decimal_of e ∷ [])) ≡ Ok (Edition e))
 unfolding head_says head_in edition_in column decimal_of width_of spaced is_word is_plain none format all_rows
 edition-says e k t =
     let b = leb-true e 255 (known-tested (λ i. leb i 255) refl e k) in
@@ -317,18 +316,18 @@ edition-says e k t =
     let p = plain_word edition_word refl in
     let d : Plain (decimal_of e) = digits-plain 10 (omega arith) (decimal_of e) s.digit s.some in (
       ap (λ x. lines_in (edition_word ++ space ∷ x)) (append_assoc (decimal_of e) (bytes "\n") t) ∙ line-front edition_word (decimal_of e ∷ []) p (also d nil) t,
-      ap head_in (line-words edition_word (decimal_of e ∷ []) p (also d nil)) ∙ ap edition_or (number-said 10 255 edition_number edition_number e (decimal_of e) s b),
+      ap head_in (line-words edition_word (decimal_of e ∷ []) p (also d nil)) ∙ ap heads (number-said 10 255 _ _ e (decimal_of e) s b),
     )
 
 text-said : (e : ℕ) (rs : List Record) → known e ≡ true → Loadable e true rs → (t : List ℕ) → t ≡ header_of e ++ lines_of e 1 rs 0
-    → ((heading t).number ≡ 0) × ((heading t).edition ≡ e) × (said_in t ≡ cond (eqb e 1) (Nothing ∷ []) [] ++ map Said (calls_of rs))
+    → ((heading t).number ≡ 0) × ((heading t).edition ≡ e) × (said_in t ≡ cond (eqb e 1) (nothing ∷ []) [] ++ map a_call (calls_of rs))
 unfolding heading heading_in said_in header_of head_says head_in line_says call_said lines_in words_in said chomped bytes_before parts
 text-said e rs k g t q =
     let rest = lines_of e 1 rs 0 in
     either (eqb e 1) (λ o.
     let i : e ≡ 1 = eqb-true e 1 o in
     let l : lines_in t ≡ bytes "# edition 1" ∷ lines_in rest = ap lines_in (rw o at q) in
-    rw (o, l, lines-unheaded e 1 true rs g 1) (refl, sym i, ap (λ x. Nothing ∷ x) (ap (λ (x : ℕ). map (line_says x) (lines_in rest)) (sym i) ∙ lines-read-back e 1 true rs g)))
+    rw (o, l, lines-unheaded e 1 true rs g 1) (refl, sym i, ap (λ x. nothing ∷ x) (ap (λ (x : ℕ). map (line_says x) (lines_in rest)) (sym i) ∙ lines-read-back e 1 true rs g)))
     (λ o. let s = edition-says e k rest in rw (o, ap lines_in (rw o at q) ∙ s.0, s.1) (refl, refl, lines-read-back e 1 true rs g))
 
 pub text-read-back : TextReadBack

@@ -8,15 +8,18 @@ use lib.Dec.{eqb, ltb}
 use lib.ListN.{length, get_or, drop}
 use lib.Seq.{get_or-drop}
 use borrow.Author.Tests.{eqb-true}
+use Rattle.std.specs.Prelude.{Option, Some, None, Result, Ok, Err}
 use Rattle.numbers.specs.Numbers.{most_bytes, or_else}
 use Rattle.format.specs.declared.Call.{Call}
-use Rattle.format.specs.Format.{has_kind, known}
+use Rattle.format.specs.Format.{known}
 use Rattle.format.specs.Records.{record_of, carries}
 use Rattle.load.specs.Bytes.{record_bytes}
 use Rattle.load.specs.Reading.{is_in_place, edition_of, open_number, unless_refused}
 use Rattle.load.specs.Writing.{room_number, grow_number}
 use Rattle.words.specs.Parts.{bytes_before, parts, lines_in, words_in, chomped, said, line_at, first_said}
-use Rattle.words.specs.Reasons.{missing_reason, too_many_reason, unknown_reason}
+use Rattle.words.specs.declared.reasons.Reason.{Reason}
+use Rattle.words.specs.declared.reasons.Reason.TheVariants.{Unknown}
+use Rattle.words.specs.Reasons.{missing_reason, too_many_reason, reason_number}
 use Rattle.words.specs.Reports.{BeginsWith, form_told, wants_form}
 use Rattle.words.specs.Words.{is_word}
 use Rattle.words.proofs.Cases.{either}
@@ -24,33 +27,26 @@ use Rattle.words.proofs.Lines.{line-from-one}
 use Rattle.words.proofs.Names.{word_same}
 use Rattle.words.proofs.Texts.{form-told}
 use Rattle.load_text.specs.declared.parse.Head.{Head}
-use Rattle.load_text.specs.declared.parse.Head.TheVariants.{Silent, Edition, Other, Misread}
-use Rattle.load_text.specs.declared.parse.Parsed.{Parsed}
-use Rattle.load_text.specs.declared.parse.Parsed.TheVariants.{Nothing, Said, Bad}
-use Rattle.load_text.specs.Answers.{parsed_values}
+use Rattle.load_text.specs.declared.parse.Head.TheVariants.{Silent, Edition, Other}
+use Rattle.load_text.specs.Answers.{Line, parsed_values}
 use Rattle.load_text.specs.Forms.{word_form, FormsTold}
 use Rattle.load_text.specs.Making.{wrong, Heading, headed, heading_in, heading, heading_number, said_in, calls_number, line_number, line_bytes, gathered, behind_heading, made_by}
-use Rattle.load_text.specs.Parsing.{edition_word, kind_of, head_in, head_says, kind_named, kind_says, call_said, line_says}
-use Rattle.load_text.proofs.Forms.{edition-form, word-form, form-is, formed}
-use Rattle.load_text.proofs.Tables.{named-by-name}
+use Rattle.load_text.specs.Parsing.{edition_word, head_in, head_says, kind_named, kind_says, call_said, line_says}
+use Rattle.load_text.proofs.Forms.{edition-form, word-form, form-is, form-size, formed}
+use Rattle.load_text.proofs.Tables.{named-by-name, named-kind}
 
 -- ── words that begin a form ──
 edition-begins : (e : ℕ) (w : List ℕ) → is_word w edition_word ≡ true → BeginsWith w (word_form e w)
 unfolding first_said form_told said chomped bytes_before words_in parts
 edition-begins e w t = rw (edition-form e w t, word_same w edition_word t) (record { some = omega arith; first = refl; told = refl })
 
-named-has : (e : ℕ) (w : List ℕ) (k : ℕ) → kind_named e w ≡ suc k → has_kind e (suc k) ≡ true
-unfolding kind_named
-named-has e w k h =
-    either (has_kind e (kind_of w)) (λ t. let q : kind_of w ≡ suc k = rw t at h in rw q at t)
-    (λ t. let z : 0 ≡ suc k = rw t at h in absurd (omega arith))
-
-kind-begins : (e : ℕ) (w : List ℕ) (k : ℕ) → kind_named e w ≡ suc k → BeginsWith w (word_form e w)
+kind-begins : (e : ℕ) (w : List ℕ) (k : ℕ) → kind_named e w ≡ Some k → BeginsWith w (word_form e w)
 kind-begins e w k h =
     let n = named-by-name e w k h in
-    let f = formed e (suc k) (named-has e w k h) in
+    let f = formed e k (named-kind e w k h).0 in
+    let z = form-size f in
     let a : is_word w edition_word ≡ false = ap (λ (v : List ℕ). is_word v edition_word) n.0 ∙ f.apart in
-    rw (word-form e w a, h) (record { some = n.1; first = f.first ∙ sym n.0; told = form-told _ f.size })
+    rw (word-form e w a, h) (record { some = n.1; first = f.first ∙ sym n.0; told = form-told _ z.0 z.1 })
 
 -- ── numbers that want no form ──
 wants-high : (n : ℕ) → wants_form n ≡ true → 102 ≤ n
@@ -77,13 +73,13 @@ calls-low e n (c ∷ cs) =
 
 -- ── the line that is found ──
 -- In the heading: it begins with `edition`.
-head-names : (l : List ℕ) (n : ℕ) → head_says l ≡ Misread n → is_word (first_said l) edition_word ≡ true
+head-names : (l : List ℕ) (r : Reason) → head_says l ≡ Err r → is_word (first_said l) edition_word ≡ true
 unfolding head_says head_in first_said
-head-names l n h = go (words_in (said l)) h
+head-names l r h = go (words_in (said l)) h
   where
-    go : (ws : List (List ℕ)) → head_in ws ≡ Misread n → is_word (get_or ws 0 []) edition_word ≡ true
-    go [] h = let z : ◌≡◌ {A = ℕ} 0 1 = cc in absurd (omega arith)
-    go (w ∷ ws) h = either (is_word w edition_word) (λ t. t) (λ t. let q = rw t at h in let z : ◌≡◌ {A = ℕ} 0 1 = cc in absurd (omega arith))
+    go : (ws : List (List ℕ)) → head_in ws ≡ Err r → is_word (get_or ws 0 []) edition_word ≡ true
+    go [] h = absurd (cc)
+    go (w ∷ ws) h = either (is_word w edition_word) (λ t. t) (λ t. let q : ◌≡◌ {A = Result Head Reason} (Ok Other) (Err r) = rw t at h in absurd (cc))
 
 -- A line from k on, by its number.
 abbrev line_from : ℕ → List (List ℕ) → ℕ → List ℕ
@@ -103,57 +99,57 @@ unfolding heading_in
 heading-names k [] = λ e. absurd (false≢true e)
 heading-names k (t ∷ ts) = go (head_says t) refl (heading-names (k + 1) ts)
   where
-    go : (h : Head) → head_says t ≡ h → InHeading (k + 1) ts (heading_in (k + 1) (map head_says ts)) → InHeading k (t ∷ ts) (headed h (k + 1) (heading_in (k + 1) (map head_says ts)))
-    go Silent q r = λ e. let p = r e in (omega (arith, p.0), rw (← (later k t ts _ p.0)) p.1)
-    go (Edition d) q r = λ e. absurd (false≢true e)
-    go Other q r = λ e. absurd (false≢true e)
-    go (Misread n) q r = λ e. (omega arith, rw (here k t ts) (head-names t n q))
+    go : (h : Result Head Reason) → head_says t ≡ h → InHeading (k + 1) ts (heading_in (k + 1) (map head_says ts)) → InHeading k (t ∷ ts) (headed h (k + 1) (heading_in (k + 1) (map head_says ts)))
+    go (Ok Silent) q r = λ e. let p = r e in (omega (arith, p.0), rw (← (later k t ts _ p.0)) p.1)
+    go (Ok (Edition d)) q r = λ e. absurd (false≢true e)
+    go (Ok Other) q r = λ e. absurd (false≢true e)
+    go (Err x) q r = λ e. (omega arith, rw (here k t ts) (head-names t x q))
 
 -- Behind it: it begins with the name of a kind.
-line-names : (e : ℕ) (l : List ℕ) (n : ℕ) → line_says e l ≡ Bad n → wants_form n ≡ true → 0 < kind_named e (first_said l)
+abbrev IsNamed : ℕ → List ℕ → Type 0
+IsNamed e w = (k : ℕ) × (kind_named e w ≡ Some k)
+
+line-names : (e : ℕ) (l : List ℕ) (r : Reason) → line_says e l ≡ Err r → wants_form (reason_number r) ≡ true → IsNamed e (first_said l)
 unfolding line_says call_said first_said
-line-names e l n h i = go (words_in (said l)) h
+line-names e l r h i = go (words_in (said l)) h
   where
-    named : (k : ℕ) (ws : List (List ℕ)) → kind_says e k ws ≡ Bad n → 0 < k
-    named zero ws h = let z : unknown_reason ≡ n = cc in absurd (omega (arith, wants-high n i))
-    named (suc k) ws h = omega arith
+    named : (w : List ℕ) (k : Option ℕ) → kind_named e w ≡ k → (ws : List (List ℕ)) → kind_says e k ws ≡ Err r → IsNamed e w
+    named w None q ws h = let z : Unknown ≡ r = cc in absurd (omega (arith, ap reason_number z, wants-high (reason_number r) i))
+    named w (Some k) q ws h = (k, q)
 
-    go : (ws : List (List ℕ)) → call_said e ws ≡ Bad n → 0 < kind_named e (get_or ws 0 [])
-    go [] h = let z : ◌≡◌ {A = ℕ} 0 1 = cc in absurd (omega arith)
-    go (w ∷ ws) h = named (kind_named e w) ws h
+    go : (ws : List (List ℕ)) → call_said e ws ≡ Err r → IsNamed e (get_or ws 0 [])
+    go [] h = absurd (cc)
+    go (w ∷ ws) h = named w (kind_named e w) refl ws h
 
-says-bad : (p : Parsed) (n : ℕ) → n ≡ (parsed_values p).number → wants_form n ≡ true → p ≡ Bad n
-says-bad Nothing n e i = absurd (omega (arith, wants-high n i))
-says-bad (Said c) n e i = absurd (omega (arith, wants-high n i))
-says-bad (Bad m) n e i = ap Bad (sym e)
+says-bad : (p : Line) (n : ℕ) → n ≡ (parsed_values p).number → wants_form n ≡ true → (r : Reason) × (p ≡ Err r) × (n ≡ reason_number r)
+says-bad (Ok None) n e i = absurd (omega (arith, wants-high n i))
+says-bad (Ok (Some c)) n e i = absurd (omega (arith, wants-high n i))
+says-bad (Err r) n e i = (r, refl, e)
 
 module _ (line n : ℕ) (i : wants_form n ≡ true) where
-  gathered-names : (e k : ℕ) (s : List ℕ) (ts : List (List ℕ)) → gathered e k s (map (line_says e) ts) ≡ wrong line n → (k < line) × (0 < kind_named e (first_said (line_from k ts line)))
+  gathered-names : (e k : ℕ) (s : List ℕ) (ts : List (List ℕ)) → gathered e k s (map (line_says e) ts) ≡ wrong line n → (k < line) × IsNamed e (first_said (line_from k ts line))
   unfolding gathered line_number
-  gathered-names e k s [] h = let z : ◌≡◌ {A = ℕ} 0 1 = cc in absurd (omega arith)
+  gathered-names e k s [] h = absurd (cc)
   gathered-names e k s (t ∷ ts) h = go (line_number e (length s) (line_says e t)) refl h (gathered-names e (k + 1) (s ++ line_bytes e (line_says e t)) ts)
     where
-      p : Parsed
+      p : Line
       p = line_says e t
 
       go : (m : ℕ) → line_number e (length s) p ≡ m → unless_refused m (wrong (k + 1)) (gathered e (k + 1) (s ++ line_bytes e p) (map (line_says e) ts)) ≡ wrong line n
-          → (gathered e (k + 1) (s ++ line_bytes e p) (map (line_says e) ts) ≡ wrong line n → (k + 1 < line) × (0 < kind_named e (first_said (line_from (k + 1) ts line))))
-          → (k < line) × (0 < kind_named e (first_said (line_from k (t ∷ ts) line)))
+          → (gathered e (k + 1) (s ++ line_bytes e p) (map (line_says e) ts) ≡ wrong line n → (k + 1 < line) × IsNamed e (first_said (line_from (k + 1) ts line)))
+          → (k < line) × IsNamed e (first_said (line_from k (t ∷ ts) line))
       go zero q h r = let x = r h in (omega (arith, x.0), rw (← (later k t ts line x.0)) x.1)
       go (suc m) q h r =
           let a : line ≡ k + 1 = cc in
           let b : n ≡ suc m = cc in
           let c : or_else (parsed_values p).number (calls_number e (length s) (parsed_values p).calls) ≡ n = q ∙ sym b in
           let d = wants-first (parsed_values p).number (calls_number e (length s) (parsed_values p).calls) (calls-low e (length s) (parsed_values p).calls) (rw c i) in
-          (omega (arith, a), rw (a, here k t ts) (line-names e t n (says-bad p n (sym c ∙ d) i) i))
+          let x = says-bad p n (sym c ∙ d) i in
+          (omega (arith, a), rw (a, here k t ts) (line-names e t x.0 x.1 (rw x.2 at i)))
 
 -- ── every line that wants a form ──
-named-begins : (e : ℕ) (w : List ℕ) → 0 < kind_named e w → BeginsWith w (word_form e w)
-named-begins e w h = go (kind_named e w) refl h
-  where
-    go : (k : ℕ) → kind_named e w ≡ k → 0 < k → BeginsWith w (word_form e w)
-    go zero q h = absurd (omega arith)
-    go (suc k) q h = kind-begins e w k q
+named-begins : (e : ℕ) (w : List ℕ) → IsNamed e w → BeginsWith w (word_form e w)
+named-begins e w h = kind-begins e w h.0 h.1
 
 -- The line of a text among those after j others.
 line_after : (text : List ℕ) (j line : ℕ) → j < line → line_at text line ≡ line_from j (drop j (lines_in text)) line

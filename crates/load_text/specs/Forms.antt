@@ -1,6 +1,6 @@
 -- The forms of the lines of a show, such as `claim CLOCK GROUPS LENGTH`, for the report of a line with too few or too many words. A form
 -- follows the format's table: a kind that is added has one by its row.
-use Rattle.std.specs.Prelude.{ℕ, suc, ◌≤◌, true, cond, List, [], ◌∷◌, ◌++◌, ◌≡◌, length, get_or}
+use Rattle.std.specs.Prelude.{ℕ, suc, ◌≤◌, true, cond, List, [], ◌∷◌, ◌++◌, ◌≡◌, length, get_or, Option, Some, None}
 use Rattle.format.specs.Format.{fields_of, has_kind, name_of}
 use Rattle.numerals.specs.Texts.{bytes}
 use Rattle.words.specs.Parts.{first_said, line_at, words_in}
@@ -30,9 +30,14 @@ kind_form e k = name_of e k ++ fields_form (fields_of e k)
 abbrev pub edition_form : List ℕ
 edition_form = bytes "edition NUMBER"
 
+-- That of the kind that a word names; empty where it names none.
+abbrev pub named_form : ℕ → Option ℕ → List ℕ
+named_form e None = []
+named_form e (Some k) = kind_form e k
+
 -- The form of a line of a show of edition e, by the line's first word.
 unfoldable pub word_form : ℕ → List ℕ → List ℕ
-word_form e w = cond (is_word w edition_word) edition_form (kind_form e (kind_named e w))
+word_form e w = cond (is_word w edition_word) edition_form (named_form e (kind_named e w))
 
 -- The form that is told of a line of a text with reason n.
 unfoldable pub form_of : List ℕ → ℕ → ℕ → List ℕ

@@ -1,6 +1,7 @@
 -- Calls and loads as text.
-use Rattle.std.specs.Prelude.{ℕ, zero, suc, ◌+◌, ◌-◌, ◌*◌, ◌/◌, ◌%◌, ◌≤◌, min, max, cond, List, [], ◌∷◌, ◌++◌, ltb, eqb, length}
+use Rattle.std.specs.Prelude.{ℕ, zero, suc, ◌+◌, ◌-◌, ◌*◌, ◌/◌, ◌%◌, ◌≤◌, min, max, cond, List, [], ◌∷◌, ◌++◌, ltb, eqb, length, Result}
 use Prim.Native.Char.{code}
+use Rattle.numbers.specs.declared.Refusal.{Refusal}
 use Rattle.numerals.specs.Digits.{decimal_of, column, pair}
 use Rattle.numerals.specs.Laid.{space_number}
 use Rattle.format.specs.declared.Call.{Call}
@@ -11,9 +12,7 @@ use Rattle.load.specs.Bytes.{call_bytes}
 use Rattle.numerals.specs.Texts.{bytes, line_feed}
 use Rattle.load.specs.Answers.{WrittenValues}
 use Rattle.load.specs.Reading.{edition_of, Walk, walk, open_number, unless_refused}
-use Rattle.load.specs.Writing.{answered_values}
-use Rattle.load_text.specs.declared.print.Printed.{Printed}
-use Rattle.load_text.specs.declared.print.Printed.TheVariants.{Length, Refusal}
+use Rattle.load.specs.Writing.{answered, answered_values}
 
 -- the lowest digit of v in base 16: 0 to 9, A to F
 unfoldable pub glyph_of : ℕ → ℕ
@@ -71,8 +70,8 @@ text_of s = unless_refused (open_number s) (λ n. stop_line n 0) (header_of (edi
 
 -- ── what is answered ──
 -- The text's length, or 15 where it does not go into the lent buffer. The buffer is then `lent_out text out`.
-unfoldable pub printed : List ℕ → List ℕ → Printed
-printed text out = unless_refused (space_number text out) Refusal (Length (length text))
+unfoldable pub printed : List ℕ → List ℕ → Result ℕ Refusal
+printed text out = answered (space_number text out) (length text)
 
 -- The same in numbers.
 unfoldable pub print_values : List ℕ → List ℕ → WrittenValues

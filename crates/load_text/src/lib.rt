@@ -13,120 +13,106 @@ mod print;
 mod reports;
 mod texts;
 
-use load::Written;
+use numbers::Refusal;
+use numerals::Page;
 use parse::Head;
-pub use parse::{Parsed, parse_line};
-pub use print::{Printed, put_line, show};
+pub use parse::parse_line;
+pub use print::{put_line, show};
 pub use reports::report;
+use words::Reason;
 
-// The length of the load that a text makes; or the first line that is wrong, and its number; or 15, at line 0.
-#[derive(Clone, Copy)]
-pub enum Made {
-    Load(usize),
-    Mistake(u64, u8),
-}
-
-// The heading of a text: the number of what is wrong with it, or 0; the edition; the lines that it takes up, and the place after them.
-#[derive(Clone, Copy)]
-pub struct Start {
-    pub number: u8,
-    pub edition: u8,
+// The first line of a text that is wrong, counted from 1, and the number of what is; or 15, at line 0.
+#[derive(Clone, Copy, Debug, PartialEq, Eq)]
+pub struct Mistake {
     pub line: u64,
-    pub at: usize,
+    pub number: u8,
 }
 
-pub(crate) fn heading(text: &[u8]) -> Start
+// The heading of a text: its edition, the lines that it takes up, and the text behind them.
+#[derive(Clone, Copy)]
+pub(crate) struct Start<'a> {
+    pub edition: u8,
+    pub lines: u64,
+    pub rest: &'a [u8],
+}
+
+pub(crate) fn heading(text: &[u8]) -> Result<Start<'_>, Mistake>
     ensures { Starts text.now result }
 {
-    let mut at: usize = 0;
+    let mut rest = text;
     let mut line: u64 = 0;
-    while at < text.len() {
+    while let Some((said, behind)) = words::next_line(rest) {
         line += 1;
-        let end = words::place(text, 10, at);
-        match parse::head_line(&text[at..end]) {
-            Head::Silent => {}
-            Head::Edition(edition) => {
-                let load = [edition];
-                let number = load::open_number(&load);
-                return Start {
-                    number: number,
-                    edition: edition,
-                    line: line,
-                    at: end + 1,
-                };
+        match parse::head_line(said) {
+            Ok(Head::Silent) => {
+                rest = behind;
             }
-            Head::Other => {
-                return Start {
-                    number: 0,
-                    edition: 1,
-                    line: 0,
-                    at: 0,
-                };
+            Ok(Head::Edition(edition)) => {
+                return Ok(Start {
+                    edition,
+                    lines: line,
+                    rest: behind,
+                });
             }
-            Head::Misread(n) => {
-                return Start {
-                    number: n,
+            Ok(Head::Other) => {
+                return Ok(Start {
                     edition: 1,
-                    line: line,
-                    at: end + 1,
-                };
+                    lines: 0,
+                    rest: text,
+                });
+            }
+            Err(reason) => {
+                return Err(Mistake {
+                    line,
+                    number: u8::from(reason),
+                });
             }
         }
-        at = end + 1;
     }
-    Start {
-        number: 0,
+    Ok(Start {
         edition: 1,
-        line: 0,
-        at: 0,
-    }
+        lines: 0,
+        rest: text,
+    })
 }
 
-// The record of a line laid after a load of so many bytes, and the load's length with it; or the line's number, and nothing is laid.
-fn add(out: &mut [u8], size: usize, edition: u8, line: &[u8]) -> Written
-    ensures { Adds edition size out.old (line_says edition line.now) result out.new }
+// The record of a line, laid behind a load of an edition; or what is wrong with the line, and nothing is laid.
+fn add(page: &mut Page<'_>, edition: u8, line: &[u8]) -> Result<(), Reason>
+    ensures { Adds edition page.old (line_says edition line.now) result page.new }
 {
-    match parse::parse_line(edition, line) {
-        Parsed::Nothing => Written::Length(size),
-        Parsed::Said(call) => {
-            let n = load::grow_number(edition, size, call, 65536);
-            if n != 0 {
-                return Written::Refusal(n);
-            }
-            let r = load::put_record(out, size, edition, call);
-            Written::Length(r)
-        }
-        Parsed::Bad(n) => Written::Refusal(n),
+    if let Some(call) = parse::parse_line(edition, line)? {
+        load::check_growth(edition, page.at, call, numbers::MOST_BYTES)?;
+        load::put_record(page, edition, call);
     }
+    Ok(())
 }
 
 // The load that a text makes, laid over a buffer as far as that goes.
-fn gather(text: &[u8], out: &mut [u8]) -> Made
+fn gather(text: &[u8], out: &mut [u8]) -> Result<usize, Mistake>
     ensures { Gathers text.now out.old result out.new }
 {
-    let start = heading(text);
-    let edition = start.edition;
-    let mut at = start.at;
-    let mut line = start.line;
-    let number = start.number;
-    if number != 0 {
-        return Made::Mistake(line, number);
+    let start = heading(text)?;
+    if let Err(refusal) = load::check_open(&[start.edition]) {
+        return Err(Mistake {
+            line: start.lines,
+            number: u8::from(refusal),
+        });
     }
-    let mut size = numerals::put_byte(out, 0, edition);
-    while at < text.len() {
+    let mut page = Page::new(out);
+    page.byte(start.edition);
+    let mut rest = start.rest;
+    let mut line = start.lines;
+    while let Some((said, behind)) = words::next_line(rest) {
         line += 1;
-        let end = words::place(text, 10, at);
-        match add(out, size, edition, &text[at..end]) {
-            Written::Length(n) => {
-                size = n;
-            }
-            Written::Refusal(n) => {
-                return Made::Mistake(line, n);
-            }
+        if let Err(reason) = add(&mut page, start.edition, said) {
+            return Err(Mistake {
+                line,
+                number: u8::from(reason),
+            });
         }
-        at = end + 1;
+        rest = behind;
     }
-    Made::Load(size)
+    Ok(page.at)
 }
 
 // Room for any load.
@@ -138,20 +124,19 @@ fn room() -> [u8; 65536]
 
 // The load that a text makes, at the start of a lent buffer. It reads as the calls that the lines say: MadeReads in specs/Making.antt.
 // Cost: one pass over the text into a buffer of its own, of 65,536 bytes, and a copy of the load.
-pub fn make(text: &[u8], out: &mut [u8]) -> Made
+pub fn make(text: &[u8], out: &mut [u8]) -> Result<usize, Mistake>
     ensures answer { result ≡ made_of text.now out.old }
     ensures buffer { out.new ≡ made_out text.now out.old }
     ensures values { made_values result ≡ make_values text.now out.old }
 {
     let mut load = room();
-    match gather(text, &mut load) {
-        Made::Load(n) => {
-            if out.len() < n {
-                return Made::Mistake(0, numbers::NO_SPACE);
-            }
-            numerals::put_bytes(out, 0, &load[..n]);
-            Made::Load(n)
-        }
-        Made::Mistake(line, n) => Made::Mistake(line, n),
+    let size = gather(text, &mut load)?;
+    if out.len() < size {
+        return Err(Mistake {
+            line: 0,
+            number: u8::from(Refusal::NoSpace),
+        });
     }
+    numerals::put_bytes(out, 0, &load[..size]);
+    Ok(size)
 }

@@ -1,77 +1,62 @@
 // What is told of a line of a show that is wrong, with the form of the line where it has too few or too many words. proofs/Forms holds the
 // code's words against specs/Forms.antt.
 ghost use Rattle.std.specs.Prelude.{◌≡◌, ◌≤◌, length};
-ghost use Rattle.numerals.specs.Laid.{Put};
-ghost use Rattle.format.specs.Format.{fields_of};
+ghost use Rattle.numerals.specs.Pages.{Lays};
+ghost use Rattle.format.specs.Format.{field_number, fields_of};
 ghost use Rattle.words.specs.Reports.{reported};
 ghost use Rattle.load_text.specs.Forms.{field_word, fields_form, form_of, kind_form, word_form};
 
 use crate::heading;
-use crate::texts::{kind_named, put_name};
-use format::fields;
+use crate::texts::{is_edition, kind_named, put_name};
+use format::Field;
+use numerals::Page;
 use words::Reported;
 
-// The word of each field from 0 on, in the first bytes of nine, and its length.
-const WORDS: [[u8; 9]; fields::COUNT] = [
-    *b"         ",
-    *b"CLOCK    ",
-    *b"GROUPS   ",
-    *b"LENGTH   ",
-    *b"TICKET   ",
-    *b"POOL     ",
-    *b"UNITS    ",
-    *b"DESK     ",
-    *b"GUARANTEE",
-    *b"LIMIT    ",
-    *b"TICKS    ",
-];
-
-const LENGTHS: [usize; fields::COUNT] = [0, 5, 6, 6, 6, 4, 5, 4, 9, 5, 5];
-
-fn put_field_word(out: &mut [u8], at: usize, field: u8) -> usize
-    ensures { Put out.old at (field_word field) result out.new }
+// The word of a field.
+#[tactic(auto, unfolding(crate::specs::Forms::field_word, crate::specs::Forms::field_words))]
+fn field_word(field: Field) -> &'static [u8]
+    ensures { result.now ≡ field_word (field_number field) }
 {
-    if fields::COUNT <= field as usize {
-        return at;
+    match field {
+        Field::Clock => b"CLOCK",
+        Field::Groups => b"GROUPS",
+        Field::Length => b"LENGTH",
+        Field::Ticket => b"TICKET",
+        Field::Pool => b"POOL",
+        Field::Units => b"UNITS",
+        Field::Client => b"DESK",
+        Field::Reserved => b"GUARANTEE",
+        Field::Limit => b"LIMIT",
+        Field::Grace => b"TICKS",
     }
-    let word = WORDS[field as usize];
-    let n = LENGTHS[field as usize];
-    numerals::put_bytes(out, at, &word[..n])
 }
 
 // The words of the fields that a kind has in an edition, each after a space.
-fn put_field_words(out: &mut [u8], at: usize, edition: u8, kind: u8) -> usize
-    ensures { Put out.old at (fields_form (fields_of edition kind)) result out.new }
+fn put_field_words(page: &mut Page<'_>, edition: u8, kind: u8)
+    ensures { Lays page.old (fields_form (fields_of edition kind)) page.new }
 {
-    let mut n = at;
-    let mut i: usize = 0;
-    loop {
-        let f = format::field_at(edition, kind, i);
-        if f == 0 {
-            return n;
-        }
-        let m = numerals::put_byte(out, n, b' ');
-        n = put_field_word(out, m, f);
-        i += 1;
+    for field in format::fields_of(edition, kind) {
+        page.byte(b' ');
+        page.bytes(field_word(*field));
     }
 }
 
-fn put_kind(out: &mut [u8], edition: u8, kind: u8) -> usize
-    ensures { Put out.old 0 (kind_form edition kind) result out.new }
+fn put_kind(page: &mut Page<'_>, edition: u8, kind: u8)
+    ensures { Lays page.old (kind_form edition kind) page.new }
 {
-    let m = put_name(out, 0, edition, kind);
-    put_field_words(out, m, edition, kind)
+    put_name(page, edition, kind);
+    put_field_words(page, edition, kind);
 }
 
 // The form of a line by its first word.
-fn put_form(out: &mut [u8], edition: u8, word: &[u8]) -> usize
-    ensures { Put out.old 0 (word_form edition word.now) result out.new }
+fn put_form(page: &mut Page<'_>, edition: u8, word: &[u8])
+    ensures { Lays page.old (word_form edition word.now) page.new }
 {
-    if check::same(word, b"edition") {
-        return numerals::put_bytes(out, 0, b"edition NUMBER");
+    if is_edition(word) {
+        page.bytes(b"edition NUMBER");
+    } else if let Some(kind) = kind_named(edition, word) {
+        put_kind(page, edition, kind);
     }
-    let kind = kind_named(edition, word);
-    put_kind(out, edition, kind)
 }
 
 // What is wrong with a line, with the form of a line that begins with a word.
@@ -79,8 +64,10 @@ fn with_form(line: u64, reason: u8, edition: u8, word: &[u8]) -> Reported
     ensures { (result ≡ reported line reason (word_form edition word.now)) × (result.length ≤ length result.text) }
 {
     let mut form = [0u8; 64];
-    let n = put_form(&mut form, edition, word);
-    words::report(line, reason, &form[..n])
+    let mut page = Page::new(&mut form);
+    put_form(&mut page, edition, word);
+    let size = page.at;
+    words::report(line, reason, &form[..size])
 }
 
 // What is wrong with a line of a text, by the line's number and its reason as `make` has them. Cost: where the reason wants a form, one pass
@@ -91,9 +78,9 @@ pub fn report(text: &[u8], line: u64, reason: u8) -> Reported
     if !words::wants_form(reason) {
         return words::report(line, reason, b"");
     }
-    let start = heading(text);
-    let w = words::first_said(text, line);
-    let from = w.from;
-    let to = w.to;
-    with_form(line, reason, start.edition, &text[from..to])
+    let edition = match heading(text) {
+        Ok(start) => start.edition,
+        Err(_) => 1,
+    };
+    with_form(line, reason, edition, words::first_said(text, line))
 }

@@ -1,84 +1,58 @@
 // The names of the kinds, as words that are read and as texts that are printed. proofs/Tables holds them against format's names.
-ghost use Rattle.std.specs.Prelude.{◌≡◌, [], ◌≤◌, ◌<◌, length, take, get_or};
-ghost use Rattle.numerals.specs.Laid.{Put};
+ghost use Rattle.std.specs.Prelude.{◌≡◌, [], get_or};
+ghost use Rattle.numerals.specs.Pages.{Lays};
 ghost use Rattle.format.specs.Format.{name_of, names};
 ghost use Rattle.words.specs.Words.{is_word};
-ghost use Rattle.load_text.specs.Parsing.{kind_named, kind_of};
+ghost use Rattle.load_text.specs.Parsing.{edition_word, kind_named};
 
 use format::kinds;
+use numerals::Page;
 
-// The name of a kind in the first bytes of eight, and its length; none for a kind that there is not.
-fn name(kind: u8) -> [u8; 8]
-    ensures { take (length (get_or names kind [])) result ≡ get_or names kind [] }
+// The name of a kind; empty for a kind that there is not.
+#[tactic(auto, unfolding(format::specs::Format::names))]
+fn name(kind: u8) -> &'static [u8]
+    ensures { result.now ≡ get_or names kind [] }
 {
     match kind {
-        kinds::RIG => *b"rig     ",
-        kinds::CLAIM => *b"claim   ",
-        kinds::RELEASE => *b"release ",
-        kinds::WITHDRAW => *b"withdraw",
-        kinds::CLOCK => *b"clock   ",
-        kinds::DECLARATION => *b"desk    ",
-        kinds::GRACE => *b"grace   ",
-        _ => *b"        ",
+        kinds::RIG => b"rig",
+        kinds::CLAIM => b"claim",
+        kinds::RELEASE => b"release",
+        kinds::WITHDRAW => b"withdraw",
+        kinds::CLOCK => b"clock",
+        kinds::DECLARATION => b"desk",
+        kinds::GRACE => b"grace",
+        _ => b"",
     }
 }
 
-fn name_length(kind: u8) -> usize
-    ensures { (result ≡ length (get_or names kind [])) × (result ≤ 8) }
-{
-    match kind {
-        kinds::RIG => 3,
-        kinds::CLAIM => 5,
-        kinds::RELEASE => 7,
-        kinds::WITHDRAW => 8,
-        kinds::CLOCK => 5,
-        kinds::DECLARATION => 4,
-        kinds::GRACE => 5,
-        _ => 0,
-    }
-}
-
-fn is_name(kind: u8, word: &[u8]) -> bool
-    ensures { result ≡ is_word word.now (get_or names kind []) }
-{
-    let text = name(kind);
-    let n = name_length(kind);
-    check::same(word, &text[..n])
-}
-
-// The kind that a word names, 0 for none. An empty word is found at 0, and so is never taken for kind 7, which has no name.
-fn kind_of(word: &[u8]) -> u8
-    ensures { result ≡ kind_of word.now }
-{
-    let mut kind: u8 = 0;
-    while kind < kinds::BOUND {
-        if is_name(kind, word) {
-            return kind;
-        }
-        kind += 1;
-    }
-    0
-}
-
-// The same in an edition, which may lack it.
-pub(crate) fn kind_named(edition: u8, word: &[u8]) -> u8
+// The kind that a word names in an edition.
+pub(crate) fn kind_named(edition: u8, word: &[u8]) -> Option<u8>
     ensures { result ≡ kind_named edition word.now }
 {
-    let kind = kind_of(word);
-    if !format::has_kind(edition, kind) {
-        return 0;
+    for kind in 0..kinds::BOUND {
+        if word == name(kind) {
+            return if format::has_kind(edition, kind) {
+                Some(kind)
+            } else {
+                None
+            };
+        }
     }
-    kind
+    None
+}
+
+// Whether a word is the one that a line with an edition begins with.
+pub(crate) fn is_edition(word: &[u8]) -> bool
+    ensures { result ≡ is_word word.now edition_word }
+{
+    word == b"edition".as_slice()
 }
 
 // A kind's name, unless the edition lacks the kind.
-pub(crate) fn put_name(out: &mut [u8], at: usize, edition: u8, kind: u8) -> usize
-    ensures { Put out.old at (name_of edition kind) result out.new }
+pub(crate) fn put_name(page: &mut Page<'_>, edition: u8, kind: u8)
+    ensures { Lays page.old (name_of edition kind) page.new }
 {
-    if !format::has_kind(edition, kind) {
-        return at;
+    if format::has_kind(edition, kind) {
+        page.bytes(name(kind));
     }
-    let text = name(kind);
-    let n = name_length(kind);
-    numerals::put_bytes(out, at, &text[..n])
 }

@@ -1,47 +1,54 @@
-// The numbers for a call that is turned down, and the limits, as in specs/Numbers.antt: their one home in code.
+// Why a call is turned down, with the number of each reason, and the limits, as in specs/Numbers.antt: their one home in code.
 #![tactic(auto)]
 
-pub const DARK: u8 = 1;
+ghost use Rattle.std.specs.Prelude.{◌≡◌};
+ghost use Rattle.numbers.specs.Refusals.{number_in};
 
-pub const OFF_RIG: u8 = 2;
+// Why a call is turned down, by the trade's word, with its number.
+#[derive(Clone, Copy, Debug, PartialEq, Eq)]
+pub enum Refusal {
+    Dark = 1,
+    OffRig = 2,
+    BadLength = 3,
+    Backward = 4,
+    Late = 5,
+    Full = 6,
+    Ticketless = 7,
+    Unknown = 8,
+    NotYetOn = 9,
+    AlreadyOn = 10,
+    Edition = 11,
+    Short = 12,
+    Misfit = 13,
+    Overlong = 14,
+    NoSpace = 15,
+    Spots = 16,
+    Stranger = 17,
+    Over = 18,
+    Overbooked = 19,
+    Count = 20,
+    Grace = 21,
+}
 
-pub const BAD_LENGTH: u8 = 3;
+impl From<Refusal> for u8 {
+    ghost use Rattle.numbers.specs.Refusals.{number_of};
 
-pub const BACKWARD: u8 = 4;
+    ghost from_gives = { λ r n. n ≡ number_of r };
 
-pub const LATE: u8 = 5;
+    fn from(refusal: Refusal) -> u8 {
+        refusal as u8
+    }
+}
 
-pub const FULL: u8 = 6;
-
-pub const TICKETLESS: u8 = 7;
-
-pub const UNKNOWN: u8 = 8;
-
-pub const NOT_YET_ON: u8 = 9;
-
-pub const ALREADY_ON: u8 = 10;
-
-pub const EDITION: u8 = 11;
-
-pub const SHORT: u8 = 12;
-
-pub const MISFIT: u8 = 13;
-
-pub const OVERLONG: u8 = 14;
-
-pub const NO_SPACE: u8 = 15;
-
-pub const SPOTS: u8 = 16;
-
-pub const STRANGER: u8 = 17;
-
-pub const OVER: u8 = 18;
-
-pub const OVERBOOKED: u8 = 19;
-
-pub const COUNT: u8 = 20;
-
-pub const GRACE: u8 = 21;
+// What a call answers by number: 0 where it is accepted.
+pub fn number<T>(answer: &Result<T, Refusal>) -> u8
+    ensures { result ≡ number_in answer.now }
+{
+    match answer {
+        Ok(_) => 0,
+        Err(refusal) => u8::from(*refusal),
+    }
+}
 
 // The last clock, the longest length and the longest grace in ticks, how many tickets a table issues, how many claims are pending, how many
 // clients there are, the bytes of a load, the claims of a workload.

@@ -3,10 +3,10 @@ use Prim.Native.Nat.{ℕ, zero, suc, ◌+◌, ◌*◌, ◌/◌, ◌%◌, ◌^◌
 use mathlib.Core.List.{List, [], ◌∷◌, ◌++◌}
 use mathlib.Core.Path.{◌≡◌, refl, sym, ap, ◌∙◌}
 use native.Mathlib.Omega.{arith}
-use native.Mathlib.Nat.{pow-suc, mul-le-mul_right}
-use lib.Pow.{pow-add}
+use native.Mathlib.Nat.{pow-suc}
 use lib.ListN.{length, take, drop, get_or, length-append, length-drop}
-use lib.Seq.{take-suc, take-add, drop-drop, drop-cons}
+use lib.Seq.{take-suc, take-add, take_all, drop-drop, drop-cons}
+use Rattle.std.specs.Int.{w64, from_be_bytes}
 use Rattle.numerals.specs.Digits.{numeral, digits}
 
 pub digits-length : (b z n v : ℕ) → length (digits b z n v) ≡ n
@@ -77,14 +77,22 @@ numeral-joined s at n m h =
     let d = drop-drop n at s in
     ap (numeral 0) t ∙ numeral-parts 0 (take n (drop at s)) (take m (drop n (drop at s))) ∙ rw d (numeral-from (numeral 0 (take n (drop at s))) m (drop (at + n) s) (omega (arith, length-drop (at + n) s)))
 
--- The same of two numbers that n bytes each say.
-pub joined : (n : ℕ) (s : List ℕ) (at x y : ℕ) → at + n + n ≤ length s → (x ≡ numeral 0 (take n (drop at s))) × (x < 256 ^ n) → (y ≡ numeral 0 (take n (drop (at + n) s))) × (y < 256 ^ n)
-    → (x * 256 ^ n + y ≡ numeral 0 (take (n + n) (drop at s))) × (x * 256 ^ n + y < 256 ^ (n + n))
-joined n s at x y h p q =
-    let m = mul-le-mul_right (256 ^ n) p.1 in
-    (sym (numeral-joined s at n n h ∙ rw (← p.0, ← q.0)), rw (pow-add 256 n n) (omega (arith, m, q.1)))
-
 -- One byte that is there.
 pub numeral-byte : (s : List ℕ) (at : ℕ) → at < length s → numeral 0 (take 1 (drop at s)) ≡ get_or s at 0
 unfolding numeral
 numeral-byte s at h = rw (drop-cons s at 0 h) (omega arith)
+
+-- Two, and eight that are all there are.
+numeral-two : (s : List ℕ) (at : ℕ) → at + 2 ≤ length s → numeral 0 (take 2 (drop at s)) ≡ get_or s at 0 * 256 + get_or s (at + 1) 0
+numeral-two s at h = omega (arith, numeral-joined s at 1 1 (omega arith), numeral-byte s at (omega arith), numeral-byte s (at + 1) (omega arith))
+
+pub numeral-eight : (s : List ℕ) (v : ℕ) → length s ≡ 8 → ((i : ℕ) → get_or s i 0 < 256)
+    → v ≡ from_be_bytes w64 (get_or s 0 0 ∷ get_or s 1 0 ∷ get_or s 2 0 ∷ get_or s 3 0 ∷ get_or s 4 0 ∷ get_or s 5 0 ∷ get_or s 6 0 ∷ get_or s 7 0 ∷ [])
+    → (v ≡ numeral 0 s) × (v < 256 ^ length s)
+numeral-eight s v l b e =
+    let t : numeral 0 (take 8 s) ≡ numeral 0 s = ap (numeral 0) (take_all 8 s (omega arith)) in
+    let j = numeral-joined s 0 4 4 (omega arith) in
+    let p = numeral-joined s 0 2 2 (omega arith) in
+    let q = numeral-joined s 4 2 2 (omega arith) in
+    let x : v ≡ numeral 0 s = omega (arith, e, t, j, p, q, numeral-two s 0 (omega arith), numeral-two s 2 (omega arith), numeral-two s 4 (omega arith), numeral-two s 6 (omega arith)) in
+    (x, rw (x, l) (omega (arith, t, numeral-below 8 s (omega arith) b)))

@@ -1,16 +1,17 @@
 -- Bytes laid one after the other over a buffer that may be too short: pieces join (`put_then`), and where there is room the buffer
 -- begins with them (`laid-fits`).
 use Prim.Native.Nat.{ℕ, zero, suc, ◌+◌, ◌-◌, ◌/◌, ◌%◌, ◌^◌, ◌≤◌, ◌<◌, min}
-use mathlib.Core.List.{List, [], ◌∷◌, ◌++◌}
+use mathlib.Core.List.{List, [], ◌∷◌, ◌++◌, append_assoc}
 use mathlib.Core.Path.{◌≡◌, refl, sym, ap, ◌∙◌}
 use native.Mathlib.Omega.{arith}
-use native.Mathlib.Numerals.{add-one}
 use native.Mathlib.Nat.{add-zero, zero-add}
 use lib.Dec.{ltb, leb}
 use borrow.Author.Tests.{leb-true, leb-false, le-leb, lt-leb}
 use mathlib.Core.Bool.{Bool, true, false, cond}
-use lib.ListN.{length, take, drop, get_or, set, length-append}
-use lib.Seq.{sets, length-sets, sets-eq, set_comm, set_out, drop-cons, drop-length, take_at}
+use lib.ListN.{length, take, drop, set, length-append, length-take}
+use borrow.Rule.Slice.PartMut.{put_mid}
+use lib.Seq.{sets, length-sets, sets-eq, set_comm, set_out, drop-length, take_at, drop-drop}
+use Rattle.std.proofs.Common.{take-append-drop}
 use Rattle.numerals.specs.Digits.{digits, decimal_of, width_of, width_up_to, column, pair}
 use Rattle.numerals.specs.Laid.{behind, laid, Put, space_number, lent_out}
 use Rattle.numerals.proofs.Numbers.{stored}
@@ -27,10 +28,6 @@ laid_none o at = refl
 pub laid_one : (o : List ℕ) (at b : ℕ) → laid o at (b ∷ []) ≡ set o at b
 unfolding laid
 laid_one o at b = refl
-
-pub laid_cons : (o : List ℕ) (at b : ℕ) (xs : List ℕ) → laid o at (b ∷ xs) ≡ laid (set o at b) (suc at) xs
-unfolding laid
-laid_cons o at b xs = refl
 
 sets-append : (xs ys o : List ℕ) (at : ℕ) → sets o at (xs ++ ys) ≡ sets (sets o at xs) (at + length xs) ys
 sets-append [] ys o at = rw add-zero
@@ -72,10 +69,6 @@ stored-laid b z at n v o = stored-sets b z at n v o
 pub behind-small : (at n : ℕ) → at + n < 2 ^ 64 → behind at n ≡ at + n
 unfolding behind
 behind-small at n h = omega arith
-
-pub behind-stops : (at n : ℕ) → 18446744073709551615 - at < n → 18446744073709551615 ≡ behind at n
-unfolding behind
-behind-stops at n h = omega arith
 
 pub behind-none : (at : ℕ) → at < 2 ^ 64 → behind at 0 ≡ at
 unfolding behind
@@ -163,22 +156,26 @@ lent-known text out = go (leb (length text) (length out)) refl
 pub laid-first : (o xs : List ℕ) (n : ℕ) → length xs ≡ n → length xs ≤ length o → take n (laid o 0 xs) ≡ xs
 laid-first o xs n e h = ap (take n) (laid-fits o xs h) ∙ take_at xs (drop (length xs) o) n e
 
--- One step of a copy.
-pub laid-turn : (o : List ℕ) (at i : ℕ) (s : List ℕ) → i < length s → laid (set o (at + i) (get_or s i 0)) (at + (i + 1)) (drop (i + 1) s) ≡ laid o (at + i) (drop i s)
-laid-turn o at i s h =
-    let e : at + (i + 1) ≡ suc (at + i) = omega arith in
-    rw (e, add-one, drop-cons s i 0 h) (sym (laid_cons o (at + i) (get_or s i 0) (drop (suc i) s)))
-
 laid_done : (o : List ℕ) (at i : ℕ) (s : List ℕ) → i ≡ length s → laid o (at + i) (drop i s) ≡ o
 laid_done o at i s h = rw (h, drop-length s) (laid_none o (at + length s))
 
 -- A copy ends where the bytes end, or the buffer.
-pub laid-copied : (o : List ℕ) (at i : ℕ) (s : List ℕ) → i ≡ min (length s) (length o - at) → laid o (at + i) (drop i s) ≡ o
+laid-copied : (o : List ℕ) (at i : ℕ) (s : List ℕ) → i ≡ min (length s) (length o - at) → laid o (at + i) (drop i s) ≡ o
 laid-copied o at i s h = go (leb (length s) i) refl
   where
     go : (b : Bool) → leb (length s) i ≡ b → laid o (at + i) (drop i s) ≡ o
     go true p = let k = leb-true (length s) i p in laid_done o at i s (omega arith)
     go false p = let k = leb-false (length s) i p in laid_out o (at + i) (drop i s) (omega arith)
+
+-- What goes in of some bytes is put in the place of those that were there.
+pub laid-part : (o xs ys : List ℕ) (at k : ℕ) → at < length o → k ≡ min (length xs) (length o - at) → ys ≡ take k xs → put_mid at k o ys ≡ laid o at xs
+laid-part o xs ys at k h e q =
+    let l : length (take k xs) ≡ k = simp length-take (omega arith) in
+    let n = laid-length o at (take k xs) in
+    let w = laid o at (take k xs) in
+    let i : w ≡ take at o ++ (take k xs ++ drop (at + k) o) = rw l at (laid-at o at (take k xs) (omega arith)) ∙ append_assoc (take at o) (take k xs) (drop (at + k) o) in
+    let j : laid o at xs ≡ laid w (at + k) (drop k xs) = ap (laid o at) (sym (take-append-drop k xs)) ∙ laid-append o at (take k xs) (drop k xs) ∙ rw l in
+    rw (q, drop-drop k at o) (sym i) ∙ sym (j ∙ laid-copied w at k xs (omega arith))
 
 -- A u64 has at most 20 decimal digits.
 width-up : (k v : ℕ) → width_up_to k v ≤ suc k

@@ -1,4 +1,5 @@
 pub mod Numbers
 pub mod BigEndian
 pub mod Laying
+pub mod Pages
 pub mod Going

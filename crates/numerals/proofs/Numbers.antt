@@ -1,15 +1,14 @@
 -- What the loops keep: a number read byte by byte, digits stored the last first, digits counted.
 use Prim.Native.Nat.{ℕ, zero, suc, ◌+◌, ◌-◌, ◌*◌, ◌/◌, ◌%◌, ◌^◌, ◌≤◌, ◌<◌, min}
 use mathlib.Core.Bool.{Bool, true, false}
-use mathlib.Core.List.{List, [], ◌∷◌}
+use mathlib.Core.List.{List}
 use mathlib.Core.Path.{◌≡◌, refl, sym, ap, ◌∙◌}
-use native.Mathlib.Numerals.{add-one}
 use native.Mathlib.Omega.{arith}
 use native.Mathlib.Nat.{pow-le-pow_right, pow-suc}
 use lib.Dec.{leb}
 use borrow.Author.Tests.{leb-true, leb-false, lt-ltb, le-ltb}
-use lib.ListN.{length, take, drop, get_or, set, length-take, length-drop, drop_of_length-le}
-use lib.Seq.{drop-cons, get_or-take, take_all, take-length}
+use lib.ListN.{length, take, drop, set, length-take, length-drop, drop_of_length-le}
+use lib.Seq.{take_all, take-length, take-nil}
 use Rattle.numerals.specs.Digits.{bytes_at, numeral, width_up_to, width_of}
 
 -- ── a number read ──
@@ -23,16 +22,6 @@ fits8 i h = pow-le-pow_right {n = 256} (omega arith) {i = i} {j = 8} h
 below_more : (v m n : ℕ) → m ≤ n → v < 256 ^ m → v < 256 ^ n
 below_more v m n h k = omega (arith, pow-le-pow_right {n = 256} (omega arith) {i = m} {j = n} h)
 
--- What is left of the first n elements at place i: the element there, and what is left after it.
-pub prefix-step : {X : Type 0} (d : X) (l : List X) (n i : ℕ) → i < n → n ≤ length l → drop i (take n l) ≡ get_or l i d ∷ drop (i + 1) (take n l)
-prefix-step d l n i h k =
-    let q : i < length (take n l) = simp (length-take) (omega arith) in
-    drop-cons (take n l) i d q ∙ rw (add-one, get_or-take)
-
--- Behind them nothing is.
-pub prefix-end : {X : Type 0} (l : List X) (n i : ℕ) → n ≤ i → drop i (take n l) ≡ []
-prefix-end l n i h = drop_of_length-le (take n l) {i = i} (simp (length-take) (omega arith))
-
 take_min : (k : ℕ) (l : List ℕ) → take (min k (length l)) l ≡ take k l
 take_min k l = go (leb k (length l)) refl
   where
@@ -41,12 +30,29 @@ take_min k l = go (leb k (length l)) refl
     go false p = let h = leb-false k (length l) p in let e : min k (length l) ≡ length l = omega arith in rw (e, take-length l) (sym (take_all k l (omega arith)))
 
 -- The bytes that are read are those of the definition.
-take-readable : (s : List ℕ) (at n m : ℕ) → m ≡ min (min n 8) (length s - at) → take m (drop at s) ≡ bytes_at s at n
-take-readable s at n m e = rw (e, ← (length-drop at s)) (take_min (min n 8) (drop at s))
+take-readable : (s : List ℕ) (at from n m : ℕ) → from ≡ min at (length s) → m ≡ min (min n 8) (length s - from) → take m (drop from s) ≡ bytes_at s at n
+take-readable s at from n m f e = go (leb at (length s)) refl
+  where
+    go : (b : Bool) → leb at (length s) ≡ b → take m (drop from s) ≡ bytes_at s at n
+    go true p =
+        let h = leb-true at (length s) p in
+        let i : from ≡ at = omega arith in
+        let k : m ≡ min (min n 8) (length s - at) = rw i at e in
+        rw (i, k, ← (length-drop at s)) (take_min (min n 8) (drop at s))
+    go false p =
+        let h = leb-false at (length s) p in
+        let k : m ≡ 0 = omega arith in
+        rw (k, drop_of_length-le s {i = at} (omega arith)) (sym (take-nil (min n 8)))
 
 -- A number that the bytes there say is the number of the definition.
-pub read_as : (s : List ℕ) (at n m r : ℕ) → m ≡ min (min n 8) (length s - at) → (r ≡ numeral 0 (take m (drop at s))) × (r < 256 ^ m) → (r ≡ numeral 0 (bytes_at s at n)) × (r < 256 ^ n)
-read_as s at n m r e h = (h.0 ∙ ap (numeral 0) (take-readable s at n m e), below_more r m n (omega arith) h.1)
+pub read_as : (s : List ℕ) (at from n m r : ℕ) → from ≡ min at (length s) → m ≡ min (min n 8) (length s - from)
+    → (r ≡ numeral 0 (take (from + m - from) (drop from s))) × (r < 256 ^ length (take (from + m - from) (drop from s))) → (r ≡ numeral 0 (bytes_at s at n)) × (r < 256 ^ n)
+read_as s at from n m r f e h =
+    let k : from + m - from ≡ m = omega arith in
+    let l : length (take m (drop from s)) ≡ m = simp (length-take, length-drop) (omega arith) in
+    let x = rw k at h.0 in
+    let y = rw (k, l) at h.1 in
+    (x ∙ ap (numeral 0) (take-readable s at from n m f e), below_more r m n (omega arith) y)
 
 -- ── digits stored, the last first ──
 unfoldable pub stored : ℕ → ℕ → ℕ → ℕ → ℕ → List ℕ → List ℕ

@@ -7,87 +7,45 @@ ghost use Rattle.std.specs.Prelude.{◌≡◌, [], ◌∷◌, ◌+◌, ◌-◌, 
 ghost use Rattle.numerals.specs.Laid.{behind, laid};
 ghost use Rattle.numerals.specs.Digits.{bytes_at, numeral, digits, decimal_of, width_of, column, pair};
 
+mod page;
+
+pub use page::Page;
+
 // ---- reading
-fn wide(b: u8) -> u64
-    ensures { (result ≡ b) × (result < 256) }
+// The number that up to eight bytes say, one after the other.
+fn each(bytes: &[u8]) -> u64
+    requires { length bytes.now ≤ 8 }
+    ensures { (result ≡ numeral 0 bytes.now) × (result < 256 ^ length bytes.now) }
 {
-    b as u64
-}
-
-// How many bytes there are to read from a place on: n, at most 8, and no more than are left.
-fn readable(size: usize, at: usize, n: usize) -> usize
-    ensures { result ≡ min (min n 8) (size - at) }
-{
-    if size <= at {
-        return 0;
+    let mut value = 0;
+    for byte in bytes {
+        value = value * 256 + u64::from(*byte);
     }
-    let left = size - at;
-    if n < left {
-        if n < 8 { n } else { 8 }
-    } else {
-        if left < 8 { left } else { 8 }
+    value
+}
+
+// The same, at once where they are as many as a type of the language has.
+#[tactic(auto, unfolding(crate::specs::Digits::numeral))]
+fn value(bytes: &[u8]) -> u64
+    requires { length bytes.now ≤ 8 }
+    ensures { (result ≡ numeral 0 bytes.now) × (result < 256 ^ length bytes.now) }
+{
+    match bytes {
+        [a] => u64::from(*a),
+        [a, b] => u64::from(u16::from_be_bytes([*a, *b])),
+        [a, b, c, d] => u64::from(u32::from_be_bytes([*a, *b, *c, *d])),
+        [a, b, c, d, e, f, g, h] => u64::from_be_bytes([*a, *b, *c, *d, *e, *f, *g, *h]),
+        _ => each(bytes),
     }
-}
-
-// Up to eight bytes that are there, read one after the other.
-fn each(s: &[u8], at: usize, m: usize) -> u64
-    requires { (m ≤ 8) × (m ≤ length s.now - at) }
-    ensures { (result ≡ numeral 0 (take m (drop at s.now))) × (result < 256 ^ m) }
-{
-    let mut v: u64 = 0;
-    let mut i: usize = 0;
-    while i < m {
-        v = v * 256 + wide(s[at + i]);
-        i += 1;
-    }
-    v
-}
-
-// Two, four and eight bytes that are there, read at once.
-fn two(s: &[u8], at: usize) -> u64
-    requires { at + 2 ≤ length s.now }
-    ensures { (result ≡ numeral 0 (take 2 (drop at s.now))) × (result < 256 ^ 2) }
-{
-    wide(s[at]) * 256 + wide(s[at + 1])
-}
-
-fn four(s: &[u8], at: usize) -> u64
-    requires { at + 4 ≤ length s.now }
-    ensures { (result ≡ numeral 0 (take 4 (drop at s.now))) × (result < 256 ^ 4) }
-{
-    two(s, at) * 65536 + two(s, at + 2)
-}
-
-fn eight(s: &[u8], at: usize) -> u64
-    requires { at + 8 ≤ length s.now }
-    ensures { (result ≡ numeral 0 (take 8 (drop at s.now))) × (result < 256 ^ 8) }
-{
-    four(s, at) * 4294967296 + four(s, at + 4)
 }
 
 // The number that n bytes from a place on say, the highest first; after the end of s, those that are left. At most eight bytes are read.
 pub fn number(s: &[u8], at: usize, n: usize) -> u64
     ensures { (result ≡ numeral 0 (bytes_at s.now at n)) × (result < 256 ^ n) }
 {
-    let size = s.len();
-    if at <= size {
-        if n <= size - at {
-            match n {
-                8 => {
-                    return eight(s, at);
-                }
-                4 => {
-                    return four(s, at);
-                }
-                2 => {
-                    return two(s, at);
-                }
-                _ => {}
-            }
-        }
-    }
-    let m = readable(size, at, n);
-    each(s, at, m)
+    let from = at.min(s.len());
+    let count = n.min(8).min(s.len() - from);
+    value(&s[from..from + count])
 }
 
 // The same for two bytes.
@@ -111,49 +69,24 @@ pub fn width(value: u64) -> usize
 }
 
 // ---- writing
-// The place after n bytes.
-fn behind(at: usize, n: usize) -> usize
-    ensures { result ≡ behind at n }
-{
-    if 18446744073709551615 - at < n {
-        return 18446744073709551615;
-    }
-    at + n
-}
-
-// How many of n bytes go into a buffer of a size from a place on.
-fn room(size: usize, at: usize, n: usize) -> usize
-    ensures { result ≡ min n (size - at) }
-{
-    if size <= at {
-        return 0;
-    }
-    let left = size - at;
-    if n < left { n } else { left }
-}
-
 // One byte i places after a place, if there is such a place.
 fn store(out: &mut [u8], at: usize, i: usize, b: u8)
     ensures { out.new ≡ set out.old (at + i) b }
 {
-    if out.len() <= at {
-        return;
+    if at < out.len() && i < out.len() - at {
+        out[at + i] = b;
     }
-    if out.len() - at <= i {
-        return;
-    }
-    out[at + i] = b;
 }
 
 // One byte laid at a place.
+#[tactic(auto, unfolding(crate::specs::Laid::behind))]
 pub fn put_byte(out: &mut [u8], at: usize, b: u8) -> usize
     ensures { (result ≡ behind at 1) × (out.new ≡ laid out.old at (b ∷ [])) }
 {
-    if out.len() <= at {
-        return behind(at, 1);
+    if at < out.len() {
+        out[at] = b;
     }
-    out[at] = b;
-    at + 1
+    at.saturating_add(1)
 }
 
 // The n lowest digits of a number in a base, each raised by `zero`, laid from a place on, the highest first; one step for each.
@@ -161,14 +94,12 @@ fn put_digits(out: &mut [u8], at: usize, n: usize, value: u64, base: u64, zero: 
     requires { (1 ≤ base) × (base + zero ≤ 256) }
     ensures { (result ≡ behind at n) × (out.new ≡ laid out.old at (digits base zero n value)) }
 {
-    let mut v = value;
-    let mut i = n;
-    while 0 < i {
-        i -= 1;
-        store(out, at, i, (v % base) as u8 + zero);
-        v /= base;
+    let mut rest = value;
+    for i in (0..n).rev() {
+        store(out, at, i, (rest % base) as u8 + zero);
+        rest /= base;
     }
-    behind(at, n)
+    at.saturating_add(n)
 }
 
 // A number laid in n bytes from a place on, the highest first; one step for each byte.
@@ -190,28 +121,25 @@ pub fn put_decimal(out: &mut [u8], at: usize, value: u64) -> usize
 pub fn put_column(out: &mut [u8], at: usize, value: u64, b: u8) -> usize
     ensures { (result ≡ behind at (length (column value b))) × (out.new ≡ laid out.old at (column value b)) }
 {
-    let m = put_decimal(out, at, value);
-    put_byte(out, m, b)
+    let end = put_decimal(out, at, value);
+    put_byte(out, end, b)
 }
 
 // Two numbers with a space between them, and a byte after them.
 pub fn put_pair(out: &mut [u8], at: usize, a: u64, b: u64, last: u8) -> usize
     ensures { (result ≡ behind at (length (pair a b last))) × (out.new ≡ laid out.old at (pair a b last)) }
 {
-    let m = put_column(out, at, a, 32);
-    put_column(out, m, b, last)
+    let end = put_column(out, at, a, b' ');
+    put_column(out, end, b, last)
 }
 
-// Bytes laid from a place on; one step for each byte that the buffer has room for.
+// Bytes laid from a place on, as many as the buffer has room for.
 pub fn put_bytes(out: &mut [u8], at: usize, src: &[u8]) -> usize
     ensures { (result ≡ behind at (length src.now)) × (out.new ≡ laid out.old at src.now) }
 {
-    let n = src.len();
-    let m = room(out.len(), at, n);
-    let mut i: usize = 0;
-    while i < m {
-        out[at + i] = src[i];
-        i += 1;
+    if at < out.len() {
+        let count = src.len().min(out.len() - at);
+        out[at..at + count].copy_from_slice(&src[..count]);
     }
-    behind(at, n)
+    at.saturating_add(src.len())
 }

@@ -1,13 +1,14 @@
 -- The search for the start of a claim that draws units: barred by no more than the room there is, at every time of the hold, is what fits.
-use mathlib.Core.Path.{◌≡◌, sym, ◌∙◌, ap}
-use mathlib.Core.Logic.{◌⊎◌, inl, inr, ⊎_elim}
+use mathlib.Core.Path.{◌≡◌, sym, ◌∙◌, ap, subst}
+use mathlib.Core.Logic.{inl, inr, ⊎_elim}
 use mathlib.Core.Bool.{Bool, true, cond}
-use mathlib.Core.List.{List}
+use mathlib.Core.List.{List, []}
 use Prim.Native.Nat.{ℕ, ◌+◌, ◌-◌, ◌≤◌, ◌<◌}
 use native.Mathlib.Omega.{arith}
 use native.Mathlib.Numerals.{add-one}
-use lib.ListN.{length, take, replicate}
+use lib.ListN.{length, take}
 use lib.Seq.{take-suc}
+use Rattle.std.proofs.lemmas.List.{take_all}
 use Rattle.rules.specs.declared.Claim.{Claim}
 use Rattle.rules.specs.declared.Setting.{Setting}
 use Rattle.rules.specs.Lists.{◌∈◌, sum}
@@ -15,14 +16,15 @@ use Rattle.rules.specs.Claims.{on, at, rival, end_of}
 use Rattle.rules.specs.Pool.{covers, units_at, used}
 use Rattle.rules.specs.Plans.{Room, Fits}
 use Rattle.rules.specs.Placing.{place}
-use Rattle.rules.specs.Tables.{vacant}
+use Rattle.rules.specs.Vacant.{vacant}
 use Rattle.rules.proofs.Bools.{by-test, by_order, clash}
 use Rattle.rules.proofs.Lists.{Each, sum-le, sum-gap, sum-snoc}
 use Rattle.rules.proofs.Claims.{end-le}
 use Rattle.rules.proofs.Pool.{covers-e, covers-i}
 use Rattle.rules.proofs.Placing.{place-low, place-fits, place-least}
-use Rattle.plan.specs.Rows.{Sized, InPlaces, Capped}
+use Rattle.plan.specs.Rows.{Sized, InRange, Capped}
 use Rattle.plan.proofs.Rows.{row-member}
+use Rattle.plan.proofs.Sorting.{inserted-length}
 use Rattle.plan.specs.SortKeys.{claim_at, Inserted}
 use Rattle.plan.specs.Events.{event_word, FirstFit}
 use Rattle.plan.specs.Barring.{bars_by, barred}
@@ -93,74 +95,85 @@ module _ (v : Setting) (w c : Claim) (s : ℕ) (long : 1 ≤ w.length) (lasts : 
       ⊎_elim (λ q. omega (arith, e.going)) (λ q. omega (arith, e.begun q.0, q.1)) r
 
 -- ── the planned start ──
-module _ (v : Setting) (l : List Claim) (n : ℕ) (w : Claim) (row : InPlaces v l n) (size : Sized v w) (drawing : 0 < w.units) (least-pool : v.pool ≤ most_units)
-    {starts ends : List ℕ} {k s : ℕ} (plot : Plot v.clock starts ends k (λ x. barred v w x (take n l)))
-    (first : FirstFit 0 (take k starts) (take k ends) (v.pool - w.units) v.clock w.length s) where
-  small : Each (λ c. c.units ≤ most_units) (take n l)
-  small c m = omega (arith, (row.ranges.sized c m).sane.drawn)
+module _ (v : Setting) (ps : List Claim) (w : Claim) (row : InRange v ps) (size : Sized v w) (drawing : 0 < w.units)
+    {starts ends : List ℕ} {s : ℕ} (plot : Plot v.clock starts ends (λ x. barred v w x ps))
+    (first : FirstFit 0 starts ends (v.pool - w.units) v.clock w.length s) where
+  small : Each (λ c. c.units ≤ most_units) ps
+  small c m = omega (arith, (row.sized c m).sane.drawn, row.pooled)
 
-  fits-at : Fits v (take n l) w s
+  fits-at : Fits v ps w s
   fits-at =
       let drawn = size.sane.drawn in
       record {
-        room = λ c m h. room-clear v w c s size.sane.long (claim-long v c (row.ranges.sized c m)) (λ x a b q.
-            within-rival v (take n l) w small (v.pool - w.units) x (omega arith) (fit-room plot _ _ _ s (omega arith) first x a b) c m q h);
-        spare = λ z x a b. omega (arith, within-used v (take n l) w small (v.pool - w.units) x (fit-room plot _ _ _ s (omega arith) first x a b));
+        room = λ c m h. room-clear v w c s size.sane.long (claim-long v c (row.sized c m)) (λ x a b q.
+            within-rival v ps w small (v.pool - w.units) x (omega (arith, row.pooled)) (fit-room plot (omega arith) first x a b) c m q h);
+        spare = λ z x a b. omega (arith, within-used v ps w small (v.pool - w.units) x (fit-room plot (omega arith) first x a b));
       }
 
-  pub drawn-start : s ≡ place v (take n l) w
+  pub drawn-start : s ≡ place v ps w
   drawn-start =
-      let p = place-fits v (take n l) w size.sane in
+      let p = place-fits v ps w size.sane in
       omega (
         arith,
-        place-least v (take n l) w size.sane s (fit_low plot _ _ _ s (omega arith) first) fits-at,
-        fit-least plot _ _ _ s (omega arith) first (place v (take n l) w) (place-low v (take n l) w) (λ x a b.
-            within v (take n l) w small (v.pool - w.units) x
-            (λ c m q h. clear_room v w c (place v (take n l) w) size.sane.long (claim-long v c (row.ranges.sized c m)) (p.room c m h) x a b q)
+        place-least v ps w size.sane s (fit_low plot (omega arith) first) fits-at,
+        fit-least plot (omega arith) first (place v ps w) (place-low v ps w) (λ x a b.
+            within v ps w small (v.pool - w.units) x
+            (λ c m q h. clear_room v w c (place v ps w) size.sane.long (claim-long v c (row.sized c m)) (p.room c m h) x a b q)
             (omega (arith, p.spare drawing x a b))),
       )
 
 -- ── gathered claim by claim ──
-module _ (v : Setting) (w : Claim) (claims : List Claim) (g : ℕ) (here : g < length claims) where
-  barred-more : (x : ℕ) → barred v w x (take (g + 1) claims) ≡ barred v w x (take g claims) + bars v w x (claim_at claims g)
+-- What bars w of the first i claims is plotted, each as one hold at most.
+pub record Gathered (v : Setting) (w : Claim) (ps : List Claim) (i : ℕ) (starts ends : List ℕ) : Type 0 where
+  pub plot : Plot v.clock starts ends (λ x. barred v w x (take i ps))
+  pub few : length starts ≤ i
+
+-- Nothing bars it before any claim is gathered.
+pub gather-start : (v : Setting) (w : Claim) (ps : List Claim) → Gathered v w ps 0 [] []
+unfolding barred sum
+gather-start v w ps = record { plot = plot-none; few = omega arith }
+
+pub gather_all : {v : Setting} {w : Claim} {ps : List Claim} {i : ℕ} {starts ends : List ℕ} → length ps ≤ i → Gathered v w ps i starts ends
+    → Plot v.clock starts ends (λ x. barred v w x ps)
+gather_all {v} {w} {ps} {i} {starts} {ends} h g = subst (λ (l : List Claim). Plot v.clock starts ends (λ x. barred v w x l)) (take_all i ps h) g.plot
+
+module _ (v : Setting) (w : Claim) (ps : List Claim) (i : ℕ) (here : i < length ps) where
+  barred-more : (x : ℕ) → barred v w x (take (i + 1) ps) ≡ barred v w x (take i ps) + bars v w x (claim_at ps i)
   unfolding barred
   barred-more x =
-      ap (λ (k : ℕ). sum (bars v w x) (take k claims)) (add-one g) ∙ ap (sum (bars v w x)) (take-suc claims g vacant here)
-      ∙ sum-snoc (bars v w x) (take g claims) (claim_at claims g)
+      ap (λ (k : ℕ). sum (bars v w x) (take k ps)) (add-one i) ∙ ap (sum (bars v w x)) (take-suc ps i vacant here)
+      ∙ sum-snoc (bars v w x) (take i ps) (claim_at ps i)
 
-  module _ {starts ends : List ℕ} {k : ℕ} (p : Plot v.clock starts ends k (λ x. barred v w x (take g claims))) (u : ℕ) (is : u ≡ bars_by w (claim_at claims g)) where
-    pub gather_none : u ≡ 0 → Plot v.clock starts ends k (λ x. barred v w x (take (g + 1) claims))
-    gather_none z = plot-same p (λ x h. omega (arith, barred-more x, none x))
+  module _ {starts ends : List ℕ} (g : Gathered v w ps i starts ends) (u : ℕ) (is : u ≡ bars_by w (claim_at ps i)) where
+    pub gather_none : u ≡ 0 → Gathered v w ps (i + 1) starts ends
+    gather_none z = record { plot = plot-same g.plot (λ x h. omega (arith, barred-more x, none x)); few = omega (arith, g.few) }
       where
-        none : (x : ℕ) → bars v w x (claim_at claims g) ≡ 0
-        none x = ap (λ (a : ℕ). cond (covers v x (claim_at claims g)) a 0) (sym is ∙ z) ∙ by-test (covers v x (claim_at claims g)) (λ e. rw e) (λ e. rw e)
+        none : (x : ℕ) → bars v w x (claim_at ps i) ≡ 0
+        none x = ap (λ (a : ℕ). cond (covers v x (claim_at ps i)) a 0) (sym is ∙ z) ∙ by-test (covers v x (claim_at ps i)) (λ e. rw e) (λ e. rw e)
 
-    pub gather-more : Sized v (claim_at claims g) → u < units_in_word → end_of v (claim_at claims g) ≤ most_end → k < 64
-        → (s e : ℕ) → s ≡ at (claim_at claims g) → e ≡ end_of v (claim_at claims g) → (new-starts new-ends : List ℕ)
-        → (length new-starts ≡ 64) × (length new-ends ≡ 64) × Inserted (take k starts) (event_word s u) (take (k + 1) new-starts)
-        × Inserted (take k ends) (event_word e u) (take (k + 1) new-ends)
-        → Plot v.clock new-starts new-ends (k + 1) (λ x. barred v w x (take (g + 1) claims))
-    gather-more z less early room s e is-s is-e new-starts new-ends i =
-        let c = claim_at claims g in
-        plot-same
-        (plot-more p s e u less (omega (arith, claim-long v c z)) (omega arith) room new-starts new-ends i.0 i.1 i.2 i.3)
-        (λ x h. omega (
-          arith,
-          barred-more x,
-          ap (λ (b : Bool). cond b (bars_by w c) 0) (claim-covers v c z x h),
-          ap (λ (a : ℕ). holds_at s e a x) is,
-          ap (λ (a : ℕ). holds_at a e (bars_by w c) x) is-s,
-          ap (λ (a : ℕ). holds_at (at c) a (bars_by w c) x) is-e,
-        ))
+    pub gather-more : Sized v (claim_at ps i) → u < units_in_word → end_of v (claim_at ps i) ≤ most_end
+        → (s e : ℕ) → s ≡ at (claim_at ps i) → e ≡ end_of v (claim_at ps i) → {new-starts new-ends : List ℕ}
+        → Inserted starts (event_word s u) new-starts → Inserted ends (event_word e u) new-ends → Gathered v w ps (i + 1) new-starts new-ends
+    gather-more z less early s e is-s is-e into-s into-e =
+        let c = claim_at ps i in
+        record {
+          plot = plot-same
+              (plot-more g.plot s e u less (omega (arith, claim-long v c z)) (omega arith) into-s into-e)
+              (λ x h. omega (
+                arith,
+                barred-more x,
+                ap (λ (b : Bool). cond b (bars_by w c) 0) (claim-covers v c z x h),
+                ap (λ (a : ℕ). holds_at s e a x) is,
+                ap (λ (a : ℕ). holds_at a e (bars_by w c) x) is-s,
+                ap (λ (a : ℕ). holds_at (at c) a (bars_by w c) x) is-e,
+              ));
+          few = omega (arith, g.few, inserted-length into-s);
+        }
 
--- Nothing bars it before any claim is gathered; and each ends soon enough.
-pub gather-start : (v : Setting) (w : Claim) (claims : List Claim) → Plot v.clock (replicate 64 0) (replicate 64 0) 0 (λ x. barred v w x (take 0 claims))
-unfolding barred sum
-gather-start v w claims = plot-none
-
-pub claim-early : (v : Setting) (claims : List Claim) (n : ℕ) → InPlaces v claims n → Capped (take n claims) → (g : ℕ) → g < n
-    → (at (claim_at claims g) ≤ most_packed) × (end_of v (claim_at claims g) ≤ most_end)
-claim-early v claims n row low g h =
-    let m = row-member row g h in
-    let c = claim_at claims g in
-    (low c m, end-le v c most_end (omega (arith, low c m, (row.ranges.sized c m).short)) (omega (arith, row.ranges.timely, row.ranges.lenient)))
+-- Each claim of a row ends soon enough.
+pub claim-early : (v : Setting) (ps : List Claim) → InRange v ps → Capped ps → (i : ℕ) → i < length ps
+    → (at (claim_at ps i) ≤ most_packed) × (end_of v (claim_at ps i) ≤ most_end)
+claim-early v ps row low i h =
+    let m = row-member row i h in
+    let c = claim_at ps i in
+    (low c m, end-le v c most_end (omega (arith, low c m, (row.sized c m).short)) (omega (arith, row.timely, row.lenient)))

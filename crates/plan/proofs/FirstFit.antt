@@ -1,16 +1,18 @@
 -- The sweep over the events: what is left of them, with the units in use now, is a search for the first fit again, and has the same answer.
 -- One law for each step: a start taken, an end taken while there is room and while there is none, and the answer before and after the last end.
-use mathlib.Core.Path.{◌≡◌, sym, ap, subst}
+use mathlib.Core.Path.{◌≡◌, sym, ◌∙◌, ap, subst}
 use mathlib.Core.Logic.{⊎_elim}
 use mathlib.Core.List.Memᴰ
 use mathlib.Core.List.{List, [], ◌∷◌}
 use Prim.Native.Nat.{ℕ, ◌+◌, ◌-◌, ◌≤◌, ◌<◌, max}
 use native.Mathlib.Omega.{arith}
-use lib.ListN.{length, take, drop, get_or, length-drop, length-take}
+use native.Mathlib.Numerals.{add-one}
+use lib.ListN.{length, drop, get_or, length-drop}
+use Rattle.std.proofs.Math.Seq.{drop-cons}
+use Rattle.std.proofs.lemmas.List.{drop_all}
 use Rattle.rules.specs.Lists.{sum}
 use Rattle.rules.proofs.Bools.{by_order}
 use Rattle.rules.proofs.Lists.{Each, there, none}
-use Rattle.rules.proofs.Places.{prefix-step, prefix-end}
 use Rattle.plan.specs.SortKeys.{NeverFalls}
 use Rattle.plan.specs.Events.{time_in, units_in, up_to, Events, FirstFit}
 use Rattle.plan.proofs.Events.{up-to-in, up-to-out, up-to-most, before-in, up-to-none, before-none, up-to-all, units-few, rising-times}
@@ -131,97 +133,88 @@ fit-after {starts = starts} v = record {
 }
 
 -- ── the sweep in the code ──
--- What is left of the first n words at place i.
-abbrev pub left : List ℕ → ℕ → ℕ → List ℕ
-left words n i = drop i (take n words)
+-- What is left of the words at place i.
+next_word : (words : List ℕ) (i : ℕ) → i < length words → drop i words ≡ get_or words i 0 ∷ drop (i + 1) words
+next_word words i h = drop-cons words i 0 h ∙ ap (λ k. get_or words i 0 ∷ drop k words) (sym (add-one i))
 
 -- None of it is before the time t, where the next word is not.
-times-left : (words : List ℕ) (n i t : ℕ) → n ≤ length words → NeverFalls (left words n i) → (i < n → t ≤ time_in (get_or words i 0))
-    → Each (λ w. t ≤ time_in w) (left words n i)
-times-left words n i t size r h =
-    by_order n i
-    (λ l. subst (Each (λ (w : ℕ). t ≤ time_in w)) (sym (prefix-end words n i l)) (λ w m. none m))
+times-left : (words : List ℕ) (i t : ℕ) → NeverFalls (drop i words) → (i < length words → t ≤ time_in (get_or words i 0))
+    → Each (λ w. t ≤ time_in w) (drop i words)
+times-left words i t r h =
+    by_order (length words) i
+    (λ l. subst (Each (λ (w : ℕ). t ≤ time_in w)) (sym (drop_all i words l)) (λ w m. none m))
     (λ l.
-    let e = prefix-step 0 words n i l size in
+    let e = next_word words i l in
     subst (Each (λ (w : ℕ). t ≤ time_in w)) (sym e)
     (λ w m.
     ⊎_elim (λ q. omega (arith, h l, ap time_in q)) (λ k. omega (arith, h l, rising-times _ _ (subst NeverFalls e r) w k))
     (Memᴰ.cases_cons m)))
 
 -- After i starts and j ends: what is left of both, with the units in use, gives the answer.
-pub record Sweep (starts : List ℕ) (ns : ℕ) (ends : List ℕ) (ne held room from hold s used i j : ℕ) : Type 0 where
-  pub starts_fit : ns ≤ length starts
-  pub ends_fit : ne ≤ length ends
-  pub ends_few : ne ≤ 64
+pub record Sweep (starts ends : List ℕ) (held room from hold s used i j : ℕ) : Type 0 where
+  pub ends_few : length ends ≤ 64
   pub early : s ≤ times_in_word
-  pub events : Events used (left starts ns i) (left ends ne j)
-  pub answers : (r : ℕ) → FirstFit used (left starts ns i) (left ends ne j) room s hold r
-      → FirstFit held (take ns starts) (take ne ends) room from hold r
+  pub events : Events used (drop i starts) (drop j ends)
+  pub answers : (r : ℕ) → FirstFit used (drop i starts) (drop j ends) room s hold r → FirstFit held starts ends room from hold r
 
-module _ {starts : List ℕ} {ns : ℕ} {ends : List ℕ} {ne held room from hold s used i j : ℕ} (p : Sweep starts ns ends ne held room from hold s used i j) where
-  next_start : i < ns → left starts ns i ≡ get_or starts i 0 ∷ left starts ns (i + 1)
-  next_start h = prefix-step 0 starts ns i h p.starts_fit
+pub sweep-begin : {starts ends : List ℕ} {held room from hold : ℕ} → length ends ≤ 64 → from ≤ times_in_word → Events held starts ends
+    → Sweep starts ends held room from hold from held 0 0
+sweep-begin n l v = record { ends_few = n; early = l; events = v; answers = λ r h. h }
 
-  next-end : j < ne → left ends ne j ≡ get_or ends j 0 ∷ left ends ne (j + 1)
-  next-end h = prefix-step 0 ends ne j h p.ends_fit
+module _ {starts ends : List ℕ} {held room from hold s used i j : ℕ} (p : Sweep starts ends held room from hold s used i j) where
+  few-ends : length (drop j ends) ≤ 64
+  few-ends = let z = p.ends_few in simp length-drop (omega arith)
 
-  few-ends : length (left ends ne j) ≤ 64
-  few-ends = let z = p.ends_few in simp (length-drop, length-take) (omega arith)
-
-  starts_from : (t : ℕ) → (i < ns → t ≤ time_in (get_or starts i 0)) → Each (λ w. t ≤ time_in w) (left starts ns i)
-  starts_from t h = times-left starts ns i t p.starts_fit p.events.starts_rise h
+  starts_from : (t : ℕ) → (i < length starts → t ≤ time_in (get_or starts i 0)) → Each (λ w. t ≤ time_in w) (drop i starts)
+  starts_from t h = times-left starts i t p.events.starts_rise h
 
   -- The hold at s is over by the time n, and no start is before it.
-  pub sweep-found : (n : ℕ) → used ≤ room → s + hold ≤ n → (i < ns → n ≤ time_in (get_or starts i 0))
-      → FirstFit held (take ns starts) (take ne ends) room from hold s
+  pub sweep-found : (n : ℕ) → used ≤ room → s + hold ≤ n → (i < length starts → n ≤ time_in (get_or starts i 0))
+      → FirstFit held starts ends room from hold s
   sweep-found n o l h = p.answers s (fit-before o l (starts_from n h))
 
-  pub sweep-over : ne ≤ j → FirstFit held (take ns starts) (take ne ends) room from hold s
-  sweep-over h = let e = prefix-end ends ne j h in p.answers s (rw e (fit-after (rw e at p.events)))
+  pub sweep-over : length ends ≤ j → FirstFit held starts ends room from hold s
+  sweep-over h = let e = drop_all j ends h in p.answers s (rw e (fit-after (rw e at p.events)))
 
   -- The next event is a start.
-  module _ (h : i < ns) (first : time_in (get_or starts i 0) < time_in (get_or ends j 0)) where
-    start-next : Events used (get_or starts i 0 ∷ left starts ns (i + 1)) (left ends ne j)
-    start-next = subst (λ (l : List ℕ). Events used l (left ends ne j)) (next_start h) p.events
+  module _ (h : i < length starts) (first : time_in (get_or starts i 0) < time_in (get_or ends j 0)) where
+    start-next : Events used (get_or starts i 0 ∷ drop (i + 1) starts) (drop j ends)
+    start-next = subst (λ (l : List ℕ). Events used l (drop j ends)) (next_word starts i h) p.events
 
-    ends-behind : Each (λ w. time_in (get_or starts i 0) < time_in w) (left ends ne j)
-    ends-behind w m = omega (arith, times-left ends ne j (time_in (get_or ends j 0)) p.ends_fit p.events.ends_rise (λ k. omega arith) w m)
+    ends-behind : Each (λ w. time_in (get_or starts i 0) < time_in w) (drop j ends)
+    ends-behind w m = omega (arith, times-left ends j (time_in (get_or ends j 0)) p.events.ends_rise (λ k. omega arith) w m)
 
     pub sweep-start : 1 ≤ hold → (used ≤ room → time_in (get_or starts i 0) < s + hold)
-        → Sweep starts ns ends ne held room from hold s (used + units_in (get_or starts i 0)) (i + 1) j
+        → Sweep starts ends held room from hold s (used + units_in (get_or starts i 0)) (i + 1) j
     sweep-start z near = record {
-      starts_fit = p.starts_fit;
-      ends_fit = p.ends_fit;
       ends_few = p.ends_few;
       early = p.early;
       events = start-events start-next ends-behind few-ends;
-      answers = λ r f. p.answers r (rw (next_start h) (start-fit start-next ends-behind z near f));
+      answers = λ r f. p.answers r (rw (next_word starts i h) (start-fit start-next ends-behind z near f));
     }
 
   -- The next event is an end.
-  module _ (h : j < ne) (first : i < ns → time_in (get_or ends j 0) ≤ time_in (get_or starts i 0)) where
-    end-next : Events used (left starts ns i) (get_or ends j 0 ∷ left ends ne (j + 1))
-    end-next = subst (λ (l : List ℕ). Events used (left starts ns i) l) (next-end h) p.events
+  module _ (h : j < length ends) (first : i < length starts → time_in (get_or ends j 0) ≤ time_in (get_or starts i 0)) where
+    end-next : Events used (drop i starts) (get_or ends j 0 ∷ drop (j + 1) ends)
+    end-next = subst (λ (l : List ℕ). Events used (drop i starts) l) (next_word ends j h) p.events
 
     pub end-covered : units_in (get_or ends j 0) ≤ used
     end-covered = end-held end-next (starts_from _ first)
 
     sweep-end : {t : ℕ} → t ≤ times_in_word
-        → ((r : ℕ) → FirstFit (used - units_in (get_or ends j 0)) (left starts ns i) (left ends ne (j + 1)) room t hold r
-        → FirstFit used (left starts ns i) (get_or ends j 0 ∷ left ends ne (j + 1)) room s hold r)
-        → Sweep starts ns ends ne held room from hold t (used - units_in (get_or ends j 0)) i (j + 1)
+        → ((r : ℕ) → FirstFit (used - units_in (get_or ends j 0)) (drop i starts) (drop (j + 1) ends) room t hold r
+        → FirstFit used (drop i starts) (get_or ends j 0 ∷ drop (j + 1) ends) room s hold r)
+        → Sweep starts ends held room from hold t (used - units_in (get_or ends j 0)) i (j + 1)
     sweep-end l g = record {
-      starts_fit = p.starts_fit;
-      ends_fit = p.ends_fit;
       ends_few = p.ends_few;
       early = l;
       events = end-events end-next (starts_from _ first);
-      answers = λ r f. p.answers r (rw (next-end h) (g r f));
+      answers = λ r f. p.answers r (rw (next_word ends j h) (g r f));
     }
 
-    pub sweep-open : used ≤ room → Sweep starts ns ends ne held room from hold s (used - units_in (get_or ends j 0)) i (j + 1)
+    pub sweep-open : used ≤ room → Sweep starts ends held room from hold s (used - units_in (get_or ends j 0)) i (j + 1)
     sweep-open o = sweep-end p.early (λ r f. end-open end-next (starts_from _ first) o f)
 
     pub sweep-shut : 1 ≤ hold → room < used → time_in (get_or ends j 0) ≤ times_in_word
-        → Sweep starts ns ends ne held room from hold (max s (time_in (get_or ends j 0))) (used - units_in (get_or ends j 0)) i (j + 1)
+        → Sweep starts ends held room from hold (max s (time_in (get_or ends j 0))) (used - units_in (get_or ends j 0)) i (j + 1)
     sweep-shut z o l = sweep-end (omega (arith, p.early)) (λ r f. end-shut end-next (starts_from _ first) z o f)

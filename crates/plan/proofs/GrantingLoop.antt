@@ -1,16 +1,17 @@
--- Granting: the groups and units that are held, collected claim by claim, tell who goes on in a packed row. The grants are written front to back,
--- the claims over those of the row, the tickets into a row of their own. Rests on `union-shares` of groups and on `goes-quick` of rules.
+-- Granting: the groups and units that are held, collected claim by claim, tell who goes on in a packed row. The grants are written front to back
+-- over the claims of the row, the tickets into a row of their own. Rests on `union-shares` of groups and on `goes-quick` of rules.
 use mathlib.Core.Path.{◌≡◌, refl, sym, ◌∙◌, ap, subst}
 use mathlib.Core.Logic.{⊎_elim}
-use mathlib.Core.Bool.{true, false, ◌||◌, cond, or_assoc, or-false}
-use mathlib.Core.List.{List, [], ◌∷◌, ◌++◌, map}
+use mathlib.Core.Bool.{Bool, true, false, ◌&&◌, ◌||◌, cond, or_assoc, or-false}
+use mathlib.Core.List.{List, [], ◌∷◌, ◌++◌, map, map-append, append-nil, append_assoc}
 use Prim.Native.Nat.{ℕ, suc, ◌+◌, ◌-◌, ◌≤◌, ◌<◌}
 use native.Mathlib.Omega.{arith}
-use lib.ListN.{length, take, drop, get_or, set, replicate, length-replicate, length-map}
-use lib.Dec.{leb, eqb}
-use lib.Seq.{get_or-set_other, get_or-take, take-suc, split_at}
 use native.Mathlib.Numerals.{add-one}
+use lib.ListN.{length, take, drop, get_or, set, length-map}
+use lib.Dec.{leb, eqb}
+use lib.Seq.{length-take-le, take-suc, take_all, split_at, set_at}
 use borrow.Author.Tests.{leb-true, le-leb, eqb-true}
+use Rattle.std.proofs.lemmas.List.{drop_all, get_or-append_right}
 use Rattle.groups.specs.Groups.{shares, union}
 use Rattle.groups.proofs.Groups.{union-shares}
 use Rattle.groups.proofs.Words.{zero-shares}
@@ -19,181 +20,185 @@ use Rattle.rules.specs.declared.Phase.TheVariants.{On}
 use Rattle.rules.specs.declared.Setting.{Setting}
 use Rattle.rules.specs.Lists.{any, keep, sum}
 use Rattle.rules.specs.Claims.{on, at, with_phase}
-use Rattle.rules.specs.Pool.{held_by, held_units}
+use Rattle.rules.specs.Pool.{held_units}
 use Rattle.rules.specs.Plans.{Ascending, Sane, StartsFrom}
 use Rattle.rules.specs.Granting.{taken_before, truly_free, goes, granted, grant, grants}
-use Rattle.rules.specs.Tables.{vacant, pad}
-use Rattle.rules.proofs.Bools.{by-test, clash, both_ways, or-e, or_r}
+use Rattle.rules.specs.Vacant.{vacant}
+use Rattle.rules.proofs.Bools.{by-test, both_ways, or-e, or_r}
 use Rattle.rules.proofs.Lists.{Each, keep-length, sum-snoc}
-use Rattle.rules.proofs.Granting.{granted-cases, grant-length, goes-at, goes-truly-free, goes-quick, taken-front}
-use Rattle.plan.specs.Rows.{InPlaces, rewritten}
-use Rattle.plan.specs.Holders.{holds, Held, HeldWith, goes_at}
-use Rattle.rules.proofs.Places.{prefix-end, Storing, store-start, store-more, store_same, store-end, pad-stored}
-use Rattle.plan.proofs.Rows.{row_count, row_step}
+use Rattle.rules.proofs.Granting.{granted-go, granted-stay, goes-at, goes-truly-free, goes-quick, taken-front}
+use Rattle.plan.specs.Rows.{InRange}
+use Rattle.plan.specs.Holders.{goes_at}
+use Rattle.plan.proofs.Rows.{row_step}
 
--- ── one claim ──
-module _ (h : ℕ) (c : Claim) where
-  pub with-holder : on c ≡ true → HeldWith h c (union h c.groups)
-  with-holder o = record { by_either = λ x. rw o (union-shares h c.groups x) }
+-- ── the first pass ──
+-- d is on and has a group of x.
+abbrev holds : ℕ → Claim → Bool
+holds x d = on d && shares d.groups x
 
-  pub with-waiting : on c ≡ false → HeldWith h c h
-  with-waiting o = record { by_either = λ x. rw o (sym (or-false (shares h x))) }
-
--- ── all claims: h has the groups of the holders but for those of the claims in rest ──
-pub record Holding (ps rest : List Claim) (h : ℕ) : Type 0 where
+-- The claims in rest are left: h has the groups of the holders and `free` units are not held, but for theirs.
+pub record Holding (pool : ℕ) (ps rest : List Claim) (h free : ℕ) : Type 0 where
   pub all : (x : ℕ) → (shares h x || any (holds x) rest) ≡ any (holds x) ps
-
-module _ {ps : List Claim} where
-  pub holding-start : Holding ps ps 0
-  holding-start = record { all = λ x. rw (zero-shares x) }
-
-  pub holding-more : {c : Claim} {rest : List Claim} {h r : ℕ} → Holding ps (c ∷ rest) h → HeldWith h c r → Holding ps rest r
-  unfolding any
-  holding-more {c} {rest} {h} p w = record {
-    all = λ x. rw (w.by_either x) (or_assoc (shares h x) (holds x c) (any (holds x) rest) ∙ p.all x);
-  }
-
-  pub holding-end : {h : ℕ} → Holding ps [] h → Held ps h
-  unfolding any
-  holding-end {h} p = record { by_holders = λ x. sym (or-false (shares h x)) ∙ p.all x }
-
--- ── the units free: those of the pool but for those of the holders that are done ──
-pub record Freeing (pool : ℕ) (ps rest : List Claim) (free : ℕ) : Type 0 where
   pub stock : held_units ps ≤ pool
   pub left : free + held_units ps ≡ pool + held_units rest
 
 module _ {pool : ℕ} {ps : List Claim} where
-  pub freeing-start : held_units ps ≤ pool → Freeing pool ps ps pool
-  freeing-start s = record { stock = s; left = refl }
+  pub holding-start : held_units ps ≤ pool → Holding pool ps ps 0 pool
+  holding-start s = record { all = λ x. rw (zero-shares x); stock = s; left = refl }
 
-  module _ {c : Claim} {rest : List Claim} {free : ℕ} (f : Freeing pool ps (c ∷ rest) free) where
-    pub freeing-covers : held_by c ≤ free
+  module _ {c : Claim} {rest : List Claim} {h free : ℕ} (p : Holding pool ps (c ∷ rest) h free) where
+    pub holding-covers : on c ≡ true → c.units ≤ free
     unfolding held_units sum
-    freeing-covers = omega (arith, f.left, f.stock)
+    holding-covers o = let e = rw o at p.left in omega (arith, p.stock)
 
-    pub freeing-more : Freeing pool ps rest (free - held_by c)
-    unfolding held_units sum
-    freeing-more = record { stock = f.stock; left = omega (arith, f.left, f.stock) }
+    pub holding_on : on c ≡ true → Holding pool ps rest (union h c.groups) (free - c.units)
+    unfolding any held_units sum
+    holding_on o = record {
+      all = λ x. rw (union-shares h c.groups x) (or_assoc (shares h x) (shares c.groups x) (any (holds x) rest) ∙ (rw o at (p.all x)));
+      stock = p.stock;
+      left = let e = rw o at p.left in omega (arith, p.stock);
+    }
 
-  pub freeing-end : {free : ℕ} → Freeing pool ps [] free → free + held_units ps ≡ pool
-  unfolding held_units sum
-  freeing-end f = omega (arith, f.left)
+    pub holding_wait : on c ≡ false → Holding pool ps rest h free
+    unfolding any held_units sum
+    holding_wait o = record { all = λ x. rw o at (p.all x); stock = p.stock; left = let e = rw o at p.left in omega (arith, e) }
+
+-- What the first pass tells: h shares a group with x exactly where a holder does, and the holders leave `free` units.
+pub record Held (pool : ℕ) (ps : List Claim) (h free : ℕ) : Type 0 where
+  pub groups : (x : ℕ) → shares h x ≡ any (holds x) ps
+  pub units : free + held_units ps ≡ pool
+
+pub holding-end : {pool : ℕ} {ps : List Claim} {i h free : ℕ} → length ps ≤ i → Holding pool ps (drop i ps) h free → Held pool ps h free
+unfolding any held_units sum
+holding-end {ps = ps} {i} {h} l p =
+    let e = drop_all i ps l in
+    let q = rw e at p in
+    record { groups = λ x. sym (or-false (shares h x)) ∙ q.all x; units = omega (arith, q.left) }
 
 -- ── the grants ──
--- The tickets of those of rest that go on among ps.
+keep-append : {A : Type 0} (p : A → Bool) (a b : List A) → keep p (a ++ b) ≡ keep p a ++ keep p b
+unfolding keep
+keep-append p [] b = refl
+keep-append p (x ∷ a) b = let ih = keep-append p a b in by-test (p x) (λ e. rw e (ap (λ l. x ∷ l) ih)) (λ e. rw e ih)
+
+-- The tickets of those of l that go on among ps.
 abbrev tickets : Setting → List Claim → List Claim → List ℕ
-tickets v ps rest = map (λ c. c.ticket) (keep (goes v ps) rest)
+tickets v ps l = map (λ c. c.ticket) (keep (goes v ps) l)
 
 -- The units of c, where it goes on.
 abbrev taken : Setting → List Claim → Claim → ℕ
 taken v ps c = cond (goes v ps c) c.units 0
 
--- The first i of n claims are done: the row is now `new`, the first m of `out` are tickets, and so many units are still free.
-pub record Written (v : Setting) (l : List Claim) (n i : ℕ) (new : List Claim) (m : ℕ) (out : List ℕ) (free : ℕ) : Type 0 where
-  pub row : InPlaces v l n
-  pub within : i ≤ n
-  pub fewer : m ≤ i
-  pub rest : (j : ℕ) → i ≤ j → get_or new j vacant ≡ get_or l j vacant
-  pub claims : Storing l (grant v (take n l)) (map (granted v (take n l)) (drop i (take n l))) i new
-  pub filled : Storing (replicate 64 0) (grants v (take n l)) (tickets v (take n l) (drop i (take n l))) m out
-  pub spent : free + held_units (take n l) + sum (taken v (take n l)) (take i (take n l)) ≡ v.pool
+-- The first i claims are done: they stand in the row as granted, `out` has the tickets of those that go on, and so many units are still free.
+pub record Written (v : Setting) (ps : List Claim) (i : ℕ) (new : List Claim) (out : List ℕ) (free : ℕ) : Type 0 where
+  pub within : i ≤ length ps
+  pub claims : new ≡ map (granted v ps) (take i ps) ++ drop i ps
+  pub told : out ≡ tickets v ps (take i ps)
+  pub spent : free + held_units ps + sum (taken v ps) (take i ps) ≡ v.pool
 
-pub written_start : {v : Setting} {l : List Claim} {n : ℕ} → InPlaces v l n → (free : ℕ) → free + held_units (take n l) ≡ v.pool → Written v l n 0 l 0 (replicate 64 0) free
-unfolding grants grant sum
-written_start r free e = record { spent = omega arith; row = r; within = omega arith; fewer = omega arith; rest = λ j h. refl; claims = store-start; filled = store-start }
+pub written_start : {v : Setting} {ps : List Claim} {h free : ℕ} → Held v.pool ps h free → Written v ps 0 ps [] free
+unfolding keep sum
+written_start p = record { within = omega arith; claims = refl; told = refl; spent = omega (arith, p.units) }
 
-module _ {v : Setting} {l : List Claim} {n i : ℕ} {new : List Claim} {m : ℕ} {out : List ℕ} {free : ℕ} (w : Written v l n i new m out free) where
-  abbrev pending : List Claim
-  pending = take n l
-
+module _ {v : Setting} {ps : List Claim} {i : ℕ} {new : List Claim} {out : List ℕ} {free : ℕ} (w : Written v ps i new out free) where
   abbrev next : Claim
-  next = get_or l i vacant
+  next = get_or ps i vacant
 
-  -- A place that is not done yet is as it was.
-  pub written-rest : get_or new i vacant ≡ next
-  written-rest = w.rest i (omega arith)
+  front-length : length (map (granted v ps) (take i ps)) ≡ i
+  front-length = length-map (take i ps) (granted v ps) ∙ length-take-le i ps w.within
 
-  module _ (h : i < n) where
-    -- The claims in front of the next, it, and those behind it.
-    around : pending ≡ take i pending ++ (next ∷ drop (suc i) pending)
-    around =
-        split_at pending i vacant (omega (arith, row_count w.row))
-        ∙ ap (λ (c : Claim). take i pending ++ (c ∷ drop (suc i) pending)) (get_or-take n l i vacant h)
+  -- A ticket for each claim at most.
+  pub written-fewer : length out ≤ i
+  written-fewer =
+      omega (arith, ap length w.told, length-map (keep (goes v ps) (take i ps)) (λ c. c.ticket), keep-length (goes v ps) (take i ps), length-take-le i ps w.within)
 
-    before-next : at next ≡ v.clock → sum (taken_before (goes v pending) next) pending ≡ sum (taken v pending) (take i pending)
-    before-next a =
+  module _ (h : i < length ps) where
+    -- The next claim is as it was.
+    pub written-next : get_or new i vacant ≡ next
+    written-next =
+        ap (λ l. get_or l i vacant) (w.claims ∙ ap (λ l. map (granted v ps) (take i ps) ++ l) (row_step ps i h))
+        ∙ get_or-append_right (map (granted v ps) (take i ps)) (next ∷ drop (i + 1) ps) i i vacant front-length (omega arith)
+        ∙ (let z : i - i ≡ 0 = omega arith in rw z)
+
+    -- The claims in front of the next, and it.
+    front_next : take (i + 1) ps ≡ take i ps ++ (next ∷ [])
+    front_next = ap (λ k. take k ps) (add-one i) ∙ take-suc ps i vacant h
+
+    before-next : InRange v ps → at next ≡ v.clock → sum (taken_before (goes v ps) next) ps ≡ sum (taken v ps) (take i ps)
+    before-next r a =
         subst
-        (λ (ps : List Claim). Each (Sane v) ps → Ascending ps → sum (taken_before (goes v ps) next) ps ≡ sum (taken v ps) (take i pending)) (sym around)
-        (λ s u. taken-front v (take i pending) (drop (suc i) pending) next s u a) (λ d j. (w.row.ranges.sized d j).sane) w.row.ranges.ascending
+        (λ (l : List Claim). Each (Sane v) l → Ascending l → sum (taken_before (goes v l) next) l ≡ sum (taken v l) (take i ps)) (sym (split_at ps i vacant h))
+        (λ s u. taken-front v (take i ps) (drop (suc i) ps) next s u a) (λ d j. (r.sized d j).sane) r.ascending
 
     -- The units free tell whether its units are truly free.
-    free-is : at next ≡ v.clock → truly_free v pending (goes v pending) next ≡ leb next.units free
+    free-is : InRange v ps → at next ≡ v.clock → truly_free v ps (goes v ps) next ≡ leb next.units free
     unfolding truly_free
-    free-is a =
-        let e = before-next a in
+    free-is r a =
+        let e = before-next r a in
         let f = w.spent in
         both_ways _ _
-        (λ z. le-leb next.units free (⊎_elim (λ y. omega (arith, eqb-true next.units 0 y)) (λ y. omega (arith, leb-true (held_units pending + sum (taken_before (goes v pending) next) pending + next.units) v.pool y)) (or-e (eqb next.units 0) _ z)))
-        (λ z. or_r (eqb next.units 0) _ (le-leb (held_units pending + sum (taken_before (goes v pending) next) pending + next.units) v.pool (omega (arith, leb-true next.units free z))))
+        (λ z. le-leb next.units free (⊎_elim (λ y. omega (arith, eqb-true next.units 0 y)) (λ y. omega (arith, leb-true (held_units ps + sum (taken_before (goes v ps) next) ps + next.units) v.pool y)) (or-e (eqb next.units 0) _ z)))
+        (λ z. or_r (eqb next.units 0) _ (le-leb (held_units ps + sum (taken_before (goes v ps) next) ps + next.units) v.pool (omega (arith, leb-true next.units free z))))
 
     -- Groups and units tell whether the next claim goes on, as it is read from the row.
-    pub written-goes : {held : ℕ} → StartsFrom v.clock pending → Held pending held → goes v pending next ≡ goes_at v.clock held free (get_or new i vacant)
-    written-goes low k =
-        rw (written-rest, k.by_holders next.groups)
-        (goes-quick v pending low next
-        ∙ by-test (eqb (at next) v.clock) (λ e. rw (e, free-is (eqb-true _ _ e))) (λ e. rw e))
+    pub written-goes : {held first : ℕ} → InRange v ps → StartsFrom v.clock ps → Held v.pool ps held first → goes v ps next ≡ goes_at v.clock held free (get_or new i vacant)
+    written-goes r low k =
+        rw (written-next, k.groups next.groups)
+        (goes-quick v ps low next
+        ∙ by-test (eqb (at next) v.clock) (λ e. rw (e, free-is r (eqb-true _ _ e))) (λ e. rw e))
 
-    next-taken : sum (taken v pending) (take (i + 1) pending) ≡ sum (taken v pending) (take i pending) + taken v pending next
-    next-taken =
-        ap (λ (k : ℕ). sum (taken v pending) (take k pending)) (add-one i)
-        ∙ ap (sum (taken v pending)) (take-suc pending i vacant (omega (arith, row_count w.row)))
-        ∙ ap (λ (c : Claim). sum (taken v pending) (take i pending ++ (c ∷ []))) (get_or-take n l i vacant h)
-        ∙ sum-snoc (taken v pending) (take i pending) next
+    spent-more : sum (taken v ps) (take (i + 1) ps) ≡ sum (taken v ps) (take i ps) + taken v ps next
+    spent-more = ap (sum (taken v ps)) front_next ∙ sum-snoc (taken v ps) (take i ps) next
+
+    claims-more : map (granted v ps) (take (i + 1) ps) ++ drop (i + 1) ps ≡ map (granted v ps) (take i ps) ++ (granted v ps next ∷ drop (i + 1) ps)
+    claims-more =
+        ap (λ l. map (granted v ps) l ++ drop (i + 1) ps) front_next
+        ∙ ap (λ l. l ++ drop (i + 1) ps) (map-append (granted v ps) (take i ps) (next ∷ []))
+        ∙ append_assoc (map (granted v ps) (take i ps)) (granted v ps next ∷ []) (drop (i + 1) ps)
+
+    told-more : tickets v ps (take (i + 1) ps) ≡ tickets v ps (take i ps) ++ tickets v ps (next ∷ [])
+    told-more =
+        ap (tickets v ps) front_next ∙ ap (map (λ c. c.ticket)) (keep-append (goes v ps) (take i ps) (next ∷ []))
+        ∙ map-append (λ c. c.ticket) (keep (goes v ps) (take i ps)) (keep (goes v ps) (next ∷ []))
 
     -- What goes on draws no more than is free.
-    pub written-covers : goes v pending next ≡ true → next.units ≤ free
-    written-covers g = leb-true next.units free (sym (free-is (goes-at v pending next g)) ∙ goes-truly-free v pending next g)
+    written-covers : InRange v ps → goes v ps next ≡ true → next.units ≤ free
+    written-covers r g = leb-true next.units free (sym (free-is r (goes-at v ps next g)) ∙ goes-truly-free v ps next g)
 
     -- It goes on, and stands as x in the row.
-    pub written-gone : (x : Claim) → goes v pending next ≡ true → x ≡ with_phase (get_or new i vacant) (On v.clock)
-        → Written v l n (i + 1) (set new i x) (m + 1) (set out m (get_or new i vacant).ticket) (free - (get_or new i vacant).units)
+    pub written-gone : InRange v ps → (c x : Claim) → c ≡ next → goes v ps next ≡ true → x ≡ with_phase c (On v.clock)
+        → Written v ps (i + 1) (set new i x) (out ++ (c.ticket ∷ [])) (free - c.units)
     unfolding keep
-    written-gone x g q =
-        let e = granted-cases (λ (y : Claim). goes v pending next ≡ true → x ≡ y) v pending next
-        (λ z k. q ∙ ap (λ (c : Claim). with_phase c (On v.clock)) written-rest) (λ z k. clash k z) g in
-        record {
-          row = w.row;
-          within = omega arith;
-          fewer = omega (arith, w.fewer);
-          rest = λ j b. get_or-set_other new i j x vacant (λ z. omega arith) ∙ w.rest j (omega arith);
-          claims = rw e (store-more (rw (row_step w.row i h) at w.claims));
-          filled = rw written-rest (store-more (rw (row_step w.row i h, g) at w.filled));
-          spent =
-              let t : taken v pending next ≡ next.units = rw g in
-              omega (arith, w.spent, next-taken, written-covers g, ap (λ (c : Claim). c.units) written-rest);
-        }
+    written-gone r c x e g q = record {
+      within = omega arith;
+      claims =
+          ap (λ l. set l i x) (w.claims ∙ ap (λ l. map (granted v ps) (take i ps) ++ l) (row_step ps i h))
+          ∙ set_at (map (granted v ps) (take i ps)) next (drop (i + 1) ps) x i front-length
+          ∙ ap (λ y. map (granted v ps) (take i ps) ++ (y ∷ drop (i + 1) ps)) (q ∙ ap (λ y. with_phase y (On v.clock)) e ∙ sym (granted-go v ps next g))
+          ∙ sym claims-more;
+      told = ap (λ l. l ++ (c.ticket ∷ [])) w.told ∙ sym (told-more ∙ (rw (g, ← e)));
+      spent =
+          let t : taken v ps next ≡ next.units = rw g in
+          omega (arith, w.spent, spent-more, written-covers r g, ap (λ (y : Claim). y.units) e);
+    }
 
     -- It does not go on.
-    pub written-stay : goes v pending next ≡ false → Written v l n (i + 1) new m out free
+    pub written-stay : goes v ps next ≡ false → Written v ps (i + 1) new out free
     unfolding keep
-    written-stay g =
-        let e = granted-cases (λ (y : Claim). goes v pending next ≡ false → y ≡ get_or new i vacant) v pending next (λ z k. clash z k) (λ z k. sym written-rest) g in
-        record {
-          row = w.row;
-          within = omega arith;
-          fewer = omega (arith, w.fewer);
-          rest = λ j b. w.rest j (omega arith);
-          claims = store_same vacant (rw (row_step w.row i h, e) at w.claims);
-          filled = rw (row_step w.row i h, g) at w.filled;
-          spent = let t : taken v pending next ≡ 0 = rw g in omega (arith, w.spent, next-taken);
-        }
+    written-stay g = record {
+      within = omega arith;
+      claims =
+          w.claims ∙ ap (λ l. map (granted v ps) (take i ps) ++ l) (row_step ps i h)
+          ∙ ap (λ y. map (granted v ps) (take i ps) ++ (y ∷ drop (i + 1) ps)) (sym (granted-stay v ps next g))
+          ∙ sym claims-more;
+      told = w.told ∙ sym (told-more ∙ (rw g (append-nil _)));
+      spent = let t : taken v ps next ≡ 0 = rw g in omega (arith, w.spent, spent-more);
+    }
 
   -- All claims are done.
-  pub written-end : n ≤ i → (new ≡ rewritten (grant v) l n) × (m ≡ length (grants v pending)) × (out ≡ pad 0 (grants v pending))
-  unfolding keep grants
-  written-end h =
-      let size : length (grant v pending) ≡ n = grant-length v pending ∙ row_count w.row in
-      let few : length (grants v pending) ≤ 64 = omega (arith, length-map (keep (goes v pending) pending) (λ (c : Claim). c.ticket), keep-length (goes v pending) pending, row_count w.row, w.row.few) in
-      let a = store-end (rw (prefix-end l n i h) at w.claims) (omega (arith, w.row.few, w.row.places)) in
-      let b = store-end (rw (prefix-end l n i h) at w.filled) (omega (arith, length-replicate {A = ℕ} 64 0)) in
-      (a.1 ∙ ap (λ (k : ℕ). grant v pending ++ drop k l) size, b.0, b.1 ∙ pad-stored 0 (grants v pending))
+  pub written-end : length ps ≤ i → (new ≡ grant v ps) × (out ≡ grants v ps)
+  unfolding grant grants
+  written-end h = (
+    w.claims ∙ ap (λ l. map (granted v ps) l ++ drop i ps) (take_all i ps h) ∙ ap (λ l. map (granted v ps) ps ++ l) (drop_all i ps h) ∙ append-nil _,
+    w.told ∙ ap (tickets v ps) (take_all i ps h),
+  )

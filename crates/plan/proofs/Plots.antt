@@ -1,13 +1,13 @@
 -- Events that stand for the planned use of a pool: a hold entered adds its units from its start to its end, and a first fit is the first
 -- time from which the use leaves units enough.
-use mathlib.Core.Path.{◌≡◌, ◌∙◌, ap}
+use mathlib.Core.Path.{◌≡◌, refl, ◌∙◌, ap}
 use mathlib.Core.Logic.{⊎_elim}
 use mathlib.Core.Bool.{Bool, ◌&&◌, cond}
-use mathlib.Core.List.{List}
+use mathlib.Core.List.{List, []}
 use Prim.Native.Nat.{ℕ, ◌+◌, ◌≤◌, ◌<◌}
 use native.Mathlib.Omega.{arith}
 use lib.Dec.{ltb, leb}
-use lib.ListN.{length, take, replicate, length-replicate}
+use lib.ListN.{length}
 use borrow.Author.Tests.{le-leb, lt-leb, lt-ltb, le-ltb}
 use Rattle.rules.specs.declared.Claim.{Claim}
 use Rattle.rules.specs.declared.Setting.{Setting}
@@ -21,7 +21,7 @@ use Rattle.rules.proofs.Pool.{units-le}
 use Rattle.plan.specs.Rows.{Sized}
 use Rattle.plan.specs.SortKeys.{Inserted}
 use Rattle.plan.specs.Events.{event_word, time_in, units_in, up_to, before_time, Events, FirstFit}
-use Rattle.plan.proofs.Sorting.{inserted-falls, inserted-one}
+use Rattle.plan.proofs.Sorting.{inserted-falls, inserted-one, inserted-length}
 use Rattle.plan.proofs.Events.{time-of, units_of, inserted-sum, up-to-all, up-to-whole}
 use Rattle.plan.specs.Bounds.{most_end, units_in_word}
 
@@ -29,38 +29,27 @@ use Rattle.plan.specs.Bounds.{most_end, units_in_word}
 abbrev pub holds_at : ℕ → ℕ → ℕ → ℕ → ℕ
 holds_at s e u x = cond (leb s x && ltb x e) u 0
 
--- The first k starts and ends are those of a use, from the time t on.
-pub record Plot (t : ℕ) (starts ends : List ℕ) (k : ℕ) (usage : ℕ → ℕ) : Type 0 where
-  pub starts_long : length starts ≡ 64
-  pub ends_long : length ends ≡ 64
-  pub few : k ≤ 64
-  pub events : Events 0 (take k starts) (take k ends)
-  pub is : (x : ℕ) → t ≤ x → up_to x (take k starts) ≡ usage x + up_to x (take k ends)
+-- The starts and ends are those of a use, from the time t on.
+pub record Plot (t : ℕ) (starts ends : List ℕ) (usage : ℕ → ℕ) : Type 0 where
+  pub paired : length starts ≡ length ends
+  pub events : Events 0 starts ends
+  pub is : (x : ℕ) → t ≤ x → up_to x starts ≡ usage x + up_to x ends
 
 -- The same use, said otherwise.
-pub plot-same : {t : ℕ} {starts ends : List ℕ} {k : ℕ} {usage other : ℕ → ℕ} → Plot t starts ends k usage → ((x : ℕ) → t ≤ x → usage x ≡ other x) → Plot t starts ends k other
-plot-same p e = record {
-  starts_long = p.starts_long;
-  ends_long = p.ends_long;
-  few = p.few;
-  events = p.events;
-  is = λ x h. omega (arith, p.is x h, e x h);
-}
+pub plot-same : {t : ℕ} {starts ends : List ℕ} {usage other : ℕ → ℕ} → Plot t starts ends usage → ((x : ℕ) → t ≤ x → usage x ≡ other x) → Plot t starts ends other
+plot-same p e = record { paired = p.paired; events = p.events; is = λ x h. omega (arith, p.is x h, e x h) }
 
-pub plot-none : {t : ℕ} → Plot t (replicate 64 0) (replicate 64 0) 0 (λ x. 0)
+pub plot-none : {t : ℕ} → Plot t [] [] (λ x. 0)
 unfolding up_to before_time sum
 plot-none = record {
-  starts_long = length-replicate {A = ℕ} 64 0;
-  ends_long = length-replicate {A = ℕ} 64 0;
-  few = omega arith;
+  paired = refl;
   events = record { starts_rise = tt; ends_rise = tt; few = omega arith; early = λ w m. none m; balanced = λ x. omega arith; total = omega arith };
   is = λ x h. omega arith;
 }
 
 -- ── one hold more ──
-module _ {t : ℕ} {starts ends : List ℕ} {k : ℕ} {usage : ℕ → ℕ} (p : Plot t starts ends k usage) (s e u : ℕ) (less : u < units_in_word) (long : s < e) (early : e ≤ most_end) (room : k < 64)
-    (new-starts new-ends : List ℕ) (size-s : length new-starts ≡ 64) (size-e : length new-ends ≡ 64)
-    (into-s : Inserted (take k starts) (event_word s u) (take (k + 1) new-starts)) (into-e : Inserted (take k ends) (event_word e u) (take (k + 1) new-ends)) where
+module _ {t : ℕ} {starts ends : List ℕ} {usage : ℕ → ℕ} (p : Plot t starts ends usage) (s e u : ℕ) (less : u < units_in_word) (long : s < e) (early : e ≤ most_end)
+    {new-starts new-ends : List ℕ} (into-s : Inserted starts (event_word s u) new-starts) (into-e : Inserted ends (event_word e u) new-ends) where
   -- What one event more adds up to a time, and before it.
   up-to-more : (time : ℕ) (old new : List ℕ) → Inserted old (event_word time u) new → (x : ℕ) → up_to x new ≡ cond (leb time x) u 0 + up_to x old
   unfolding up_to
@@ -85,14 +74,12 @@ module _ {t : ℕ} {starts ends : List ℕ} {k : ℕ} {usage : ℕ → ℕ} (p :
       (λ b. rw (le-leb e x b, lt-ltb s x (omega arith)) (omega arith))
       (λ b. rw (lt-leb e x b) (omega arith))
 
-  total-more : sum units_in (take (k + 1) new-ends) ≡ sum units_in (take (k + 1) new-starts)
+  total-more : sum units_in new-ends ≡ sum units_in new-starts
   total-more = omega (arith, inserted-sum units_in into-s, inserted-sum units_in into-e, units_of s u less, units_of e u less, p.events.total)
 
-  pub plot-more : Plot t new-starts new-ends (k + 1) (λ x. usage x + holds_at s e u x)
+  pub plot-more : Plot t new-starts new-ends (λ x. usage x + holds_at s e u x)
   plot-more = record {
-    starts_long = size-s;
-    ends_long = size-e;
-    few = omega arith;
+    paired = omega (arith, inserted-length into-s, inserted-length into-e, p.paired);
     events = record {
       starts_rise = inserted-falls p.events.starts_rise into-s;
       ends_rise = inserted-falls p.events.ends_rise into-e;
@@ -105,8 +92,8 @@ module _ {t : ℕ} {starts ends : List ℕ} {k : ℕ} {usage : ℕ → ℕ} (p :
   }
 
 -- ── a first fit ──
-module _ {t : ℕ} {starts ends : List ℕ} {k : ℕ} {usage : ℕ → ℕ} (p : Plot t starts ends k usage) (room from hold r : ℕ) (low : t ≤ from)
-    (f : FirstFit 0 (take k starts) (take k ends) room from hold r) where
+module _ {t : ℕ} {starts ends : List ℕ} {usage : ℕ → ℕ} (p : Plot t starts ends usage) {room from hold r : ℕ} (low : t ≤ from)
+    (f : FirstFit 0 starts ends room from hold r) where
   pub fit_low : from ≤ r
   fit_low = f.low
 

@@ -6,7 +6,6 @@ use mathlib.Core.List.{List}
 use Prim.Native.Nat.{ℕ, ◌+◌, ◌*◌, ◌≤◌, ◌-◌}
 use native.Mathlib.Omega.{arith}
 use native.Mathlib.Nat.{mul-le-mul_right}
-use lib.ListN.{length, take, length-take}
 use Rattle.numbers.specs.Numbers.{most_clock, most_pending, most_length, most_grace}
 use Rattle.rules.specs.declared.Claim.{Claim}
 use Rattle.rules.specs.declared.Phase.TheVariants.{Waiting}
@@ -23,7 +22,7 @@ use Rattle.rules.proofs.Packing.{moved-cases}
 use Rattle.rules.proofs.Invariants.{Later, later-sane}
 use Rattle.rules.proofs.Sizes.{start-cap}
 use Rattle.rules.proofs.Placing.{place_is}
-use Rattle.plan.specs.Rows.{Sized, InRange, InPlaces, Capped}
+use Rattle.plan.specs.Rows.{Sized, InRange, Capped}
 use Rattle.plan.proofs.Rows.{sized-small}
 use Rattle.plan.specs.Bounds.{most_at, most_packed, most_start}
 
@@ -55,11 +54,9 @@ start_small {v} {ps} r c m o =
     ends : (d : Claim) → d ∈ ps → on d ≡ true → end_of v d ≤ most_clock + most_length
     ends d i q = end-le v d (most_clock + most_length) (omega (arith, (r.sized d i).aged q, (r.sized d i).short, r.timely)) (omega (arith, r.timely, r.lenient))
 
-pub packed-small : (v : Setting) (claims : List Claim) (n : ℕ) → InPlaces v claims n → (c : Claim) → c ∈ take n claims
-    → at (moved (packed_start v (take n claims)) c) ≤ most_at
-packed-small v claims n row c m =
-    let r = row.ranges in
-    moved-cases (λ (d : Claim). at d ≤ most_at) (packed_start v (take n claims)) c
+pub packed-small : (v : Setting) (ps : List Claim) → InRange v ps → (c : Claim) → c ∈ ps → at (moved (packed_start v ps) c) ≤ most_at
+packed-small v ps r c m =
+    moved-cases (λ (d : Claim). at d ≤ most_at) (packed_start v ps) c
     (λ o. sized-small v c r.timely (r.sized c m))
     (λ o. omega (arith, start_small r c m o))
 
@@ -67,26 +64,26 @@ packed-small v claims n row c m =
 pub remaining-short : (v : Setting) (c : Claim) → v.grace ≤ most_grace → Sized v c → remaining v c ≤ most_length
 remaining-short v c l s = remaining-le v c most_length s.aged s.short (omega arith)
 
-module _ (v : Setting) (l : List Claim) (n : ℕ) (w : Claim) (r : InPlaces v l n) where
-  pub rivals-few : contention (take n l) w ≤ 64
+module _ (v : Setting) (ps : List Claim) (w : Claim) (r : InRange v ps) where
+  pub rivals-few : contention ps w ≤ 64
   unfolding contention
-  rivals-few = omega (arith, keep-length (λ c. rival c w) (take n l), length-take n l, r.few)
+  rivals-few = omega (arith, keep-length (λ c. rival c w) ps, r.few)
 
-  pub time-short : sum (remaining v) (rivals (take n l) w) ≤ most_pending * most_length
+  pub time-short : sum (remaining v) (rivals ps w) ≤ most_pending * most_length
   unfolding contention
-  time-short = omega (arith, rivals-few, sum-le-each (remaining v) most_length (rivals (take n l) w) short)
+  time-short = omega (arith, rivals-few, sum-le-each (remaining v) most_length (rivals ps w) short)
     where
-      short : Each (λ c. remaining v c ≤ most_length) (rivals (take n l) w)
-      short c m = remaining-short v c r.ranges.lenient (r.ranges.sized c (keep-e (λ d. rival d w) (take n l) m).0)
+      short : Each (λ c. remaining v c ≤ most_length) (rivals ps w)
+      short c m = remaining-short v c r.lenient (r.sized c (keep-e (λ d. rival d w) ps m).0)
 
-  pub bound-small : Sized v w → start_bound v (take n l) w ≤ most_start
+  pub bound-small : Sized v w → start_bound v ps w ≤ most_start
   unfolding start_bound
-  bound-small s = omega (arith, time-short, mul-le-mul_right (w.length - 1) rivals-few, r.ranges.timely, s.short)
+  bound-small s = omega (arith, time-short, mul-le-mul_right (w.length - 1) rivals-few, r.timely, s.short)
 
   -- A planned start is the clock or an end.
-  pub place-small : Sized v w → Capped (take n l) → place v (take n l) w ≤ most_start
+  pub place-small : Sized v w → Capped ps → place v ps w ≤ most_start
   place-small s low =
       ⊎_elim
-      (λ e. omega (arith, r.ranges.timely))
-      (λ e. omega (arith, e.3, end-le v e.0 (most_packed + most_length) (omega (arith, low e.0 e.1, (r.ranges.sized e.0 e.1).short)) (omega (arith, r.ranges.timely, r.ranges.lenient))))
-      (place_is v (take n l) w s.sane)
+      (λ e. omega (arith, r.timely))
+      (λ e. omega (arith, e.3, end-le v e.0 (most_packed + most_length) (omega (arith, low e.0 e.1, (r.sized e.0 e.1).short)) (omega (arith, r.timely, r.lenient))))
+      (place_is v ps w s.sane)

@@ -1,66 +1,69 @@
--- Rows of 64 places with claims in the first: what is read from them. What holds of rows of whatever is in rules, proofs/Places.
-use mathlib.Core.Path.{◌≡◌, ◌∙◌, ap}
+-- Rows of claims: what is read from them.
+use mathlib.Core.Path.{◌≡◌, ◌∙◌, ap, sym}
+use mathlib.Core.Logic.{⊎_elim}
 use mathlib.Core.List.{List, [], ◌∷◌}
-use Prim.Native.Nat.{ℕ, ◌+◌, ◌≤◌, ◌<◌}
+use mathlib.Core.List.Memᴰ
+use Prim.Native.Nat.{ℕ, suc, ◌+◌, ◌≤◌, ◌<◌}
 use native.Mathlib.Omega.{arith}
-use lib.ListN.{length, take, drop, get_or}
-use lib.Seq.{length-take-le}
+use native.Mathlib.Numerals.{add-one}
+use lib.ListN.{length, drop, get_or}
+use Rattle.std.proofs.Math.Seq.{drop-cons}
+use Rattle.std.proofs.lemmas.List.{drop_all, get_or_default}
 use Rattle.numbers.specs.Numbers.{most_clock}
 use Rattle.rules.specs.declared.Claim.{Claim}
 use Rattle.rules.specs.declared.Setting.{Setting}
-use Rattle.rules.specs.declared.Table.{Table}
 use Rattle.rules.specs.Lists.{◌∈◌}
 use Rattle.rules.specs.Claims.{on, at}
-use Rattle.rules.specs.Tables.{vacant}
+use Rattle.rules.specs.Vacant.{vacant}
 use Rattle.rules.proofs.Bools.{by-test}
-use Rattle.rules.proofs.Places.{prefix-step, prefix-end, in-prefix}
-use Rattle.plan.specs.Rows.{Sized, InPlaces}
-use Rattle.plan.specs.Parts.{with_claims}
+use Rattle.rules.proofs.Lists.{none}
+use Rattle.rules.proofs.Places.{at-place}
+use Rattle.plan.specs.Rows.{Sized, InRange}
+use Rattle.plan.specs.SortKeys.{claim_at}
 use Rattle.plan.specs.Bounds.{most_at}
 
 -- ── a row's claims are in range ──
 pub sized-small : (v : Setting) (c : Claim) → v.clock ≤ most_clock → Sized v c → at c ≤ most_at
 sized-small v c h s = by-test (on c) (λ o. omega (arith, s.aged o)) (λ o. omega (arith, s.planned o))
 
-module _ {v : Setting} {l : List Claim} {n : ℕ} (r : InPlaces v l n) where
-  pub row_count : length (take n l) ≡ n
-  row_count = length-take-le n l (omega (arith, r.few, r.places))
+-- What is left at place i: the claim there, and what is left after it.
+pub row_step : (ps : List Claim) (i : ℕ) → i < length ps → drop i ps ≡ get_or ps i vacant ∷ drop (i + 1) ps
+row_step ps i h = drop-cons ps i vacant h ∙ ap (λ k. get_or ps i vacant ∷ drop k ps) (sym (add-one i))
 
-  -- What is left at place i: the claim there, and what is left after it.
-  pub row_step : (i : ℕ) → i < n → drop i (take n l) ≡ get_or l i vacant ∷ drop (i + 1) (take n l)
-  row_step i h = prefix-step vacant l n i h (omega (arith, r.few, r.places))
+-- An element that is read as the one at its place, by whatever stands there where there is none, is the claim at that place.
+pub read-at : (ps : List Claim) (i : ℕ) (c : Claim) → i < length ps → c ≡ get_or ps i c → c ≡ get_or ps i vacant
+read-at ps i c h e = e ∙ get_or_default ps i c vacant h
 
-  pub row-member : (i : ℕ) → i < n → get_or l i vacant ∈ take n l
-  row-member i h = in-prefix vacant l n i h (omega (arith, r.few, r.places))
+module _ {v : Setting} {ps : List Claim} (r : InRange v ps) where
+  pub row-member : (i : ℕ) → i < length ps → get_or ps i vacant ∈ ps
+  row-member i h = at-place vacant ps i h
 
-  pub row_sized : (i : ℕ) → i < n → Sized v (get_or l i vacant)
-  row_sized i h = r.ranges.sized _ (row-member i h)
+  pub row_sized : (i : ℕ) → i < length ps → Sized v (get_or ps i vacant)
+  row_sized i h = r.sized _ (row-member i h)
 
-  pub row_small : (i : ℕ) → i < n → at (get_or l i vacant) ≤ most_at
-  row_small i h = sized-small v _ r.ranges.timely (row_sized i h)
+  pub row_small : (i : ℕ) → i < length ps → at (get_or ps i vacant) ≤ most_at
+  row_small i h = sized-small v _ r.timely (row_sized i h)
 
 -- ── reading a row front to back: P holds of the claims that are left at place i ──
-pub record Left (P : List Claim → Type 0) (v : Setting) (l : List Claim) (n i : ℕ) : Type 0 where
-  pub row : InPlaces v l n
-  pub within : i ≤ n
-  pub holds : P (drop i (take n l))
+pub record Left (P : List Claim → Type 0) (v : Setting) (ps : List Claim) (i : ℕ) : Type 0 where
+  pub row : InRange v ps
+  pub within : i ≤ length ps
+  pub holds : P (drop i ps)
 
-pub left-start : {P : List Claim → Type 0} {v : Setting} {l : List Claim} {n : ℕ} → InPlaces v l n → P (take n l) → Left P v l n 0
+pub left-start : {P : List Claim → Type 0} {v : Setting} {ps : List Claim} → InRange v ps → P ps → Left P v ps 0
 left-start r p = record { row = r; within = omega arith; holds = p }
 
-module _ {P : List Claim → Type 0} {v : Setting} {l : List Claim} {n i : ℕ} (w : Left P v l n i) where
-  pub left_here : i < n → P (get_or l i vacant ∷ drop (i + 1) (take n l))
-  left_here h = rw (row_step w.row i h) at w.holds
+module _ {P : List Claim → Type 0} {v : Setting} {ps : List Claim} {i : ℕ} (w : Left P v ps i) where
+  pub left_here : i < length ps → P (get_or ps i vacant ∷ drop (i + 1) ps)
+  left_here h = rw (row_step ps i h) at w.holds
 
-  pub left-next : {Q : List Claim → Type 0} → i < n → (P (get_or l i vacant ∷ drop (i + 1) (take n l)) → Q (drop (i + 1) (take n l))) → Left Q v l n (i + 1)
+  pub left-next : {Q : List Claim → Type 0} → i < length ps → (P (get_or ps i vacant ∷ drop (i + 1) ps) → Q (drop (i + 1) ps)) → Left Q v ps (i + 1)
   left-next h f = record { row = w.row; within = omega arith; holds = f (left_here h) }
 
-  pub left_end : n ≤ i → P []
-  left_end h = rw (prefix-end l n i h) at w.holds
+  pub left_end : length ps ≤ i → P []
+  left_end h = rw (drop_all i ps h) at w.holds
 
--- ── a table whose claims alone have changed ──
-pub other-claims : (t t₀ : Table) (l : List Claim) → t ≡ with_claims t₀ t.claims → with_claims t l ≡ with_claims t₀ l
-other-claims t t₀ l e = ap (λ (x : Table). with_claims x l) e
-
-pub these-claims : (t t₀ : Table) (l : List Claim) → t ≡ with_claims t₀ t.claims → t.claims ≡ l → t ≡ with_claims t₀ l
-these-claims t t₀ l e q = e ∙ ap (with_claims t₀) q
+-- ── a claim of a row has a place in it ──
+pub row_place : (ps : List Claim) {c : Claim} → c ∈ ps → (i : ℕ) × (i < length ps) × (claim_at ps i ≡ c)
+row_place [] m = none m
+row_place (d ∷ ps) m = ⊎_elim (λ e. (0, omega arith, sym e)) (λ k. let r = row_place ps k in (suc r.0, omega arith, r.2)) (Memᴰ.cases_cons m)

@@ -1,5 +1,5 @@
--- Rows of 64 places, of which the first hold claims: what code asks of them, and what it leaves in them.
-use Rattle.std.specs.Prelude.{◌≡◌, true, false, List, ◌++◌, ℕ, ◌≤◌, length, take, drop}
+-- What code asks of a row of claims.
+use Rattle.std.specs.Prelude.{◌≡◌, true, false, List, ◌≤◌, length}
 use Rattle.numbers.specs.Numbers.{most_clock, most_length, most_pending, most_units, most_grace}
 use Rattle.rules.specs.declared.Claim.{Claim}
 use Rattle.rules.specs.declared.Setting.{Setting}
@@ -27,16 +27,6 @@ pub record InRange (v : Setting) (ps : List Claim) : Type 0 where
   pub stock : held_units ps ≤ v.pool
   pub lenient : v.grace ≤ most_grace
 
--- Of 64 places the first n hold claims in range.
-pub record InPlaces (v : Setting) (claims : List Claim) (n : ℕ) : Type 0 where
-  pub places : length claims ≡ 64
-  pub few : n ≤ most_pending
-  pub ranges : InRange v (take n claims)
-
 -- Starts and grants are as low as in a packed row: no end of theirs is too late to be a planned start.
 abbrev pub Capped : List Claim → Type 0
 Capped ps = (c : Claim) → c ∈ ps → at c ≤ most_packed
-
--- The row with other claims in its first n places.
-abbrev pub rewritten : (List Claim → List Claim) → List Claim → ℕ → List Claim
-rewritten f l n = f (take n l) ++ drop n l

@@ -7,6 +7,7 @@ use mathlib.Core.List.Memᴰ
 use mathlib.Core.List.{List, [], ◌∷◌, ◌++◌, map}
 use Prim.Native.Nat.{ℕ, suc, ◌+◌, ◌-◌, ◌≤◌, ◌<◌}
 use native.Mathlib.Omega.{arith}
+use Rattle.std.proofs.Common.{Option}
 use lib.Dec.{eqb}
 use lib.ListN.{length}
 use borrow.Author.Tests.{eq-eqb, ne_eqb}
@@ -581,7 +582,7 @@ module _ (P : Type 0) (l : Ledger) (m : Model) (s : Story P l m) where
       pool = s.pool;
       issued = s.issued;
       grace = s.grace;
-      shares = ap (λ (ss : List Share). with_share ss c (share r k)) s.shares;
+      shares = ap (λ (ss : List (Option Share)). with_share ss c (share r k)) s.shares;
       match = match-weaken (λ d e r. tracks-weaken P _ (λ q. q.0) d e r) s.match;
     },
   )

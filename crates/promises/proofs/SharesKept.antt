@@ -4,11 +4,12 @@ use mathlib.Core.Logic.{◌≢◌}
 use mathlib.Core.List.{List}
 use Prim.Native.Nat.{◌<◌}
 use native.Mathlib.Omega.{arith}
+use Rattle.std.proofs.Common.{Option}
 use lib.ListN.{length-map}
 use Rattle.numbers.specs.Numbers.{full_number}
 use Rattle.rules.specs.declared.Claim.{Claim}
 use Rattle.rules.specs.declared.Share.{Share}
-use Rattle.rules.specs.Shares.{share_of, pending_of}
+use Rattle.rules.specs.Shares.{reserved_of, share_of, pending_of}
 use Rattle.rules.specs.Invariants.{Booked}
 use Rattle.rules.specs.Calls.{Model, clients_of, Call, step}
 use Rattle.rules.proofs.Booking.{below-never-full}
@@ -24,7 +25,7 @@ askers-are P (m-cons r m) = rw (r.client, askers-are P m)
 
 -- The invariant of the table is one of the ledger.
 booked-of : (P : Type 0) (l : Ledger) (m : Model) → Story P l m → Booked l.shares (askers l.claims)
-booked-of P l m s = subst (λ (ss : List Share). Booked ss (askers l.claims)) s.shares (subst (Booked m.shares) (askers-are P s.match) s.booked)
+booked-of P l m s = subst (λ (ss : List (Option Share)). Booked ss (askers l.claims)) s.shares (subst (Booked m.shares) (askers-are P s.match) s.booked)
 
 now_of : (P : Type 0) (l : Ledger) (m : Model) → Story P l m → SharesNow l (tells m)
 now_of P l m s =
@@ -34,7 +35,7 @@ now_of P l m s =
 next_of : (P : Type 0) (l : Ledger) (m : Model) → Story P l m → (c : Call) → SharesNext l (record { call = c; answer = (step m c).answer }) (tells m) (tells (step m c).model)
 next_of P l m s c = record {
   never_full = λ u ask e h.
-      let below : pending_of (clients_of m.pending) ask.client < (share_of m.shares ask.client).reserved = rw (askers-are P s.match, s.shares) h in
+      let below : pending_of (clients_of m.pending) ask.client < reserved_of (share_of m.shares ask.client) = rw (askers-are P s.match, s.shares) h in
       subst (λ (d : Call). (step m d).answer.number ≢ full_number) (sym e) (below-never-full m u ask below);
 }
 

@@ -1,6 +1,6 @@
 -- What the calls and their answers tell: which claims are pending, which are held since when, the table's clock, and what was set: pool,
 -- shares and grace. Nothing here looks into a table. Quotations are from document 01, "A run of calls".
-use Rattle.std.specs.Prelude.{◌≡◌, Bool, true, false, not, ◌&&◌, cond, List, [], ◌∷◌, ◌++◌, map, ℕ, ◌+◌, ◌-◌, ◌*◌, ◌≤◌, eqb, length}
+use Rattle.std.specs.Prelude.{◌≡◌, Bool, true, false, not, ◌&&◌, cond, List, [], ◌∷◌, ◌++◌, map, ℕ, ◌+◌, ◌-◌, ◌*◌, ◌≤◌, eqb, length, Option}
 use Rattle.groups.specs.Groups.{shares}
 use Rattle.rules.specs.declared.Request.{Request}
 use Rattle.rules.specs.Lists.{◌∈◌, sum, any, keep}
@@ -56,7 +56,7 @@ pub record Ledger : Type 0 where
   pub pool : ℕ
   pub issued : ℕ
   pub grace : ℕ
-  pub shares : List Share
+  pub shares : List (Option Share)
   pub claims : List Entry
 
 -- Before any call, by the call that made the table: the groups and the units that it named, whether client 1 alone is declared, and its
@@ -92,7 +92,7 @@ abbrev pub after_acting : Turn → List Entry → List Entry
 after_acting t l = stay t.call l ++ issues t.call t.answer
 
 -- "A desk has a guarantee and a limit, declared before the first claim": the shares after an accepted call (document 02, P4).
-unfoldable pub shares_by : Call → List Share → List Share
+unfoldable pub shares_by : Call → List (Option Share) → List (Option Share)
 shares_by (timed t x) ss = ss
 shares_by (looks q) ss = ss
 shares_by (sets_up (declares c r l)) ss = with_share ss c (share r l)

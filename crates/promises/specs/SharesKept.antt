@@ -5,7 +5,7 @@
 use Rattle.std.specs.Prelude.{◌≡◌, ◌≢◌, List, map, ℕ, ◌+◌, ◌≤◌, ◌<◌, length}
 use Rattle.numbers.specs.Numbers.{full_number, most_pending}
 use Rattle.rules.specs.declared.Request.{Request}
-use Rattle.rules.specs.Shares.{share_of, pending_of, unfilled_in_all}
+use Rattle.rules.specs.Shares.{reserved_of, limit_of, share_of, pending_of, unfilled_in_all}
 use Rattle.rules.specs.Calls.{Call, claim, step}
 use Rattle.promises.specs.Ledger.{Turn, Steps, Entry, Ledger}
 use Rattle.promises.specs.Runs.{Told, Start, AtAnyTime, AtAnyCall}
@@ -16,13 +16,13 @@ askers l = map (λ e. e.asked.client) l
 
 -- After any number of the calls.
 pub record SharesNow (l : Ledger) (told : Told) : Type 0 where
-  pub within_limit : (c : ℕ) → pending_of (askers l.claims) c ≤ (share_of l.shares c).limit
+  pub within_limit : (c : ℕ) → pending_of (askers l.claims) c ≤ limit_of (share_of l.shares c)
   pub room_kept : length l.claims + unfilled_in_all l.shares (askers l.claims) ≤ most_pending
 
 -- Of one call.
 pub record SharesNext (l : Ledger) (t : Turn) (before after : Told) : Type 0 where
   pub never_full : (u : ℕ) (ask : Request) → t.call ≡ claim u ask
-      → pending_of (askers l.claims) ask.client < (share_of l.shares ask.client).reserved → t.answer.number ≢ full_number
+      → pending_of (askers l.claims) ask.client < reserved_of (share_of l.shares ask.client) → t.answer.number ≢ full_number
 
 pub record SharesKeptOf (step : Steps) (s : Start) (calls : List Call) : Type 0 where
   pub at_any_time : AtAnyTime step s calls SharesNow

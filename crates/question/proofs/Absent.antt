@@ -5,8 +5,8 @@ use mathlib.Core.Logic.{◌⊎◌, inl, inr, ⊎_elim}
 use mathlib.Core.Path.{◌≡◌, refl}
 use Prim.Native.Nat.{ℕ}
 use native.Mathlib.Omega.{arith}
-use Rattle.groups.specs.declared.MaybeGroup.{MaybeGroup}
-use Rattle.groups.specs.declared.MaybeGroup.TheVariants.{Group, NoGroup}
+use Rattle.std.proofs.Common.{Option}
+use Rattle.std.proofs.Common.{Some, None}
 use Rattle.rules.specs.declared.Claim.{Claim}
 use Rattle.rules.specs.declared.Common.TheVariants.{Unknown}
 use Rattle.rules.specs.declared.Standing.{Standing}
@@ -17,9 +17,9 @@ use Rattle.rules.specs.Claims.{conflicts}
 use Rattle.rules.specs.Calls.{shared, between, standing, standing_of, common_of}
 use Rattle.question.specs.Answers.{absent_of, NamedAbsent}
 
-shared-known : (g : MaybeGroup) → shared g ≡ Unknown → ⊥
-shared-known (Group g) e = let z : ◌≡◌ {A = ℕ} 0 1 = cc in omega arith
-shared-known NoGroup e = let z : ◌≡◌ {A = ℕ} 0 1 = cc in omega arith
+shared-known : (g : Option ℕ) → shared g ≡ Unknown → ⊥
+shared-known (Some g) e = let z : ◌≡◌ {A = ℕ} 0 1 = cc in omega arith
+shared-known None e = let z : ◌≡◌ {A = ℕ} 0 1 = cc in omega arith
 
 either-none : (xs ys : List Claim) → between xs ys ≡ Unknown → (xs ≡ []) ⊎ (ys ≡ [])
 either-none [] ys e = inl refl

@@ -1,5 +1,4 @@
 pub mod Absent
 pub mod AllSamples
 pub mod Answers
-pub mod Asking
 pub mod Told

@@ -1,5 +1,5 @@
 -- What is answered: the text for a table and a question, the whole text for a load, and the answer and the lent buffer of a call.
-use Rattle.std.specs.Prelude.{cond, List, [], ◌∷◌, ◌++◌, ◌≡◌, ℕ, zero, suc, eqb, length}
+use Rattle.std.specs.Prelude.{cond, List, [], ◌∷◌, ◌++◌, ◌≡◌, ℕ, zero, suc, eqb, length, Option, Some, None, Result, Ok, Err}
 use Rattle.numbers.specs.Numbers.{no_space_number}
 use Rattle.numerals.specs.Digits.{decimal_of}
 use Rattle.numerals.specs.Laid.{space_number, lent_out}
@@ -16,13 +16,13 @@ use Rattle.rules.specs.Tests.{named}
 use Rattle.rules.specs.Calls.{Model, setting_of, standing_of, common_of, free_of}
 use Rattle.rules.specs.Chains.{chain}
 use Rattle.replay.specs.StopLine.{stop_or}
-use Rattle.replay.specs.Replay.{replay_of}
+use Rattle.replay.specs.Replay.{Replay, replay_of}
 use Rattle.question.specs.declared.questions.Question.{Question}
-use Rattle.question.specs.declared.questions.Question.TheVariants.{Lookup, Why, Free, NoQuestion}
+use Rattle.question.specs.declared.questions.Question.TheVariants.{Lookup, Why, Free}
 use Rattle.question.specs.declared.questions.Question.TheVariants as question
-use Rattle.question.specs.declared.Asked.{Asked}
-use Rattle.question.specs.declared.Asked.TheVariants.{Written, NoSuch, NoRoom}
-use Rattle.question.specs.Questions.{question_of, is_question}
+use Rattle.question.specs.declared.AskError.{AskError}
+use Rattle.question.specs.declared.AskError.TheVariants.{NoSuch, NoRoom}
+use Rattle.question.specs.Questions.{question_of}
 
 -- Words, and a number after them.
 unfoldable pub worded : List ℕ → ℕ → List ℕ
@@ -94,18 +94,20 @@ sentence_of m (Lookup k) = lookup_text k (standing_of k m.pending)
 sentence_of m (Why k) = why_text (setting_of m) m.pending k
 sentence_of m (question.Common j k) = common_text j k (standing_of j m.pending) (common_of j k m.pending)
 sentence_of m Free = free_text (free_of m) m.pool
-sentence_of m NoQuestion = []
 
 unfoldable pub answer_text : Model → Question → List ℕ
 answer_text m q = sentence_of m q ++ (line_feed ∷ [])
 
 -- What is printed for a load: its stop line if it ends early, then the answer for the table that it leaves.
+abbrev pub text_from : Replay → Question → List ℕ
+text_from r q = stop_or r.stop r.at [] ++ answer_text r.left q
+
 unfoldable pub text_of : List ℕ → Question → List ℕ
-text_of load q = let r = replay_of load in stop_or r.stop r.at [] ++ answer_text r.left q
+text_of load q = text_from (replay_of load) q
 
 -- ── a call ──
--- The cases of `Asked` by their number and the count of bytes: 201 is a line that asks no question, no number of document 01 and no reason
--- of a line of a show.
+-- What is answered by its number and the count of bytes: 201 is a line that asks no question, no number of document 01 and no reason of a
+-- line of a show.
 pub record AskedValues : Type 0 where
   pub number : ℕ
   pub bytes : ℕ
@@ -113,32 +115,36 @@ pub record AskedValues : Type 0 where
 abbrev pub no_such_number : ℕ
 no_such_number = 201
 
-abbrev pub asked_values : Asked → AskedValues
-asked_values (Written n) = record { number = 0; bytes = n }
-asked_values NoSuch = record { number = no_such_number; bytes = 0 }
-asked_values NoRoom = record { number = no_space_number; bytes = 0 }
+abbrev pub asked_values : Result ℕ AskError → AskedValues
+asked_values (Ok n) = record { number = 0; bytes = n }
+asked_values (Err NoSuch) = record { number = no_such_number; bytes = 0 }
+asked_values (Err NoRoom) = record { number = no_space_number; bytes = 0 }
 
 -- A text that goes into the buffer, or not.
-abbrev pub written_as : ℕ → ℕ → Asked
-written_as zero n = Written n
-written_as (suc k) n = NoRoom
+abbrev pub written_as : ℕ → ℕ → Result ℕ AskError
+written_as zero n = Ok n
+written_as (suc k) n = Err NoRoom
 
-unfoldable pub written : List ℕ → List ℕ → Asked
+unfoldable pub written : List ℕ → List ℕ → Result ℕ AskError
 written text out = written_as (space_number text out) (length text)
 
 -- In numbers: the bytes of a text that goes into the buffer, else 15.
 unfoldable pub lent_values : List ℕ → List ℕ → AskedValues
 lent_values text out = record { number = space_number text out; bytes = cond (eqb (space_number text out) 0) (length text) 0 }
 
+-- What becomes of a line: what is given where it asks no question, or f of the text of the one that it asks.
+abbrev pub asked_or : {A : Type 0} → A → (List ℕ → A) → List ℕ → Option Question → A
+asked_or none f load None = none
+asked_or none f load (Some q) = f (text_of load q)
+
 -- The answer to a line, and the buffer after it.
-unfoldable pub asked_of : List ℕ → List ℕ → List ℕ → Asked
-asked_of load line out = let q = question_of line in cond (is_question q) (written (text_of load q) out) NoSuch
+unfoldable pub asked_of : List ℕ → List ℕ → List ℕ → Result ℕ AskError
+asked_of load line out = asked_or (Err NoSuch) (λ text. written text out) load (question_of line)
 
 -- The answer in numbers.
 unfoldable pub answer_values : List ℕ → List ℕ → List ℕ → AskedValues
 answer_values load line out =
-    let q = question_of line in
-    cond (is_question q) (lent_values (text_of load q) out) (record { number = no_such_number; bytes = 0 })
+    asked_or (record { number = no_such_number; bytes = 0 }) (λ text. lent_values text out) load (question_of line)
 
 unfoldable pub asked_out : List ℕ → List ℕ → List ℕ → List ℕ
-asked_out load line out = let q = question_of line in cond (is_question q) (lent_out (text_of load q) out) out
+asked_out load line out = asked_or out (λ text. lent_out text out) load (question_of line)

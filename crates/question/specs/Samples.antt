@@ -5,7 +5,7 @@ use Rattle.numerals.specs.Texts.{bytes}
 use Rattle.format.specs.Calls.{rig, rig_with, claim, claim_with, release, clock, declaration, grace, claim_from}
 use Rattle.load.specs.Bytes.{load_of}
 use Rattle.question.specs.Questions.{question_of}
-use Rattle.question.specs.Answers.{text_of}
+use Rattle.question.specs.Answers.{asked_or}
 
 pub record Sample : Type 0 where
   pub load : List ℕ
@@ -57,7 +57,7 @@ samples =
     ∷ []
 
 abbrev pub given : Sample → List ℕ
-given x = text_of x.load (question_of x.line)
+given x = asked_or [] (λ text. text) x.load (question_of x.line)
 
 abbrev pub expected : Sample → List ℕ
 expected x = x.text

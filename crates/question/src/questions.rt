@@ -1,124 +1,73 @@
 // The questions, and which of them a line asks. What a line asks is defined in specs/Questions.antt.
-ghost use Rattle.std.specs.Prelude.{◌≡◌, drop};
-ghost use Rattle.words.specs.Parts.{words_in};
-ghost use Rattle.question.specs.declared.questions.Numbers.TheVariants.{Empty};
-ghost use Rattle.question.specs.Questions.{and_number, and_value, if_named, is_question, ticket_in, numbers_in, question_named, question_of};
+ghost use Rattle.std.specs.Prelude.{◌≡◌, Some};
+ghost use Rattle.question.specs.Questions.{alone_asks, pair_asks, question_of, ticket_asks, ticket_in};
 
-use words::Field;
+use words::Reason;
 
-// A question: how a ticket stands, why it waits, which group two tickets share, how many units are free, or none that there is.
-#[derive(Clone, Copy)]
+// A question: how a ticket stands, why it waits, which group two tickets share, how many units are free.
+#[derive(Clone, Copy, Debug, PartialEq, Eq)]
 pub enum Question {
     Lookup(u16),
     Why(u16),
     Common(u16, u16),
     Free,
-    NoQuestion,
 }
 
-// The numbers behind a question's name: none, one, two, or not such numbers.
-#[derive(Clone, Copy)]
-pub enum Numbers {
-    Empty,
-    One(u16),
-    Two(u16, u16),
-    Bad,
-}
-
-// ---- the numbers of a question
-fn and_value(p: Numbers, k: u16) -> Numbers
-    ensures { result ≡ and_value p k }
+// The ticket that a word says.
+fn ticket(word: &[u8]) -> Option<u16>
+    ensures { result ≡ ticket_in word.now }
 {
-    match p {
-        Numbers::Empty => Numbers::One(k),
-        Numbers::One(j) => Numbers::Two(j, k),
-        Numbers::Two(_i, _j) => Numbers::Bad,
-        Numbers::Bad => Numbers::Bad,
+    match words::number(word, 10, 65535, Reason::NoTicket, Reason::TooLarge) {
+        Ok(ticket) => Some(ticket as u16),
+        Err(_) => None,
     }
 }
 
-// Numbers, and that of a word more.
-fn and_number(p: Numbers, word: &[u8]) -> Numbers
-    ensures { result ≡ and_number p (ticket_in word.now) }
+// ---- the questions by name: of nothing, of a ticket, of two
+fn alone_asks(name: &[u8]) -> Option<Question>
+    ensures { result ≡ alone_asks name.now }
 {
-    match words::number(word, 10, 65535, 0, 0) {
-        Field::Value(v) => and_value(p, v as u16),
-        Field::Wrong(_n) => Numbers::Bad,
+    if check::same(name, b"free") {
+        return Some(Question::Free);
     }
+    None
 }
 
-// The numbers of the words from a place on.
-fn numbers_at(line: &[u8], from: usize) -> Numbers
-    ensures { result ≡ numbers_in Empty (words_in (drop from line.now)) }
+fn ticket_asks(name: &[u8], ticket: u16) -> Option<Question>
+    ensures { result ≡ ticket_asks name.now (Some ticket) }
 {
-    let mut p = Numbers::Empty;
-    let mut at = from;
-    loop {
-        let w = words::next_word(line, at);
-        if w.to <= w.from {
-            return p;
-        }
-        let start = w.from;
-        let end = w.to;
-        p = and_number(p, &line[start..end]);
-        at = end;
+    if check::same(name, b"lookup") {
+        return Some(Question::Lookup(ticket));
     }
+    if check::same(name, b"why") {
+        return Some(Question::Why(ticket));
+    }
+    None
 }
 
-// ---- the questions by name
-// A question where a word is its name, else another.
-fn if_named(word: &[u8], name: &[u8], q: Question, other: Question) -> Question
-    ensures { result ≡ if_named word.now name.now q other }
+fn pair_asks(name: &[u8], first: u16, second: u16) -> Option<Question>
+    ensures { result ≡ pair_asks name.now (Some first) (Some second) }
 {
-    if check::same(word, name) {
-        return q;
+    if check::same(name, b"common") {
+        return Some(Question::Common(first, second));
     }
-    other
-}
-
-// By how many numbers stand behind the name.
-fn named(word: &[u8], p: Numbers) -> Question
-    ensures { result ≡ question_named word.now p }
-{
-    match p {
-        Numbers::Empty => if_named(word, b"free", Question::Free, Question::NoQuestion),
-        Numbers::One(k) => {
-            let why = if_named(word, b"why", Question::Why(k), Question::NoQuestion);
-            if_named(word, b"lookup", Question::Lookup(k), why)
-        }
-        Numbers::Two(j, k) => if_named(
-            word,
-            b"common",
-            Question::Common(j, k),
-            Question::NoQuestion,
-        ),
-        Numbers::Bad => Question::NoQuestion,
-    }
+    None
 }
 
 // ---- a line
 // The question that a line asks, without its line feed.
-pub fn question_of(line: &[u8]) -> Question
+pub fn question_of(line: &[u8]) -> Option<Question>
     ensures { result ≡ question_of line.now }
 {
-    let w = words::next_word(line, 0);
-    if w.to <= w.from {
-        return Question::NoQuestion;
+    let (name, rest) = words::next_word(line)?;
+    let Some((first, rest)) = words::next_word(rest) else {
+        return alone_asks(name);
+    };
+    let Some((second, rest)) = words::next_word(rest) else {
+        return ticket_asks(name, ticket(first)?);
+    };
+    if words::next_word(rest).is_some() {
+        return None;
     }
-    let from = w.from;
-    let to = w.to;
-    let p = numbers_at(line, to);
-    named(&line[from..to], p)
-}
-
-pub fn is_question(q: Question) -> bool
-    ensures { result ≡ is_question q }
-{
-    match q {
-        Question::Lookup(_k) => true,
-        Question::Why(_k) => true,
-        Question::Common(_j, _k) => true,
-        Question::Free => true,
-        Question::NoQuestion => false,
-    }
+    pair_asks(name, ticket(first)?, ticket(second)?)
 }

@@ -1,211 +1,216 @@
-// The answers as text, laid over a buffer from a place on as far as that goes; each answers the place after it. Their texts are defined in
-// specs/Answers.antt.
-ghost use Rattle.std.specs.Prelude.{◌≡◌, [], ◌++◌, ◌≤◌, ◌<◌, take};
-ghost use Rattle.numerals.specs.Laid.{Put};
-ghost use Rattle.rules.specs.Calls.{standing_values};
-ghost use Rattle.rules.specs.Tables.{model};
+// The answers as text, laid on a page. Their texts are defined in specs/Answers.antt.
+ghost use Rattle.std.specs.Prelude.{◌≡◌};
+ghost use Rattle.numbers.specs.Refusals.{number_of};
+ghost use Rattle.numerals.specs.Pages.{Lays};
+ghost use Rattle.rules.specs.Calls.{setting_of, standing_values};
 ghost use Rattle.table.specs.Valid.{Valid};
-ghost use Rattle.replay.specs.StopLine.{stop_or};
-ghost use Rattle.question.specs.Answers.{absent_of, answer_text, common_text, free_text, holds_text, is_on_text, lookup_text, sentence_of, standing_text, tickets_text, waits_text, worded};
-ghost use Rattle.question.specs.Told.{start_told, tickets_told, why_told};
+ghost use Rattle.replay.specs.Replay.{replay_told};
+ghost use Rattle.question.specs.Answers.{absent_of, answer_text, common_text, free_text, holds_text, is_on_text, lookup_text, sentence_of, standing_text, text_from, tickets_text, waits_text, why_text, worded};
+ghost use Rattle.question.specs.Told.{any_stop, start_told, tickets_told, unexplained};
 
 use crate::questions::Question;
-use replay::Replayed;
-use rules::{Blocking, Common, Standing, Table};
+use numbers::Refusal;
+use numerals::Page;
+use replay::{Replayed, Stop};
+use rules::{Common, Standing};
+use table::Table;
 
-fn put_number(out: &mut [u8], at: usize, words: &[u8], v: u64) -> usize
-    ensures { Put out.old at (worded words.now v) result out.new }
+// The number of a ticket that is not pending.
+const UNKNOWN: u8 = Refusal::Unknown as u8;
+
+// What holds of every table, as it tells it with its claims. No step at all.
+pub(crate) fn settle(table: &Table)
+    ensures { Valid table.now }
 {
-    let m = numerals::put_bytes(out, at, words);
-    numerals::put_decimal(out, m, v)
+    let _ = table.pending();
+}
+
+fn put_number(page: &mut Page<'_>, words: &[u8], value: u64)
+    ensures { Lays page.old (worded words.now value) page.new }
+{
+    page.bytes(words);
+    page.decimal(value);
 }
 
 // ---- lookup
-fn put_standing(out: &mut [u8], at: usize, s: Standing) -> usize
-    ensures { Put out.old at (standing_text s) result out.new }
+fn put_standing(page: &mut Page<'_>, standing: Standing)
+    ensures { Lays page.old (standing_text standing) page.new }
 {
-    match s {
-        Standing::NotPending => numerals::put_bytes(out, at, b" is not pending"),
-        Standing::Waits(start) => put_number(out, at, b" waits, start ", start),
-        Standing::Holds(end) => put_number(out, at, b" is on, promised end ", end),
+    match standing {
+        Standing::NotPending => page.bytes(b" is not pending"),
+        Standing::Waits(start) => put_number(page, b" waits, start ", start),
+        Standing::Holds(end) => put_number(page, b" is on, promised end ", end),
     }
 }
 
-fn put_lookup(out: &mut [u8], at: usize, ticket: u16, s: Standing) -> usize
-    ensures { Put out.old at (lookup_text ticket s) result out.new }
+fn put_lookup(page: &mut Page<'_>, ticket: u16, standing: Standing)
+    ensures { Lays page.old (lookup_text ticket standing) page.new }
 {
-    let m = put_number(out, at, b"ticket ", ticket as u64);
-    put_standing(out, m, s)
+    put_number(page, b"ticket ", ticket as u64);
+    put_standing(page, standing);
 }
 
 // ---- why
-fn put_waits(out: &mut [u8], at: usize, ticket: u16, link: u16, start: u64) -> usize
-    ensures { Put out.old at (waits_text ticket link start) result out.new }
+fn put_waits(page: &mut Page<'_>, ticket: u16, link: u16, start: u64)
+    ensures { Lays page.old (waits_text ticket link start) page.new }
 {
-    let a = numerals::put_decimal(out, at, ticket as u64);
-    let b = put_number(out, a, b" waits for ", link as u64);
-    let c = put_number(out, b, b" until ", start);
-    numerals::put_bytes(out, c, b", ")
+    page.decimal(ticket as u64);
+    put_number(page, b" waits for ", link as u64);
+    put_number(page, b" until ", start);
+    page.bytes(b", ");
 }
 
-fn put_holds(out: &mut [u8], at: usize, ticket: u16, end: u64) -> usize
-    ensures { Put out.old at (holds_text ticket end) result out.new }
+fn put_holds(page: &mut Page<'_>, ticket: u16, end: u64)
+    ensures { Lays page.old (holds_text ticket end) page.new }
 {
-    let m = numerals::put_decimal(out, at, ticket as u64);
-    put_number(out, m, b" is on until ", end)
+    page.decimal(ticket as u64);
+    put_number(page, b" is on until ", end);
 }
 
-fn put_is_on(out: &mut [u8], at: usize, ticket: u16) -> usize
-    ensures { Put out.old at (is_on_text ticket) result out.new }
+fn put_is_on(page: &mut Page<'_>, ticket: u16)
+    ensures { Lays page.old (is_on_text ticket) page.new }
 {
-    let m = put_number(out, at, b"ticket ", ticket as u64);
-    numerals::put_bytes(out, m, b" is on")
+    put_number(page, b"ticket ", ticket as u64);
+    page.bytes(b" is on");
 }
 
 // The planned start of a claim that waits; 0 of any other.
-fn start_of(s: Standing) -> u64
-    ensures { result ≡ (standing_values s).start }
+fn start_of(standing: Standing) -> u64
+    ensures { result ≡ (standing_values standing).start }
 {
-    match s {
-        Standing::NotPending => 0,
+    match standing {
         Standing::Waits(start) => start,
-        Standing::Holds(_e) => 0,
+        Standing::NotPending | Standing::Holds(_) => 0,
     }
 }
 
 // The tickets of a chain, each with its start, and the last with its end, the start before it. Cost: one lookup for each that waits.
-fn put_chain(out: &mut [u8], at: usize, t: Table, tickets: [u16; 64], count: usize) -> usize
-    requires { Valid t × (0 < count) × (count ≤ 64) }
-    ensures { Put out.old at (tickets_told (start_told (model t).pending) 0 (take count tickets)) result out.new }
+fn put_chain(page: &mut Page<'_>, table: &Table, tickets: &[u16])
+    ensures { Lays page.old (tickets_told (start_told table.now.pending) 0 tickets.now) page.new }
 {
-    let last = count - 1;
-    let mut n = at;
-    let mut end: u64 = 0;
-    let mut i: usize = 0;
-    while i < last {
-        let k = tickets[i];
-        let s = table::lookup(t, k);
-        end = start_of(s);
-        n = put_waits(out, n, k, tickets[i + 1], end);
-        i += 1;
+    let [first, links @ ..] = tickets else {
+        return;
+    };
+    let mut ticket = *first;
+    let mut end = 0;
+    for link in links {
+        end = start_of(table.lookup(ticket));
+        put_waits(page, ticket, *link, end);
+        ticket = *link;
     }
-    put_holds(out, n, tickets[i], end)
+    put_holds(page, ticket, end);
 }
 
-fn put_why(out: &mut [u8], at: usize, t: Table, ticket: u16, b: Blocking) -> usize
-    requires { Valid t × (b.number ≡ 0 → 0 < b.count) × (b.count ≤ 64) }
-    ensures { Put out.old at (why_told (model t).pending ticket b.number (take b.count b.tickets)) result out.new }
+// Of a ticket that is told no chain: it is not pending, or it is on.
+fn put_unexplained(page: &mut Page<'_>, ticket: u16, refusal: Refusal)
+    ensures { Lays page.old (unexplained ticket (number_of refusal)) page.new }
 {
-    if b.number == 0 {
-        let m = numerals::put_bytes(out, at, b"ticket ");
-        let tickets = b.tickets;
-        return put_chain(out, m, t, tickets, b.count);
+    if u8::from(refusal) == UNKNOWN {
+        put_lookup(page, ticket, Standing::NotPending);
+    } else {
+        put_is_on(page, ticket);
     }
-    if b.number == numbers::UNKNOWN {
-        return put_lookup(out, at, ticket, Standing::NotPending);
+}
+
+fn put_why(page: &mut Page<'_>, table: &Table, ticket: u16)
+    ensures { Lays page.old (why_text (setting_of table.now) table.now.pending ticket) page.new }
+{
+    settle(table);
+    match table.why(ticket) {
+        Ok(tickets) => {
+            page.bytes(b"ticket ");
+            put_chain(page, table, tickets.as_slice());
+        }
+        Err(refusal) => put_unexplained(page, ticket, refusal),
     }
-    put_is_on(out, at, ticket)
 }
 
 // ---- common
-fn put_tickets(out: &mut [u8], at: usize, first: u16, second: u16) -> usize
-    ensures { Put out.old at (tickets_text first second) result out.new }
+fn put_tickets(page: &mut Page<'_>, first: u16, second: u16)
+    ensures { Lays page.old (tickets_text first second) page.new }
 {
-    let m = put_number(out, at, b"tickets ", first as u64);
-    put_number(out, m, b" and ", second as u64)
+    put_number(page, b"tickets ", first as u64);
+    put_number(page, b" and ", second as u64);
 }
 
 // The first of two tickets that is not pending, by how the first stands.
-fn absent(first: u16, second: u16, s: Standing) -> u16
-    ensures { result ≡ absent_of first second s }
+fn absent(first: u16, second: u16, standing: Standing) -> u16
+    ensures { result ≡ absent_of first second standing }
 {
-    match s {
+    match standing {
         Standing::NotPending => first,
-        Standing::Waits(_s) => second,
-        Standing::Holds(_e) => second,
+        Standing::Waits(_) | Standing::Holds(_) => second,
     }
 }
 
-fn put_common(out: &mut [u8], at: usize, first: u16, second: u16, s: Standing, c: Common) -> usize
-    ensures { Put out.old at (common_text first second s c) result out.new }
+fn put_common(page: &mut Page<'_>, first: u16, second: u16, standing: Standing, common: Common)
+    ensures { Lays page.old (common_text first second standing common) page.new }
 {
-    match c {
+    match common {
         Common::Unknown => {
-            let ticket = absent(first, second, s);
-            put_lookup(out, at, ticket, Standing::NotPending)
+            let ticket = absent(first, second, standing);
+            put_lookup(page, ticket, Standing::NotPending);
         }
         Common::Shared(group) => {
-            let m = put_tickets(out, at, first, second);
-            put_number(out, m, b" share group ", group as u64)
+            put_tickets(page, first, second);
+            put_number(page, b" share group ", group as u64);
         }
         Common::Apart => {
-            let m = put_tickets(out, at, first, second);
-            numerals::put_bytes(out, m, b" share no group")
+            put_tickets(page, first, second);
+            page.bytes(b" share no group");
         }
     }
 }
 
 // ---- free
-fn put_free(out: &mut [u8], at: usize, free: u16, pool: u16) -> usize
-    ensures { Put out.old at (free_text free pool) result out.new }
+fn put_free(page: &mut Page<'_>, free: u16, pool: u16)
+    ensures { Lays page.old (free_text free pool) page.new }
 {
-    let a = numerals::put_decimal(out, at, free as u64);
-    let b = put_number(out, a, b" of ", pool as u64);
-    numerals::put_bytes(out, b, b" units free")
+    page.decimal(free as u64);
+    put_number(page, b" of ", pool as u64);
+    page.bytes(b" units free");
 }
 
 // ---- the answers
-fn put_sentence(out: &mut [u8], at: usize, t: Table, q: Question) -> usize
-    requires { Valid t }
-    ensures { Put out.old at (sentence_of (model t) q) result out.new }
+fn put_sentence(page: &mut Page<'_>, table: &Table, question: Question)
+    ensures { Lays page.old (sentence_of table.now question) page.new }
 {
-    match q {
-        Question::Lookup(ticket) => {
-            let s = table::lookup(t, ticket);
-            put_lookup(out, at, ticket, s)
-        }
-        Question::Why(ticket) => {
-            let b = table::why(t, ticket);
-            put_why(out, at, t, ticket, b)
-        }
-        Question::Common(first, second) => {
-            let s = table::lookup(t, first);
-            let c = table::common(t, first, second);
-            put_common(out, at, first, second, s, c)
-        }
-        Question::Free => {
-            let n = table::free(t);
-            put_free(out, at, n, t.pool)
-        }
-        Question::NoQuestion => numerals::put_bytes(out, at, b""),
+    match question {
+        Question::Lookup(ticket) => put_lookup(page, ticket, table.lookup(ticket)),
+        Question::Why(ticket) => put_why(page, table, ticket),
+        Question::Common(first, second) => put_common(
+            page,
+            first,
+            second,
+            table.lookup(first),
+            table.common(first, second),
+        ),
+        Question::Free => put_free(page, table.free(), table.pool()),
     }
 }
 
 // The sentence and a line feed.
-fn put_answer(out: &mut [u8], at: usize, t: Table, q: Question) -> usize
-    requires { Valid t }
-    ensures { Put out.old at (answer_text (model t) q) result out.new }
+fn put_answer(page: &mut Page<'_>, table: &Table, question: Question)
+    ensures { Lays page.old (answer_text table.now question) page.new }
 {
-    let m = put_sentence(out, at, t, q);
-    numerals::put_byte(out, m, b'\n')
+    put_sentence(page, table, question);
+    page.byte(b'\n');
 }
 
-// The load's stop line, if any: for a number that is not 0.
-fn put_any_stop(out: &mut [u8], stop: u8, at: u64) -> usize
-    ensures { Put out.old 0 (stop_or stop at []) result out.new }
+// The load's stop line, if any.
+fn put_any_stop(page: &mut Page<'_>, stop: Option<Stop>)
+    ensures { Lays page.old (any_stop stop) page.new }
 {
-    if stop == 0 {
-        return numerals::put_bytes(out, 0, b"");
+    match stop {
+        Some(stop) => replay::put_stop(page, u8::from(stop.refusal), stop.record),
+        None => {}
     }
-    replay::put_stop(out, 0, stop, at)
 }
 
 // What is printed for a load, from what it leaves.
-pub(crate) fn put_text(out: &mut [u8], left: Replayed, q: Question) -> usize
-    requires { Valid left.table }
-    ensures { Put out.old 0 (stop_or left.stop left.at [] ++ answer_text (model left.table) q) result out.new }
+pub(crate) fn put_text(page: &mut Page<'_>, left: &Replayed, question: Question)
+    ensures { Lays page.old (text_from (replay_told left.now) question) page.new }
 {
-    let m = put_any_stop(out, left.stop, left.at);
-    let t = left.table;
-    put_answer(out, m, t, q)
+    put_any_stop(page, left.stop);
+    put_answer(page, &left.table, question);
 }

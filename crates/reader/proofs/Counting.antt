@@ -6,11 +6,9 @@ use native.Mathlib.Omega.{arith}
 use lib.ListN.{length}
 use denote.Ref.{Bor}
 use Rattle.format.specs.declared.Call.{Call}
-use Rattle.load.specs.declared.Item.{Item}
+use Rattle.std.specs.Prelude.{Err}
 use Rattle.format.specs.Records.{Record}
-use Rattle.load.specs.declared.Item.TheVariants as item
-use Rattle.load.specs.declared.Item.TheVariants.{End, Refused}
-use Rattle.load.specs.Answers.{item_values}
+use Rattle.load.specs.Answers.{Answer, one_record, the_end, item_values}
 use Rattle.load.specs.Reading.{open_number, ended, walk, unless_refused, reading}
 use Rattle.load.proofs.Reading.{walk-short}
 use Rattle.reader.specs.declared.Reader.{Reader}
@@ -66,19 +64,19 @@ module _ (s : List ℕ) where
 
   module _ (t k : ℕ) (d : Reader) (l : Left s t k d) where
     -- what `next` answered, said of the load itself
-    item-is : (i : Item) → i ≡ item_of d.load.now d.at → item_of s d.at ≡ i
+    item-is : (i : Answer) → i ≡ item_of d.load.now d.at → item_of s d.at ≡ i
     item-is i e = sym (e ∙ ap (λ (x : List ℕ). item_of x d.at) l.same)
 
-    no_record : {c : Call} {n : ℕ} (i : Item) → (item_values 0 i).calls ≡ [] → i ≡ item.Record c n → ⊥
-    no_record {c} {n} i o e = let g : [] ≡ c ∷ [] = sym o ∙ ap (λ (j : Item). (item_values 0 j).calls) e in omega (arith, ap length g)
+    no_record : {c : Call} {n : ℕ} (i : Answer) → (item_values 0 i).calls ≡ [] → i ≡ one_record c n → ⊥
+    no_record {c} {n} i o e = let g : [] ≡ c ∷ [] = sym o ∙ ap (λ (j : Answer). (item_values 0 j).calls) e in omega (arith, ap length g)
 
-    module _ (c : Call) (n : ℕ) (e : item.Record c n ≡ item_of d.load.now d.at) where
+    module _ (c : Call) (n : ℕ) (e : one_record c n ≡ item_of d.load.now d.at) where
       pub behind-record : (q : Reader) → (q.load ≡ d.load) × (q.at ≡ position_after d.load.now d.at) → Fewer s t (k + 1) q
       behind-record q m = go l.records l.stop l.reads l.many l.last
         where
           go : (rs : List Record) (x : ℕ) → Reads s d.at rs x → length rs ≡ t → x ≡ (reading s).stop → Fewer s t (k + 1) q
-          go rs x (Reads.ended f) h z = absurd (no_record End refl (sym f ∙ item-is (item.Record c n) e))
-          go rs x (Reads.refused {n = y} f) h z = absurd (no_record (Refused y) refl (sym f ∙ item-is (item.Record c n) e))
+          go rs x (Reads.ended f) h z = absurd (no_record the_end refl (sym f ∙ item-is (one_record c n) e))
+          go rs x (Reads.refused {r = y} f) h z = absurd (no_record (Err y) refl (sym f ∙ item-is (one_record c n) e))
           go rs x (Reads.gave {rs = qs} f r) h z =
               let p : position_after s d.at ≡ q.at = sym (m.1 ∙ ap (λ (y : List ℕ). position_after y d.at) l.same) in
               record {
@@ -93,15 +91,15 @@ module _ (s : List ℕ) where
           omega (arith, f.less, l.all, few s)
 
     -- Where no record stands, all are counted, and the item's number is where the reading stops.
-    pub at-stop : (i : Item) → i ≡ item_of d.load.now d.at → (item_values 0 i).calls ≡ []
+    pub at-stop : (i : Answer) → i ≡ item_of d.load.now d.at → (item_values 0 i).calls ≡ []
         → (k ≡ length (reading s).records) × ((item_values 0 i).number ≡ (reading s).stop)
     at-stop i e o = go l.records l.stop l.reads l.many l.last
       where
-        number_is : (j : Item) → item_of s d.at ≡ j → (item_values 0 i).number ≡ (item_values 0 j).number
-        number_is j f = ap (λ (x : Item). (item_values 0 x).number) (sym (item-is i e) ∙ f)
+        number_is : (j : Answer) → item_of s d.at ≡ j → (item_values 0 i).number ≡ (item_values 0 j).number
+        number_is j f = ap (λ (x : Answer). (item_values 0 x).number) (sym (item-is i e) ∙ f)
 
         go : (rs : List Record) (x : ℕ) → Reads s d.at rs x → length rs ≡ t → x ≡ (reading s).stop
             → (k ≡ length (reading s).records) × ((item_values 0 i).number ≡ (reading s).stop)
-        go rs x (Reads.ended f) h z = (omega (arith, h, l.all), number_is End f ∙ z)
-        go rs x (Reads.refused {n = y} f) h z = (omega (arith, h, l.all), number_is (Refused y) f ∙ z)
+        go rs x (Reads.ended f) h z = (omega (arith, h, l.all), number_is the_end f ∙ z)
+        go rs x (Reads.refused {r = y} f) h z = (omega (arith, h, l.all), number_is (Err y) f ∙ z)
         go rs x (Reads.gave f r) h z = absurd (no_record i o (sym (item-is i e) ∙ f))

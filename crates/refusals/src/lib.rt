@@ -1,7 +1,7 @@
 // The tests of a call in code, each on what it looks at; its number stands with it in rules, specs/Tests.antt. A comparison or two each.
 #![tactic(auto)]
 
-ghost use Rattle.std.specs.Prelude.{◌≡◌};
+ghost use Rattle.std.specs.Prelude.{◌≡◌, Some};
 ghost use Rattle.rules.specs.Tests.{late, backward, dark, stranger, no_client, nothing_asked, off_rig, spots, bad_length, full, full_for, over, begun, overbooked, bad_grace, ticketless};
 
 use rules::Share;
@@ -33,10 +33,7 @@ pub fn off_rig(rig: u64, groups: u64) -> bool
 pub fn nothing_asked(groups: u64, units: u16) -> bool
     ensures { result ≡ (nothing_asked groups units).fails }
 {
-    if groups::empty(groups) {
-        return units == 0;
-    }
-    false
+    groups::empty(groups) && units == 0
 }
 
 pub fn spots(pool: u16, units: u16) -> bool
@@ -48,10 +45,7 @@ pub fn spots(pool: u16, units: u16) -> bool
 pub fn bad_length(length: u32) -> bool
     ensures { result ≡ (bad_length length).fails }
 {
-    if length == 0 {
-        return true;
-    }
-    numbers::MOST_LENGTH < length
+    length == 0 || numbers::MOST_LENGTH < length
 }
 
 pub fn full(pending: usize) -> bool
@@ -61,28 +55,22 @@ pub fn full(pending: usize) -> bool
 }
 
 // Of a share and its client's own pending claims; so many are pending in all, and so much is unfilled of the others' guarantees.
-pub fn full_for(s: Share, own: usize, pending: usize, unfilled: usize) -> bool
-    ensures { result ≡ (full_for s own pending unfilled).fails }
+pub fn full_for(share: Share, own: usize, pending: usize, unfilled: usize) -> bool
+    ensures { result ≡ (full_for (Some share) own pending unfilled).fails }
 {
-    if own < s.reserved as usize {
-        return false;
-    }
-    if numbers::MOST_PENDING <= pending {
-        return true;
-    }
-    numbers::MOST_PENDING - pending <= unfilled
+    usize::from(share.reserved) <= own && numbers::MOST_PENDING <= pending.saturating_add(unfilled)
 }
 
-pub fn over(s: Share, own: usize) -> bool
-    ensures { result ≡ (over s own).fails }
+pub fn over(share: Share, own: usize) -> bool
+    ensures { result ≡ (over (Some share) own).fails }
 {
-    s.limit as usize <= own
+    usize::from(share.limit) <= own
 }
 
-pub fn stranger(s: Share) -> bool
-    ensures { result ≡ (stranger s).fails }
+pub fn stranger(share: Option<Share>) -> bool
+    ensures { result ≡ (stranger share).fails }
 {
-    !s.declared
+    share.is_none()
 }
 
 // The tests of a declaration.
@@ -95,38 +83,23 @@ pub fn begun(issued: u16) -> bool
 pub fn bad_grace(issued: u16, grace: u32) -> bool
     ensures { result ≡ (bad_grace issued grace).fails }
 {
-    if begun(issued) {
-        return true;
-    }
-    numbers::MOST_GRACE < grace
+    begun(issued) || numbers::MOST_GRACE < grace
 }
 
 pub fn no_client(client: u8) -> bool
     ensures { result ≡ (no_client client).fails }
 {
-    if client == 0 {
-        return true;
-    }
-    numbers::MOST_CLIENTS < client
+    client == 0 || numbers::MOST_CLIENTS < client
 }
 
-// Of the share that the client has, and of all that is reserved.
-pub fn overbooked(s: Share, all: usize, reserved: u8, limit: u8) -> bool
-    ensures { result ≡ (overbooked s all reserved limit).fails }
+// Of the share that the client has, if any, and of all that is reserved.
+pub fn overbooked(share: Option<Share>, all: usize, reserved: u8, limit: u8) -> bool
+    ensures { result ≡ (overbooked share all reserved limit).fails }
 {
-    if numbers::MOST_PENDING < all {
-        return true;
-    }
-    if numbers::MOST_PENDING - all < reserved as usize {
-        return true;
-    }
-    if limit < reserved {
-        return true;
-    }
-    if numbers::MOST_PENDING < limit as usize {
-        return true;
-    }
-    s.declared
+    numbers::MOST_PENDING < all.saturating_add(usize::from(reserved))
+        || limit < reserved
+        || numbers::MOST_PENDING < usize::from(limit)
+        || share.is_some()
 }
 
 pub fn ticketless(issued: u16) -> bool

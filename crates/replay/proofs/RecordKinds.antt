@@ -12,12 +12,12 @@ use borrow.Author.Tests.{eqb-true, ne_eqb, not-true}
 use Rattle.rules.specs.Lists.{◌∈◌}
 use Rattle.format.specs.declared.Call.{Call}
 use Rattle.format.specs.Records.{Record, record_of}
-use Rattle.load.specs.declared.Item.TheVariants as item
 use Rattle.format.specs.Format.{rig_kind, claim_kind, release_kind, withdraw_kind, clock_kind, declaration_kind, grace_kind, format, has_kind}
+use Rattle.load.specs.Answers.{one_record}
 use Rattle.load.specs.Reading.{agree, kind_field, edition_of, item_at, walk}
 use Rattle.format.proofs.Format.{either, all_rows, kind-tested}
 use Rattle.format.proofs.Calls.{kind-of-call}
-use Rattle.load.proofs.Reading.{stands, misfit-not, record-size, by-item, step-next, step_past, walk_call, walk_end, walk_refused}
+use Rattle.load.proofs.Reading.{stands, misfit-not, call-size, by-item, step-next, step_past, walk_call, walk_end, walk_refused}
 use Rattle.replay.specs.Records.{says_call}
 use Rattle.replay.specs.RecordKinds.{Says, says-claim, says-release, says-withdrawal, says-clock, says-declaration, says-grace, no_record, rig-first, RecordsSayCalls}
 
@@ -45,7 +45,7 @@ agree_same : (a b : Bool) → agree a b ≡ true → a ≡ b
 agree_same true b h = sym h
 agree_same false b h = sym (not-true b h)
 
-module _ (s : List ℕ) (at : ℕ) (c : Call) (next : ℕ) (h : item_at s at ≡ item.Record c next) where
+module _ (s : List ℕ) (at : ℕ) (c : Call) (next : ℕ) (h : item_at s at ≡ one_record c next) where
   -- It is a rig where it is the first.
   rig-at : eqb c.kind rig_kind ≡ eqb at 1
   rig-at =
@@ -55,7 +55,7 @@ module _ (s : List ℕ) (at : ℕ) (c : Call) (next : ℕ) (h : item_at s at ≡
       ap (λ (n : ℕ). eqb n rig_kind) q ∙ agree_same (eqb k rig_kind) (eqb at 1) (misfit-not _ _ _ _ _ r.fits).2
 
   says-behind : 1 < at → Says (record_of c) (says_call (record_of c))
-  says-behind l = says (record_of c) (kind-listed (edition_of s) c.kind (record-size s at c next h).0) (rig-at ∙ ne_eqb at 1 (λ e. omega arith))
+  says-behind l = says (record_of c) (kind-listed (edition_of s) c.kind (call-size s at c next h).0) (rig-at ∙ ne_eqb at 1 (λ e. omega arith))
 
 -- ── all of them ──
 -- Those from a position behind the rig on; the load is at most j bytes longer.

@@ -1,8 +1,8 @@
 -- The table that a load leaves: its records are run one after the other, up to the load's end or to the record that ends it early.
 -- That this is the run of its calls, of which the listing prints the answers, is said in `load_runs`.
-use Rattle.std.specs.Prelude.{Bool, List, [], ◌∷◌, ℕ, zero, suc, ◌+◌}
+use Rattle.std.specs.Prelude.{Bool, List, [], ◌∷◌, ℕ, zero, suc, ◌+◌, Some, None}
 use Rattle.rules.specs.Calls.{Model}
-use Rattle.rules.specs.Tables.{encode}
+use Rattle.numbers.specs.Refusals.{number_of}
 use Rattle.format.specs.Records.{Record}
 use Rattle.load.specs.Reading.{Walk, walk, open_number}
 use Rattle.replay.specs.declared.Replayed.{Replayed}
@@ -37,6 +37,6 @@ replay_in alone k m w = replay_from alone k m w.records w.stop
 unfoldable pub replay_of : List ℕ → Replay
 replay_of load = stopped_or (open_number load) 0 unrigged (replay_in (alone_in load) 1 unrigged (walk load 1))
 
--- As the code's struct.
-abbrev pub replayed : Replay → Replayed
-replayed r = record { table = encode r.left; stop = r.stop; at = r.at }
+-- What the code's struct tells.
+abbrev pub replay_told : Replayed → Replay
+replay_told r = elim r.stop [ Some s ↦ stopped_at (number_of s.refusal) s.record r.table | None ↦ stopped_at 0 0 r.table ]

@@ -3,32 +3,34 @@
 
 ghost use Rattle.std.specs.Prelude.{◌≡◌, ◌≤◌, length};
 ghost use Rattle.numbers.specs.Numbers.{most_bytes};
-ghost use Rattle.rules.specs.Tables.{model};
-ghost use Rattle.numerals.specs.Laid.{Put};
+ghost use Rattle.numerals.specs.Pages.{Lays};
 ghost use Rattle.format.specs.Records.{record_of};
 ghost use Rattle.load.specs.Reading.{walk};
-ghost use Rattle.table.specs.Valid.{Valid};
-ghost use Rattle.table.specs.Outcomes.{outcome};
+ghost use Rattle.table.specs.Outcomes.{answer_of};
 ghost use Rattle.replay.specs.Records.{alone_in, step_of, ending, unrigged};
-ghost use Rattle.replay.specs.Replay.{replay_in, replay_of, replayed};
+ghost use Rattle.replay.specs.Replay.{replay_in, replay_of, replay_told};
 ghost use Rattle.replay.specs.StopLine.{stop_line};
 
 use format::{Call, kinds};
-use load::Item;
-use rules::{Request, Table};
-use table::Outcome;
+use numbers::Refusal;
+use numerals::Page;
+use rules::Request;
+use table::{Accepted, Table};
 
 // ── a record ──
 
-// What a record does to a table, by its kind: the call of the table that it says. `alone` is for the rig: client 1 alone is declared. Release
-// and withdrawal are one call site: the compiler then makes no copy of the table for either.
-pub fn act(t: Table, alone: bool, call: Call) -> Outcome
-    requires { Valid t }
-    ensures { (result ≡ outcome (step_of alone (model t) (record_of call))) × Valid result.table }
+// What a record does to a table, by its kind: the call of the table that it says. `alone` is for the rig: client 1 alone is declared.
+#[tactic(auto, unfolding(crate::specs::Records::step_of, crate::specs::Records::says_call))]
+pub fn act(table: &mut Table, alone: bool, call: Call) -> Result<Accepted, Refusal>
+    ensures answer { answer_of result ≡ (step_of alone table.old (record_of call)).answer }
+    ensures table { table.new ≡ (step_of alone table.old (record_of call)).model }
 {
-    let kind = call.kind;
-    match kind {
-        kinds::RIG => table::new(call.groups, call.pool, alone),
+    match call.kind {
+        kinds::RIG => {
+            let (rigged, answer) = Table::new(call.groups, call.pool, alone);
+            *table = rigged;
+            answer
+        }
         kinds::CLAIM => {
             let ask = Request {
                 groups: call.groups,
@@ -36,127 +38,129 @@ pub fn act(t: Table, alone: bool, call: Call) -> Outcome
                 units: call.units,
                 client: call.client,
             };
-            table::claim(t, call.clock, ask)
+            table.claim(call.clock, ask)
         }
-        kinds::RELEASE | kinds::WITHDRAW => table::leave(
-            t,
-            kind == kinds::RELEASE,
-            call.clock,
-            call.ticket,
-        ),
-        kinds::DECLARATION => table::declare(t, call.client, call.reserved, call.limit),
-        kinds::GRACE => table::set_grace(t, call.grace),
-        _ => table::clock(t, call.clock),
+        kinds::RELEASE => table.release(call.clock, call.ticket),
+        kinds::WITHDRAW => table.withdraw(call.clock, call.ticket),
+        kinds::DECLARATION => table.declare(call.client, call.reserved, call.limit),
+        kinds::GRACE => table.set_grace(call.grace),
+        _ => table.clock(call.clock),
     }
 }
 
 // Whether a load is of an edition without declarations, in which client 1 alone is declared.
+#[tactic(auto, unfolding(crate::specs::Records::alone_in))]
 pub fn alone_in(load: &[u8]) -> bool
     ensures { result ≡ alone_in load.now }
 {
-    if load.len() == 0 {
-        return true;
+    match load.first() {
+        Some(edition) => *edition < 3,
+        None => true,
     }
-    load[0] < 3
 }
 
 // ── the stop ──
+
+// The numbers that end a load early: a dark rig's, and those from the edition to an overlong load.
+const DARK: u8 = Refusal::Dark as u8;
+
+const EDITION: u8 = Refusal::Edition as u8;
+
+const OVERLONG: u8 = Refusal::Overlong as u8;
 
 // The number by which a record ends the load early, 0 for none.
 #[tactic(auto, unfolding(crate::specs::Records::ending))]
 pub fn ending_of(k: u64, number: u8) -> u8
     ensures { result ≡ ending k number }
 {
-    if number == numbers::DARK {
-        if k == 1 {
-            return number;
-        }
-        return 0;
+    match number {
+        DARK if k == 1 => number,
+        EDITION..=OVERLONG => number,
+        _ => 0,
     }
-    if number < numbers::EDITION {
-        return 0;
-    }
-    if numbers::OVERLONG < number {
-        return 0;
-    }
-    number
 }
 
-// Its line, laid over a buffer from a place on, as far as that goes; the answer is the place after it.
-pub fn put_stop(out: &mut [u8], at: usize, number: u8, k: u64) -> usize
-    ensures { Put out.old at (stop_line number k) result out.new }
+// Its line.
+pub fn put_stop(page: &mut Page<'_>, number: u8, k: u64)
+    ensures { Lays page.old (stop_line number k) page.new }
 {
-    let m = numerals::put_bytes(out, at, b"stop ");
-    numerals::put_pair(out, m, number as u64, k, b'\n')
+    page.bytes(b"stop ");
+    page.pair(number as u64, k, b'\n');
 }
 
 // ── the table that a load leaves ──
 
-// That table, and the number and the record of the stop: 0 and 0 for a load that is read to its end.
-#[derive(Clone, Copy)]
-pub struct Replayed {
-    pub table: Table,
-    pub stop: u8,
-    pub at: u64,
+// Why a load stops before its end, and at which record: 0 before the first.
+#[derive(Clone, Copy, Debug, PartialEq, Eq)]
+pub struct Stop {
+    pub refusal: Refusal,
+    pub record: u64,
 }
 
-// The records of a load that opens.
+// The table that a load leaves, and the stop of one that is not read to its end.
+#[derive(Drop)]
+pub struct Replayed {
+    pub table: Table,
+    pub stop: Option<Stop>,
+}
+
+// The table before the rig.
+#[tactic(auto, using(table::proofs::Promised::new_none))]
+pub fn unrigged() -> Table
+    ensures { result ≡ unrigged }
+{
+    let (table, _) = Table::new(0, 0, true);
+    table
+}
+
+// The records of a load that opens. What ends it early leaves the table as it was: a dark rig the one before it.
 fn replay_records(load: &[u8]) -> Replayed
     requires { length load.now ≤ most_bytes }
-    ensures { (result ≡ replayed (replay_in (alone_in load.now) 1 unrigged (walk load.now 1))) × Valid result.table }
+    ensures { replay_told result ≡ replay_in (alone_in load.now) 1 unrigged (walk load.now 1) }
 {
     let alone = alone_in(load);
-    let none = table::new(0, 0, true);
-    let mut t = none.table;
-    let mut at: usize = 1;
-    let mut nth: u64 = 1;
+    let mut table = unrigged();
+    let mut at = 1;
+    let mut record = 1;
     loop {
         match load::record_at(load, at) {
-            Item::Record(call, next) => {
-                let o = act(t, alone, call);
-                let stop = ending_of(nth, o.number);
-                if stop != 0 {
-                    return Replayed {
-                        table: t,
-                        stop: stop,
-                        at: nth,
-                    };
+            Ok(Some(item)) => {
+                match act(&mut table, alone, item.call) {
+                    Err(refusal) if ending_of(record, u8::from(refusal)) != 0 => {
+                        if record == 1 {
+                            table = unrigged();
+                        }
+                        return Replayed {
+                            table,
+                            stop: Some(Stop { refusal, record }),
+                        };
+                    }
+                    _ => {
+                        at = item.next;
+                        record += 1;
+                    }
                 }
-                t = o.table;
-                at = next;
-                nth += 1;
             }
-            Item::End => {
+            Ok(None) => return Replayed { table, stop: None },
+            Err(refusal) => {
                 return Replayed {
-                    table: t,
-                    stop: 0,
-                    at: 0,
-                };
-            }
-            Item::Refused(r) => {
-                return Replayed {
-                    table: t,
-                    stop: r,
-                    at: nth,
+                    table,
+                    stop: Some(Stop { refusal, record }),
                 };
             }
         }
     }
 }
 
-// What a load leaves. Cost: one call of the table for each record, and two copies of it.
+// What a load leaves. Cost: one call of the table for each record.
 pub fn replay(load: &[u8]) -> Replayed
-    ensures { (result ≡ replayed (replay_of load.now)) × Valid result.table }
+    ensures { replay_told result ≡ replay_of load.now }
 {
-    let number = load::open_number(load);
-    if number != 0 {
-        let none = table::new(0, 0, true);
-        let t = none.table;
-        return Replayed {
-            table: t,
-            stop: number,
-            at: 0,
-        };
+    match load::check_open(load) {
+        Ok(()) => replay_records(load),
+        Err(refusal) => Replayed {
+            table: unrigged(),
+            stop: Some(Stop { refusal, record: 0 }),
+        },
     }
-    replay_records(load)
 }

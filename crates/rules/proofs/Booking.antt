@@ -13,7 +13,7 @@ use Rattle.rules.specs.declared.Reply.{Reply}
 use Rattle.rules.specs.declared.Setting.{Setting}
 use Rattle.rules.specs.Packing.{packed_start, moved, pack}
 use Rattle.rules.specs.Granting.{granted, grant}
-use Rattle.rules.specs.Shares.{share_of, pending_of, unfilled_by_others, with_share, share}
+use Rattle.rules.specs.Shares.{reserved_of, share_of, pending_of, unfilled_by_others, with_share, share}
 use Rattle.rules.specs.Tests.{full_for, named}
 use Rattle.rules.specs.Calls.{Model, setting_of, clients_of, ruled, Call, claim, tests, advance, plain, finish, join, remove, admit, declared, step}
 use Rattle.rules.specs.Invariants.{Invariant, Booked, IsBooked}
@@ -128,7 +128,7 @@ room-left m t ask a b =
     omega (arith, claim-room m.shares (clients_of m.pending) ask.client b (room_of m t ask a), length-map m.pending (λ (c : Claim). c.client))
 
 -- "A desk below its guarantee never meets 6."
-pub below-never-full : (m : Model) (t : ℕ) (ask : Request) → pending_of (clients_of m.pending) ask.client < (share_of m.shares ask.client).reserved
+pub below-never-full : (m : Model) (t : ℕ) (ask : Request) → pending_of (clients_of m.pending) ask.client < reserved_of (share_of m.shares ask.client)
     → (step m (claim t ask)).answer.number ≢ full_number
 unfolding tests
 below-never-full m t ask h e =

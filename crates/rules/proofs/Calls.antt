@@ -6,8 +6,8 @@ use mathlib.Core.List.Memᴰ
 use mathlib.Core.List.{List, [], ◌∷◌}
 use Prim.Native.Nat.{ℕ, zero, suc, ◌≤◌, ◌<◌}
 use native.Mathlib.Omega.{arith}
+use Rattle.std.proofs.Common.{is_some}
 use lib.Dec.{ltb, eqb}
-use lib.ListN.{length}
 use borrow.Author.Tests.{ltb-false, le-ltb, leb-false, eqb-false, not-false}
 use Rattle.numbers.specs.Numbers.{most_clock, most_length, most_tickets, most_grace}
 use Rattle.groups.specs.Groups.{empty, within}
@@ -51,7 +51,7 @@ clock-passes m t ts e =
 -- What the tests of an accepted claim say.
 pub record Admissible (m : Model) (t : ℕ) (ask : Request) : Type 0 where
   pub clocked : Clocked m t
-  pub known : (share_of m.shares ask.client).declared ≡ true
+  pub known : is_some (share_of m.shares ask.client) ≡ true
   pub asks : (empty ask.groups && eqb ask.units 0) ≡ false
   pub inside : within ask.groups m.rig ≡ true
   pub drawn : ask.units ≤ m.pool
@@ -76,7 +76,7 @@ admissible m t ask e =
     let h = passes (ticketless m.issued) [] (omega arith) o.1 in
     record {
       clocked = a.0;
-      known = not-false s.declared k.0;
+      known = not-false (is_some s) k.0;
       asks = b.0;
       inside = not-false (within ask.groups m.rig) c.0;
       drawn = ltb-false m.pool ask.units g.0;

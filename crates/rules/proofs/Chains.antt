@@ -20,7 +20,7 @@ use Rattle.rules.specs.Plans.{Ascending, HeldUp}
 use Rattle.rules.specs.Invariants.{Settled, Invariant}
 use Rattle.rules.specs.Tests.{first_number, named, unknown, already_on}
 use Rattle.rules.specs.Calls.{Model, setting_of, at_chain, looks, tests, step}
-use Rattle.rules.specs.Chains.{counts_as, links, link, chain_within, chain, ChainValues, chain_refused, chain_tickets, chain_of, TrueLink, TrueChain, adds, Explains, Chained}
+use Rattle.rules.specs.Chains.{counts_as, links, link, chain_within, chain, ChainValues, chain_refused, chain_tickets, chain_of, TrueLink, TrueChain, adds, Chained}
 use Rattle.rules.proofs.Bools.{and_l, and_r, and_i, clash, by-test}
 use Rattle.rules.proofs.Lists.{Each, none, any-i, any_none, any_false, any_some, first-e, ascends-first, keep-lt, keep-length}
 use Rattle.rules.proofs.Claims.{end-wait, end_ge}

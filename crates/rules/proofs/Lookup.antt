@@ -8,9 +8,10 @@ use Prim.Native.Nat.{ℕ, zero, suc, ◌+◌}
 use native.Mathlib.Omega.{arith}
 use lib.Dec.{eqb}
 use borrow.Author.Tests.{eqb-true, eqb-false, ne_eqb}
-use Rattle.groups.specs.declared.MaybeGroup.{MaybeGroup}
-use Rattle.groups.specs.declared.MaybeGroup.TheVariants.{Group, NoGroup}
-use Rattle.groups.specs.Groups.{found, shares}
+use Rattle.std.proofs.Common.{Option}
+use Rattle.std.proofs.Common.{Some, None}
+use Rattle.std.proofs.Common.{is_some}
+use Rattle.groups.specs.Groups.{shares}
 use Rattle.rules.specs.declared.Claim.{Claim}
 use Rattle.rules.specs.Lists.{◌∈◌, any, keep}
 use Rattle.rules.specs.Claims.{on, at, conflicts, rival}
@@ -97,17 +98,17 @@ pub shared-rival : (c d : Claim) (g : ℕ) → shared (conflicts c d) ≡ Shared
 unfolding shares
 shared-rival c d g e = go (conflicts c d) e
   where
-    go : (m : MaybeGroup) → shared m ≡ Shared g → found m ≡ true
-    go (Group h) q = refl
-    go NoGroup q = let z : ◌≡◌ {A = ℕ} 0 1 = cc in absurd (omega arith)
+    go : (m : Option ℕ) → shared m ≡ Shared g → is_some m ≡ true
+    go (Some h) q = refl
+    go None q = let z : ◌≡◌ {A = ℕ} 0 1 = cc in absurd (omega arith)
 
 pub rival-shared : (c d : Claim) → rival c d ≡ true → (g : ℕ) × (shared (conflicts c d) ≡ Shared g)
 unfolding shares
 rival-shared c d e = go (conflicts c d) e
   where
-    go : (m : MaybeGroup) → found m ≡ true → (g : ℕ) × (shared m ≡ Shared g)
-    go (Group h) q = (h, refl)
-    go NoGroup q = clash q refl
+    go : (m : Option ℕ) → is_some m ≡ true → (g : ℕ) × (shared m ≡ Shared g)
+    go (Some h) q = (h, refl)
+    go None q = clash q refl
 
 -- ── what a lookup answers ──
 -- It changes nothing, and its answer has nothing but the number.
@@ -161,9 +162,9 @@ between-values [] ds = refl
 between-values (c ∷ cs) [] = refl
 between-values (c ∷ cs) (d ∷ ds) = go (conflicts c d)
   where
-    go : (g : MaybeGroup) → common_values (shared g) ≡ record { number = 0; groups = group_in g }
-    go (Group g) = refl
-    go NoGroup = refl
+    go : (g : Option ℕ) → common_values (shared g) ≡ record { number = 0; groups = group_in g }
+    go (Some g) = refl
+    go None = refl
 
 pub common-told : (m : Model) (j k : ℕ) (s : Common) → s ≡ common_of j k m.pending → (s ≡ common_of j k m.pending) × (common_values s ≡ common_gives m j k)
 unfolding tests first_number common_of

@@ -5,6 +5,7 @@ use mathlib.Core.Bool.{true, false, not}
 use mathlib.Core.List.{List, [], ◌∷◌}
 use Prim.Native.Nat.{ℕ}
 use native.Mathlib.Omega.{arith}
+use Rattle.std.proofs.Common.{Option, is_some}
 use lib.ListN.{length, length-map}
 use borrow.Author.Tests.{le-ltb}
 use Rattle.numbers.specs.Numbers.{over_number}
@@ -68,7 +69,7 @@ module _ (m : Model) (a : Alone m) (t : ℕ) (ask : Request) where
   unfolding tests
   turned-away ne =
       front (late t) _ _ (front (backward m.clock t) _ _ (stops (stranger (share_of m.shares ask.client)) _ []
-      (ap (λ (ss : List Share). not (share_of ss ask.client).declared) a.declared ∙ ap not (alone-stranger ask.client ne))))
+      (ap (λ (ss : List (Option Share)). not (is_some (share_of ss ask.client))) a.declared ∙ ap not (alone-stranger ask.client ne))))
 
   first-not-over : (ask.client ≡ 1) ⊎ (ask.client ≢ 1) → first_number (tests m (claim t ask)) ≢ over_number
   first-not-over (inl e) q =
@@ -97,9 +98,9 @@ step-alone m c d a =
     of-clients : (ps : List Claim) → ((k : ℕ) → k ∈ clients_of ps → k ≡ 1) → (c : Claim) → c ∈ ps → c.client ≡ 1
     of-clients ps h c i = h c.client (map-i (λ (c : Claim). c.client) i)
 
-    one : (k : ℕ) → (share_of m.shares k).declared ≡ true → (k ≡ 1) ⊎ (k ≢ 1) → k ≡ 1
+    one : (k : ℕ) → is_some (share_of m.shares k) ≡ true → (k ≡ 1) ⊎ (k ≢ 1) → k ≡ 1
     one k e (inl q) = q
-    one k e (inr q) = clash e (ap (λ (ss : List Share). (share_of ss k).declared) a.declared ∙ alone-stranger k q)
+    one k e (inr q) = clash e (ap (λ (ss : List (Option Share)). is_some (share_of ss k)) a.declared ∙ alone-stranger k q)
 
     admitted : (t : ℕ) (ask : Request) → Admissible m t ask → (k : ℕ) → k ∈ clients_of (admit (advance m t) ask).model.pending → k ≡ 1
     admitted t ask p k i =

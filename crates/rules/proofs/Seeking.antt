@@ -11,7 +11,7 @@ use borrow.Author.Tests.{leb-true, le-leb}
 use Rattle.rules.specs.declared.Claim.{Claim}
 use Rattle.rules.specs.Lists.{◌∈◌, greatest}
 use Rattle.rules.specs.declared.Setting.{Setting}
-use Rattle.rules.specs.Claims.{at, end_of}
+use Rattle.rules.specs.Claims.{end_of}
 use Rattle.rules.specs.Order.{meets}
 use Rattle.rules.specs.Pool.{units_at, used}
 use Rattle.rules.specs.Seeking.{candidates, seek}

@@ -6,6 +6,7 @@ use mathlib.Core.Bool.{Bool, true, false, not, cond}
 use mathlib.Core.List.{List, [], ◌∷◌, ◌++◌, map}
 use Prim.Native.Nat.{ℕ, zero, suc, ◌+◌, ◌-◌, ◌≤◌, ◌<◌}
 use native.Mathlib.Omega.{arith}
+use Rattle.std.proofs.Common.{Option, Some, None, is_some}
 use lib.Dec.{eqb, leb, ltb}
 use lib.ListN.{length, get_or, replicate, length-append, length-set, get_or-eq_default}
 use lib.Seq.{get_or-set_same, get_or-set_other}
@@ -13,7 +14,7 @@ use borrow.Author.Tests.{ltb-false, leb-true, leb-false, le-leb, le-ltb, lt-leb,
 use Rattle.numbers.specs.Numbers.{most_pending}
 use Rattle.rules.specs.declared.Share.{Share}
 use Rattle.rules.specs.Lists.{◌∈◌, sum, keep}
-use Rattle.rules.specs.Shares.{clients, undeclared, share, first_shares, share_of, with_share, pending_of, unfilled, unfilled_by_others, reserved_in_all, unfilled_in_all}
+use Rattle.rules.specs.Shares.{clients, share, reserved_of, limit_of, first_shares, share_of, with_share, pending_of, unfilled, unfilled_by_others, reserved_in_all, unfilled_in_all}
 use Rattle.rules.specs.Tests.{no_client, full, full_for, over, overbooked}
 use Rattle.rules.specs.Invariants.{Booked}
 use Rattle.rules.proofs.Bools.{by-test, by_order, clash, and_i, or-fl, or-fr, same?}
@@ -34,26 +35,26 @@ by-eight P p1 p2 p3 p4 p5 p6 p7 p8 (suc (suc (suc (suc (suc (suc (suc (suc zero)
 by-eight P p1 p2 p3 p4 p5 p6 p7 p8 (suc (suc (suc (suc (suc (suc (suc (suc (suc n))))))))) l h = absurd (omega arith)
 
 -- A number outside 1 to 8 has no share.
-no-share : (ss : List Share) → length ss ≡ 8 → (c : ℕ) → (1 ≤ c → c ≤ 8 → ⊥) → share_of ss c ≡ undeclared
+no-share : (ss : List (Option Share)) → length ss ≡ 8 → (c : ℕ) → (1 ≤ c → c ≤ 8 → ⊥) → share_of ss c ≡ None
 unfolding share_of
 no-share ss e zero h = refl
 no-share ss e (suc n) h =
-    by_order (length ss) n (get_or-eq_default ss undeclared) (λ l. absurd (h (omega arith) (omega arith)))
+    by_order (length ss) n (get_or-eq_default ss None) (λ l. absurd (h (omega arith) (omega arith)))
 
 -- To show something, show it where c has no share and where c is from 1 to 8.
-in-range : (A : Type 0) (ss : List Share) → length ss ≡ 8 → (c : ℕ) → (share_of ss c ≡ undeclared → A) → (1 ≤ c → c ≤ 8 → A) → A
+in-range : (A : Type 0) (ss : List (Option Share)) → length ss ≡ 8 → (c : ℕ) → (share_of ss c ≡ None → A) → (1 ≤ c → c ≤ 8 → A) → A
 in-range A ss e c h k =
     by_order 1 c
     (λ l. by_order c 8 (k l) (λ g. h (no-share ss e c (λ a b. omega arith))))
     (λ l. h (no-share ss e c (λ a b. omega arith)))
 
 -- To show something of a declared client, show it of 1 to 8.
-pub by-client : (P : ℕ → Type 0) → P 1 → P 2 → P 3 → P 4 → P 5 → P 6 → P 7 → P 8 → (ss : List Share) → length ss ≡ 8 → (c : ℕ) → (share_of ss c).declared ≡ true → P c
+pub by-client : (P : ℕ → Type 0) → P 1 → P 2 → P 3 → P 4 → P 5 → P 6 → P 7 → P 8 → (ss : List (Option Share)) → length ss ≡ 8 → (c : ℕ) → is_some (share_of ss c) ≡ true → P c
 by-client P p1 p2 p3 p4 p5 p6 p7 p8 ss e c d =
-    in-range (P c) ss e c (λ q. clash d (ap (λ (s : Share). s.declared) q)) (by-eight P p1 p2 p3 p4 p5 p6 p7 p8 c)
+    in-range (P c) ss e c (λ q. clash d (ap is_some q)) (by-eight P p1 p2 p3 p4 p5 p6 p7 p8 c)
 
-pub declared-range : (ss : List Share) → length ss ≡ 8 → (c : ℕ) → (share_of ss c).declared ≡ true → (1 ≤ c) × (c ≤ 8)
-declared-range ss e c d = in-range ((1 ≤ c) × (c ≤ 8)) ss e c (λ q. clash d (ap (λ (s : Share). s.declared) q)) (λ l h. (l, h))
+pub declared-range : (ss : List (Option Share)) → length ss ≡ 8 → (c : ℕ) → is_some (share_of ss c) ≡ true → (1 ≤ c) × (c ≤ 8)
+declared-range ss e c d = in-range ((1 ≤ c) × (c ≤ 8)) ss e c (λ q. clash d (ap is_some q)) (λ l h. (l, h))
 
 -- A sum over the clients, split at one.
 at-client : (f : ℕ → ℕ) (c : ℕ) → 1 ≤ c → c ≤ 8 → sum f clients ≡ f c + sum f (keep (λ n. not (eqb n c)) clients)
@@ -70,25 +71,25 @@ others_same : (f g : ℕ → ℕ) (c : ℕ) → ((n : ℕ) → n ≢ c → f n �
 others_same f g c h = sum-cong f g (keep (λ n. not (eqb n c)) clients) (λ n m. h n (other-than c n m))
 
 -- ── the first shares ──
-all-undeclared : (n i : ℕ) → get_or (replicate n undeclared) i undeclared ≡ undeclared
-all-undeclared zero i = refl
-all-undeclared (suc n) zero = refl
-all-undeclared (suc n) (suc i) = all-undeclared n i
+all-none : (n i : ℕ) → get_or {A = Option Share} (replicate n None) i None ≡ None
+all-none zero i = refl
+all-none (suc n) zero = refl
+all-none (suc n) (suc i) = all-none n i
 
-first-other : (alone : Bool) (c : ℕ) → c ≢ 1 → share_of (first_shares alone) c ≡ undeclared
+first-other : (alone : Bool) (c : ℕ) → c ≢ 1 → share_of (first_shares alone) c ≡ None
 unfolding share_of
 first-other alone zero h = refl
 first-other alone (suc zero) h = absurd (h refl)
-first-other alone (suc (suc n)) h = all-undeclared 7 n
+first-other alone (suc (suc n)) h = all-none 7 n
 
--- What holds of the share of client 1 and of an undeclared one holds of every share.
-first-each : (alone : Bool) (P : Share → Type 0) → P (share_of (first_shares alone) 1) → P undeclared → (c : ℕ) → P (share_of (first_shares alone) c)
+-- What holds of the share of client 1, and where there is none, holds of every client's.
+first-each : (alone : Bool) (P : Option Share → Type 0) → P (share_of (first_shares alone) 1) → P None → (c : ℕ) → P (share_of (first_shares alone) c)
 first-each alone P h k c =
     ⊎_elim (λ e. subst (λ (n : ℕ). P (share_of (first_shares alone) n)) (sym e) h) (λ e. subst P (sym (first-other alone c e)) k) (same? c 1)
 
 -- In a table with client 1 alone every other client is a stranger.
-pub alone-stranger : (c : ℕ) → c ≢ 1 → (share_of (first_shares true) c).declared ≡ false
-alone-stranger c h = ap (λ (s : Share). s.declared) (first-other true c h)
+pub alone-stranger : (c : ℕ) → c ≢ 1 → is_some (share_of (first_shares true) c) ≡ false
+alone-stranger c h = ap is_some (first-other true c h)
 
 -- ── what clients have pending ──
 -- No client has more pending than there are claims.
@@ -125,7 +126,7 @@ pending-one [] c h = refl
 pending-one (k ∷ ks) c h = let ih = pending-one ks c (λ n m. h n (there m)) in rw (eq-eqb k c (h k here)) (ap suc ih)
 
 -- All that is pending is some client's.
-pending-all : (ss : List Share) → length ss ≡ 8 → (ks : List ℕ) → ((k : ℕ) → k ∈ ks → (share_of ss k).declared ≡ true) → sum (pending_of ks) clients ≡ length ks
+pending-all : (ss : List (Option Share)) → length ss ≡ 8 → (ks : List ℕ) → ((k : ℕ) → k ∈ ks → is_some (share_of ss k) ≡ true) → sum (pending_of ks) clients ≡ length ks
 unfolding sum
 pending-all ss e [] h = sum-zero (pending_of []) clients (λ c m. omega (arith, pending-few [] c))
 pending-all ss e (k ∷ ks) h =
@@ -136,24 +137,24 @@ pending-all ss e (k ∷ ks) h =
 
 -- ── guarantees ──
 -- The unfilled guarantees of a client and of the others.
-unfilled-split : (ss : List Share) (ks : List ℕ) (c : ℕ) → 1 ≤ c → c ≤ 8 → unfilled_in_all ss ks ≡ unfilled ss ks c + unfilled_by_others ss ks c
+unfilled-split : (ss : List (Option Share)) (ks : List ℕ) (c : ℕ) → 1 ≤ c → c ≤ 8 → unfilled_in_all ss ks ≡ unfilled ss ks c + unfilled_by_others ss ks c
 unfolding unfilled_in_all unfilled_by_others
 unfilled-split ss ks c = at-client (unfilled ss ks) c
 
 -- No client's is above all.
-unfilled-le : (ss : List Share) (ks : List ℕ) (c : ℕ) → length ss ≡ 8 → unfilled ss ks c ≤ unfilled_in_all ss ks
+unfilled-le : (ss : List (Option Share)) (ks : List ℕ) (c : ℕ) → length ss ≡ 8 → unfilled ss ks c ≤ unfilled_in_all ss ks
 unfolding unfilled
 unfilled-le ss ks c e =
-    in-range _ ss e c (λ q. let z = ap (λ (s : Share). s.reserved) q in omega arith) (λ l h. omega (arith, unfilled-split ss ks c l h))
+    in-range _ ss e c (λ q. let z = ap reserved_of q in omega arith) (λ l h. omega (arith, unfilled-split ss ks c l h))
 
 -- A claim of c fills no guarantee of the others.
-others-after : (ss : List Share) (ks : List ℕ) (c : ℕ) → unfilled_by_others ss (ks ++ (c ∷ [])) c ≡ unfilled_by_others ss ks c
+others-after : (ss : List (Option Share)) (ks : List ℕ) (c : ℕ) → unfilled_by_others ss (ks ++ (c ∷ [])) c ≡ unfilled_by_others ss ks c
 unfolding unfilled_by_others unfilled
 others-after ss ks c =
-    others_same (unfilled ss (ks ++ (c ∷ []))) (unfilled ss ks) c (λ n h. ap (λ (k : ℕ). (share_of ss n).reserved - k) (pending_same ks c n h))
+    others_same (unfilled ss (ks ++ (c ∷ []))) (unfilled ss ks) c (λ n h. ap (λ (k : ℕ). reserved_of (share_of ss n) - k) (pending_same ks c n h))
 
 -- Claims with the guarantees that they leave unfilled.
-booked-sum : (ss : List Share) (ks : List ℕ) → length ss ≡ 8 → ((k : ℕ) → k ∈ ks → (share_of ss k).declared ≡ true)
+booked-sum : (ss : List (Option Share)) (ks : List ℕ) → length ss ≡ 8 → ((k : ℕ) → k ∈ ks → is_some (share_of ss k) ≡ true)
     → length ks + unfilled_in_all ss ks ≡ sum (λ c. pending_of ks c + unfilled ss ks c) clients
 unfolding unfilled_in_all
 booked-sum ss ks e h = omega (arith, pending-all ss e ks h, sum_both (pending_of ks) (unfilled ss ks) clients)
@@ -164,62 +165,62 @@ pub first-booked : (alone : Bool) → Booked (first_shares alone) []
 unfolding share_of pending_of unfilled unfilled_in_all sum keep
 first-booked true = record {
   eight = refl;
-  modest = first-each true (λ s. s.limit ≤ most_pending) (omega arith) (omega arith);
-  ordered = first-each true (λ s. s.reserved ≤ s.limit) (omega arith) (omega arith);
+  modest = first-each true (λ s. limit_of s ≤ most_pending) (omega arith) (omega arith);
+  ordered = first-each true (λ s. reserved_of s ≤ limit_of s) (omega arith) (omega arith);
   known = λ k m. none m;
   within = λ c. omega arith;
   room = omega arith;
 }
 first-booked false = record {
   eight = refl;
-  modest = first-each false (λ s. s.limit ≤ most_pending) (omega arith) (omega arith);
-  ordered = first-each false (λ s. s.reserved ≤ s.limit) (omega arith) (omega arith);
+  modest = first-each false (λ s. limit_of s ≤ most_pending) (omega arith) (omega arith);
+  ordered = first-each false (λ s. reserved_of s ≤ limit_of s) (omega arith) (omega arith);
   known = λ k m. none m;
   within = λ c. omega arith;
   room = omega arith;
 }
 
 -- An accepted claim.
-pub claim-books : (ss : List Share) (ks : List ℕ) (c : ℕ) → Booked ss ks → (share_of ss c).declared ≡ true
+pub claim-books : (ss : List (Option Share)) (ks : List ℕ) (c : ℕ) → Booked ss ks → is_some (share_of ss c) ≡ true
     → (full_for (share_of ss c) (pending_of ks c) (length ks) (unfilled_by_others ss ks c)).fails ≡ false
     → (over (share_of ss c) (pending_of ks c)).fails ≡ false → Booked ss (ks ++ (c ∷ []))
 unfolding unfilled
 claim-books ss ks c b d f o =
     let more = pending-more ks c in
     let size : length (ks ++ (c ∷ [])) ≡ length ks + 1 = length-append ks (c ∷ []) in
-    let less = leb-false (share_of ss c).limit (pending_of ks c) o in
+    let less = leb-false (limit_of (share_of ss c)) (pending_of ks c) o in
     let others = others-after ss ks c in
     record {
       eight = b.eight;
       modest = b.modest;
       ordered = b.ordered;
-      known = snoc-each (λ (k : ℕ). (share_of ss k).declared ≡ true) ks c b.known d;
+      known = snoc-each (λ (k : ℕ). is_some (share_of ss k) ≡ true) ks c b.known d;
       within = λ n. ⊎_elim
-          (λ e. subst (λ (k : ℕ). pending_of (ks ++ (c ∷ [])) k ≤ (share_of ss k).limit) (sym e) (omega arith))
+          (λ e. subst (λ (k : ℕ). pending_of (ks ++ (c ∷ [])) k ≤ limit_of (share_of ss k)) (sym e) (omega arith))
           (λ e. omega (arith, pending_same ks c n e, b.within n)) (same? n c);
       room = in-range _ ss b.eight c
-          (λ q. clash d (ap (λ (s : Share). s.declared) q))
+          (λ q. clash d (ap is_some q))
           (λ l h.
           let old = unfilled-split ss ks c l h in
           let new = unfilled-split ss (ks ++ (c ∷ [])) c l h in
-          by-test (leb (share_of ss c).reserved (pending_of ks c))
+          by-test (leb (reserved_of (share_of ss c)) (pending_of ks c))
           (λ e.
           let full = leb-false most_pending (length ks + unfilled_by_others ss ks c) (rw e at f) in
-          let filled = leb-true (share_of ss c).reserved (pending_of ks c) e in
+          let filled = leb-true (reserved_of (share_of ss c)) (pending_of ks c) e in
           omega (arith, size, more, others, new, full, filled))
           (λ e.
-          let below = leb-false (share_of ss c).reserved (pending_of ks c) e in
+          let below = leb-false (reserved_of (share_of ss c)) (pending_of ks c) e in
           omega (arith, size, more, others, new, old, below, b.room)));
     }
 
 -- Claims taken away.
-pub leaving-books : {A : Type 0} (f : A → ℕ) (p : A → Bool) (l : List A) (ss : List Share) → Booked ss (map f l) → Booked ss (map f (keep p l))
+pub leaving-books : {A : Type 0} (f : A → ℕ) (p : A → Bool) (l : List A) (ss : List (Option Share)) → Booked ss (map f l) → Booked ss (map f (keep p l))
 unfolding unfilled
 leaving-books f p l ss b =
     let old : (k : ℕ) → k ∈ map f (keep p l) → k ∈ map f l = λ k m.
     let r = map-e f (keep p l) m in
     subst (λ (n : ℕ). n ∈ map f l) (sym r.2) (map-i f (keep-e p l r.1).0) in
-    let known : (k : ℕ) → k ∈ map f (keep p l) → (share_of ss k).declared ≡ true = λ k m. b.known k (old k m) in
+    let known : (k : ℕ) → k ∈ map f (keep p l) → is_some (share_of ss k) ≡ true = λ k m. b.known k (old k m) in
     record {
       eight = b.eight;
       modest = b.modest;
@@ -244,34 +245,34 @@ client-range c e =
     (by_order 1 c (λ l. l) (λ l. absurd (z (omega arith))), ltb-false 8 c (or-fr (eqb c 0) _ e))
 
 -- A number that is no client's has no share; that of a client is at its place.
-pub no-client-share : (ss : List Share) → length ss ≡ 8 → (c : ℕ) → (no_client c).fails ≡ true → share_of ss c ≡ undeclared
+pub no-client-share : (ss : List (Option Share)) → length ss ≡ 8 → (c : ℕ) → (no_client c).fails ≡ true → share_of ss c ≡ None
 no-client-share ss e c n =
-    in-range (share_of ss c ≡ undeclared) ss e c (λ q. q)
+    in-range (share_of ss c ≡ None) ss e c (λ q. q)
     (λ l h. clash n (rw (ne_eqb c 0 (λ z. omega arith), le-ltb 8 c h)))
 
-pub share-place : (ss : List Share) (c : ℕ) → 1 ≤ c → share_of ss c ≡ get_or ss (c - 1) undeclared
+pub share-place : (ss : List (Option Share)) (c : ℕ) → 1 ≤ c → share_of ss c ≡ get_or ss (c - 1) None
 unfolding share_of
 share-place ss zero l = absurd (omega arith)
 share-place ss (suc n) l = let q : suc n - 1 ≡ n = omega arith in rw q
 
 -- The share of a client after a declaration: its own, and the others' as before.
-pub share-set : (ss : List Share) → length ss ≡ 8 → (c : ℕ) (s : Share) → (no_client c).fails ≡ false → share_of (with_share ss c s) c ≡ s
+pub share-set : (ss : List (Option Share)) → length ss ≡ 8 → (c : ℕ) (s : Share) → (no_client c).fails ≡ false → share_of (with_share ss c s) c ≡ Some s
 unfolding share_of with_share
 share-set ss e zero s h = absurd (omega (arith, (client-range zero h).0))
 share-set ss e (suc n) s h =
     let q : suc n - 1 ≡ n = omega arith in
-    rw q (get_or-set_same ss n s undeclared (omega (arith, (client-range (suc n) h).1)))
+    rw q (get_or-set_same ss n (Some s) None (omega (arith, (client-range (suc n) h).1)))
 
-pub share_other : (ss : List Share) (c d : ℕ) (s : Share) → 1 ≤ c → c ≢ d → share_of (with_share ss c s) d ≡ share_of ss d
+pub share_other : (ss : List (Option Share)) (c d : ℕ) (s : Share) → 1 ≤ c → c ≢ d → share_of (with_share ss c s) d ≡ share_of ss d
 unfolding share_of with_share
 share_other ss c zero s l h = refl
 share_other ss zero (suc m) s l h = absurd (omega arith)
 share_other ss (suc n) (suc m) s l h =
     let q : suc n - 1 ≡ n = omega arith in
-    rw q (get_or-set_other ss n m s undeclared (λ e. h (ap suc (sym e))))
+    rw q (get_or-set_other ss n m (Some s) None (λ e. h (ap suc (sym e))))
 
 -- What holds of the declared share and of all that were there holds of all that are there now.
-share-each : (P : Share → Type 0) (ss : List Share) → length ss ≡ 8 → (c : ℕ) (s : Share) → (no_client c).fails ≡ false → P s → ((d : ℕ) → P (share_of ss d))
+share-each : (P : Option Share → Type 0) (ss : List (Option Share)) → length ss ≡ 8 → (c : ℕ) (s : Share) → (no_client c).fails ≡ false → P (Some s) → ((d : ℕ) → P (share_of ss d))
     → (d : ℕ) → P (share_of (with_share ss c s) d)
 share-each P ss e c s n h k d =
     ⊎_elim
@@ -280,24 +281,24 @@ share-each P ss e c s n h k d =
     (same? c d)
 
 -- Before any claim all guarantees are unfilled.
-pub unfilled-first : (ss : List Share) → unfilled_in_all ss [] ≡ reserved_in_all ss
+pub unfilled-first : (ss : List (Option Share)) → unfilled_in_all ss [] ≡ reserved_in_all ss
 unfolding unfilled_in_all reserved_in_all unfilled
-unfilled-first ss = sum-cong (unfilled ss []) (λ c. (share_of ss c).reserved) clients (λ c m. omega (arith, pending-few [] c))
+unfilled-first ss = sum-cong (unfilled ss []) (λ c. reserved_of (share_of ss c)) clients (λ c m. omega (arith, pending-few [] c))
 
 -- A declaration adds its guarantee to the others'.
-reserved-after : (ss : List Share) → length ss ≡ 8 → (c r l : ℕ) → (no_client c).fails ≡ false → reserved_in_all (with_share ss c (share r l)) ≤ reserved_in_all ss + r
+reserved-after : (ss : List (Option Share)) → length ss ≡ 8 → (c r l : ℕ) → (no_client c).fails ≡ false → reserved_in_all (with_share ss c (share r l)) ≤ reserved_in_all ss + r
 unfolding reserved_in_all
 reserved-after ss e c r l n =
     let i = client-range c n in
-    let others = others_same (λ d. (share_of (with_share ss c (share r l)) d).reserved) (λ d. (share_of ss d).reserved) c
-    (λ d q. ap (λ (s : Share). s.reserved) (share_other ss c d (share r l) i.0 (λ z. q (sym z)))) in
-    let own : (share_of (with_share ss c (share r l)) c).reserved ≡ r = ap (λ (s : Share). s.reserved) (share-set ss e c (share r l) n) in
-    let new = at-client (λ d. (share_of (with_share ss c (share r l)) d).reserved) c i.0 i.1 in
-    let old = at-client (λ d. (share_of ss d).reserved) c i.0 i.1 in
+    let others = others_same (λ d. reserved_of (share_of (with_share ss c (share r l)) d)) (λ d. reserved_of (share_of ss d)) c
+    (λ d q. ap reserved_of (share_other ss c d (share r l) i.0 (λ z. q (sym z)))) in
+    let own : reserved_of (share_of (with_share ss c (share r l)) c) ≡ r = ap reserved_of (share-set ss e c (share r l) n) in
+    let new = at-client (λ d. reserved_of (share_of (with_share ss c (share r l)) d)) c i.0 i.1 in
+    let old = at-client (λ d. reserved_of (share_of ss d)) c i.0 i.1 in
     omega (arith, others, own, new, old)
 
 -- A declaration before any claim.
-pub declare-books : (ss : List Share) (c r l : ℕ) → Booked ss [] → (no_client c).fails ≡ false
+pub declare-books : (ss : List (Option Share)) (c r l : ℕ) → Booked ss [] → (no_client c).fails ≡ false
     → (overbooked (share_of ss c) (reserved_in_all ss) r l).fails ≡ false → Booked (with_share ss c (share r l)) []
 unfolding with_share
 declare-books ss c r l b n o =
@@ -307,9 +308,9 @@ declare-books ss c r l b n o =
     let apart = ltb-false l r (or-fl (ltb l r) _ o₁) in
     let low = ltb-false most_pending l (or-fl (ltb most_pending l) _ o₂) in
     record {
-      eight = length-set ss (c - 1) (share r l) ∙ b.eight;
-      modest = share-each (λ s. s.limit ≤ most_pending) ss b.eight c (share r l) n low b.modest;
-      ordered = share-each (λ s. s.reserved ≤ s.limit) ss b.eight c (share r l) n apart b.ordered;
+      eight = length-set ss (c - 1) (Some (share r l)) ∙ b.eight;
+      modest = share-each (λ s. limit_of s ≤ most_pending) ss b.eight c (share r l) n low b.modest;
+      ordered = share-each (λ s. reserved_of s ≤ limit_of s) ss b.eight c (share r l) n apart b.ordered;
       known = λ k m. none m;
       within = λ d. omega (arith, pending-few [] d);
       room = omega (arith, few, unfilled-first (with_share ss c (share r l)), reserved-after ss b.eight c r l n);
@@ -317,49 +318,49 @@ declare-books ss c r l b n o =
 
 -- ── what Booked gives to a client ──
 -- "A desk below its guarantee never meets 6": there is a place for it, and for any claim that is not refused with 6.
-pub reserved-room : (ss : List Share) (ks : List ℕ) (c : ℕ) → Booked ss ks → pending_of ks c < (share_of ss c).reserved → length ks < most_pending
+pub reserved-room : (ss : List (Option Share)) (ks : List ℕ) (c : ℕ) → Booked ss ks → pending_of ks c < reserved_of (share_of ss c) → length ks < most_pending
 unfolding unfilled
 reserved-room ss ks c b h = omega (arith, b.room, unfilled-le ss ks c b.eight)
 
-pub claim-room : (ss : List Share) (ks : List ℕ) (c : ℕ) → Booked ss ks
+pub claim-room : (ss : List (Option Share)) (ks : List ℕ) (c : ℕ) → Booked ss ks
     → (full_for (share_of ss c) (pending_of ks c) (length ks) (unfilled_by_others ss ks c)).fails ≡ false → length ks < most_pending
 claim-room ss ks c b f =
-    by-test (leb (share_of ss c).reserved (pending_of ks c))
+    by-test (leb (reserved_of (share_of ss c)) (pending_of ks c))
     (λ e. omega (arith, leb-false most_pending (length ks + unfilled_by_others ss ks c) (rw e at f)))
-    (λ e. reserved-room ss ks c b (leb-false (share_of ss c).reserved (pending_of ks c) e))
+    (λ e. reserved-room ss ks c b (leb-false (reserved_of (share_of ss c)) (pending_of ks c) e))
 
 -- A full table is full for everybody.
-pub full-for-all : (ss : List Share) (ks : List ℕ) (c : ℕ) → Booked ss ks → most_pending ≤ length ks
+pub full-for-all : (ss : List (Option Share)) (ks : List ℕ) (c : ℕ) → Booked ss ks → most_pending ≤ length ks
     → (full_for (share_of ss c) (pending_of ks c) (length ks) (unfilled_by_others ss ks c)).fails ≡ true
 full-for-all ss ks c b h =
-    and_i (leb (share_of ss c).reserved (pending_of ks c)) _
-    (le-leb (share_of ss c).reserved (pending_of ks c) (by_order (share_of ss c).reserved (pending_of ks c) (λ l. l) (λ l. absurd (omega (arith, reserved-room ss ks c b l)))))
+    and_i (leb (reserved_of (share_of ss c)) (pending_of ks c)) _
+    (le-leb (reserved_of (share_of ss c)) (pending_of ks c) (by_order (reserved_of (share_of ss c)) (pending_of ks c) (λ l. l) (λ l. absurd (omega (arith, reserved-room ss ks c b l)))))
     (le-leb most_pending (length ks + unfilled_by_others ss ks c) (omega arith))
 
 -- Of a client that has filled its guarantee the others leave unfilled what all do.
-pub full-by-all : (ss : List Share) (ks : List ℕ) (c n : ℕ) → 1 ≤ c → c ≤ 8
+pub full-by-all : (ss : List (Option Share)) (ks : List ℕ) (c n : ℕ) → 1 ≤ c → c ≤ 8
     → (full_for (share_of ss c) (pending_of ks c) n (unfilled_in_all ss ks)).fails ≡ (full_for (share_of ss c) (pending_of ks c) n (unfilled_by_others ss ks c)).fails
 unfolding unfilled
 full-by-all ss ks c n l h =
-    by-test (leb (share_of ss c).reserved (pending_of ks c))
+    by-test (leb (reserved_of (share_of ss c)) (pending_of ks c))
     (λ e.
-    let same : unfilled_in_all ss ks ≡ unfilled_by_others ss ks c = omega (arith, unfilled-split ss ks c l h, leb-true (share_of ss c).reserved (pending_of ks c) e) in
+    let same : unfilled_in_all ss ks ≡ unfilled_by_others ss ks c = omega (arith, unfilled-split ss ks c l h, leb-true (reserved_of (share_of ss c)) (pending_of ks c) e) in
     rw same)
     (λ e. rw e)
 
 -- Where a client has fewer claims pending than are reserved for it, it meets neither 6 nor 18.
-pub below-not-full : (s : Share) (own pending unfilled : ℕ) → own < s.reserved → (full_for s own pending unfilled).fails ≡ false
-below-not-full s own pending unfilled h = rw (lt-leb s.reserved own h)
+pub below-not-full : (s : Option Share) (own pending unfilled : ℕ) → own < reserved_of s → (full_for s own pending unfilled).fails ≡ false
+below-not-full s own pending unfilled h = rw (lt-leb (reserved_of s) own h)
 
-pub below-not-over : (ss : List Share) (ks : List ℕ) (c : ℕ) → Booked ss ks → pending_of ks c < (share_of ss c).reserved → (over (share_of ss c) (pending_of ks c)).fails ≡ false
-below-not-over ss ks c b h = lt-leb (share_of ss c).limit (pending_of ks c) (omega (arith, b.ordered c))
+pub below-not-over : (ss : List (Option Share)) (ks : List ℕ) (c : ℕ) → Booked ss ks → pending_of ks c < reserved_of (share_of ss c) → (over (share_of ss c) (pending_of ks c)).fails ≡ false
+below-not-over ss ks c b h = lt-leb (limit_of (share_of ss c)) (pending_of ks c) (omega (arith, b.ordered c))
 
 -- ── client 1 alone: 6 as in document 01, and 18 never ──
 alone-unfilled : (ks : List ℕ) → unfilled_by_others (first_shares true) ks 1 ≡ 0
 unfolding unfilled_by_others unfilled
 alone-unfilled ks =
     sum-zero (unfilled (first_shares true) ks) (keep (λ n. not (eqb n 1)) clients)
-    (λ n m. omega (arith, ap (λ (s : Share). s.reserved) (first-other true n (other-than 1 n m))))
+    (λ n m. omega (arith, ap reserved_of (first-other true n (other-than 1 n m))))
 
 pub alone-full : (ks : List ℕ) → ((k : ℕ) → k ∈ ks → k ≡ 1)
     → (full_for (share_of (first_shares true) 1) (pending_of ks 1) (length ks) (unfilled_by_others (first_shares true) ks 1)).fails ≡ (full (length ks)).fails

@@ -1,8 +1,6 @@
 -- The calls: in which order each is tested, and what it does. Everything here computes on numerals.
-use Rattle.std.specs.Prelude.{Bool, true, false, not, ◌&&◌, cond, List, [], ◌∷◌, ◌++◌, map, ℕ, zero, suc, ◌+◌, length}
+use Rattle.std.specs.Prelude.{Bool, true, false, not, ◌&&◌, cond, List, [], ◌∷◌, ◌++◌, map, ℕ, zero, suc, ◌+◌, length, Option, Some, None}
 use Rattle.numbers.specs.Numbers.{dark_number, unknown_number, already_on_number}
-use Rattle.groups.specs.declared.MaybeGroup.{MaybeGroup}
-use Rattle.groups.specs.declared.MaybeGroup.TheVariants.{Group, NoGroup}
 use Rattle.groups.specs.Groups.{empty}
 use Rattle.rules.specs.declared.Claim.{Claim}
 use Rattle.rules.specs.declared.Request.{Request}
@@ -30,7 +28,7 @@ pub record Model : Type 0 where
   pub pool : ℕ
   pub issued : ℕ
   pub grace : ℕ
-  pub shares : List Share
+  pub shares : List (Option Share)
   pub pending : List Claim
 
 abbrev pub with_clock : Model → ℕ → Model
@@ -42,7 +40,7 @@ with_issued m n = record { rig = m.rig; clock = m.clock; pool = m.pool; issued =
 abbrev pub with_pending : Model → List Claim → Model
 with_pending m ps = record { rig = m.rig; clock = m.clock; pool = m.pool; issued = m.issued; grace = m.grace; shares = m.shares; pending = ps }
 
-abbrev pub with_shares : Model → List Share → Model
+abbrev pub with_shares : Model → List (Option Share) → Model
 with_shares m ss = record { rig = m.rig; clock = m.clock; pool = m.pool; issued = m.issued; grace = m.grace; shares = ss; pending = m.pending }
 
 abbrev pub with_grace : Model → ℕ → Model
@@ -183,7 +181,7 @@ look_tests known held at_pool = []
 look_tests known held (at_chain k) = test (not (known k)) unknown_number ∷ test (held k) already_on_number ∷ []
 
 -- A declaration is answered 13 "before 17", and 19 "after 17" (document 02, P4); a grace 21 (P6).
-abbrev pub setup_tests : ℕ → List Share → Setup → List Test
+abbrev pub setup_tests : ℕ → List (Option Share) → Setup → List Test
 setup_tests issued ss (declares c r l) = begun issued ∷ no_client c ∷ overbooked (share_of ss c) (reserved_in_all ss) r l ∷ []
 setup_tests issued ss (sets_grace n) = bad_grace issued n ∷ []
 
@@ -325,9 +323,9 @@ common_values Unknown = record { number = unknown_number; groups = [] }
 common_values (Shared g) = record { number = 0; groups = g ∷ [] }
 common_values Apart = record { number = 0; groups = [] }
 
-abbrev pub shared : MaybeGroup → Common
-shared (Group g) = Shared g
-shared NoGroup = Apart
+abbrev pub shared : Option ℕ → Common
+shared (Some g) = Shared g
+shared None = Apart
 
 -- Of the claims of two tickets, each a claim or none.
 abbrev pub between : List Claim → List Claim → Common
@@ -339,9 +337,9 @@ unfoldable pub common_of : ℕ → ℕ → List Claim → Common
 common_of j k ps = between (keep (named j) ps) (keep (named k) ps)
 
 -- The same of two tickets: the group that their claims share, where they share one.
-abbrev pub group_in : MaybeGroup → List ℕ
-group_in (Group g) = g ∷ []
-group_in NoGroup = []
+abbrev pub group_in : Option ℕ → List ℕ
+group_in (Some g) = g ∷ []
+group_in None = []
 
 abbrev pub groups_between : List Claim → List Claim → List ℕ
 groups_between (c ∷ cs) (d ∷ ds) = group_in (conflicts c d)

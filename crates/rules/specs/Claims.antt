@@ -1,6 +1,5 @@
 -- A claim, its phase and its end. Quotations are from document 01.
-use Rattle.std.specs.Prelude.{Bool, true, false, cond, ℕ, ◌+◌, ◌-◌, leb}
-use Rattle.groups.specs.declared.MaybeGroup.{MaybeGroup}
+use Rattle.std.specs.Prelude.{Bool, true, false, cond, ℕ, ◌+◌, ◌-◌, leb, Option}
 use Rattle.groups.specs.Groups.{common, shares}
 use Rattle.rules.specs.declared.Claim.{Claim}
 use Rattle.rules.specs.declared.Phase.{Phase}
@@ -27,7 +26,7 @@ abbrev pub with_phase : Claim → Phase → Claim
 with_phase c p = record { groups = c.groups; phase = p; length = c.length; ticket = c.ticket; units = c.units; client = c.client }
 
 -- "The test of two claims for a common group .. answers the lowest common group number, or none" (document 02, P1).
-abbrev pub conflicts : Claim → Claim → MaybeGroup
+abbrev pub conflicts : Claim → Claim → Option ℕ
 conflicts c d = common c.groups d.groups
 
 -- "Two claims conflict if they share a group": yes or no of that.

@@ -1,11 +1,11 @@
 -- What holds of a table before, during and after a call. k is the count of tickets issued.
-use Rattle.std.specs.Prelude.{◌≡◌, true, List, ℕ, ◌+◌, ◌≤◌, length}
+use Rattle.std.specs.Prelude.{◌≡◌, true, List, ℕ, ◌+◌, ◌≤◌, length, Option, is_some}
 use Rattle.numbers.specs.Numbers.{most_pending}
 use Rattle.rules.specs.declared.Claim.{Claim}
 use Rattle.rules.specs.Lists.{◌∈◌}
 use Rattle.rules.specs.declared.Setting.{Setting}
 use Rattle.rules.specs.declared.Share.{Share}
-use Rattle.rules.specs.Shares.{share_of, pending_of, unfilled_in_all}
+use Rattle.rules.specs.Shares.{reserved_of, limit_of, share_of, pending_of, unfilled_in_all}
 use Rattle.rules.specs.Claims.{on, at}
 use Rattle.rules.specs.Packing.{pack}
 use Rattle.rules.specs.Calls.{Model, setting_of, clients_of}
@@ -45,13 +45,13 @@ pub record Settled (k : ℕ) (v : Setting) (ps : List Claim) : Type 0 where
   pub earliest : Earliest v ps
 
 -- What holds of the shares and of the clients of the pending claims before and after every call.
-pub record Booked (ss : List Share) (ks : List ℕ) : Type 0 where
+pub record Booked (ss : List (Option Share)) (ks : List ℕ) : Type 0 where
   pub eight : length ss ≡ 8
-  pub modest : (c : ℕ) → (share_of ss c).limit ≤ most_pending
-  pub ordered : (c : ℕ) → (share_of ss c).reserved ≤ (share_of ss c).limit
-  pub known : (k : ℕ) → k ∈ ks → (share_of ss k).declared ≡ true
+  pub modest : (c : ℕ) → limit_of (share_of ss c) ≤ most_pending
+  pub ordered : (c : ℕ) → reserved_of (share_of ss c) ≤ limit_of (share_of ss c)
+  pub known : (k : ℕ) → k ∈ ks → is_some (share_of ss k) ≡ true
   -- "desk at its limit": nobody has more pending.
-  pub within : (c : ℕ) → pending_of ks c ≤ (share_of ss c).limit
+  pub within : (c : ℕ) → pending_of ks c ≤ limit_of (share_of ss c)
   -- A place is left for each claim that fills a guarantee.
   pub room : length ks + unfilled_in_all ss ks ≤ most_pending
 

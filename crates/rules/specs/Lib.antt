@@ -16,5 +16,5 @@ pub mod OneClient
 pub mod NoGrace
 pub mod InTime
 pub mod Chains
-pub mod Tables
 pub mod Scenarios
+pub mod Vacant

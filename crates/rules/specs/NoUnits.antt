@@ -1,6 +1,6 @@
 -- Claims that draw no units: what document 01 says of them, and what a run is in which nobody draws any. That they fare as in document
 -- 01 whatever the pool is proved in proofs/NoUnits. Quotations are from document 01.
-use Rattle.std.specs.Prelude.{◌≡◌, Bool, List, [], ◌∷◌, ℕ, length}
+use Rattle.std.specs.Prelude.{◌≡◌, Bool, List, [], ◌∷◌, ℕ}
 use Rattle.rules.specs.declared.Claim.{Claim}
 use Rattle.rules.specs.declared.Request.{Request}
 use Rattle.rules.specs.declared.Setting.{Setting}

@@ -1,10 +1,11 @@
 -- What calls are tested for. A test takes what it looks at, so that another kind of table can use it. Quotations are from document 01.
-use Rattle.std.specs.Prelude.{Bool, not, ◌&&◌, ◌||◌, cond, List, [], ◌∷◌, ℕ, ◌+◌, ltb, leb, eqb}
+use Rattle.std.specs.Prelude.{Bool, not, ◌&&◌, ◌||◌, cond, List, [], ◌∷◌, ℕ, ◌+◌, ltb, leb, eqb, Option, is_some}
 use Rattle.numbers.specs.Numbers.{dark_number, off_rig_number, length_number, backward_number, late_number, full_number, ticketless_number, unknown_number, not_yet_on_number, already_on_number, misfit_number, spots_number, stranger_number, over_number, overbooked_number, grace_number, most_clock, most_length, most_tickets, most_pending, most_clients, most_grace}
 use Rattle.groups.specs.Groups.{empty, within}
 use Rattle.rules.specs.declared.Claim.{Claim}
 use Rattle.rules.specs.declared.Share.{Share}
 use Rattle.rules.specs.Lists.{any}
+use Rattle.rules.specs.Shares.{reserved_of, limit_of}
 
 -- A test, with the number that is given when it is true.
 pub record Test : Type 0 where
@@ -38,8 +39,8 @@ abbrev pub spots : ℕ → ℕ → Test
 spots pool u = test (ltb pool u) spots_number
 
 -- "stranger, a claim from an undeclared desk or a declaration outside 1 to 8" (document 02, P4)
-abbrev pub stranger : Share → Test
-stranger s = test (not s.declared) stranger_number
+abbrev pub stranger : Option Share → Test
+stranger s = test (not (is_some s)) stranger_number
 
 abbrev pub no_client : ℕ → Test
 no_client c = test (eqb c 0 || ltb most_clients c) stranger_number
@@ -57,21 +58,21 @@ full pending = test (leb most_pending pending) full_number
 
 -- "A desk below its guarantee never meets 6. Otherwise a claim is accepted only if pending claims plus the unfilled guarantees of the other
 -- desks are below 64; else it gets 6." "over, desk at its limit" (document 02, P4): of a share and its client's own pending claims.
-abbrev pub full_for : Share → ℕ → ℕ → ℕ → Test
-full_for s own pending unfilled = test (leb s.reserved own && leb most_pending (pending + unfilled)) full_number
+abbrev pub full_for : Option Share → ℕ → ℕ → ℕ → Test
+full_for s own pending unfilled = test (leb (reserved_of s) own && leb most_pending (pending + unfilled)) full_number
 
-abbrev pub over : Share → ℕ → Test
-over s own = test (leb s.limit own) over_number
+abbrev pub over : Option Share → ℕ → Test
+over s own = test (leb (limit_of s) own) over_number
 
 -- A declaration: "after an accepted claim the table answers it 13"; "overbooked .. for guarantees adding up to over 64, a guarantee above its
--- limit, a limit over 64, or a desk declared twice" (document 02, P4). s is the share that the client has, and so many places are
+-- limit, a limit over 64, or a desk declared twice" (document 02, P4). s is the share that the client has, if any, and so many places are
 -- reserved in all.
 abbrev pub begun : ℕ → Test
 begun issued = test (ltb 0 issued) misfit_number
 
-abbrev pub overbooked : Share → ℕ → ℕ → ℕ → Test
+abbrev pub overbooked : Option Share → ℕ → ℕ → ℕ → Test
 overbooked s all reserved limit =
-    test (ltb most_pending (all + reserved) || (ltb limit reserved || (ltb most_pending limit || s.declared))) overbooked_number
+    test (ltb most_pending (all + reserved) || (ltb limit reserved || (ltb most_pending limit || is_some s))) overbooked_number
 
 -- "a grace over 60,000 or set after an accepted claim" (document 02, P6): of the tickets issued and the grace that is asked for.
 abbrev pub bad_grace : ℕ → ℕ → Test

@@ -1,11 +1,17 @@
-// The claims table as data: a pending claim, what a claim asks for, the table that the calls take and give back, and what a lookup tells.
+// The claims table as data: a pending claim, what a claim asks for, the rows that claims and tickets stand in, and what a lookup tells.
 #![tactic(auto)]
 
 ghost use Rattle.std.specs.Prelude.{◌≡◌};
 ghost use Rattle.rules.specs.Calls.{asking};
 
+mod pending;
+mod tickets;
+
+pub use pending::Pending;
+pub use tickets::Tickets;
+
 // "A pending claim is either waiting, with a planned start, or on, with the clock of its grant."
-#[derive(Clone, Copy)]
+#[derive(Clone, Copy, Debug, PartialEq, Eq)]
 pub enum Phase {
     Waiting(u64),
     On(u64),
@@ -21,6 +27,45 @@ pub struct Claim {
     pub ticket: u16,
     pub units: u16,
     pub client: u8,
+}
+
+impl Claim {
+    ghost use Rattle.rules.specs.Claims.{on, at, with_phase};
+    ghost use Rattle.rules.specs.declared.Phase.TheVariants.{Waiting, On};
+
+    pub fn is_on(&self) -> bool
+        ensures { result ≡ on self.now }
+    {
+        matches!(self.phase, Phase::On(_))
+    }
+
+    // The planned start of a waiting claim, the grant of an on claim.
+    pub fn start_or_grant(&self) -> u64
+        ensures { result ≡ at self.now }
+    {
+        match self.phase {
+            Phase::Waiting(at) | Phase::On(at) => at,
+        }
+    }
+
+    // The claim with another planned start.
+    pub fn waiting_from(self, start: u64) -> Claim
+        ensures { result ≡ with_phase self (Waiting start) }
+    {
+        Claim {
+            phase: Phase::Waiting(start),
+            ..self
+        }
+    }
+
+    pub fn on_since(self, grant: u64) -> Claim
+        ensures { result ≡ with_phase self (On grant) }
+    {
+        Claim {
+            phase: Phase::On(grant),
+            ..self
+        }
+    }
 }
 
 // What a claim asks for: a set of groups, a length in ticks, and units of the pool; and which client asks.
@@ -50,26 +95,11 @@ pub struct Setting {
     pub grace: u32,
 }
 
-// A client's share of the table: whether it is declared, the places reserved for it (document 02: its guarantee), and its limit.
-#[derive(Clone, Copy)]
+// A declared client's share of the table: the places reserved for it (document 02: its guarantee), and its limit.
+#[derive(Clone, Copy, Debug, PartialEq, Eq)]
 pub struct Share {
-    pub declared: bool,
     pub reserved: u8,
     pub limit: u8,
-}
-
-// The table. The shares are those of clients 1 to 8. The first `count` places hold the pending claims in ascending order of ticket; the
-// others are vacant. Fields in this order make its head 56 bytes.
-#[derive(Clone, Copy)]
-pub struct Table {
-    pub rig: u64,
-    pub clock: u64,
-    pub pool: u16,
-    pub issued: u16,
-    pub grace: u32,
-    pub shares: [Share; 8],
-    pub count: usize,
-    pub claims: [Claim; 64],
 }
 
 // What a lookup tells of a ticket: not pending (8), waiting with its planned start, or on with its promised end.
@@ -88,22 +118,13 @@ pub enum Common {
     Apart,
 }
 
-// What a lookup tells of why a ticket waits: 8 where it is not pending, 10 where it is on; else 0 and the tickets of its blocking chain, in
-// the first `count` places, 0 behind them.
-#[derive(Clone, Copy)]
-pub struct Blocking {
-    pub number: u8,
-    pub count: usize,
-    pub tickets: [u16; 64],
-}
-
 // A request of client 1 for groups for a length of time, and nothing else.
 pub fn asking(groups: u64, length: u32) -> Request
     ensures { result ≡ asking groups length }
 {
     Request {
-        groups: groups,
-        length: length,
+        groups,
+        length,
         units: 0,
         client: 1,
     }

@@ -2,18 +2,11 @@
 // say what is read or written.
 #![tactic(auto)]
 
-ghost use Rattle.std.specs.Prelude.{◌≡◌, ◌+◌, ◌≤◌, length, take, IfOk};
+ghost use Rattle.std.specs.Prelude.{◌≡◌, ◌+◌, ◌≤◌, length, take, IfOk, IfSome};
 
 use std::env::{Env, FillError};
 use std::fmt;
 use std::io::{Error, Read, Result};
-
-// What was read: its length, or that reading failed.
-#[derive(Clone, Copy)]
-pub struct Input {
-    pub failed: bool,
-    pub length: usize,
-}
 
 // One read behind the first bytes of a buffer: how many more it has, 0 at the end of the input.
 fn read_more(from: &mut impl Read, room: &mut [u8], done: usize) -> Result<usize>
@@ -23,15 +16,15 @@ fn read_more(from: &mut impl Read, room: &mut [u8], done: usize) -> Result<usize
     from.read(&mut room[done..])
 }
 
-// Reads standard input to the start of a lent buffer until it ends or the buffer is full. A read that fails is told, and nothing counts as
-// read, whatever stands in the buffer. Cost: one read for each part that the system hands over, straight into its place.
+// Reads standard input to the start of a lent buffer until it ends or the buffer is full: how much was read. A read that fails is told, and
+// nothing counts as read, whatever stands in the buffer. Cost: one read for each part that the system hands over, straight into its place.
 pub fn read_input(
     rt: &(impl std::io::Input + Eprint + Alloc),
     name: &[u8],
     room: &mut [u8],
-) -> Input
-    ensures within { result.length ≤ length room.new }
-    ensures prefix { result.length ≡ length (take result.length room.new) }
+) -> Option<usize>
+    ensures within { IfSome result (λ n. n ≤ length room.new) }
+    ensures prefix { IfSome result (λ n. n ≡ length (take n room.new)) }
 {
     let mut from = rt.reader();
     let mut done: usize = 0;
@@ -43,17 +36,11 @@ pub fn read_input(
             }
             Err(error) => {
                 tell_error(rt, name, "standard input", error);
-                return Input {
-                    failed: true,
-                    length: 0,
-                };
+                return None;
             }
         }
     }
-    Input {
-        failed: false,
-        length: done,
-    }
+    Some(done)
 }
 
 // Writes bytes to standard output: whether all were written. A write that fails is told.

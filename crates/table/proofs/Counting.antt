@@ -1,24 +1,24 @@
 -- What clients have pending, counted in one pass, and the sum of what they leave unfilled: laws of the loops in `shares`.
+use Rattle.std.proofs.Common.{Option, None}
 use mathlib.Core.Path.{◌≡◌, refl, sym, ◌∙◌, ap}
 use mathlib.Core.Logic.{⊎_elim, ◌≢◌}
-use mathlib.Core.Bool.{Bool, true, false, ◌&&◌, cond}
+use mathlib.Core.Bool.{Bool, true, false, cond}
 use mathlib.Core.List.{List, [], ◌∷◌, map}
 use Prim.Native.Nat.{ℕ, ◌+◌, ◌-◌, ◌≤◌, ◌<◌}
 use native.Mathlib.Omega.{arith}
 use native.Mathlib.Numerals.{add-one}
-use lib.Dec.{ltb}
 use lib.ListN.{length, drop, get_or, set, replicate, length-set}
 use lib.Seq.{get_or-set_same, get_or-set_other}
-use borrow.Author.Tests.{eq-eqb, ne_eqb, le-leb, lt-leb}
-use Rattle.numbers.specs.Numbers.{most_pending, most_clients}
+use borrow.Author.Tests.{eq-eqb, ne_eqb}
+use Rattle.numbers.specs.Numbers.{most_clients}
 use Rattle.rules.specs.declared.Claim.{Claim}
 use Rattle.rules.specs.declared.Share.{Share}
 use Rattle.rules.specs.Lists.{sum}
-use Rattle.rules.specs.Shares.{clients, undeclared, share_of, pending_of, unfilled, unfilled_in_all}
+use Rattle.rules.specs.Shares.{clients, reserved_of, share_of, pending_of, unfilled, unfilled_in_all}
 use Rattle.rules.specs.Calls.{clients_of}
 use Rattle.rules.proofs.Bools.{same?}
 use Rattle.rules.proofs.Shares.{by-eight, pending-few, pending-cons}
-use Rattle.table.specs.Counts.{contested, pending_each, unfilled_each}
+use Rattle.table.specs.Counts.{pending_each, unfilled_each}
 
 -- ── counting ──
 -- Of the claims of all, those of the rest are still to be counted.
@@ -96,25 +96,8 @@ pub each_at : (ks : List ℕ) (c : ℕ) → 1 ≤ c → c ≤ most_clients → g
 unfolding pending_each
 each_at ks = by-eight (λ c. get_or (pending_each ks) (c - 1) 0 ≡ pending_of ks c) refl refl refl refl refl refl refl refl
 
--- ── whether it has to be counted ──
-pub uncontested-stranger : (ss : List Share) (n c : ℕ) → (share_of ss c).declared ≡ false → false ≡ contested ss n c
-unfolding contested
-uncontested-stranger ss n c e = sym (rw e)
-
-pub uncontested-below : (ss : List Share) (n c : ℕ) → n < (share_of ss c).reserved → false ≡ contested ss n c
-unfolding contested
-uncontested-below ss n c l = sym (rw (lt-leb (share_of ss c).reserved n l) (never (share_of ss c).declared))
-  where
-    never : (b : Bool) → (b && false) ≡ false
-    never true = refl
-    never false = refl
-
-pub contested-is : (ss : List Share) (n c : ℕ) → (share_of ss c).declared ≡ true → (share_of ss c).reserved ≤ n → ltb n most_pending ≡ contested ss n c
-unfolding contested
-contested-is ss n c e l = sym (rw (e, le-leb (share_of ss c).reserved n l))
-
 -- ── sums over the clients ──
-pub each-unfilled : (ss : List Share) (ks : List ℕ) → unfilled_each ss (pending_each ks) ≡ unfilled_in_all ss ks
+pub each-unfilled : (ss : List (Option Share)) (ks : List ℕ) → unfilled_each ss (pending_each ks) ≡ unfilled_in_all ss ks
 unfolding unfilled_each pending_each unfilled_in_all unfilled sum
 each-unfilled ss ks = refl
 
@@ -122,7 +105,7 @@ each-unfilled ss ks = refl
 abbrev pub sum_from : (ℕ → ℕ) → ℕ → ℕ
 sum_from f i = sum f (drop i clients)
 
-pub share-at : (ss : List Share) (i : ℕ) → share_of ss (i + 1) ≡ get_or ss i undeclared
+pub share-at : (ss : List (Option Share)) (i : ℕ) → share_of ss (i + 1) ≡ get_or ss i None
 unfolding share_of
 share-at ss i = rw (add-one i)
 
@@ -137,18 +120,18 @@ unfolding sum
 sum-end f i l h = let e : i ≡ most_clients = omega arith in rw e
 
 -- Of what is left unfilled, the sum from place i on is a place's and that of the rest.
-abbrev pub unfilled_at : List Share → List ℕ → ℕ → ℕ
-unfilled_at ss ns n = (share_of ss n).reserved - get_or ns (n - 1) 0
+abbrev pub unfilled_at : List (Option Share) → List ℕ → ℕ → ℕ
+unfilled_at ss ns n = reserved_of (share_of ss n) - get_or ns (n - 1) 0
 
-pub unfilled-step : (ss : List Share) (ns : List ℕ) (i : ℕ) → i < most_clients
-    → sum_from (unfilled_at ss ns) i ≡ ((get_or ss i undeclared).reserved - get_or ns i 0) + sum_from (unfilled_at ss ns) (i + 1)
+pub unfilled-step : (ss : List (Option Share)) (ns : List ℕ) (i : ℕ) → i < most_clients
+    → sum_from (unfilled_at ss ns) i ≡ (reserved_of (get_or ss i None) - get_or ns i 0) + sum_from (unfilled_at ss ns) (i + 1)
 unfilled-step ss ns i h =
     let e : i + 1 - 1 ≡ i = omega arith in
     rw (e, share-at ss i) at (sum_step (unfilled_at ss ns) i h)
 
 -- And of what is reserved.
-abbrev pub reserved_at : List Share → ℕ → ℕ
-reserved_at ss n = (share_of ss n).reserved
+abbrev pub reserved_at : List (Option Share) → ℕ → ℕ
+reserved_at ss n = reserved_of (share_of ss n)
 
-pub reserved-step : (ss : List Share) (i : ℕ) → i < most_clients → sum_from (reserved_at ss) i ≡ (get_or ss i undeclared).reserved + sum_from (reserved_at ss) (i + 1)
-reserved-step ss i h = sum_step (reserved_at ss) i h ∙ ap (λ (s : Share). s.reserved + sum_from (reserved_at ss) (i + 1)) (share-at ss i)
+pub reserved-step : (ss : List (Option Share)) (i : ℕ) → i < most_clients → sum_from (reserved_at ss) i ≡ reserved_of (get_or ss i None) + sum_from (reserved_at ss) (i + 1)
+reserved-step ss i h = sum_step (reserved_at ss) i h ∙ ap (λ (s : Option Share). reserved_of s + sum_from (reserved_at ss) (i + 1)) (share-at ss i)

@@ -1,8 +1,6 @@
-pub mod Formed
-pub mod Counting
-pub mod Tests
+pub mod Ranged
 pub mod Finding
-pub mod RemovalLoop
-pub mod Steps
+pub mod Counting
 pub mod Sharing
+pub mod Steps
 pub mod Promised

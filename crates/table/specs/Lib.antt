@@ -1,3 +1,4 @@
 pub mod Counts
+pub mod States
 pub mod Valid
 pub mod Outcomes

@@ -1,44 +1,39 @@
--- What the calls hand back, by the rules.
-use Rattle.std.specs.Prelude.{Bool, true, false, not, ◌&&◌, cond, List, [], ◌∷◌, ℕ, ◌+◌, ◌≤◌, ◌<◌, ltb, eqb, ◌≡◌, length, get_or, replicate}
+-- What the calls answer, and what their parts give, by the rules.
+use Rattle.std.specs.Prelude.{Bool, true, false, not, ◌&&◌, cond, List, [], ◌∷◌, ℕ, ◌+◌, ltb, eqb, Result, Ok, Err}
+use Rattle.numbers.specs.declared.Refusal.{Refusal}
+use Rattle.numbers.specs.Numbers.{unknown_number, not_yet_on_number, already_on_number}
+use Rattle.numbers.specs.Refusals.{number_of}
 use Rattle.rules.specs.declared.Claim.{Claim}
-use Rattle.rules.specs.declared.Table.{Table}
 use Rattle.rules.specs.declared.Standing.{Standing}
 use Rattle.rules.specs.declared.Standing.TheVariants.{NotPending, Waits, Holds}
-use Rattle.numbers.specs.Numbers.{unknown_number, not_yet_on_number, already_on_number}
-use Rattle.rules.specs.Tests.{first_number, late, backward, named}
-use Rattle.rules.specs.Calls.{Model, full_to, over_of, Call, release, withdraw, Step, advance}
 use Rattle.rules.specs.Lists.{any, keep}
 use Rattle.rules.specs.Claims.{on, at}
-use Rattle.rules.specs.Tables.{vacant, encode, model, pad}
-pub use Rattle.chains.specs.Blocking.{blocking}
-use Rattle.table.specs.declared.Outcome.{Outcome}
-use Rattle.table.specs.Counts.{contested}
+use Rattle.rules.specs.Tests.{first_number, late, backward, named}
+use Rattle.rules.specs.Calls.{Model, Answer, Call, full_to, over_of, release, withdraw, advance}
+use Rattle.rules.specs.Chains.{ChainValues, chain_refused}
+use Rattle.table.specs.declared.Accepted.{Accepted}
 
--- A step's table and answer; the grants in the first places, 0 after them.
-abbrev pub outcome : Step → Outcome
-outcome s =
-    let a = s.answer in
+-- ── answers ──
+-- A number, and nothing else.
+abbrev pub number_alone : ℕ → Answer
+number_alone n = record { number = n; ticket = 0; start = 0; contention = 0; bound = 0; grants = [] }
+
+abbrev pub answer_of : Result Accepted Refusal → Answer
+answer_of (Ok a) =
     record {
-      table = encode s.model;
-      number = a.number;
-      ticket = a.ticket;
-      start = a.start;
-      contention = a.contention;
-      bound = a.bound;
-      granted = length a.grants;
-      grants = pad 0 a.grants;
+      number = 0;
+      ticket = a.reply.ticket;
+      start = a.reply.start;
+      contention = a.reply.contention;
+      bound = a.reply.bound;
+      grants = a.grants;
     }
+answer_of (Err r) = number_alone (number_of r)
 
--- A table, and a number as the answer.
-abbrev pub answering_in : Table → ℕ → Outcome
-answering_in t n = record { table = t; number = n; ticket = 0; start = 0; contention = 0; bound = 0; granted = 0; grants = replicate 64 0 }
-
--- ── lookup ──
--- Place r of a table is that of the claim of ticket k; the count where there is none.
-pub record Found (t : Table) (k r : ℕ) : Type 0 where
-  pub within : r ≤ t.count
-  pub here : r < t.count → keep (named k) (model t).pending ≡ get_or t.claims r vacant ∷ []
-  pub none : r ≡ t.count → keep (named k) (model t).pending ≡ []
+-- What a lookup of a blocking chain tells.
+abbrev pub chain_told : Result (List ℕ) Refusal → ChainValues
+chain_told (Ok tickets) = record { number = 0; tickets = tickets }
+chain_told (Err r) = chain_refused (number_of r)
 
 -- ── the tests 5 and 4, and those of a release and a withdrawal ──
 unfoldable pub time_number : ℕ → ℕ → ℕ
@@ -48,15 +43,14 @@ time_number now t = first_number (late t ∷ backward now t ∷ [])
 unfoldable pub share_number : Model → ℕ → ℕ
 share_number m c = first_number (full_to m c ∷ over_of m c ∷ [])
 
--- That, where it has to be counted for.
-unfoldable pub counted_number : Model → ℕ → ℕ
-counted_number m c = cond (contested m.shares (length m.pending) c) (share_number m c) 0
-
 -- c is on, and its promised end is below the clock t.
 abbrev pub past_end : ℕ → Claim → Bool
 past_end t c = on c && ltb (at c + c.length) t
 
--- c draws units.
+-- c waits; c draws units.
+abbrev pub waits : Claim → Bool
+waits c = not (on c)
+
 abbrev pub draws : Claim → Bool
 draws c = not (eqb c.units 0)
 

@@ -2,12 +2,11 @@
 use mathlib.Core.Path.{◌≡◌, refl, sym, ◌∙◌, ap, subst}
 use mathlib.Core.List.{List, ◌∷◌}
 use Prim.Native.Nat.{ℕ}
-use Rattle.rules.specs.declared.Blocking.{Blocking}
-use Rattle.rules.specs.declared.Table.{Table}
+use Rattle.std.proofs.Common.{Result}
+use Rattle.numbers.specs.declared.Refusal.{Refusal}
 use Rattle.rules.specs.Calls.{Model, setting_of, Look, claims, releases, withdraws, moves_clock, declares, sets_grace, Call, timed, looks, sets_up, Answer, Step, step, new, StandingValues, CommonValues}
 use Rattle.rules.specs.Calls as rules
 use Rattle.rules.specs.Chains.{ChainValues, chain_of}
-use Rattle.rules.specs.Tables.{model}
 use Rattle.rules.proofs.Lookup.{look-answer, look-idle}
 use Rattle.rules.proofs.Chains.{chain-answer}
 use Rattle.promises.specs.Ledger.{Turn, Ledger, opening, turns, table_after}
@@ -41,80 +40,69 @@ use Rattle.promises.proofs.GrantsDue.{grants_due}
 use Rattle.promises.proofs.PoolKept.{pool_kept}
 use Rattle.promises.proofs.SharesKept.{shares_kept}
 use Rattle.promises.proofs.TableKept.{table_kept}
-use Rattle.table.specs.declared.Outcome.{Outcome}
-use Rattle.table.specs.Outcomes.{outcome, blocking}
+use Rattle.table.specs.declared.Accepted.{Accepted}
+use Rattle.table.specs.Outcomes.{answer_of}
 use Rattle.table.specs.Valid.{Valid}
-use Rattle.table_runs.specs.Runs.{answered, looked, chain_shown, look_number, Promised, Shows, Made, by_call, by-look, Run, done, then, Looks, BeganAs, by-new, CodeAtAnyTime, CodeWhileNobodyOverruns, CodeAtAnyLater, CodeAtAnyCall, CodeDemand3, CodeNumbersTested, CodeNewTested, CodeReplies, CodeLeastStart, CodeStartsPacked, CodePackedInTurn, CodePlansApart, CodeWaitsExplained, CodeChainsTold, CodeNeverOvertaken, CodeStartsHold, CodeGrantsDue, CodePoolKept, CodeSharesKept, CodeTables}
-use Rattle.table.proofs.Promised.{outcome-model, outcome-grants, blocking-tickets}
+use Rattle.table_runs.specs.Runs.{looked, look_number, Place, Promised, Shows, Made, by_call, by-look, Run, done, then, Looks, BeganAs, by-new, CodeAtAnyTime, CodeWhileNobodyOverruns, CodeAtAnyLater, CodeAtAnyCall, CodeDemand3, CodeNumbersTested, CodeNewTested, CodeReplies, CodeLeastStart, CodeStartsPacked, CodePackedInTurn, CodePlansApart, CodeWaitsExplained, CodeChainsTold, CodeNeverOvertaken, CodeStartsHold, CodeGrantsDue, CodePoolKept, CodeSharesKept, CodeTables}
+use Rattle.table.proofs.Promised.{step-valid}
 
 -- ── what the contracts say ──
-promised-is : {t : Table} → Valid t → (c : Call) (r : Outcome) → Promised t c r → (r ≡ outcome (step (model t) c)) × Valid r.table
-promised-is v (timed u (claims ask)) r p = p v
-promised-is v (timed u (releases k)) r p = p v
-promised-is v (timed u (withdraws k)) r p = p v
-promised-is v (timed u moves_clock) r p = p v
-promised-is v (looks q) r p = absurd p
-promised-is v (sets_up (declares c g n)) r p = p v
-promised-is v (sets_up (sets_grace n)) r p = p v
+promised-is : (p : Place) (t : Model) (c : Call) (r : Result Accepted Refusal) (w : Model) → Promised p t c r w → (answer_of r ≡ (step t c).answer) × (w ≡ (step t c).model)
+promised-is p t (timed u (claims ask)) r w h = h tt
+promised-is p t (timed u (releases k)) r w h = h tt
+promised-is p t (timed u (withdraws k)) r w h = h tt
+promised-is p t (timed u moves_clock) r w h = h tt
+promised-is p t (looks q) r w h = absurd h
+promised-is p t (sets_up (declares c g n)) r w h = h tt
+promised-is p t (sets_up (sets_grace n)) r w h = h tt
 
-shown-is : (r : Blocking) (c : ChainValues) → r ≡ blocking c → chain_shown r ≡ c
-shown-is r c e = ap chain_shown e ∙ ap (λ (ks : List ℕ). record { number = c.number; tickets = ks }) (blocking-tickets (blocking c) c refl)
-
-shows-is : {t : Table} → Valid t → (q : Look) (r : Telling q) → Shows t q r → (r ≡ tells (model t) q) × (look_number q r ≡ (step (model t) (looks q)).answer.number)
-shows-is v (rules.at_ticket k) r p = let e = p v in (e.0, ap (λ (x : StandingValues). x.number) e.1)
-shows-is v (rules.at_two j k) r p = let e = p v in (e.0, ap (λ (x : CommonValues). x.number) e.1)
-shows-is v rules.at_pool r p = p v
-shows-is {t} v (rules.at_chain k) r p =
-    let c : ChainValues = chain_of (setting_of (model t)) k (model t).pending in
-    let e : r ≡ c = p.1 ∙ shown-is p.0 c (p.2 v).0 in
-    (e, ap (λ (x : ChainValues). x.number) e ∙ chain-answer (model t) k v.settled.spaced.ascending)
+shows-is : {t : Model} → Valid t → (q : Look) (r : Telling q) → Shows t q r → (r ≡ tells t q) × (look_number q r ≡ (step t (looks q)).answer.number)
+shows-is v (rules.at_ticket k) r h = let e = h.1 tt in (e.0, ap (λ (x : StandingValues). x.number) e.1)
+shows-is v (rules.at_two j k) r h = let e = h.1 tt in (e.0, ap (λ (x : CommonValues). x.number) e.1)
+shows-is v rules.at_pool r h = h.1 tt
+shows-is {t} v (rules.at_chain k) r h =
+    let e : r ≡ chain_of (setting_of t) k t.pending = h.1.1 ∙ (h.1.2 tt).0 in
+    (e, ap (λ (x : ChainValues). x.number) e ∙ chain-answer t k v.settled.spaced.ascending)
 
 -- ── one answer ──
-answer-of : (r : Outcome) (s : Step) → r ≡ outcome s → answered r ≡ s.answer
-answer-of r s e =
-    let a = s.answer in
-    ap answered e
-    ∙ ap (λ (g : List ℕ). record { number = a.number; ticket = a.ticket; start = a.start; contention = a.contention; bound = a.bound; grants = g })
-    (outcome-grants (outcome s) s refl)
-
 looked-is : (m : Model) (q : Look) (n : ℕ) → n ≡ (step m (looks q)).answer.number → looked n ≡ (step m (looks q)).answer
 looked-is m q n e = ap looked e ∙ look-answer m q
 
 -- ── a run is the rules' run ──
-made-is : {t u : Table} {c : Call} {a : Answer} → Valid t → Made t c a u → (a ≡ (step (model t) c).answer) × (model u ≡ (step (model t) c).model) × Valid u
-made-is {t} v (by_call c r p) =
-    let e = promised-is v c r p in
-    (answer-of r (step (model t) c) e.0, outcome-model r (step (model t) c) e.0, e.1)
-made-is {t} v (by-look q r p) = (looked-is (model t) q _ (shows-is v q r p).1, sym (look-idle (model t) q), v)
+made-is : {t u : Model} {c : Call} {a : Answer} → Valid t → Made t c a u → (a ≡ (step t c).answer) × (u ≡ (step t c).model) × Valid u
+made-is {t} v (by_call p c r w h) =
+    let e = promised-is p t c r w h in
+    (e.0, e.1, subst Valid (sym e.1) (step-valid t c v))
+made-is {t} v (by-look q r p) = (looked-is t q _ (shows-is v q r p).1, sym (look-idle t q), v)
 
-run_is : {t u : Table} {cs : List Call} {ts : List Turn} → Valid t → Run t cs ts u → (ts ≡ turns step (model t) cs) × (model u ≡ table_after step (model t) cs) × Valid u
+run_is : {t u : Model} {cs : List Call} {ts : List Turn} → Valid t → Run t cs ts u → (ts ≡ turns step t cs) × (u ≡ table_after step t cs) × Valid u
 unfolding turns table_after
 run_is v done = (refl, refl, v)
 run_is v (then {t} {u} {w} {c} {a} {cs} {ts} one p) =
     let m = made-is v one in
     let ih = run_is m.2 p in (
       ap (λ (x : Answer). record { call = c; answer = x } ∷ ts) m.0
-          ∙ ap (λ (l : List Turn). record { call = c; answer = (step (model t) c).answer } ∷ l) (ih.0 ∙ ap (λ (x : Model). turns step x cs) m.1),
+          ∙ ap (λ (l : List Turn). record { call = c; answer = (step t c).answer } ∷ l) (ih.0 ∙ ap (λ (x : Model). turns step x cs) m.1),
       ih.1 ∙ ap (λ (x : Model). table_after step x cs) m.1,
       ih.2,
     )
 
--- What lookups show of a table is what the rules tell of its model.
-looks-are : (t : Table) (m : Model) (shows : Told) → Valid t → model t ≡ m → Looks t shows → shows ≡ tells m
+-- What lookups show of a table is what the rules tell of it.
+looks-are : (t m : Model) (shows : Told) → Valid t → t ≡ m → Looks t shows → shows ≡ tells m
 looks-are t m shows v e h = λ i q. ((shows-is v q (shows q) (h q)).0 ∙ ap (λ (x : Model). tells x q) e) i
 
 -- Such a start is one of those of `promises`.
-began-is : {t : Table} {s : Start} → BeganAs t s → Begins s × (model t ≡ s.table) × Valid t
+began-is : {t : Model} {s : Start} → BeganAs t s → Begins s × (t ≡ s.table) × Valid t
 began-is (by-new rig pool alone first p) =
-    let q : (first ≡ outcome (new rig pool alone)) × Valid first.table = p tt in (
-      subst (λ (a : Answer). Begins (record { table = (new rig pool alone).model; ledger = opening rig pool alone a })) (sym (answer-of first (new rig pool alone) q.0)) (begins-new rig pool alone),
-      outcome-model first (new rig pool alone) q.0,
-      q.1,
+    let q = p tt in (
+      subst (λ (a : Answer). Begins (record { table = (new rig pool alone).model; ledger = opening rig pool alone a })) (sym q.1.0) (begins-new rig pool alone),
+      q.0,
+      q.1.1,
     )
 
 -- The table after a run from a start, and the turns.
-ran : {t u : Table} {s : Start} {cs : List Call} {ts : List Turn} → BeganAs t s → Run t cs ts u
-    → Begins s × (ts ≡ turns step s.table cs) × (model u ≡ table_after step s.table cs) × Valid u
+ran : {t u : Model} {s : Start} {cs : List Call} {ts : List Turn} → BeganAs t s → Run t cs ts u
+    → Begins s × (ts ≡ turns step s.table cs) × (u ≡ table_after step s.table cs) × Valid u
 ran {t} {u} {s} {cs} b p =
     let i = began-is b in
     let r = run_is i.2 p in
@@ -162,9 +150,7 @@ pub code-numbers-tested : (calls : List Call) → CodeNumbersTested calls
 code-numbers-tested calls = any-call-of-code calls NumberTested (λ s b. numbers_tested s b calls)
 
 pub code-new-tested : CodeNewTested
-code-new-tested rig pool alone r p =
-    let e : r ≡ outcome (new rig pool alone) = p.0 in
-    ap (λ (a : Answer). a.number) (answer-of r (new rig pool alone) e) ∙ new-tested rig pool alone
+code-new-tested rig pool alone r p = ap (λ (a : Answer). a.number) p.1.0 ∙ new-tested rig pool alone
 
 pub code-replies : (calls : List Call) → CodeReplies calls
 code-replies calls = any-call-of-code calls Replied (λ s b. replies s b calls)

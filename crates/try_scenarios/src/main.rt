@@ -3,10 +3,9 @@
 // claim and release in turn, and shows what comes then. Last two clients with shares, and a grace.
 #![tactic(auto)]
 
-ghost use Rattle.table.specs.Valid.{Valid};
-
-use rules::{Request, Standing, Table};
-use table::Outcome;
+use numbers::Refusal;
+use rules::{Request, Standing, Tickets};
+use table::{Accepted, Table};
 
 // A write that fails is not told.
 fn say(rt: &impl Print, text: &str) {
@@ -21,90 +20,63 @@ fn plot(rt: &impl Print, n: u64) {
     let _ = print!(rt; "{n}:");
 }
 
-fn grants(rt: &impl Print, r: Outcome) {
-    let granted = r.granted;
-    if granted == 0 {
+fn grants(rt: &impl Print, granted: &Tickets) {
+    if granted.is_empty() {
         return;
     }
     say(rt, " on");
-    let mut i: usize = 0;
-    while i < 64 {
-        if granted <= i {
-            return;
-        }
-        number(rt, r.grants[i] as u64);
-        i += 1;
+    for ticket in granted.as_slice() {
+        number(rt, u64::from(*ticket));
     }
 }
 
-fn answer(rt: &impl Print, r: Outcome) {
-    number(rt, r.number as u64);
-    number(rt, r.ticket as u64);
-    number(rt, r.start);
-    number(rt, r.contention);
-    number(rt, r.bound);
-    grants(rt, r);
+fn answer(rt: &impl Print, answer: &Result<Accepted, Refusal>) {
+    number(rt, u64::from(numbers::number(answer)));
+    match answer {
+        Ok(accepted) => {
+            number(rt, u64::from(accepted.reply.ticket));
+            number(rt, accepted.reply.start);
+            number(rt, accepted.reply.contention);
+            number(rt, accepted.reply.bound);
+            grants(rt, &accepted.grants);
+        }
+        Err(_) => say(rt, " 0 0 0 0"),
+    }
     say(rt, ";");
 }
 
 // ── calls that are shown ──
 
-fn claim(rt: &impl Print, t: Table, clock: u64, groups: u64, length: u32) -> Table
-    requires { Valid t }
-    ensures { Valid result }
-{
-    let r = table::claim(t, clock, rules::asking(groups, length));
-    answer(rt, r);
-    r.table
+fn claim(rt: &impl Print, t: &mut Table, clock: u64, groups: u64, length: u32) {
+    answer(rt, &t.claim(clock, rules::asking(groups, length)));
 }
 
-fn release(rt: &impl Print, t: Table, clock: u64, ticket: u16) -> Table
-    requires { Valid t }
-    ensures { Valid result }
-{
-    let r = table::release(t, clock, ticket);
-    answer(rt, r);
-    r.table
+fn release(rt: &impl Print, t: &mut Table, clock: u64, ticket: u16) {
+    answer(rt, &t.release(clock, ticket));
 }
 
-fn withdraw(rt: &impl Print, t: Table, clock: u64, ticket: u16) -> Table
-    requires { Valid t }
-    ensures { Valid result }
-{
-    let r = table::withdraw(t, clock, ticket);
-    answer(rt, r);
-    r.table
+fn withdraw(rt: &impl Print, t: &mut Table, clock: u64, ticket: u16) {
+    answer(rt, &t.withdraw(clock, ticket));
 }
 
-fn clock(rt: &impl Print, t: Table, clock: u64) -> Table
-    requires { Valid t }
-    ensures { Valid result }
-{
-    let r = table::clock(t, clock);
-    answer(rt, r);
-    r.table
+fn clock(rt: &impl Print, t: &mut Table, clock: u64) {
+    answer(rt, &t.clock(clock));
 }
 
-fn look(rt: &impl Print, t: Table, ticket: u16)
-    requires { Valid t }
-{
-    number(rt, ticket as u64);
-    let s = table::lookup(t, ticket);
-    match s {
-        Standing::NotPending => {
-            say(rt, " 8;");
-        }
+fn look(rt: &impl Print, t: &Table, ticket: u16) {
+    number(rt, u64::from(ticket));
+    match t.lookup(ticket) {
+        Standing::NotPending => say(rt, " 8"),
         Standing::Waits(start) => {
             say(rt, " waits");
             number(rt, start);
-            say(rt, ";");
         }
         Standing::Holds(end) => {
             say(rt, " on until");
             number(rt, end);
-            say(rt, ";");
         }
     }
+    say(rt, ";");
 }
 
 fn end(rt: &impl Print) {
@@ -113,126 +85,124 @@ fn end(rt: &impl Print) {
 
 // ── calls that are not ──
 
-fn rig(groups: u64) -> Table
-    ensures { Valid result }
-{
-    let r = table::new(groups, 0, true);
-    r.table
+fn rig(groups: u64) -> Table {
+    let (t, _) = Table::new(groups, 0, true);
+    t
 }
 
-fn quiet(t: Table, groups: u64, length: u32) -> Table
-    requires { Valid t }
-    ensures { Valid result }
-{
-    let r = table::claim(t, 0, rules::asking(groups, length));
-    r.table
+fn quiet(t: &mut Table, groups: u64, length: u32) {
+    let _ = t.claim(0, rules::asking(groups, length));
 }
 
-// "S is three claims at clock 0"
-fn three_on(r: Table) -> Table
-    requires { Valid r }
-    ensures { Valid result }
-{
-    let t = quiet(r, 0x8, 10);
-    let u = quiet(t, 0xC, 10);
-    quiet(u, 0x6, 11)
+// Two claims at clock 0, and "S is three claims at clock 0".
+fn two_on(t: &mut Table) {
+    quiet(t, 0x8, 10);
+    quiet(t, 0xC, 10);
 }
 
-fn three() -> Table
-    ensures { Valid result }
-{
-    three_on(rig(0xF))
+fn three_on(t: &mut Table) {
+    two_on(t);
+    quiet(t, 0x6, 11);
+}
+
+fn three() -> Table {
+    let mut t = rig(0xF);
+    three_on(&mut t);
+    t
 }
 
 // ── the plots ──
 
 fn plots_1_to_4(rt: &impl Print) {
+    let mut t = rig(0xF);
     plot(rt, 1);
-    let t = claim(rt, rig(0xF), 0, 0x8, 10);
+    claim(rt, &mut t, 0, 0x8, 10);
     end(rt);
     plot(rt, 2);
-    let u = claim(rt, t, 0, 0xC, 10);
+    claim(rt, &mut t, 0, 0xC, 10);
     end(rt);
     plot(rt, 3);
-    claim(rt, u, 0, 0x6, 11);
+    claim(rt, &mut t, 0, 0x6, 11);
     end(rt);
+    let mut u = rig(0xF);
+    two_on(&mut u);
     plot(rt, 4);
-    claim(rt, u, 0, 0x6, 10);
+    claim(rt, &mut u, 0, 0x6, 10);
     end(rt);
 }
 
 fn plots_5_to_8(rt: &impl Print) {
-    let s = three();
+    let mut t = three();
     plot(rt, 5);
-    let t = claim(rt, s, 0, 0x3, 20);
+    claim(rt, &mut t, 0, 0x3, 20);
     end(rt);
+    let mut u = three();
     plot(rt, 6);
-    claim(rt, s, 0, 0x3, 21);
+    claim(rt, &mut u, 0, 0x3, 21);
     end(rt);
     plot(rt, 7);
-    let u = release(rt, t, 4, 1);
-    look(rt, u, 3);
+    release(rt, &mut t, 4, 1);
+    look(rt, &t, 3);
     end(rt);
+    let mut v = three();
     plot(rt, 8);
-    let v = release(rt, s, 4, 1);
-    look(rt, v, 3);
+    release(rt, &mut v, 4, 1);
+    look(rt, &v, 3);
     end(rt);
 }
 
 fn plots_9_and_10(rt: &impl Print) {
-    let s = three();
+    let mut t = three();
     plot(rt, 9);
-    withdraw(rt, s, 0, 2);
+    withdraw(rt, &mut t, 0, 2);
     end(rt);
+    let mut u = three();
     plot(rt, 10);
-    let t = clock(rt, s, 12);
-    look(rt, t, 2);
-    look(rt, t, 3);
-    let u = clock(rt, t, 11);
-    clock(rt, u, 12);
+    clock(rt, &mut u, 12);
+    look(rt, &u, 2);
+    look(rt, &u, 3);
+    clock(rt, &mut u, 11);
+    clock(rt, &mut u, 12);
     end(rt);
 }
 
 fn plots_11_and_12(rt: &impl Print) {
-    let t = rig(0xF);
+    let mut t = rig(0xF);
     plot(rt, 11);
-    let u = claim(rt, t, 0, 0x10, 1);
-    let v = claim(rt, u, 0, 0x1, 3_600_000);
-    let w = claim(rt, v, 0, 0x1, 3_600_001);
-    claim(rt, w, 0, 0x1, 0);
+    claim(rt, &mut t, 0, 0x10, 1);
+    claim(rt, &mut t, 0, 0x1, 3_600_000);
+    claim(rt, &mut t, 0, 0x1, 3_600_001);
+    claim(rt, &mut t, 0, 0x1, 0);
     end(rt);
-    let s = three();
+    let mut s = three();
     plot(rt, 12);
-    release(rt, s, 0, 2);
-    withdraw(rt, s, 0, 1);
-    release(rt, s, 0, 0);
-    withdraw(rt, s, 0, 0);
+    release(rt, &mut s, 0, 2);
+    withdraw(rt, &mut s, 0, 1);
+    release(rt, &mut s, 0, 0);
+    withdraw(rt, &mut s, 0, 0);
     end(rt);
 }
 
 // 64 claims of one group, of which the first is on.
-fn full() -> Table
-    ensures { Valid result }
-{
+fn full() -> Table {
     let mut t = rig(0xF);
-    let mut i: usize = 0;
-    while i < 64 {
-        t = quiet(t, 0x1, 10);
-        i += 1;
+    for _ in 0..64 {
+        quiet(&mut t, 0x1, 10);
     }
     t
 }
 
 fn plots_13_and_14(rt: &impl Print) {
-    let t = full();
+    let mut t = full();
     plot(rt, 13);
-    let u = claim(rt, t, 0, 0x2, 5);
-    let v = release(rt, u, 0, 1);
-    claim(rt, v, 0, 0x2, 5);
+    claim(rt, &mut t, 0, 0x2, 5);
+    release(rt, &mut t, 0, 1);
+    claim(rt, &mut t, 0, 0x2, 5);
     end(rt);
+    let mut u = rig(0xF);
     plot(rt, 14);
-    let w = clock(rt, rig(0xF), 5);
-    claim(rt, w, 4, 0, 1);
+    clock(rt, &mut u, 5);
+    claim(rt, &mut u, 4, 0, 1);
     end(rt);
 }
 
@@ -243,135 +213,118 @@ fn line(rt: &impl Print, text: &str, n: u64) {
 }
 
 // The table after 65,535 claims, each released at once.
-fn exhausted() -> Table
-    ensures { Valid result }
-{
-    let o = table::new(0x1, 0, true);
-    let mut t = o.table;
-    let mut i: u32 = 0;
-    while i < 65_535 {
-        let c = table::claim(t, 0, rules::asking(0x1, 1));
-        let u = c.table;
-        let r = table::release(u, 0, c.ticket);
-        t = r.table;
-        i += 1;
+fn exhausted() -> Table {
+    let mut t = rig(0x1);
+    for _ in 0..65_535 {
+        if let Ok(accepted) = t.claim(0, rules::asking(0x1, 1)) {
+            let _ = t.release(0, accepted.reply.ticket);
+        }
     }
     t
 }
 
 // No load is long enough to issue every ticket.
 fn tickets(rt: &impl Print) {
-    let t = exhausted();
-    line(rt, "tickets issued: ", t.issued as u64);
-    line(rt, "claims pending: ", t.count as u64);
-    let c = table::claim(t, 0, rules::asking(0x1, 1));
-    line(rt, "a claim more: ", c.number as u64);
-    let u = c.table;
-    let r = table::release(u, 0, 65_535);
-    line(rt, "release of the last ticket: ", r.number as u64);
-    let d = table::clock(u, 7);
-    line(rt, "a clock call: ", d.number as u64);
+    let mut t = exhausted();
+    line(rt, "tickets issued: ", u64::from(t.issued()));
+    line(rt, "claims pending: ", t.pending().len() as u64);
+    let claimed = t.claim(0, rules::asking(0x1, 1));
+    line(rt, "a claim more: ", u64::from(numbers::number(&claimed)));
+    let released = t.release(0, 65_535);
+    line(
+        rt,
+        "release of the last ticket: ",
+        u64::from(numbers::number(&released)),
+    );
+    let moved = t.clock(7);
+    line(rt, "a clock call: ", u64::from(numbers::number(&moved)));
 }
 
 // ── clients with shares ──
 
-fn declare(rt: &impl Print, t: Table, client: u8, reserved: u8, limit: u8) -> Table
-    requires { Valid t }
-    ensures { Valid result }
-{
-    let r = table::declare(t, client, reserved, limit);
-    number(rt, r.number as u64);
-    r.table
+fn declare(rt: &impl Print, t: &mut Table, client: u8, reserved: u8, limit: u8) {
+    let declared = t.declare(client, reserved, limit);
+    number(rt, u64::from(numbers::number(&declared)));
 }
 
-fn claim_by(t: Table, client: u8) -> Outcome
-    requires { Valid t }
-    ensures { Valid result.table }
-{
+// 40 claims of a client, and their numbers.
+fn forty(rt: &impl Print, t: &mut Table, client: u8) {
     let ask = Request {
         groups: 0x1,
         length: 10,
         units: 0,
-        client: client,
+        client,
     };
-    table::claim(t, 0, ask)
-}
-
-// 40 claims of a client, and their numbers.
-fn forty(rt: &impl Print, from: Table, client: u8) -> Table
-    requires { Valid from }
-    ensures { Valid result }
-{
-    let mut t = from;
-    let mut i: usize = 0;
-    while i < 40 {
-        let r = claim_by(t, client);
-        number(rt, r.number as u64);
-        t = r.table;
-        i += 1;
+    for _ in 0..40 {
+        let claimed = t.claim(0, ask);
+        number(rt, u64::from(numbers::number(&claimed)));
     }
     end(rt);
-    t
 }
 
 // Two clients with 32 places reserved each ask for 40; then a declaration, which comes late.
 fn desks(rt: &impl Print) {
-    let o = table::new(0xF, 0, false);
-    let t = o.table;
+    let (mut t, _) = Table::new(0xF, 0, false);
     say(rt, "desks 1 and 2, 32 and 32:");
-    let u = declare(rt, t, 1, 32, 64);
-    let v = declare(rt, u, 2, 32, 32);
+    declare(rt, &mut t, 1, 32, 64);
+    declare(rt, &mut t, 2, 32, 32);
     end(rt);
     say(rt, "desk 1:");
-    let w = forty(rt, v, 1);
+    forty(rt, &mut t, 1);
     say(rt, "desk 2:");
-    let x = forty(rt, w, 2);
+    forty(rt, &mut t, 2);
     say(rt, "desk 3:");
-    declare(rt, x, 3, 0, 0);
+    declare(rt, &mut t, 3, 0, 0);
     end(rt);
 }
 
 // ── a grace ──
 
-fn set_grace(rt: &impl Print, t: Table, grace: u32) -> Table
-    requires { Valid t }
-    ensures { Valid result }
-{
-    let r = table::set_grace(t, grace);
-    answer(rt, r);
-    r.table
+fn set_grace(rt: &impl Print, t: &mut Table, grace: u32) {
+    answer(rt, &t.set_grace(grace));
 }
 
-fn looks(rt: &impl Print, t: Table)
-    requires { Valid t }
-{
+fn looks(rt: &impl Print, t: &Table) {
     look(rt, t, 1);
     look(rt, t, 2);
     look(rt, t, 3);
     end(rt);
 }
 
+// S with a grace of 5, at clock 14 by way of clock 12.
+fn at_14(rt: &impl Print) {
+    let mut t = rig(0xF);
+    let _ = t.set_grace(5);
+    three_on(&mut t);
+    let _ = t.clock(12);
+    say(rt, "at clock 14:");
+    clock(rt, &mut t, 14);
+    looks(rt, &t);
+}
+
 // S with a grace of 5: no grace at the promised end of ticket 1, then a grace after the clock, until its release.
 fn graces(rt: &impl Print) {
+    let mut t = rig(0xF);
     say(rt, "graces of 60001, 60000 and 5:");
-    let t = set_grace(rt, rig(0xF), 60_001);
-    let u = set_grace(rt, t, 60_000);
-    let v = set_grace(rt, u, 5);
+    set_grace(rt, &mut t, 60_001);
+    set_grace(rt, &mut t, 60_000);
+    set_grace(rt, &mut t, 5);
     end(rt);
+    three_on(&mut t);
     say(rt, "S at clock 10:");
-    let w = clock(rt, three_on(v), 10);
-    looks(rt, w);
+    clock(rt, &mut t, 10);
+    looks(rt, &t);
     say(rt, "at clock 12:");
-    let x = clock(rt, w, 12);
-    looks(rt, x);
-    say(rt, "at clock 14:");
-    looks(rt, clock(rt, x, 14));
+    clock(rt, &mut t, 12);
+    looks(rt, &t);
+    at_14(rt);
     say(rt, "a grace of 5:");
-    let y = set_grace(rt, x, 5);
+    set_grace(rt, &mut t, 5);
     end(rt);
     say(rt, "a claim, and the release at clock 13:");
-    let z = claim(rt, y, 12, 0x8, 3);
-    looks(rt, release(rt, z, 13, 1));
+    claim(rt, &mut t, 12, 0x8, 3);
+    release(rt, &mut t, 13, 1);
+    looks(rt, &t);
 }
 
 fn main(rt: HostRuntime) {

@@ -1,22 +1,20 @@
 -- Laws of the words of a line, as the code finds them.
-use Prim.Native.Nat.{ℕ, ◌+◌, ◌-◌, ◌≤◌, ◌<◌}
-use mathlib.Core.Path.{◌≡◌, refl, sym, ap, subst, ◌∙◌}
-use mathlib.Core.Bool.{Bool, true, false, cond, beq}
+use Prim.Native.Nat.{ℕ, suc, ◌+◌, ◌≤◌, ◌<◌}
+use mathlib.Core.Path.{◌≡◌, refl, sym, ap, ◌∙◌}
+use mathlib.Core.Bool.{true, false, false≢true}
 use mathlib.Core.List.{List, [], ◌∷◌}
+use native.Mathlib.Nat.{add-zero}
 use native.Mathlib.Numerals.{add-one}
 use native.Mathlib.Omega.{arith}
-use lib.Dec.{leb}
-use lib.ListN.{length, get_or, take, drop, drop_of_length-le, length-drop, length-take}
-use lib.Seq.{drop-cons, take_all, take-take}
-use borrow.Author.Tests.{not-true, le-leb, lt-leb}
-use Rattle.words.specs.Parts.{bytes_before, until, since, place_of, parts, not_empty, is, is_blank, is_full, edge_of, words_in, word_at, FirstWord, chomped, said, carriage_return, hash}
+use lib.ListN.{length, get_or, take, drop, drop_of_length-le, length-take, length-drop}
+use lib.Seq.{drop-cons, get_or-drop}
+use borrow.Author.Tests.{not-true}
+use Rattle.std.proofs.Common.{Bor}
+use Rattle.std.specs.Option.{MatchOption, is_some}
+use Rattle.std.specs.Prelude.{Option, Some, None}
+use Rattle.words.specs.Parts.{bytes_before, until, since, parts, not_empty, is_blank, is_full, words_in, FirstWord}
 use Rattle.words.proofs.Cases.{either, below}
-use Rattle.words.proofs.Parts.{place-low, place-high, place_end, place-on, place-passes, until-first, since-drop, parts_cut}
-
--- One test for both edges of a word: whether a byte is a blank is what is asked for.
-pub edge-is : (blank t : Bool) (b : ℕ) → t ≡ is_blank b → edge_of blank b ≡ beq t blank
-edge-is true t b e = either (is_blank b) (λ q. rw (e, q)) (λ q. rw (e, q))
-edge-is false t b e = either (is_blank b) (λ q. rw (e, q)) (λ q. rw (e, q))
+use Rattle.words.proofs.Parts.{before-length, before-passes, parts-of}
 
 -- Blanks in front of a word say nothing.
 words-since : (l : List ℕ) → words_in l ≡ words_in (since is_full l)
@@ -38,49 +36,57 @@ unfolding words_in parts
 words-past l at f =
     below at (length l) (λ h. rw (drop-cons l at 0 h, add-one, f h)) (λ h. words-none l at h ∙ sym (words-none l (at + 1) (omega arith)))
 
-module _ (l : List ℕ) (at from to : ℕ) (e : from ≡ place_of is_full l at) (f : to ≡ place_of is_blank l from) where
-  longer : from < length l → from < to
-  longer h =
-      let p : is_full (get_or l from 0) ≡ true = subst (λ k. k < length l → is_full (get_or l k 0) ≡ true) (sym e) (place-passes is_full l at) h in
-      omega (arith, f, place-on is_blank l from h (not-true _ p), place-low is_blank l (from + 1))
+some-before : (l : List ℕ) → 0 < length l → is_blank (get_or l 0 0) ≡ false → 0 < bytes_before is_blank l
+unfolding bytes_before
+some-before [] h f = absurd (omega arith)
+some-before (b ∷ l) h f = rw f (omega arith)
 
-  cut : from < length l → words_in (drop from l) ≡ word_at l from to ∷ words_in (drop to l)
+-- A line that begins with no blank: its first word, of m bytes.
+module _ (l : List ℕ) (h : 0 < length l) (f : is_blank (get_or l 0 0) ≡ false) where
+  full-first : words_in l ≡ until is_blank l ∷ words_in (since is_blank l)
   unfolding words_in
-  cut h =
-      let g : parts is_blank (drop from l) ≡ word_at l from to ∷ parts is_blank (drop (to + 1) l) = rw f (parts_cut is_blank l from h) in
-      let n : 0 < length (word_at l from to) = omega (arith, longer h, length-take (to - from) (drop from l), length-drop from l) in
-      let q : to < length l → is_blank (get_or l to 0) ≡ true = subst (λ k. k < length l → is_blank (get_or l k 0) ≡ true) (sym f) (place-passes is_blank l from) in
-      ap not_empty g ∙ not-empty-cons _ (parts is_blank (drop (to + 1) l)) n ∙ ap (λ ws. word_at l from to ∷ ws) (sym (words-past l to q))
+  full-first =
+      let n : 0 < length (until is_blank l) = omega (arith, some-before l h f, length-take (bytes_before is_blank l) l, before-length is_blank l) in
+      let k : words_in (drop (suc (bytes_before is_blank l)) l) ≡ words_in (since is_blank l) = rw add-one at (sym (words-past l (bytes_before is_blank l) (before-passes is_blank l))) in
+      ap not_empty (parts-of is_blank l h)
+      ∙ not-empty-cons (until is_blank l) (parts is_blank (drop (suc (bytes_before is_blank l)) l)) n
+      ∙ ap (λ ws. until is_blank l ∷ ws) k
 
-  is-first : words_in (drop from l) ≡ cond (leb to from) [] (word_at l from to ∷ words_in (drop to l))
-  is-first =
-      below from (length l) (λ h. rw (lt-leb to from (longer h)) (cut h))
-      (λ h. rw (le-leb to from (omega (arith, f, place_end is_blank l from h))) (words-none l from h))
+-- What the code finds: blanks in front, then a word.
+module _ (l : List ℕ) (i m : ℕ) (e : i ≡ bytes_before is_full l) (h : i < length l) (q : m ≡ bytes_before is_blank (drop i l)) where
+  pub first_word : FirstWord l (take m (drop i l)) (drop m (drop i l))
+  first_word =
+      let s : since is_full l ≡ drop i l = ap (λ (k : ℕ). drop k l) (sym e) in
+      let b : is_full (get_or l i 0) ≡ true = rw e (before-passes is_full l (omega arith)) in
+      let z : get_or (drop i l) 0 0 ≡ get_or l i 0 = get_or-drop i l 0 0 ∙ ap (λ (k : ℕ). get_or l k 0) (add-zero i) in
+      let n : 0 < length (drop i l) = omega (arith, length-drop i l) in
+      let f : is_blank (get_or (drop i l) 0 0) ≡ false = rw z (not-true _ b) in
+      let u = some-before (drop i l) n f in
+      let k = before-length is_blank (drop i l) in
+      record {
+        first = rw (s, ← q);
+        behind = rw (s, ← q);
+        some = omega (arith, u, q, k, length-take m (drop i l));
+        shorter = omega (arith, u, q, length-drop i l, length-drop m (drop i l));
+        words = words-since l ∙ rw (s, q) (full-first (drop i l) n f);
+      }
 
-  pub first_word : FirstWord l at from to
-  first_word = record {
-    first = e;
-    behind = f;
-    low = omega (arith, e, place-low is_full l at);
-    order = omega (arith, f, place-low is_blank l from);
-    high = omega (arith, e, f, place-high is_full l at, place-high is_blank l from);
-    words = words-since (drop at l) ∙ ap words_in (since-drop is_full l at ∙ ap (λ k. drop k l) (sym e)) ∙ is-first;
-  }
+pub no_word : (l : List ℕ) → bytes_before is_full l ≡ length l → words_in l ≡ []
+no_word l e = words-since l ∙ ap (λ (k : ℕ). words_in (drop k l)) e ∙ words-none l (length l) (omega arith)
 
--- ── a line before its end ──
-chomped-is : (l : List ℕ) → take (length (chomped l)) l ≡ chomped l
-unfolding chomped
-chomped-is l =
-    let n : length (take (length l - 1) l) ≡ length l - 1 = omega (arith, length-take (length l - 1) l) in
-    either (is carriage_return (get_or l (length l - 1) 0)) (λ e. rw (e, n)) (λ e. rw e (take_all (length l) l (omega arith)))
+-- Whether the code finds one, by `is_some`.
+module _ (l : List ℕ) (r : Option (Bor (List ℕ) × Bor (List ℕ))) (m : MatchOption r (words_in l ≡ []) (λ p. FirstWord l p.0.now p.1.now)) where
+  pub some-more : is_some r ≡ true → (w : List ℕ) × (ws : List (List ℕ)) × (words_in l ≡ w ∷ ws)
+  some-more = go r m
+    where
+      go : (r : Option (Bor (List ℕ) × Bor (List ℕ))) → MatchOption r (words_in l ≡ []) (λ p. FirstWord l p.0.now p.1.now) → is_some r ≡ true
+          → (w : List ℕ) × (ws : List (List ℕ)) × (words_in l ≡ w ∷ ws)
+      go None m e = absurd (false≢true e)
+      go (Some p) m e = (p.0.now, words_in p.1.now, m.words)
 
-pub chomped-within : (l : List ℕ) → length (chomped l) ≤ length l
-chomped-within l = omega (arith, ap length (chomped-is l), length-take (length (chomped l)) l)
-
--- What the code reads of a line: up to the comment of the line up to its end.
-pub said-is : (l : List ℕ) (n m : ℕ) → n ≡ length (chomped l) → m ≡ place_of (is hash) (take n l) 0 → (m ≤ length l) × (take m l ≡ said l)
-unfolding said
-said-is l n m e f =
-    let h : m ≤ n = omega (arith, f, place-high (is hash) (take n l) 0, length-take n l) in
-    let q : take n l ≡ chomped l = ap (λ k. take k l) e ∙ chomped-is l in
-    (omega (arith, e, chomped-within l), sym (take-take m n l h) ∙ ap (λ k. take k (take n l)) f ∙ sym (until-first (is hash) (take n l)) ∙ ap (until (is hash)) q)
+  pub no_more : is_some r ≡ false → words_in l ≡ []
+  no_more = go r m
+    where
+      go : (r : Option (Bor (List ℕ) × Bor (List ℕ))) → MatchOption r (words_in l ≡ []) (λ p. FirstWord l p.0.now p.1.now) → is_some r ≡ false → words_in l ≡ []
+      go None m e = m
+      go (Some p) m e = absurd (false≢true (sym e))

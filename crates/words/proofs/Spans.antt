@@ -1,23 +1,25 @@
 -- Laws of sets of groups as text: a list's items, a range, and the value of the groups from one to another.
 use Prim.Native.Nat.{ℕ, zero, suc, ◌+◌, ◌-◌, ◌*◌, ◌^◌, ◌%◌, ◌≤◌, ◌<◌}
-use mathlib.Core.Path.{◌≡◌, sym, ap, ◌∙◌}
-use mathlib.Core.Bool.{◌&&◌}
-use mathlib.Core.List.{List}
+use mathlib.Core.Path.{◌≡◌, refl, sym, ap, ◌∙◌}
+use mathlib.Core.Bool.{Bool, true, false, not, not-not, ◌&&◌}
+use mathlib.Core.List.{List, []}
 use native.Mathlib.Nat.{two-pow-succ, sub-zero}
 use native.Mathlib.Numerals.{add-one}
 use native.Mathlib.Omega.{arith}
 use lib.Dec.{leb}
-use lib.ListN.{length, take, drop, length-drop}
+use lib.ListN.{length, take, drop, drop_of_length-le}
 use lib.Seq.{drop-cons, take_all}
 use lib.Pow.{pow_mono, pow_pos}
 use borrow.Author.Tests.{le-leb, lt-leb}
 use Rattle.groups.specs.Groups.{set_from, union}
-use Rattle.words.specs.declared.Field.{Field}
-use Rattle.words.specs.declared.Field.TheVariants.{Value}
-use Rattle.words.specs.Parts.{until, since, place_of, is_comma, is_dash, items_in, word_at}
-use Rattle.words.specs.Sets.{span, one_group_in, and_then, range_to, range_in, item_of_word, with_items}
+use Rattle.std.specs.List.{list_any}
+use Rattle.std.specs.Prelude.{Ok}
+use Rattle.words.specs.declared.reasons.Reason.TheVariants.{NoGroups, TooLarge}
+use Rattle.words.specs.Parts.{bytes_before, parts, is_comma, is_dash, is_joint, items_in, FirstPart}
+use Rattle.words.specs.Sets.{span, one_group_in, and_then, range_to, item_of_word, with_items, is_list, groups_in}
+use Rattle.words.specs.Words.{number_in}
 use Rattle.words.proofs.Cases.{below}
-use Rattle.words.proofs.Parts.{until-first, since-drop, parts_cut}
+use Rattle.words.proofs.Parts.{none_any}
 
 -- ── the groups from one to another ──
 module _ (low high : ℕ) where
@@ -46,21 +48,39 @@ module _ (low high : ℕ) where
       let t : 2 ^ high ≤ 9223372036854775808 = pow_mono q in
       (omega arith, omega arith, pow_pos low, o, t, (simp sub-zero at (set_value 64 0 h (omega arith))) ∙ two-pow-succ high)
 
--- ── an item: the group before the dash, and what stands after it ──
-module _ (w : List ℕ) (end : ℕ) (e : end ≡ place_of is_dash w 0) (f : Field) (r : f ≡ one_group_in (take end w)) where
-  pub item_from : item_of_word w ≡ and_then f (range_in (drop end w))
+-- ── an item ──
+module _ (w : List ℕ) where
+  -- Without a dash, of one group.
+  pub item-one : bytes_before is_dash w ≡ length w → item_of_word w ≡ and_then (one_group_in w) (λ g. Ok (span g g))
   unfolding item_of_word
-  item_from =
-      let u : until is_dash w ≡ take end w = until-first is_dash w ∙ ap (λ n. take n w) (sym e) in
-      let s : since is_dash w ≡ drop end w = since-drop is_dash w 0 ∙ ap (λ n. drop n w) (sym e) in
-      rw (u, s, r)
+  item-one e = let d : drop (length w) w ≡ [] = drop_of_length-le w (omega arith) in rw (e, take_all (length w) w (omega arith), d)
 
-  pub item-range : (g : ℕ) → f ≡ Value g → end < length w → and_then (one_group_in (take (length w - (end + 1)) (drop (end + 1) w))) (range_to g) ≡ item_of_word w
-  item-range g k h =
-      rw (item_from, k, drop-cons w end 0 h, add-one, take_all (length w - suc end) (drop (suc end) w) (omega (arith, length-drop (suc end) w)))
+  -- With one, of the group before it to the one behind it.
+  pub item-two : (i : ℕ) → i ≡ bytes_before is_dash w → i < length w
+      → item_of_word w ≡ and_then (one_group_in (take i w)) (λ low. and_then (one_group_in (drop (i + 1) w)) (range_to low))
+  unfolding item_of_word
+  item-two i e h = rw (← e, drop-cons w i 0 h, add-one)
 
 -- ── a list ──
-module _ (w : List ℕ) (at end s : ℕ) (h : at < length w) (e : end ≡ place_of is_comma w at) (f : Field) (r : f ≡ item_of_word (word_at w at end)) where
-  pub items-on : with_items s (items_in (drop at w)) ≡ and_then f (λ g. with_items (union s g) (items_in (drop (end + 1) w)))
-  unfolding with_items items_in
-  items-on = rw (parts_cut is_comma w at h, ← e, r)
+pub items-on : (l part rest : List ℕ) → FirstPart is_comma l part rest → (s : ℕ) → with_items s (items_in l) ≡ and_then (item_of_word part) (λ g. with_items (union s g) (items_in rest))
+unfolding with_items items_in
+items-on l part rest p s = rw p.parts
+
+pub items_end : (s : ℕ) → with_items s (items_in []) ≡ Ok s
+unfolding with_items items_in parts
+items_end s = refl
+
+-- ── a word ──
+-- As the library tests it: r is whether any byte is a comma or a dash.
+module _ (w : List ℕ) (r : Bool) (e : r ≡ list_any is_joint w) where
+  is-list : is_list w ≡ r
+  unfolding is_list
+  is-list = ap not (none_any is_joint w) ∙ not-not (list_any is_joint w) ∙ sym e
+
+  pub list-of : r ≡ true → with_items 0 (items_in w) ≡ groups_in w
+  unfolding groups_in
+  list-of t = rw (is-list, t)
+
+  pub hex-of : r ≡ false → number_in 16 18446744073709551615 NoGroups TooLarge w ≡ groups_in w
+  unfolding groups_in
+  hex-of t = rw (is-list, t)

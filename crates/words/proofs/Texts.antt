@@ -1,37 +1,42 @@
--- The texts of the code's table, and the lengths of reports, none of which is long.
-use Prim.Native.Nat.{ℕ, zero, suc, ◌-◌, ◌≤◌, max}
-use mathlib.Core.Bool.{true, false, ◌&&◌, and-eq-true_iff}
+-- The lengths of reports, none of which is long.
+use Prim.Native.Nat.{ℕ, zero, suc, ◌≤◌, ◌<◌, max}
+use mathlib.Core.Bool.{true, false, false≢true, ◌&&◌, and-eq-true_iff}
 use mathlib.Core.List.{List, [], ◌∷◌, ◌++◌, map}
-use mathlib.Core.Path.{◌≡◌, refl, ap}
+use mathlib.Core.Path.{◌≡◌, refl, sym, ap, ◌∙◌}
 use native.Mathlib.Omega.{arith}
-use lib.Dec.{leb, ltb}
-use lib.ListN.{length, take, get_or, replicate, length-append, length-replicate}
-use lib.Seq.{take_at}
-use borrow.Author.Tests.{leb-true}
+use lib.Dec.{eqb, leb, ltb}
+use lib.ListN.{length, get_or, replicate, length-append, length-replicate}
+use borrow.Author.Tests.{leb-true, le-leb, lt-leb, lt-ltb, eqb-true, ne_eqb}
 use Rattle.numerals.specs.Digits.{decimal_of}
 use Rattle.numerals.specs.Laid.{Put}
-use Rattle.numerals.specs.Texts.{bytes, space}
+use Rattle.numerals.specs.Texts.{bytes}
 use Rattle.numerals.proofs.Laying.{width_small, decimal-length, put-short, lent-all}
-use Rattle.words.specs.Parts.{place_of, is}
-use Rattle.words.specs.Reports.{reasons, reason_texts, reason_text, form_told, report_of, reported}
+use Rattle.std.specs.List.{list_any, list_all}
+use Rattle.words.specs.Parts.{bytes_before, place_of, is}
+use Rattle.words.specs.Reports.{reasons, reason_texts, reason_text, not_written, form_told, report_of, reported}
 use Rattle.words.proofs.Cases.{either}
 
 -- ── texts ──
--- Each is padded to so many bytes, with its length.
-abbrev padded : ℕ → List ℕ → List ℕ
-padded width t = t ++ replicate (width - length t) space
+-- A number that is none of these, as the last arm of a match has it.
+abbrev pub Unlisted : List ℕ → ℕ → Type 0
+Unlisted [] n = Unit {0}
+Unlisted (j ∷ js) n = Unlisted js n × (n ≡ j → ⊥)
 
-pub text-is : (width : ℕ) (ts : List (List ℕ)) (i : ℕ)
-    → (get_or (map length ts) i 0 ≤ length (get_or (map (padded width) ts) i []))
-    × (take (get_or (map length ts) i 0) (get_or (map (padded width) ts) i []) ≡ get_or ts i [])
-text-is width [] i = (omega arith, refl)
-text-is width (t ∷ ts) zero = (omega (arith, length-append t (replicate (width - length t) space)), take_at t _ (length t) refl)
-text-is width (t ∷ ts) (suc i) = text-is width ts i
+unlisted : (js : List ℕ) (n m : ℕ) → Unlisted js n → list_any (eqb m) js ≡ true → eqb m n ≡ false
+unlisted [] n m u h = absurd (false≢true h)
+unlisted (j ∷ js) n m u h =
+    either (eqb m j) (λ e. ne_eqb m n (λ q. u.1 (sym q ∙ eqb-true m j e))) (λ e. unlisted js n m u.0 (rw e at h))
 
--- A reason is found by its number's place.
-pub reason-is : (n i : ℕ) → i ≡ place_of (is n) (map (λ r. r.number) reasons) 0 → get_or reason_texts i [] ≡ reason_text n
-unfolding reason_text
-reason-is n i e = ap (λ (k : ℕ). get_or reason_texts k []) e
+none-listed : (js ns : List ℕ) (n : ℕ) → Unlisted js n → list_all (λ m. list_any (eqb m) js) ns ≡ true → bytes_before (is n) ns ≡ length ns
+unfolding bytes_before
+none-listed js [] n u h = refl
+none-listed js (m ∷ ns) n u h =
+    let q = (and-eq-true_iff (list_any (eqb m) js) (list_all (λ m. list_any (eqb m) js) ns)).0 h in rw (unlisted js n m u q.0) (ap (λ (k : ℕ). suc k) (none-listed js ns n u q.1))
+
+-- It has no text.
+pub no_reason : (js : List ℕ) (n : ℕ) → Unlisted js n → list_all (λ m. list_any (eqb m) js) (map (λ r. r.number) reasons) ≡ true → not_written ≡ reason_text n
+unfolding reason_text reason_texts reasons place_of
+no_reason js n u h = rw (none-listed js (map (λ r. r.number) reasons) n u h)
 
 -- ── reports ──
 -- The length of the longest text of a table.
@@ -75,10 +80,14 @@ report-goes line n form {r} {p} w =
 -- ── forms ──
 -- A form that is told, and one that is left out.
 module _ (form : List ℕ) where
-  pub form-told : (ltb 0 (length form) && leb (length form) 64) ≡ true → form_told form ≡ bytes ": " ++ form
+  pub form-told : 0 < length form → length form ≤ 64 → form_told form ≡ bytes ": " ++ form
   unfolding form_told
-  form-told t = rw t
+  form-told h k = rw (lt-ltb 0 (length form) h, le-leb (length form) 64 k)
 
-  pub form-left : (ltb 0 (length form) && leb (length form) 64) ≡ false → form_told form ≡ []
+  pub form_empty : length form ≡ 0 → form_told form ≡ []
   unfolding form_told
-  form-left t = rw t
+  form_empty h = rw h
+
+  pub form_long : 64 < length form → form_told form ≡ []
+  unfolding form_told
+  form_long h = rw (lt-ltb 0 (length form) (omega arith), lt-leb (length form) 64 h)

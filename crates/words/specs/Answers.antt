@@ -1,9 +1,9 @@
 -- What is answered of words and texts by number and values: "Where an answer is an enum, a definition gives this paper's number and values
 -- for each of its cases." A number is document 01's or a reason (Reasons), 0 where nothing is wrong. A value that a case does not have is 0.
-use Rattle.std.specs.Prelude.{ℕ, zero, suc, List, length}
+use Rattle.std.specs.Prelude.{ℕ, zero, suc, List, length, Result, Ok, Err}
 use Rattle.numerals.specs.Laid.{space_number}
-use Rattle.words.specs.declared.Field.{Field}
-use Rattle.words.specs.declared.Field.TheVariants.{Value, Wrong}
+use Rattle.words.specs.declared.reasons.Reason.{Reason}
+use Rattle.words.specs.Reasons.{reason_number}
 
 -- A value where a number is 0.
 abbrev pub value_unless : ℕ → ℕ → ℕ
@@ -15,9 +15,9 @@ pub record WordValues : Type 0 where
   pub number : ℕ
   pub value : ℕ
 
-abbrev pub word_values : Field → WordValues
-word_values (Value v) = record { number = 0; value = v }
-word_values (Wrong n) = record { number = n; value = 0 }
+abbrev pub word_values : Result ℕ Reason → WordValues
+word_values (Ok v) = record { number = 0; value = v }
+word_values (Err r) = record { number = reason_number r; value = 0 }
 
 -- What a text comes to: the line that is wrong, counted from 1; the length of what stands in the lent buffer.
 pub record TextValues : Type 0 where

@@ -1,8 +1,7 @@
 -- The parts of a text: its lines, a line's words, the items of a list; and what a line says before its comment.
-use Rattle.std.specs.Prelude.{ℕ, suc, ◌+◌, ◌-◌, ◌≤◌, max, ◌≡◌, Bool, true, false, not, ◌&&◌, ◌||◌, cond, List, [], ◌∷◌, eqb, leb, length, take, drop, get_or}
+use Rattle.std.specs.Prelude.{ℕ, suc, ◌+◌, ◌-◌, ◌<◌, ◌≡◌, Bool, true, not, ◌&&◌, ◌||◌, cond, List, [], ◌∷◌, eqb, length, take, drop, get_or}
 use Prim.Native.Char.{code}
 use Rattle.numerals.specs.Texts.{space, line_feed}
-use Rattle.words.specs.declared.Word.{Word}
 
 -- ── bytes ──
 abbrev pub carriage_return : ℕ
@@ -79,11 +78,6 @@ is_dash b = is dash b
 abbrev pub is_joint : ℕ → Bool
 is_joint b = is_comma b || is_dash b
 
--- The edges of a word: a space or a tab ends it, any other byte begins it.
-abbrev pub edge_of : Bool → ℕ → Bool
-edge_of true b = is_blank b
-edge_of false b = is_full b
-
 -- The lines of a text, the words of a line, the items of a list.
 unfoldable pub lines_in : List ℕ → List (List ℕ)
 lines_in l = parts is_feed l
@@ -94,25 +88,20 @@ words_in l = not_empty (parts is_blank l)
 unfoldable pub items_in : List ℕ → List (List ℕ)
 items_in l = parts is_comma l
 
--- The bytes from one place to another.
-abbrev pub word_at : List ℕ → ℕ → ℕ → List ℕ
-word_at l from to = take (to - from) (drop from l)
+-- What the code finds of the first part of a text: its bytes, and what stands behind the byte that ends it.
+pub record FirstPart (p : ℕ → Bool) (l part rest : List ℕ) : Type 0 where
+  pub first : part ≡ until p l
+  pub behind : rest ≡ drop (length part + 1) l
+  pub shorter : length rest < length l
+  pub parts : parts p l ≡ part ∷ parts p rest
 
--- What the code finds of the first word from `at` on: its first byte and the place after its last; where there is none both are the text's
--- end, or `at` behind it. The other facts follow from these two.
-pub record FirstWord (l : List ℕ) (at from to : ℕ) : Type 0 where
-  pub first : from ≡ place_of is_full l at
-  pub behind : to ≡ place_of is_blank l from
-  pub low : at ≤ from
-  pub order : from ≤ to
-  pub high : to ≤ max at (length l)
-  pub words : words_in (drop at l) ≡ cond (leb to from) [] (word_at l from to ∷ words_in (drop to l))
-
--- What the code finds of a part: these bytes, from its first to after its last.
-pub record IsPart (l : List ℕ) (r : Word) (w : List ℕ) : Type 0 where
-  pub order : r.from ≤ r.to
-  pub high : r.to ≤ length l
-  pub is : word_at l r.from r.to ≡ w
+-- What it finds of the first word of a line: its bytes, and what stands behind them.
+pub record FirstWord (l word rest : List ℕ) : Type 0 where
+  pub first : word ≡ until is_blank (since is_full l)
+  pub behind : rest ≡ since is_blank (since is_full l)
+  pub some : 0 < length word
+  pub shorter : length rest < length l
+  pub words : words_in l ≡ word ∷ words_in rest
 
 -- A line without the carriage return that ends it, and of that what stands before its comment.
 unfoldable pub chomped : List ℕ → List ℕ

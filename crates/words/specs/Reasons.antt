@@ -1,6 +1,9 @@
--- Why a line of text says no call, by number, as in src/reasons.rt: from 101 on, so that no reason can be taken for a number of document 01.
--- Numbers of document 01 that are told of a line are its own (crate numbers).
+-- Why a line of text says no call, by number: from 101 on, so that no reason can be taken for a number of document 01. Numbers of document 01
+-- that are told of a line are its own (crate numbers).
 use Rattle.std.specs.Prelude.{ℕ}
+use Rattle.numbers.specs.Refusals.{number_of}
+use Rattle.words.specs.declared.reasons.Reason.{Reason}
+use Rattle.words.specs.declared.reasons.Reason.TheVariants.{Unknown, Missing, TooMany, NoClock, NoTicket, NoLength, NoGroups, TooLarge, Over63, Backward, NoPool, NoUnits, NoClient, NoReserved, NoLimit, NoGrace, Refused}
 
 abbrev pub unknown_reason : ℕ
 unknown_reason = 101
@@ -49,3 +52,23 @@ no_limit_reason = 115
 
 abbrev pub no_grace_reason : ℕ
 no_grace_reason = 116
+
+-- The number of a reason of the code.
+abbrev pub reason_number : Reason → ℕ
+reason_number Unknown = unknown_reason
+reason_number Missing = missing_reason
+reason_number TooMany = too_many_reason
+reason_number NoClock = no_clock_reason
+reason_number NoTicket = no_ticket_reason
+reason_number NoLength = no_length_reason
+reason_number NoGroups = no_groups_reason
+reason_number TooLarge = too_large_reason
+reason_number Over63 = over63_reason
+reason_number Backward = backward_reason
+reason_number NoPool = no_pool_reason
+reason_number NoUnits = no_units_reason
+reason_number NoClient = no_client_reason
+reason_number NoReserved = no_reserved_reason
+reason_number NoLimit = no_limit_reason
+reason_number NoGrace = no_grace_reason
+reason_number (Refused r) = number_of r

@@ -8,15 +8,15 @@ use Rattle.words.specs.declared.reports.Reported.{Reported}
 use Rattle.words.specs.Parts.{place_of, is, line_at, first_said}
 use Rattle.words.specs.Reasons.{unknown_reason, missing_reason, too_many_reason, no_clock_reason, no_ticket_reason, no_length_reason, no_groups_reason, too_large_reason, over63_reason, backward_reason, no_pool_reason, no_units_reason, no_client_reason, no_reserved_reason, no_limit_reason, no_grace_reason}
 
--- what is wrong with a line: a number and its text
-pub record Reason : Type 0 where
+-- What is wrong with a line: a number and its text.
+pub record Told : Type 0 where
   pub number : ℕ
   pub text : List ℕ
 
-abbrev pub reason : ℕ → List ℕ → Reason
+abbrev pub reason : ℕ → List ℕ → Told
 reason number text = record { number = number; text = text }
 
-unfoldable pub reasons : List Reason
+unfoldable pub reasons : List Told
 reasons =
     reason unknown_reason (bytes "unknown call")
     ∷ reason missing_reason (bytes "a number is missing")

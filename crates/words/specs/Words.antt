@@ -1,12 +1,9 @@
 -- What a word says: a name among names, or a number.
-use Rattle.std.specs.Prelude.{ℕ, ◌+◌, ◌-◌, ◌*◌, Bool, true, false, ◌&&◌, cond, List, [], ◌∷◌, eqb, leb, ltb, length}
+use Rattle.std.specs.Prelude.{ℕ, ◌+◌, ◌-◌, ◌*◌, Bool, true, false, ◌&&◌, cond, List, [], ◌∷◌, eqb, leb, ltb, length, Option, Some, None, Result, Ok, Err}
 use Prim.Native.Char.{code}
-use Rattle.words.specs.declared.Field.{Field}
-use Rattle.words.specs.declared.Field.TheVariants.{Value, Wrong}
-use Rattle.words.specs.declared.Mark.{Mark}
-use Rattle.words.specs.declared.Mark.TheVariants.{Joint, NoDigit}
+use Rattle.words.specs.declared.reasons.Reason.{Reason}
 use Rattle.words.specs.Answers.{WordValues}
-use Rattle.words.specs.Parts.{is_joint, none}
+use Rattle.words.specs.Parts.{none}
 
 -- ── names ──
 unfoldable pub is_word : List ℕ → List ℕ → Bool
@@ -33,6 +30,10 @@ unfoldable pub value_in : ℕ → ℕ → List ℕ → ℕ
 value_in base v [] = v
 value_in base v (b ∷ l) = value_in base (v * base + digit_of b) l
 
+-- v with a digit after it, if that is at most `most`.
+abbrev pub and_digit : ℕ → ℕ → ℕ → ℕ → Option ℕ
+and_digit base most v b = cond (leb (v * base + digit_of b) most) (Some (v * base + digit_of b)) None
+
 abbrev pub is_no_digit : ℕ → ℕ → Bool
 is_no_digit base b = leb base (digit_of b)
 
@@ -43,22 +44,16 @@ digits_in base w = none (is_no_digit base) w
 abbrev pub is_number : ℕ → List ℕ → Bool
 is_number base w = ltb 0 (length w) && digits_in base w
 
--- The bytes that a word may lack.
-abbrev pub passes : Mark → ℕ → Bool
-passes Joint b = is_joint b
-passes (NoDigit base) b = is_no_digit base b
-
 -- A number, `large` where it is over `most`.
-abbrev pub up_to_most : ℕ → ℕ → ℕ → Field
-up_to_most most large v = cond (leb v most) (Value v) (Wrong large)
+abbrev pub up_to_most : ℕ → Reason → ℕ → Result ℕ Reason
+up_to_most most large v = cond (leb v most) (Ok v) (Err large)
 
 -- The number that a word says: `none` where it says none, `large` where it is over `most`.
-unfoldable pub number_in : ℕ → ℕ → ℕ → ℕ → List ℕ → Field
-number_in base most none large w = cond (is_number base w) (up_to_most most large (value_in base 0 w)) (Wrong none)
+unfoldable pub number_in : ℕ → ℕ → Reason → Reason → List ℕ → Result ℕ Reason
+number_in base most none large w = cond (is_number base w) (up_to_most most large (value_in base 0 w)) (Err none)
 
 -- ── in numbers ──
--- By the bytes alone, without the cases of `Field`.
--- The number that a word says: `none` where it says none, `large` where it is over `most`.
+-- By the bytes and the numbers of reasons alone: the number that a word says, `none` where it says none, `large` where it is over `most`.
 unfoldable pub number_values : ℕ → ℕ → ℕ → ℕ → List ℕ → WordValues
 number_values base most none large w =
     let v = value_in base 0 w in

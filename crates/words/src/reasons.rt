@@ -1,33 +1,65 @@
-// Why a line of text says no call, by number, as in specs/Reasons.antt: from 101 on, so that no reason can be taken for a number of document
-// 01. Numbers of document 01 that are told of a line are its own (crate numbers).
-pub const UNKNOWN: u8 = 101;
+// Why a line of text says no call.
+use numbers::Refusal;
 
-pub const MISSING: u8 = 102;
+// Each reason of a word or a line has a number from 101 on, so that none can be taken for a number of document 01; a refusal of document 01
+// that is told of a line keeps its own.
+#[derive(Clone, Copy, Debug, PartialEq, Eq)]
+pub enum Reason {
+    Unknown,
+    Missing,
+    TooMany,
+    NoClock,
+    NoTicket,
+    NoLength,
+    NoGroups,
+    TooLarge,
+    Over63,
+    Backward,
+    NoPool,
+    NoUnits,
+    NoClient,
+    NoReserved,
+    NoLimit,
+    NoGrace,
+    Refused(Refusal),
+}
 
-pub const TOO_MANY: u8 = 103;
+impl From<Refusal> for Reason {
+    ghost use Rattle.std.specs.Prelude.{◌≡◌};
+    ghost use Rattle.words.specs.declared.reasons.Reason.TheVariants.{Refused};
 
-pub const NO_CLOCK: u8 = 104;
+    ghost from_gives = { λ refusal reason. reason ≡ Refused refusal };
 
-pub const NO_TICKET: u8 = 105;
+    fn from(refusal: Refusal) -> Reason {
+        Reason::Refused(refusal)
+    }
+}
 
-pub const NO_LENGTH: u8 = 106;
+impl From<Reason> for u8 {
+    ghost use Rattle.std.specs.Prelude.{◌≡◌};
+    ghost use Rattle.words.specs.Reasons.{reason_number};
 
-pub const NO_GROUPS: u8 = 107;
+    ghost from_gives = { λ reason n. n ≡ reason_number reason };
 
-pub const TOO_LARGE: u8 = 108;
-
-pub const OVER_63: u8 = 109;
-
-pub const BACKWARD: u8 = 110;
-
-pub const NO_POOL: u8 = 111;
-
-pub const NO_UNITS: u8 = 112;
-
-pub const NO_CLIENT: u8 = 113;
-
-pub const NO_RESERVED: u8 = 114;
-
-pub const NO_LIMIT: u8 = 115;
-
-pub const NO_GRACE: u8 = 116;
+    fn from(reason: Reason) -> u8 {
+        match reason {
+            Reason::Unknown => 101,
+            Reason::Missing => 102,
+            Reason::TooMany => 103,
+            Reason::NoClock => 104,
+            Reason::NoTicket => 105,
+            Reason::NoLength => 106,
+            Reason::NoGroups => 107,
+            Reason::TooLarge => 108,
+            Reason::Over63 => 109,
+            Reason::Backward => 110,
+            Reason::NoPool => 111,
+            Reason::NoUnits => 112,
+            Reason::NoClient => 113,
+            Reason::NoReserved => 114,
+            Reason::NoLimit => 115,
+            Reason::NoGrace => 116,
+            Reason::Refused(refusal) => u8::from(refusal),
+        }
+    }
+}

@@ -2,9 +2,9 @@
 ghost use Rattle.std.specs.Prelude.{◌≡◌, ◌≤◌};
 ghost use Rattle.words.specs.Answers.{word_values};
 ghost use Rattle.words.specs.Parts.{items_in};
-ghost use Rattle.words.specs.Sets.{and_then, one_group_in, groups_in, groups_values, item_of_word, span, range_to, with_items};
+ghost use Rattle.words.specs.Sets.{groups_in, groups_values, item_of_word, one_group_in, span, with_items};
 
-use crate::{Field, Mark, lacks, number, place, reasons};
+use crate::{Reason, next_part, number};
 
 // The groups from one to another: the bits below 2^(high + 1) without those below 2^low.
 fn span(low: u64, high: u64) -> u64
@@ -15,69 +15,46 @@ fn span(low: u64, high: u64) -> u64
     (top - (1u64 << low)) + top
 }
 
-fn group(word: &[u8]) -> Field
+fn group(word: &[u8]) -> Result<u64, Reason>
     ensures { result ≡ one_group_in word.now }
 {
-    number(word, 10, 63, reasons::NO_GROUPS, reasons::OVER_63)
-}
-
-// The groups from one to the one that a word says.
-fn range(low: u64, word: &[u8]) -> Field
-    ensures { result ≡ and_then (one_group_in word.now) (range_to low) }
-{
-    match group(word) {
-        Field::Value(high) => {
-            if high < low {
-                return Field::Wrong(reasons::BACKWARD);
-            }
-            Field::Value(span(low, high))
-        }
-        Field::Wrong(n) => Field::Wrong(n),
-    }
+    number(word, 10, 63, Reason::NoGroups, Reason::Over63)
 }
 
 // One item, `5` or `5-7`.
-fn item(word: &[u8]) -> Field
+fn item(word: &[u8]) -> Result<u64, Reason>
     ensures { result ≡ item_of_word word.now }
 {
-    let end = place(word, b'-', 0);
-    match group(&word[..end]) {
-        Field::Value(low) => {
-            if word.len() <= end {
-                return Field::Value(span(low, low));
-            }
-            range(low, &word[end + 1..])
-        }
-        Field::Wrong(n) => Field::Wrong(n),
+    let Some(dash) = word.iter().position(|b| *b == b'-') else {
+        let only = group(word)?;
+        return Ok(span(only, only));
+    };
+    let low = group(&word[..dash])?;
+    let high = group(&word[dash + 1..])?;
+    if high < low {
+        return Err(Reason::Backward);
     }
+    Ok(span(low, high))
 }
 
-fn list(word: &[u8]) -> Field
+fn list(word: &[u8]) -> Result<u64, Reason>
     ensures { result ≡ with_items 0 (items_in word.now) }
 {
     let mut set: u64 = 0;
-    let mut at: usize = 0;
-    while at < word.len() {
-        let end = place(word, b',', at);
-        match item(&word[at..end]) {
-            Field::Value(g) => {
-                set = groups::union(set, g);
-            }
-            Field::Wrong(n) => {
-                return Field::Wrong(n);
-            }
-        }
-        at = end + 1;
+    let mut rest = word;
+    while let Some((part, behind)) = next_part(rest, b',') {
+        set = groups::union(set, item(part)?);
+        rest = behind;
     }
-    Field::Value(set)
+    Ok(set)
 }
 
 // The set that a word says. A word without comma and dash is hex.
-pub fn groups_of(word: &[u8]) -> Field
+pub fn groups_of(word: &[u8]) -> Result<u64, Reason>
     ensures { (result ≡ groups_in word.now) × (word_values result ≡ groups_values word.now) }
 {
-    if lacks(word, Mark::Joint) {
-        return number(word, 16, u64::MAX, reasons::NO_GROUPS, reasons::TOO_LARGE);
+    if word.iter().any(|b| matches!(b, b',' | b'-')) {
+        return list(word);
     }
-    list(word)
+    number(word, 16, u64::MAX, Reason::NoGroups, Reason::TooLarge)
 }

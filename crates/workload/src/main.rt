@@ -2,43 +2,35 @@
 // nothing is written.
 #![tactic(auto)]
 
-use load::Written;
 use std::env::Env;
-use words::Field;
+use words::Reason;
 
-#[derive(Clone, Copy)]
-pub enum MaybeNumber {
-    Number(u32),
-    NoNumber,
-}
+const WRONG_SEED: &[u8] = b"seed is not a number from 0 to 4294967295\n";
+
+const WRONG_COUNT: &[u8] = b"count is not a number from 1 to 1000\n";
 
 // The number that an argument says, in decimal and up to 4,294,967,295; or none.
-fn argument(rt: &impl Env, i: usize) -> MaybeNumber {
-    let mut text = [0u8; 4096];
-    let Ok(n) = rt.arg(i, &mut text) else {
-        return MaybeNumber::NoNumber;
-    };
-    match words::number(&text[..n], 10, 4294967295, 1, 1) {
-        Field::Value(v) => MaybeNumber::Number(v as u32),
-        Field::Wrong(_n) => MaybeNumber::NoNumber,
-    }
-}
-
-fn tell_seed(rt: &impl Eprint) {
-    streams::tell(rt, b"seed is not a number from 0 to 4294967295\n");
-}
-
-fn tell_count(rt: &impl Eprint) {
-    streams::tell(rt, b"count is not a number from 1 to 1000\n");
+fn argument(rt: &impl Env, i: usize) -> Option<u32> {
+    let mut text = [0; 4096];
+    let n = rt.arg(i, &mut text).ok()?;
+    let value = words::number(
+        &text[..n],
+        10,
+        u64::from(u32::MAX),
+        Reason::Unknown,
+        Reason::TooLarge,
+    )
+    .ok()?;
+    u32::try_from(value).ok()
 }
 
 fn write(rt: &(impl Print + Eprint + Alloc), seed: u32, count: u32) {
-    let mut load = [0u8; 65536];
+    let mut load = [0; 65536];
     match generator::workload(seed, count, &mut load) {
-        Written::Length(n) => {
+        Ok(n) => {
             streams::write_output(rt, b"workload", &load[..n]);
         }
-        Written::Refusal(_n) => tell_count(rt),
+        Err(_) => streams::tell(rt, WRONG_COUNT),
     }
 }
 
@@ -47,12 +39,12 @@ fn main(rt: HostRuntime) {
         streams::tell_usage(&rt, b"workload SEED COUNT > LOAD");
         return;
     }
-    let MaybeNumber::Number(seed) = argument(&rt, 1) else {
-        tell_seed(&rt);
+    let Some(seed) = argument(&rt, 1) else {
+        streams::tell(&rt, WRONG_SEED);
         return;
     };
-    let MaybeNumber::Number(count) = argument(&rt, 2) else {
-        tell_count(&rt);
+    let Some(count) = argument(&rt, 2) else {
+        streams::tell(&rt, WRONG_COUNT);
         return;
     };
     write(&rt, seed, count);

@@ -4,8 +4,8 @@ use lib.ListN.{length}
 use Rattle.frame_listing.specs.InParts.{part_room, Ready}
 use Rattle.beat.proofs.print_parts.Given as goal
 
-abbrev pub invariant-loop-p : goal.invariant-loop-p
-invariant-loop-p g l = Ready l.p × (l.p.length ≤ length l.out) × (part_room ≤ length l.out)
+abbrev pub invariant-loop-part : goal.invariant-loop-part
+invariant-loop-part g l = Ready l.part × (l.part.length ≤ length l.out) × (part_room ≤ length l.out)
 
-abbrev pub decreases-loop-p : goal.decreases-loop-p
-decreases-loop-p g l = length l.text - l.p.at
+abbrev pub decreases-loop-part : goal.decreases-loop-part
+decreases-loop-part g l = length l.text - l.part.at

@@ -1,47 +1,31 @@
--- The loop's invariant: the columns hold the claims so far.
-use mathlib.Core.Path.{◌≡◌, subst}
-use Prim.Native.Nat.{ℕ}
-use native.Mathlib.Omega.{arith}
-use Rattle.rules.specs.Calls.{setting_of}
-use Rattle.rules.specs.Tables.{model}
-use Rattle.plan.proofs.Rows.{row_small}
-use Rattle.chains.specs.Columns.{Columns, Follows}
-use Rattle.chains.proofs.Columns.{columns-start, columns-more}
-use Rattle.chains.proofs.Following.{follows-start, laid-is}
-use Rattle.chains.proofs.chain.Goals.{After-loop-j}
+use Rattle.std.proofs.Common.{◌≡◌, sym, ◌∙◌, ap, arith}
+use Rattle.rules.specs.Claims.{at}
+use Rattle.rules.specs.Chains.{link}
+use Rattle.rules.proofs.Chains.{link-sooner}
+use Rattle.plan.proofs.Rows.{row-member}
+use Rattle.chains.proofs.Following.{followed-start, followed-end, followed-more, followed_room}
+use Rattle.chains.proofs.chain.Goals.{After-link-c}
 use Rattle.chains.proofs.chain.Goals as goal
 
-pub loop-j-init : goal.loop-j-init
-loop-j-init c = (omega arith, columns-start _ _)
+pub links-init : goal.links-init
+links-init c =
+    rw (c.push.ensures, c.new-tickets.ensures, c.get-c.ensures) (followed-start c.requires.0 c.requires.1.1 (row-member c.requires.0 c.args.i c.requires.2))
 
-pub end_of-requires : goal.end_of-requires
-end_of-requires c = (row_small c.requires.0 _ (omega arith), c.requires.0.ranges.timely)
+-- The claim at hand becomes its link.
+linked : (c : After-link-c) → c.link-c.result ≡ link c.args.v c.args.pending.now c.links.c
+linked c = c.link-c.ensures ∙ ap (λ l. link c.args.v l c.links.c) c.as_slice.ensures
 
-pub loop-j-preserved : goal.loop-j-preserved
-loop-j-preserved c = (
-  omega arith,
-  columns-more c.loop-j.invariant.1 (omega (arith, c.requires.0.few)) _ _ _ c.start_or_grant.ensures c.end_of.ensures c.is_on.ensures,
-)
+pub push-requires-in-links : goal.push-requires-in-links
+push-requires-in-links c =
+    followed_room c.requires.0 c.requires.1.1 c.links.invariant (sym c.is_on.ensures ∙ c.links-test.true) (row-member c.requires.0 c.args.i c.requires.2)
 
--- Behind the loop all is ready to follow the chain.
-ready : (c : After-loop-j) →
-    let l = c.loop-j in
-    let a = c.args in
-    let t = a.t in
-    Follows t.issued (setting_of (model t)) t.claims l.starts l.ends l.groups l.units l.tickets l.held t.count a.i 0
-ready c =
-    let l = c.loop-j in
-    let e : l.j ≡ c.args.t.count = omega (arith, l.invariant.0, c.loop-j-test.false) in
-    follows-start c.requires.0 c.requires.1
-    (subst (λ (n : ℕ). Columns (setting_of (model c.args.t)) c.args.t.claims n l.starts l.ends l.groups l.units l.tickets l.held) e l.invariant.1)
-    c.requires.2
+pub links-smaller : goal.links-smaller
+links-smaller c =
+    omega (arith, ap at (linked (goal.at.links-smaller c).After-link-c), link-sooner c.requires.1.0 c.args.v c.args.pending.now c.requires.1.1 c.links.c c.links.invariant.member (sym c.is_on.ensures ∙ c.links-test.true))
 
-pub follow-n-requires : goal.follow-n-requires
-follow-n-requires c =
-    let t = c.args.t in
-    (t.issued, setting_of (model t), t.claims, ready (goal.at.follow-n-requires c).After-loop-j)
+pub links-preserved : goal.links-preserved
+links-preserved c =
+    rw (c.push-in-links.ensures, linked (goal.at.links-preserved c).After-link-c) (followed-more c.requires.0 c.requires.1.1 c.links.invariant (sym c.is_on.ensures ∙ c.links-test.true))
 
 pub returns : goal.returns
-returns c =
-    let t = c.args.t in
-    laid-is _ (omega (arith, (ready (goal.at.returns c).After-loop-j).room)) _ _ (c.follow-n.ensures t.issued (setting_of (model t)) t.claims (ready (goal.at.returns c).After-loop-j))
+returns c = followed-end c.requires.0 c.requires.1.1 c.links.invariant (sym c.is_on.ensures ∙ c.links-test.false)

@@ -1,10 +1,11 @@
-use Prim.Native.Nat.{◌-◌, ◌≤◌}
-use Rattle.chains.specs.Columns.{Columns}
+use Rattle.std.proofs.Common.{get_or}
+use Rattle.rules.specs.Claims.{at}
+use Rattle.rules.specs.Vacant.{vacant}
+use Rattle.chains.proofs.Following.{Followed}
 use Rattle.chains.proofs.chain.Given as goal
 
-abbrev pub invariant-loop-j : goal.invariant-loop-j
-invariant-loop-j l =
-    (l.j ≤ l.count) × Columns l.v l.t.claims l.j l.starts l.ends l.groups l.units l.tickets l.held
+abbrev pub invariant-links : goal.invariant-links
+invariant-links l = Followed l.v l.pending (get_or l.pending l.i vacant) l.tickets l.c
 
-abbrev pub decreases-loop-j : goal.decreases-loop-j
-decreases-loop-j l = l.count - l.j
+abbrev pub decreases-links : goal.decreases-links
+decreases-links l = at l.c

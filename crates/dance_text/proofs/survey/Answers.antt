@@ -1,28 +1,34 @@
 -- Line by line up to the first that is wrong: the invariant is `Passing`.
-use native.Mathlib.Nat.{add-zero}
+use mathlib.Core.Path.{refl, ap}
 use native.Mathlib.Omega.{arith}
-use Rattle.dance_text.proofs.Shows.{pass-start, pass-end, pass-wrong, pass_on}
-use Rattle.dance_text.proofs.survey.Goals.{else-has_call, then-has_call}
+use Rattle.std.specs.Prelude.{Ok}
+use Rattle.dance_text.proofs.Shows.{pass-start, pass-end, pass-wrong, pass-call, pass-none}
 use Rattle.dance_text.proofs.survey.Goals as goal
 
-pub returns-then-number-ne0 : goal.returns-then-number-ne0
-returns-then-number-ne0 c =
-    pass-wrong _ _ _ _ c.loop-at.invariant c.loop-at-test.true _ c.place-end.ensures.0 _ c.parse_line-said.ensures.0 _ c.line_number-number.ensures c.if-number-ne0.true
-
-pub overflow_add-calls : goal.overflow_add-calls
-overflow_add-calls c =
-    omega (arith, c.loop-at.invariant.few, c.loop-at.invariant.fewer)
-
-pub loop-at-preserved : goal.loop-at-preserved
-loop-at-preserved c =
-    pass_on _ _ _ _ c.loop-at.invariant c.loop-at-test.true _ c.place-end.ensures.0 _ c.parse_line-said.ensures.0 _ c.line_number-number.ensures c.if-number-ne0.false
-    _ c.has_call.ensures _ (elim c.if-has_call.branch [ then-has_call t ↦ rw t.if-has_call.true t.calls-is | else-has_call t ↦ rw (t.if-has_call.false, add-zero) t.calls-is ])
-
-pub loop-at-init : goal.loop-at-init
-loop-at-init c = pass-start _
+pub loop-said-init : goal.loop-said-init
+loop-said-init c = pass-start _
 
 pub overflow_add-line : goal.overflow_add-line
-overflow_add-line c = omega (arith, c.loop-at.invariant.few)
+overflow_add-line c = omega (arith, c.loop-said.invariant.few, c.in-Some.ensures.shorter)
+
+pub overflow_add-calls : goal.overflow_add-calls
+overflow_add-calls c = omega (arith, c.loop-said.invariant.few, c.loop-said.invariant.fewer, c.in-Some.ensures.shorter)
+
+pub returns-in-Err : goal.returns-in-Err
+returns-in-Err c = rw c.from.ensures (pass-wrong _ _ _ _ c.loop-said.invariant _ _ c.in-Some.ensures _ c.in-Err.ensures _ refl)
+
+pub loop-said-smaller-in-Ok-Some : goal.loop-said-smaller-in-Ok-Some
+loop-said-smaller-in-Ok-Some c = c.in-Some.ensures.shorter
+
+pub loop-said-preserved-in-Ok-Some : goal.loop-said-preserved-in-Ok-Some
+loop-said-preserved-in-Ok-Some c =
+    pass-call _ _ _ _ c.loop-said.invariant _ _ c.in-Some.ensures _ c.in-Ok-Some.ensures _ (ap (λ o. Ok o) c.in-Ok-Some.field-0-is)
+
+pub loop-said-smaller : goal.loop-said-smaller
+loop-said-smaller c = c.in-Some.ensures.shorter
+
+pub loop-said-preserved : goal.loop-said-preserved
+loop-said-preserved c = pass-none _ _ _ _ c.loop-said.invariant _ _ c.in-Some.ensures _ c.in-Ok-None.ensures (ap (λ o. Ok o) c.in-Ok-None.field-0-is)
 
 pub returns : goal.returns
-returns c = pass-end _ _ _ _ c.loop-at.invariant c.loop-at-test.false
+returns c = pass-end _ _ _ _ c.loop-said.invariant c.in_default.ensures

@@ -1,14 +1,8 @@
--- `word_says` meets its contract: a call's name decides what its word is.
+-- `word_says` meets its contract: a number up to 65,535 goes into a ticket (`number-most`).
+use mathlib.Core.Path.{sym, ◌∙◌}
+use native.Mathlib.Omega.{arith}
+use Rattle.words.proofs.Numbers.{number-most}
 use Rattle.dance_text.proofs.word_says.Goals as goal
 
-pub returns-in-NewRig : goal.returns-in-NewRig
-returns-in-NewRig c = rw (c.in-NewRig.is, ← c.groups_of.ensures.0) c.rig_of.ensures
-
-pub returns-in-NewClaim : goal.returns-in-NewClaim
-returns-in-NewClaim c = rw (c.in-NewClaim.is, ← c.groups_of-in-NewClaim.ensures.0) c.claim_of.ensures
-
-pub returns-in-EndClaim : goal.returns-in-EndClaim
-returns-in-EndClaim c = rw c.in-EndClaim.is c.release_of.ensures
-
-pub returns-in-NoCall : goal.returns-in-NoCall
-returns-in-NoCall c = rw c.in-NoCall.is
+pub overflow_cast-result : goal.overflow_cast-result
+overflow_cast-result c = omega (arith, number-most _ _ _ _ _ _ (sym c.number.ensures.0 ∙ c.in_ok-ticket-in-EndClaim.was))

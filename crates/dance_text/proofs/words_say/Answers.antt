@@ -1,44 +1,21 @@
 -- `words_say` meets its contract: no word, one word, or more than one.
-use native.Mathlib.Omega.{arith}
-use borrow.Author.Rules.{rules}
-use borrow.Author.Tests.{le-leb, lt-leb}
+use mathlib.Core.Path.{refl, sym, ◌∙◌}
+use Rattle.words.proofs.Reading.{some-more, no_more}
 use Rattle.dance_text.specs.Lines.{words_say}
 use Rattle.dance_text.proofs.words_say.Goals as goal
 
-pub returns-then-more : goal.returns-then-more
+pub returns-in_default : goal.returns-in_default
 unfolding words_say
-returns-then-more c =
-    rw (c.next_word-w.ensures.words, lt-leb _ _ c.if-to-from.false, c.next_word-more.ensures.words, lt-leb _ _ c.if-more.true)
+returns-in_default c = rw c.in_default.ensures refl
+
+pub returns-then-is_some : goal.returns-then-is_some
+unfolding words_say
+returns-then-is_some c =
+    let m = some-more c.in-Some.rest.now _ c.next_word-2.ensures (sym c.is_some.ensures ∙ c.if-is_some.true) in
+    rw (c.in-Some.ensures.words, m.2)
 
 pub returns : goal.returns
 unfolding words_say
 returns c =
-    rw (c.next_word-w.ensures.words, lt-leb _ _ c.if-to-from.false, c.next_word-more.ensures.words, le-leb _ _ c.if-more.false) c.word_says.ensures
-
-pub next_word-w-requires : goal.next_word-w-requires
-unfolding words_say
-next_word-w-requires c = search rules
-
-pub returns-then-to-from : goal.returns-then-to-from
-unfolding words_say
-returns-then-to-from c = rw (c.next_word-w.ensures.words, le-leb _ _ c.if-to-from.true)
-
-pub next_word-more-requires : goal.next_word-more-requires
-unfolding words_say
-next_word-more-requires c = search rules
-
-pub slice_bounds-word_says-count : goal.slice_bounds-word_says-count
-unfolding words_say
-slice_bounds-word_says-count c = omega arith
-
-pub slice_bounds-word_says-start : goal.slice_bounds-word_says-start
-unfolding words_say
-slice_bounds-word_says-start c = omega arith
-
-pub slice_bounds-word_says-end : goal.slice_bounds-word_says-end
-unfolding words_say
-slice_bounds-word_says-end c = omega arith
-
-pub word_says-requires : goal.word_says-requires
-unfolding words_say
-word_says-requires c = search rules
+    let m = no_more c.in-Some.rest.now _ c.next_word-2.ensures (sym c.is_some.ensures ∙ c.if-is_some.false) in
+    rw (c.in-Some.ensures.words, m) c.word_says.ensures

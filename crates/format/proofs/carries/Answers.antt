@@ -1,28 +1,17 @@
--- `format::carries` meets its contract: the kind, then the whole call.
-use borrow.Author.Rules.{rules}
-use borrow.Author.Tests.{not-true, not-false}
-use mathlib.Core.Path.{sym, ◌∙◌}
-use Rattle.format.specs.Calls.{keeps}
+-- `format::carries` meets its contract: the kind, and all fields as the edition keeps them.
+use mathlib.Core.Path.{sym, ap, ◌∙◌}
+use Rattle.format.specs.Calls.{same, keeps}
+use Rattle.format.specs.declared.Call.{Call}
+use Rattle.format.proofs.Calls.{each-same}
 use Rattle.format.proofs.Records.{call-carried}
 use Rattle.format.proofs.carries.Goals as goal
 
-pub returns : goal.returns
+pub returns-then-has_kind : goal.returns-then-has_kind
 unfolding keeps
-returns c =
-    rw (call-carried, sym c.has_kind.ensures ∙ not-false _ c.if-not-has_kind.false-raw, ← c.kept-k.ensures) c.same.ensures
+returns-then-has_kind c =
+    let a = c.args in
+    rw (call-carried a.edition a.call, sym c.if-has_kind.ensures) (c.eq.ensures ∙ each-same _ _ ∙ ap (λ (k : Call). same k a.call) c.kept.ensures)
 
-pub has_kind-requires : goal.has_kind-requires
+pub returns-else-has_kind : goal.returns-else-has_kind
 unfolding keeps
-has_kind-requires c = search rules
-
-pub returns-then-not-has_kind : goal.returns-then-not-has_kind
-unfolding keeps
-returns-then-not-has_kind c = rw (call-carried, sym c.has_kind.ensures ∙ not-true _ c.if-not-has_kind.true-raw)
-
-pub kept-k-requires : goal.kept-k-requires
-unfolding keeps
-kept-k-requires c = search rules
-
-pub same-requires : goal.same-requires
-unfolding keeps
-same-requires c = search rules
+returns-else-has_kind c = let a = c.args in rw (call-carried a.edition a.call, sym c.if-has_kind.ensures) c.if-has_kind.false

@@ -1,10 +1,8 @@
-use Prim.Native.Nat.{◌-◌}
-use Rattle.format.specs.Calls.{made}
-use Rattle.format.proofs.Rows.{Keeping}
+use mathlib.Core.Path.{◌≡◌}
+use Rattle.format.specs.Calls.{filled, values_in, kept}
+use Rattle.format.proofs.Rows.{left}
 use Rattle.format.proofs.kept.Given as goal
 
-abbrev pub invariant-loop-row : goal.invariant-loop-row
-invariant-loop-row l = Keeping l.edition (made l.given) l.numbers l.i
-
-abbrev pub decreases-loop-row : goal.decreases-loop-row
-decreases-loop-row l = 8 - l.i
+-- What is kept so far, with the fields left, is all that the edition keeps.
+abbrev pub invariant-loop-field : goal.invariant-loop-field
+invariant-loop-field l = filled (left l.edition l.call.kind l.field-index) (values_in (left l.edition l.call.kind l.field-index) l.call) l.kept ≡ kept l.edition l.call

@@ -1,9 +1,8 @@
 -- `put_grant` meets its contract: the word and the ticket, laid one after the other.
-use native.Mathlib.Omega.{arith}
-use Rattle.numerals.proofs.Laying.{put, put_then}
+use Rattle.numerals.proofs.Pages.{lays_then}
 use Rattle.frame_listing.specs.Lines.{on_line}
 use Rattle.frame_listing.proofs.put_grant.Goals as goal
 
 pub returns : goal.returns
 unfolding on_line
-returns c = put_then _ _ _ _ _ _ _ _ (omega arith) (put c.put_bytes-m.ensures) (put c.put_column.ensures)
+returns c = lays_then c.bytes.ensures c.column.ensures

@@ -1,11 +1,8 @@
-use lib.ListN.{take, drop}
-use Prim.Native.Nat.{◌-◌, ◌≤◌}
-use Rattle.numerals.proofs.Going.{Going}
+-- What is laid so far, with what is left, is the whole.
+use Rattle.std.proofs.Common.{drop}
+use Rattle.numerals.proofs.Pages.{Laying}
 use Rattle.frame_listing.specs.Lines.{on_lines}
 use Rattle.frame_listing.proofs.put_grants.Given as goal
 
-abbrev pub invariant-loop-i : goal.invariant-loop-i
-invariant-loop-i l = (l.i ≤ l.granted) × Going l.initial.out l.at (on_lines (take l.granted l.grants)) l.out l.n (on_lines (drop l.i (take l.granted l.grants)))
-
-abbrev pub decreases-loop-i : goal.decreases-loop-i
-decreases-loop-i l = l.granted - l.i
+abbrev pub invariant-loop-ticket : goal.invariant-loop-ticket
+invariant-loop-ticket l = Laying l.fn.page (on_lines l.grants) l.page (on_lines (drop l.ticket-index l.grants))

@@ -3,4 +3,4 @@ use Rattle.frame_listing.proofs.InParts.{whole-put}
 use Rattle.frame_listing.proofs.run.Goals as goal
 
 pub returns : goal.returns
-returns c = whole-put _ _ _ _ _ c.start.ensures.0 c.put_calls-p.ensures
+returns c = whole-put _ _ _ _ _ c.start.ensures.0 c.put_calls.ensures

@@ -4,14 +4,14 @@ use native.Mathlib.Omega.{arith}
 use Rattle.frame_table.proofs.Gathering.{free-some, free-none}
 use Rattle.frame_table.proofs.free_row.Goals as goal
 
-pub returns-in-Group : goal.returns-in-Group
-returns-in-Group c = free-some _ _ (sym c.lowest_missing.ensures ∙ c.in-Group.is)
+pub returns-in-Some : goal.returns-in-Some
+returns-in-Some c = free-some _ _ (sym c.lowest_missing.ensures ∙ c.in-Some.is)
 
-pub returns-in-NoGroup : goal.returns-in-NoGroup
-returns-in-NoGroup c = free-none _ (sym c.lowest_missing.ensures ∙ c.in-NoGroup.is)
+pub returns-in-None : goal.returns-in-None
+returns-in-None c = free-none _ (sym c.lowest_missing.ensures ∙ c.in-None.is)
 
 pub overflow_cast-result : goal.overflow_cast-result
-overflow_cast-result c = omega (arith, (returns-in-Group c).high)
+overflow_cast-result c = omega (arith, (returns-in-Some c).high)
 
 pub overflow_add-result : goal.overflow_add-result
-overflow_add-result c = omega (arith, (returns-in-Group c).high)
+overflow_add-result c = omega (arith, (returns-in-Some c).high)

@@ -7,4 +7,4 @@ pub returns-then-row-eq0 : goal.returns-then-row-eq0
 returns-then-row-eq0 c = with-head _ _ c.if-row-eq0.true
 
 pub returns : goal.returns
-returns c = rw (c.union.ensures, c.only.ensures) (with-behind _ _ (omega arith))
+returns c = rw (c.union.ensures, c.only.ensures, c.from-g.ensures) (with-behind _ _ (omega arith))

@@ -1,18 +1,13 @@
-use mathlib.Core.Path.{ap}
-use Rattle.rules.specs.Claims.{is_on}
-use Rattle.generator.proofs.Lowest.{seeking-start, seeking-here, seeking-next, seeking-none}
+use mathlib.Core.Path.{ap, ◌∙◌}
+use mathlib.Core.List.{List}
+use Rattle.std.specs.List.{find}
+use Rattle.std.specs.Option.{option_map}
+use Rattle.rules.specs.declared.Claim.{Claim}
+use Rattle.rules.specs.Claims.{on}
+use Rattle.generator.proofs.Lowest.{lowest-is}
 use Rattle.generator.proofs.lowest_on.Goals as goal
 
-pub loop-i-preserved : goal.loop-i-preserved
-loop-i-preserved c =
-    seeking-next _ _ c.loop-i.invariant c.loop-i-test.true (ap is_on c.in-Waiting.is)
-
-pub returns-in-On : goal.returns-in-On
-returns-in-On c =
-    seeking-here _ _ c.loop-i.invariant c.loop-i-test.true (ap is_on c.in-On.is)
-
 pub returns : goal.returns
-returns c = seeking-none _ _ c.loop-i.invariant c.loop-i-test.false
-
-pub loop-i-init : goal.loop-i-init
-loop-i-init c = seeking-start _ c.requires
+returns c =
+    c.first_on.ensures ∙ ap (λ (ps : List Claim). option_map (λ (x : Claim). x.ticket) (find on ps)) c.pending.ensures.claims
+    ∙ lowest-is c.args.t.now c.pending.ensures.valid.settled.spaced.ascending

@@ -2,4 +2,4 @@ use Rattle.generator.proofs.Records.{release-is}
 use Rattle.generator.proofs.release_record.Goals as goal
 
 pub returns : goal.returns
-returns c = release-is _ _ _ c.bare-c.ensures
+returns c = release-is _ _ _ c.bare.ensures

@@ -1,44 +1,41 @@
 -- `load::append` meets its contract: the tests come first; then the load and the record are laid one after the other.
-use native.Mathlib.Omega.{arith}
 use mathlib.Core.Path.{sym, ◌∙◌}
 use borrow.Author.Rules.{rules}
-use Rattle.numerals.proofs.Laying.{put, put_then}
+use lib.ListN.{length}
+use Rattle.std.specs.Prelude.{Ok}
+use Rattle.std.proofs.lemmas.Result.{err_from_is_err_and}
+use Rattle.numerals.proofs.Pages.{lays_then}
 use Rattle.format.specs.Records.{record_of}
-use Rattle.load.specs.Writing.{grown, append_answer, append_values, append_out}
+use Rattle.load.specs.Writing.{grown, append_number, append_answer, append_values, append_out}
 use Rattle.load.proofs.Reading.{load-known}
-use Rattle.load.proofs.Writing.{append-parts, append-grows, refused, written}
+use Rattle.load.proofs.Writing.{append-parts, append-grows, Answers, refused, written}
+use Rattle.load.proofs.append.Goals.{After-put_record}
 use Rattle.load.proofs.append.Goals as goal
 
 pub bounds-load-0 : goal.bounds-load-0
-bounds-load-0 c =
-    (load-known _ (append-parts _ _ _ (sym c.append_number-t.ensures ∙ c.if-t-ne0.false)).0).0
+bounds-load-0 c = (load-known _ (append-parts _ _ _ (sym c.in_ok-check_append.ensures)).0).0
+
+pub returns-in_err-check_append : goal.returns-in_err-check_append
+unfolding append_answer append_out append_values
+returns-in_err-check_append c =
+    let a = c.args in
+    let w = refused (grown a.load.now (record_of a.call)) a.out.now _ _ c.in_err-check_append.ensures in
+    let p = err_from_is_err_and c.from_residual.result c.from_residual.ensures.1 in
+    rw (p.1, p.2) (record { answer = w.0; buffer = w.1.0; values = w.1.1 })
+
+-- Behind the tests the load and the record are laid, and the page lends the buffer no more.
+laid_both : (c : After-put_record) → let a = c.args in
+    Answers (grown a.load.now (record_of a.call)) a.out.now (append_number a.load.now (record_of a.call) (length a.out.now)) (Ok c.put_record.new.page.at) c.put_record.new.page.out.now
+unfolding grown
+laid_both c =
+    let z = sym c.in_ok-check_append.ensures in
+    let n = c.new-page.ensures.clean in
+    let t = lays_then c.bytes.ensures c.put_record.ensures in
+    written _ _ _ _ _ _ z (append-grows _ _ _ z) (rw (n.0, n.1) at t.put)
 
 pub returns : goal.returns
-unfolding append_answer append_out append_values grown
+unfolding append_answer append_out append_values
 returns c =
-    let z = sym c.append_number-t.ensures ∙ c.if-t-ne0.false in
-    let w = written _ _ _ _ _ _ z (append-grows _ _ _ z) (put_then _ _ _ _ _ _ _ _ (omega arith) (put c.put_bytes-m.ensures) (put c.put_record-whole.ensures)) in
-    record { answer = w.0; buffer = w.1.0; values = w.1.1 }
-
-pub append_number-t-requires : goal.append_number-t-requires
-unfolding append_answer append_out append_values
-append_number-t-requires c = search rules
-
-pub returns-then-t-ne0 : goal.returns-then-t-ne0
-unfolding append_answer append_out append_values
-returns-then-t-ne0 c =
-    let a = c.args in
-    let w = refused (grown a.load.now (record_of a.call)) a.out.now _ _ c.append_number-t.ensures c.if-t-ne0.true in
-    record { answer = w.0; buffer = w.1.0; values = w.1.1 }
-
-pub put_bytes-m-requires : goal.put_bytes-m-requires
-unfolding append_answer append_out append_values
-put_bytes-m-requires c = search rules
-
-pub put_record-whole-requires : goal.put_record-whole-requires
-unfolding append_answer append_out append_values
-put_record-whole-requires c = search rules
-
-pub shape_of-out : goal.shape_of-out
-unfolding append_answer append_out append_values
-shape_of-out c = search rules
+    let w = laid_both (goal.at.returns c).After-put_record in
+    let s = (lays_then c.bytes.ensures c.put_record.ensures).same ∙ c.new-page.ensures.same in
+    record { answer = w.0; buffer = search rules ∙ w.1.0; values = w.1.1 }

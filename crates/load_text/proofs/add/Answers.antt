@@ -1,20 +1,25 @@
 -- What the line says decides.
-use mathlib.Core.Path.{sym, ◌∙◌}
+use mathlib.Core.Path.{sym, ap, ◌∙◌}
+use native.Mathlib.Omega.{arith}
+use Rattle.std.specs.Prelude.{Ok}
+use Rattle.std.proofs.lemmas.Result.{err_from_is_err_and}
 use Rattle.load_text.proofs.Making.{add_nothing, add-bad, add-refused, add-taken}
-use Rattle.load_text.proofs.Within.{reasons-apart}
 use Rattle.load_text.proofs.add.Goals as goal
 
-pub returns-then-n-ne0 : goal.returns-then-n-ne0
-returns-then-n-ne0 c =
-    rw (sym c.parse_line.ensures.0 ∙ c.in-Said.is) (add-refused _ _ _ _ _ c.grow_number-n.ensures c.if-n-ne0.true)
+pub returns-in_err-call : goal.returns-in_err-call
+returns-in_err-call c =
+    let p = err_from_is_err_and c.from_residual.result c.from_residual.ensures.1 in
+    rw (p.1, p.2, sym c.parse_line.ensures.0 ∙ c.in_err-call.was) (add-bad c.args.edition c.args.page.now _)
 
-pub returns-else-n-ne0 : goal.returns-else-n-ne0
-returns-else-n-ne0 c =
-    let e = c.put_record-r.ensures in
-    rw (sym c.parse_line.ensures.0 ∙ c.in-Said.is) (add-taken _ _ _ _ _ c.grow_number-n.ensures c.if-n-ne0.false _ _ e.0 e.1)
+pub returns-in_err-check_growth : goal.returns-in_err-check_growth
+returns-in_err-check_growth c =
+    let p = err_from_is_err_and c.from_residual-in_err-check_growth.result c.from_residual-in_err-check_growth.ensures.1 in
+    rw (p.1, p.2, sym c.parse_line.ensures.0 ∙ c.in_ok-call.was ∙ ap (λ o. Ok o) c.in-Some.is) (add-refused c.args.edition c.args.page.now _ _ c.in_err-check_growth.ensures)
 
-pub returns-in-Bad : goal.returns-in-Bad
-returns-in-Bad c = let i = sym c.parse_line.ensures.0 ∙ c.in-Bad.is in rw i (add-bad _ _ _ _ (reasons-apart _ _ _ i))
+pub returns-in_ok-check_growth : goal.returns-in_ok-check_growth
+returns-in_ok-check_growth c =
+    rw (sym c.parse_line.ensures.0 ∙ c.in_ok-call.was ∙ ap (λ o. Ok o) c.in-Some.is) (add-taken _ _ _ _ c.in_ok-check_growth.ensures c.put_record.ensures)
 
-pub returns-in-Nothing : goal.returns-in-Nothing
-returns-in-Nothing c = rw (sym c.parse_line.ensures.0 ∙ c.in-Nothing.is) (add_nothing _ _ _)
+pub returns-in_default : goal.returns-in_default
+returns-in_default c =
+    rw (sym c.parse_line.ensures.0 ∙ c.in_ok-call.was ∙ ap (λ o. Ok o) c.in_default.is) (add_nothing c.args.edition c.args.page.now (omega arith))

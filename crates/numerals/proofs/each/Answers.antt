@@ -1,46 +1,36 @@
 -- `numerals::each` meets its contract: what is read so far, with the bytes left, is the number.
 use Prim.Native.Nat.{suc}
-use mathlib.Core.Path.{◌≡◌, refl, sym, ◌∙◌}
+use mathlib.Core.Path.{◌≡◌}
 use native.Mathlib.Omega.{arith}
 use native.Mathlib.Numerals.{add-one}
-use lib.ListN.{drop, length-drop}
-use lib.Seq.{get_or-drop}
+use lib.ListN.{length, drop_of_length-le}
+use lib.Seq.{drop-cons}
 use Rattle.numerals.specs.Digits.{numeral}
-use Rattle.numerals.proofs.Numbers.{grown, fits8, prefix-step, prefix-end}
+use Rattle.numerals.proofs.Numbers.{grown, fits8}
 use Rattle.numerals.proofs.each.Goals as goal
 
-pub loop-i-init : goal.loop-i-init
-loop-i-init c = (omega arith, omega arith, refl)
+pub overflow_mul-value : goal.overflow_mul-value
+overflow_mul-value c =
+    let k = grown c.loop-byte.value c.loop-byte.byte-index 0 c.loop-byte.invariant.0 (omega arith) in
+    omega (arith, k, fits8 (suc c.loop-byte.byte-index) (omega (arith, c.requires, c.loop-byte-test.true)))
 
-pub overflow_mul-v : goal.overflow_mul-v
-overflow_mul-v c =
-    let k = grown c.loop-i.v c.loop-i.i 0 c.loop-i.invariant.1 (omega arith) in
-    omega (arith, k, fits8 (suc c.loop-i.i) (omega (arith, c.requires.0)))
+pub overflow_add-value : goal.overflow_add-value
+overflow_add-value c =
+    let k = grown c.loop-byte.value c.loop-byte.byte-index c.from.result c.loop-byte.invariant.0 (omega arith) in
+    omega (arith, k, fits8 (suc c.loop-byte.byte-index) (omega (arith, c.requires, c.loop-byte-test.true)))
 
-pub overflow_add-at : goal.overflow_add-at
-overflow_add-at c = omega (arith, c.requires.1)
-
-pub bounds-s-at : goal.bounds-s-at
-bounds-s-at c = omega (arith, c.requires.1)
-
-pub overflow_add-v : goal.overflow_add-v
-overflow_add-v c =
-    let k = grown c.loop-i.v c.loop-i.i c.wide.result c.loop-i.invariant.1 c.wide.ensures.1 in
-    omega (arith, k, fits8 (suc c.loop-i.i) (omega (arith, c.requires.0)))
-
-pub loop-i-preserved : goal.loop-i-preserved
+pub loop-byte-preserved : goal.loop-byte-preserved
 unfolding numeral
-loop-i-preserved c =
-    let s = c.args.s.now in
-    let at = c.args.at in
-    let i = c.loop-i.i in
-    let e = prefix-step 0 (drop at s) c.args.m i (omega arith) (omega (arith, c.requires.1, length-drop at s)) in
-    let g = c.wide.ensures.0 ∙ sym (get_or-drop at s i 0) in
-    (omega arith, rw add-one (grown c.loop-i.v i c.wide.result c.loop-i.invariant.1 c.wide.ensures.1), rw g (rw e at c.loop-i.invariant.2))
+loop-byte-preserved c =
+    let i = c.loop-byte.invariant in
+    let e = drop-cons c.args.bytes.now c.loop-byte.byte-index 0 c.loop-byte-test.true in (
+      rw add-one (grown c.loop-byte.value c.loop-byte.byte-index c.from.result i.0 (omega (arith, c.from.ensures, c.type_inv.bytes c.loop-byte.byte-index))),
+      rw (add-one, c.from.ensures) (rw e at i.1),
+    )
 
 pub returns : goal.returns
 unfolding numeral
 returns c =
-    let a = c.args in
-    let i : c.loop-i.i ≡ a.m = omega arith in
-    (rw (prefix-end (drop a.at a.s.now) a.m c.loop-i.i c.loop-i-test.false) at c.loop-i.invariant.2, rw i at c.loop-i.invariant.1)
+    let i = c.loop-byte.invariant in
+    let n : c.loop-byte.byte-index ≡ length c.args.bytes.now = omega arith in
+    (rw (drop_of_length-le c.args.bytes.now {i = c.loop-byte.byte-index} c.loop-byte-test.false) at i.1, rw n at i.0)

@@ -7,5 +7,5 @@ use Rattle.numerals.proofs.put_column.Goals as goal
 pub returns : goal.returns
 unfolding column
 returns c =
-    let w = put_then _ _ _ _ _ _ _ _ (omega arith) (put c.put_decimal-m.ensures) (put c.put_byte.ensures) in
+    let w = put_then _ _ _ _ _ _ _ _ (omega arith) (put c.put_decimal-end.ensures) (put c.put_byte.ensures) in
     (w.next, w.is)

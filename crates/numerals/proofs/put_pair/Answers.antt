@@ -7,5 +7,5 @@ use Rattle.numerals.proofs.put_pair.Goals as goal
 pub returns : goal.returns
 unfolding pair
 returns c =
-    let w = put_then _ _ _ _ _ _ _ _ (omega arith) (put c.put_column-m.ensures) (put c.put_column.ensures) in
+    let w = put_then _ _ _ _ _ _ _ _ (omega arith) (put c.put_column-end.ensures) (put c.put_column.ensures) in
     (w.next, w.is)

@@ -1,9 +1,7 @@
--- `replay::put_stop` meets its contract: the word and the two numbers, laid one after the other.
-use native.Mathlib.Omega.{arith}
-use Rattle.numerals.proofs.Laying.{put, put_then}
+use Rattle.numerals.proofs.Pages.{lays_then}
 use Rattle.replay.specs.StopLine.{stop_line}
 use Rattle.replay.proofs.put_stop.Goals as goal
 
 pub returns : goal.returns
 unfolding stop_line
-returns c = put_then _ _ _ _ _ _ _ _ (omega arith) (put c.put_bytes-m.ensures) (put c.put_pair.ensures)
+returns c = lays_then c.bytes.ensures c.pair.ensures

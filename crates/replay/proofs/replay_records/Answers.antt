@@ -1,47 +1,46 @@
 -- The table so far, with what is left of the load, gives what the whole leaves.
 use native.Mathlib.Omega.{arith}
-use mathlib.Core.Bool.{Bool}
-use mathlib.Core.Path.{◌≡◌, sym, ap, ◌∙◌}
-use Rattle.rules.specs.Tables.{model}
-use Rattle.table.specs.Outcomes.{outcome}
-use Rattle.format.specs.Records.{record_of}
+use mathlib.Core.Logic.{◌≢◌}
+use mathlib.Core.Path.{refl, sym, ap, ◌∙◌}
+use Rattle.std.specs.Prelude.{Ok}
+use Rattle.numbers.specs.Refusals.{number_of}
+use Rattle.rules.specs.Calls.{Answer}
 use Rattle.load.proofs.Reading.{step-next}
-use Rattle.replay.specs.Records.{alone_in, step_of}
-use Rattle.replay.proofs.Replaying.{replay-start, replay-more, replayed-end, replayed-refused, replayed-stop}
-use Rattle.replay.proofs.replay_records.Goals.{After-act-o}
+use Rattle.replay.specs.Records.{ending}
+use Rattle.replay.proofs.Replaying.{replay-more, replayed-end, replayed-refused, stopped-first, stopped-later}
+use Rattle.replay.proofs.replay_records.Goals.{then-record-eq1, else-record-eq1, in_default-via-in-Err-act+else-ending_of-ne0, in_default-via-in_default}
 use Rattle.replay.proofs.replay_records.Goals as goal
 
--- A record did what the rules say, by the load's edition.
-acted : (c : After-act-o) →
-    c.act-o.result ≡ outcome (step_of (alone_in c.args.load.now) (model c.loop-call.t) (record_of c.in-Record.call))
-acted c =
-    c.act-o.ensures.0 ∙ ap (λ (b : Bool). outcome (step_of b (model c.loop-call.t) (record_of c.in-Record.call))) c.alone_in-alone.ensures
-
-pub loop-call-init : goal.loop-call-init
-loop-call-init c = let n = c.new-none in replay-start _ _ _ n.ensures.0 n.ensures.1
-
-pub act-o-requires : goal.act-o-requires
-act-o-requires c = c.loop-call.invariant.reached.valid
-
-pub returns-then-stop-ne0 : goal.returns-then-stop-ne0
-returns-then-stop-ne0 c =
-    replayed-stop _ _ _ _ _ c.loop-call.invariant _ _ (sym c.record_at.ensures.0 ∙ c.in-Record.is) _ (acted (goal.at.returns-then-stop-ne0 c).After-act-o) _ c.ending_of-stop.ensures c.if-stop-ne0.true
-
-pub overflow_add-nth : goal.overflow_add-nth
-overflow_add-nth c = let i = c.loop-call.invariant.reached in omega (arith, i.few, i.inside)
-
-pub loop-call-smaller : goal.loop-call-smaller
-loop-call-smaller c =
-    let q = step-next _ _ _ _ (sym c.record_at.ensures.0 ∙ c.in-Record.is) in
+pub loop-item-smaller : goal.loop-item-smaller
+loop-item-smaller c =
+    let q = step-next _ _ _ _ (sym c.in-Ok-Some.ensures.0 ∙ ap Ok c.in-Ok-Some.field-0-is) in
     omega (arith, q.0, q.1)
 
-pub loop-call-preserved : goal.loop-call-preserved
-loop-call-preserved c =
-    replay-more _ _ _ _ _ c.loop-call.invariant _ _ (sym c.record_at.ensures.0 ∙ c.in-Record.is) _ (acted (goal.at.loop-call-preserved c).After-act-o) _ c.ending_of-stop.ensures c.if-stop-ne0.false c.requires c.act-o.ensures.1
+pub loop-item-preserved : goal.loop-item-preserved
+unfolding ending
+loop-item-preserved c =
+    let e = sym c.in-Ok-Some.ensures.0 ∙ ap Ok c.in-Ok-Some.field-0-is in
+    elim c.in_default.branch [
+      | in_default-via-in-Err-act+else-ending_of-ne0 w ↦
+          replay-more _ _ _ _ _ c.loop-item.invariant _ _ e _ (rw c.alone_in-alone.ensures at (ap (λ (x : Answer). x.number) w.in-Err-act.ensures.answer))
+          (rw w.from.ensures at (sym w.ending_of.ensures ∙ w.if-ending_of-ne0.false)) c.requires _ (rw c.alone_in-alone.ensures at c.act.ensures.table)
+      | in_default-via-in_default w ↦
+          replay-more _ _ _ _ _ c.loop-item.invariant _ _ e _ (rw c.alone_in-alone.ensures at (ap (λ (x : Answer). x.number) w.in_default.ensures.answer))
+          refl c.requires _ (rw c.alone_in-alone.ensures at c.act.ensures.table)
+    ]
 
-pub returns-in-End : goal.returns-in-End
-returns-in-End c = replayed-end _ _ _ _ _ c.loop-call.invariant (sym c.record_at.ensures.0 ∙ c.in-End.is)
+pub returns-in-Err-act : goal.returns-in-Err-act
+returns-in-Err-act c =
+    let e = sym c.in-Ok-Some.ensures.0 ∙ ap Ok c.in-Ok-Some.field-0-is in
+    let p = rw c.alone_in-alone.ensures at (ap (λ (x : Answer). x.number) c.in-Err-act.ensures.answer) in
+    let h : ending c.loop-item.record (number_of c.in-Err-act.refusal) ≢ 0 = λ z. c.if-ending_of-ne0.true (c.ending_of.ensures ∙ ap (ending c.loop-item.record) c.from.ensures ∙ z) in
+    elim c.if-record-eq1.branch [
+      | then-record-eq1 w ↦ stopped-first _ _ _ _ _ c.loop-item.invariant _ _ e _ p w.if-record-eq1.true h _ (w.table-is ∙ w.unrigged-table-then-record-eq1.ensures)
+      | else-record-eq1 w ↦ stopped-later _ _ _ _ _ c.loop-item.invariant _ _ e _ p w.if-record-eq1.false h _ (w.table-is ∙ (rw c.alone_in-alone.ensures at c.act.ensures.table))
+    ]
 
-pub returns-in-Refused : goal.returns-in-Refused
-returns-in-Refused c =
-    replayed-refused _ _ _ _ _ c.loop-call.invariant _ (sym c.record_at.ensures.0 ∙ c.in-Refused.is)
+pub returns-in-Ok-None : goal.returns-in-Ok-None
+returns-in-Ok-None c = replayed-end _ _ _ _ _ c.loop-item.invariant (sym c.in-Ok-None.ensures.0 ∙ ap Ok c.in-Ok-None.field-0-is)
+
+pub returns-in-Err : goal.returns-in-Err
+returns-in-Err c = replayed-refused _ _ _ _ _ c.loop-item.invariant _ (sym c.in-Err.ensures.0)

@@ -1,31 +1,23 @@
 -- `words::value` meets its contract: what is read so far, with the digits left, is the number.
-use mathlib.Core.Path.{refl}
+use mathlib.Core.Path.{refl, sym, ap, ◌∙◌}
 use native.Mathlib.Omega.{arith}
-use Rattle.words.proofs.Numbers.{sum-base, sum_over, sum-on, sum-end, digit-more, digit-over}
+use Rattle.std.proofs.lemmas.Result.{err_from_is_err_and}
+use Rattle.std.specs.Option.{ok_or}
+use Rattle.words.proofs.Numbers.{sum_over, sum-on, sum-end}
 use Rattle.words.proofs.value.Goals as goal
 
-pub returns-then-most-d : goal.returns-then-most-d
-returns-then-most-d c = sum_over _ _ _ _ _ c.loop-i.invariant (omega arith) _ c.digit-d.ensures.0 _ (omega arith)
+pub loop-b-init : goal.loop-b-init
+loop-b-init c = record { room = omega arith; digits = c.requires; is = refl }
 
-pub returns-then-most-d-2 : goal.returns-then-most-d-2
-returns-then-most-d-2 c =
-    let p = sum-base _ _ _ _ _ c.loop-i.invariant (omega arith) _ c.digit-d.ensures.0 in
-    sum_over _ _ _ _ _ c.loop-i.invariant (omega arith) _ c.digit-d.ensures.0 _ (digit-over _ _ _ _ p c.if-most-d.false c.if-most-d-2.true)
+pub returns-in_err-v : goal.returns-in_err-v
+returns-in_err-v c =
+    let p = err_from_is_err_and c.from_residual.result c.from_residual.ensures.1 in
+    rw (p.1, p.2)
+    (sum_over _ _ _ _ _ c.loop-b.invariant c.loop-b-test.true _ _ (ap (λ o. ok_or o c.args.large) (sym c.and_digit.ensures) ∙ sym c.ok_or.ensures.value ∙ c.in_err-v.was))
 
-pub loop-i-preserved : goal.loop-i-preserved
-loop-i-preserved c = sum-on _ _ _ _ _ c.loop-i.invariant (omega arith) _ c.digit-d.ensures.0 (digit-more _ _ _ _ c.if-most-d.false c.if-most-d-2.false)
-
-pub loop-i-init : goal.loop-i-init
-loop-i-init c = record { room = omega arith; digits = c.requires; is = refl }
-
-pub nonzero_div-most : goal.nonzero_div-most
-nonzero_div-most c = sum-base _ _ _ _ _ c.loop-i.invariant (omega arith) _ c.digit-d.ensures.0
-
-pub overflow_mul-v : goal.overflow_mul-v
-overflow_mul-v c = omega (arith, digit-more _ _ _ _ c.if-most-d.false c.if-most-d-2.false)
-
-pub overflow_add-v : goal.overflow_add-v
-overflow_add-v c = omega (arith, digit-more _ _ _ _ c.if-most-d.false c.if-most-d-2.false)
+pub loop-b-preserved : goal.loop-b-preserved
+loop-b-preserved c =
+    sum-on _ _ _ _ _ c.loop-b.invariant c.loop-b-test.true _ _ (ap (λ o. ok_or o c.args.large) (sym c.and_digit.ensures) ∙ sym c.ok_or.ensures.value ∙ c.in_ok-v.was)
 
 pub returns : goal.returns
-returns c = sum-end _ _ _ _ _ c.loop-i.invariant _ (omega arith)
+returns c = sum-end _ _ _ _ _ c.loop-b.invariant _ (omega arith)

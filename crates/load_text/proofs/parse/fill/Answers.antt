@@ -1,47 +1,35 @@
 -- `parse::fill` meets its contract: the fields filled so far, with the words left, give the whole.
-use mathlib.Core.Path.{ap}
-use native.Mathlib.Omega.{arith}
-use lib.ListN.{drop}
-use borrow.Author.Tests.{le-leb, lt-leb}
+use mathlib.Core.Path.{sym, ap, ◌∙◌}
+use Rattle.std.specs.Prelude.{Ok}
+use Rattle.format.specs.declared.fields.Field.TheVariants.{Clock}
 use Rattle.format.specs.Format.{fields_of}
-use Rattle.format.proofs.Format.{fields-few, rest_some}
-use Rattle.format.proofs.Rows.{row-end, row_more}
+use Rattle.format.proofs.Rows.{left-next, left-none}
 use Rattle.words.specs.Parts.{words_in}
-use Rattle.load_text.specs.declared.parse.Parsed.TheVariants.{Said}
+use Rattle.words.proofs.Reading.{some-more, no_more}
 use Rattle.load_text.specs.Parsing.{filled_in}
 use Rattle.load_text.proofs.parse.fill.Goals as goal
 
-pub loop-p-init : goal.loop-p-init
-loop-p-init c =
-    let a = c.args in
-    (omega arith, ap (λ x. filled_in (fields_of a.edition a.kind) (words_in (drop a.from a.said.now)) (Said x)) c.bare-c.ensures)
+pub loop-field-init : goal.loop-field-init
+loop-field-init c = let a = c.args in ap (λ x. filled_in (fields_of a.edition a.kind) (words_in a.words.now) (Ok x)) c.bare.ensures
 
-pub returns-then-end-start : goal.returns-then-end-start
+pub returns-in_default : goal.returns-in_default
 unfolding filled_in
-returns-then-end-start c =
-    rw (row-end _ _ _ _ c.field_at-f.ensures c.if-f-eq0.true, c.next_word-w.ensures.words, le-leb _ _ c.if-end-start.true) at c.loop-p.invariant.1
+returns-in_default c =
+    rw (left-next _ _ _ c.fields_of-field-items.ensures _ Clock c.loop-field-test.true, c.in_default.ensures) at c.loop-field.invariant
 
-pub returns-then-f-eq0 : goal.returns-then-f-eq0
+pub loop-field-preserved : goal.loop-field-preserved
 unfolding filled_in
-returns-then-f-eq0 c =
-    rw (row-end _ _ _ _ c.field_at-f.ensures c.if-f-eq0.true, c.next_word-w.ensures.words, lt-leb _ _ c.if-end-start.false) at c.loop-p.invariant.1
+loop-field-preserved c =
+    rw c.with_word-said.ensures (rw (left-next _ _ _ c.fields_of-field-items.ensures _ Clock c.loop-field-test.true, c.in-Some.ensures.words) at c.loop-field.invariant)
 
-pub returns-then-end-start-2 : goal.returns-then-end-start-2
+pub returns-then-is_some : goal.returns-then-is_some
 unfolding filled_in
-returns-then-end-start-2 c =
-    rw ((rest_some _ _ _ c.field_at-f.ensures c.if-f-eq0.false).1, c.next_word-w.ensures.words, le-leb _ _ c.if-end-start-2.true) at c.loop-p.invariant.1
+returns-then-is_some c =
+    let m = some-more _ _ c.next_word-2.ensures (sym c.is_some.ensures ∙ c.if-is_some.true) in
+    rw (left-none _ _ _ c.fields_of-field-items.ensures _ c.loop-field-test.false, m.2) at c.loop-field.invariant
 
-pub overflow_add-i : goal.overflow_add-i
-overflow_add-i c =
-    let a = c.args in
-    omega (arith, c.loop-p.invariant.0, fields-few a.edition a.kind)
-
-pub loop-p-preserved : goal.loop-p-preserved
+pub returns : goal.returns
 unfolding filled_in
-loop-p-preserved c =
-    let s = c.field_at-f.ensures in
-    let i = rw ((rest_some _ _ _ s c.if-f-eq0.false).1, c.next_word-w.ensures.words, lt-leb _ _ c.if-end-start-2.false) at c.loop-p.invariant.1 in
-    (omega (arith, row_more _ _ _ _ s c.if-f-eq0.false), rw c.with_word-p.ensures i)
-
-pub loop-p-smaller : goal.loop-p-smaller
-loop-p-smaller c = omega (arith, row_more _ _ _ _ c.field_at-f.ensures c.if-f-eq0.false)
+returns c =
+    let m = no_more _ _ c.next_word-2.ensures (sym c.is_some.ensures ∙ c.if-is_some.false) in
+    rw (left-none _ _ _ c.fields_of-field-items.ensures _ c.loop-field-test.false, m) at c.loop-field.invariant

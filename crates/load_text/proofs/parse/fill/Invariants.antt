@@ -1,17 +1,13 @@
-use Prim.Native.Nat.{◌-◌, ◌≤◌}
 use mathlib.Core.Path.{◌≡◌}
-use lib.ListN.{length, drop}
-use Rattle.format.specs.Format.{fields_of}
+use Rattle.std.specs.Prelude.{Ok}
 use Rattle.format.specs.Calls.{bare}
+use Rattle.format.specs.Format.{fields_of}
+use Rattle.format.proofs.Rows.{left}
 use Rattle.words.specs.Parts.{words_in}
-use Rattle.load_text.specs.declared.parse.Parsed.TheVariants.{Said}
 use Rattle.load_text.specs.Parsing.{filled_in}
 use Rattle.load_text.proofs.parse.fill.Given as goal
 
-abbrev pub invariant-loop-p : goal.invariant-loop-p
-invariant-loop-p l =
-    (l.i ≤ length (fields_of l.edition l.kind))
-    × (filled_in (drop l.i (fields_of l.edition l.kind)) (words_in (drop l.at l.said)) l.p ≡ filled_in (fields_of l.edition l.kind) (words_in (drop l.from l.said)) (Said (bare l.kind)))
-
-abbrev pub decreases-loop-p : goal.decreases-loop-p
-decreases-loop-p l = length (fields_of l.edition l.kind) - l.i
+-- The fields filled so far, with the words left, give the whole.
+abbrev pub invariant-loop-field : goal.invariant-loop-field
+invariant-loop-field l =
+    filled_in (left l.edition l.kind l.field-index) (words_in l.rest) l.said ≡ filled_in (fields_of l.edition l.kind) (words_in l.words) (Ok (bare l.kind))

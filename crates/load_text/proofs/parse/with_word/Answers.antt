@@ -1,17 +1,7 @@
--- `parse::with_word` meets its contract: each case is a law of a word put into a field.
+-- `parse::with_word` meets its contract: what the word says is put into the field.
 use mathlib.Core.Path.{sym, ◌∙◌}
 use Rattle.load_text.proofs.Fields.{with-said}
 use Rattle.load_text.proofs.parse.with_word.Goals as goal
 
-pub returns-in-Value : goal.returns-in-Value
-returns-in-Value c =
-    with-said _ _ _ _ c.in-Said.is _ _ (sym c.field_of.ensures ∙ c.in-Value.is) c.with_value-c.ensures
-
-pub returns-in-Wrong : goal.returns-in-Wrong
-returns-in-Wrong c = rw (c.in-Said.is, sym c.field_of.ensures ∙ c.in-Wrong.is)
-
-pub returns-in-Nothing : goal.returns-in-Nothing
-returns-in-Nothing c = rw c.in-Nothing.is
-
-pub returns-in-Bad : goal.returns-in-Bad
-returns-in-Bad c = rw c.in-Bad.is
+pub returns : goal.returns
+returns c = rw c.in_ok-call.was (with-said _ _ _ _ _ (sym c.field_in.ensures ∙ c.in_ok-field_in.was) c.set.ensures)

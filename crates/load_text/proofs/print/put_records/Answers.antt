@@ -1,47 +1,33 @@
 -- What is laid so far with what is left gives the whole: the invariant is `Turn` of Showing.
-use mathlib.Core.Path.{◌≡◌, refl, sym, ◌∙◌}
+use mathlib.Core.Path.{refl, sym, ap, ◌∙◌}
 use native.Mathlib.Omega.{arith}
-use Rattle.load_text.proofs.Showing.{turn-start, turn_more, turn-refused, turn_end}
-use Rattle.load.specs.Reading.{item_at}
+use Rattle.std.specs.Prelude.{Ok}
 use Rattle.load.proofs.Reading.{step-next, open-known}
-use Rattle.reader.proofs.Items.{item-opened}
-use Rattle.load_text.proofs.print.put_records.Goals.{After-item_at}
+use Rattle.load_text.proofs.Showing.{turn-start, turn_more, turn-refused, turn_end}
 use Rattle.load_text.proofs.print.put_records.Goals as goal
-
--- The load opens, so that what the reader answers is what stands there.
-read : (c : After-item_at) → item_at c.args.load.now c.loop-call.at ≡ c.item_at.result
-read c = item-opened _ _ _ refl c.requires ∙ sym c.item_at.ensures.0
-
-pub loop-call-smaller : goal.loop-call-smaller
-loop-call-smaller c =
-    let q = step-next _ _ _ _ (read (goal.at.loop-call-smaller c).After-item_at ∙ c.in-Record.is) in
-    omega (arith, q.0, q.1)
-
-pub loop-call-preserved : goal.loop-call-preserved
-loop-call-preserved c =
-    turn_more _ _ _ _ _ _ _ _ c.loop-call.invariant _ _ (open-known _ c.requires).2 refl _ _ (read (goal.at.loop-call-preserved c).After-item_at ∙ c.in-Record.is) (c.put_call-n.ensures.laid, c.put_call-n.ensures.brief)
-
-pub shape_of-out-in-Refused : goal.shape_of-out-in-Refused
-shape_of-out-in-Refused c = c.put_stop.auto.out ∙ c.loop-call.invariant.going.size
-
-pub returns-in-Refused : goal.returns-in-Refused
-returns-in-Refused c =
-    let w = turn-refused _ _ _ _ _ _ _ _ c.loop-call.invariant _ _ _ (read (goal.at.returns-in-Refused c).After-item_at ∙ c.in-Refused.is) c.put_stop.ensures in
-    record { laid = w.0; brief = w.1 }
 
 pub bounds-load-0 : goal.bounds-load-0
 bounds-load-0 c = omega (arith, (open-known _ c.requires).0)
 
-pub loop-call-init : goal.loop-call-init
-loop-call-init c = turn-start _ _ _ _ (omega arith) (omega arith)
+pub loop-item-init : goal.loop-item-init
+loop-item-init c = turn-start _ _ _ (omega arith)
 
 pub overflow_add-k : goal.overflow_add-k
-overflow_add-k c = let t = c.loop-call.invariant in omega (arith, t.few, t.inside)
+overflow_add-k c = let t = c.loop-item.invariant in omega (arith, t.few, t.inside)
 
-pub shape_of-out-in-End : goal.shape_of-out-in-End
-shape_of-out-in-End c = c.loop-call.invariant.going.size
+pub loop-item-smaller : goal.loop-item-smaller
+loop-item-smaller c = let q = step-next _ _ _ _ (sym c.in-Ok-Some.ensures.0 ∙ ap (λ o. Ok o) c.in-Ok-Some.field-0-is) in omega (arith, q.0, q.1)
 
-pub returns-in-End : goal.returns-in-End
-returns-in-End c =
-    let w = turn_end _ _ _ _ _ _ _ _ c.loop-call.invariant (read (goal.at.returns-in-End c).After-item_at ∙ c.in-End.is) in
+pub loop-item-preserved : goal.loop-item-preserved
+loop-item-preserved c =
+    turn_more _ _ _ _ _ _ c.loop-item.invariant _ (open-known _ c.requires).2 refl _ _ (sym c.in-Ok-Some.ensures.0 ∙ ap (λ o. Ok o) c.in-Ok-Some.field-0-is) (c.put_call.ensures.laid, c.put_call.ensures.brief)
+
+pub returns-in-Ok-None : goal.returns-in-Ok-None
+returns-in-Ok-None c =
+    let w = turn_end _ _ _ _ _ _ c.loop-item.invariant (sym c.in-Ok-None.ensures.0 ∙ ap (λ o. Ok o) c.in-Ok-None.field-0-is) in
+    record { laid = w.0; brief = w.1 }
+
+pub returns-in-Err : goal.returns-in-Err
+returns-in-Err c =
+    let w = turn-refused _ _ _ _ _ _ c.loop-item.invariant _ _ (sym c.in-Err.ensures.0) (rw c.from.ensures at c.put_stop.ensures) in
     record { laid = w.0; brief = w.1 }

@@ -1,11 +1,27 @@
--- `texts::kind_named` meets its contract: the kind, unless the edition lacks it.
+-- `texts::kind_named` meets its contract: the names left have the one that is looked for.
 use mathlib.Core.Path.{sym, ◌∙◌}
-use borrow.Author.Tests.{not-true, not-false}
-use Rattle.load_text.proofs.Tables.{is-named, not_named}
+use native.Mathlib.Omega.{arith}
+use Rattle.format.specs.Format.{names}
+use Rattle.load_text.proofs.Tables.{same-word, looks-start, looks-on, looks-has, looks-lacks, looks-none}
 use Rattle.load_text.proofs.texts.kind_named.Goals as goal
 
-pub returns-then-not-has_kind : goal.returns-then-not-has_kind
-returns-then-not-has_kind c = not_named _ _ _ c.kind_of-kind.ensures (sym c.has_kind.ensures ∙ not-true _ c.if-not-has_kind.true-raw)
+pub loop-kind-init : goal.loop-kind-init
+loop-kind-init c = looks-start _
+
+pub returns-then-has_kind : goal.returns-then-has_kind
+unfolding names
+returns-then-has_kind c =
+    looks-has _ c.loop-kind.kind (omega arith) c.loop-kind.invariant (same-word _ _ _ (rw c.name.ensures at c.if-eq.ensures)) _ (sym c.has_kind.ensures ∙ c.if-has_kind.true)
+
+pub returns-else-has_kind : goal.returns-else-has_kind
+unfolding names
+returns-else-has_kind c =
+    looks-lacks _ c.loop-kind.kind (omega arith) c.loop-kind.invariant (same-word _ _ _ (rw c.name.ensures at c.if-eq.ensures)) _ (sym c.has_kind.ensures ∙ c.if-has_kind.false)
+
+pub loop-kind-preserved : goal.loop-kind-preserved
+unfolding names
+loop-kind-preserved c = looks-on _ c.loop-kind.kind (omega arith) c.loop-kind.invariant (same-word _ _ _ (rw c.name.ensures at c.if-eq.ensures))
 
 pub returns : goal.returns
-returns c = is-named _ _ (sym c.has_kind.ensures ∙ not-false _ c.if-not-has_kind.false-raw) _ c.kind_of-kind.ensures
+unfolding names
+returns c = looks-none _ _ _ (omega arith) c.loop-kind.invariant

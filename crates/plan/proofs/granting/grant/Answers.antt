@@ -1,71 +1,50 @@
--- `granting::grant` meets its contract. The first loop's invariant: the groups held so far and the claims that are left give the holders.
--- The second's is that and `Freeing`, of the units. The third's is `Written`: claims and tickets are done up to place j. That the test is
--- that of the rules is `written-goes`.
-use mathlib.Core.Path.{◌≡◌, refl, sym, ◌∙◌, ap}
+-- `grant` meets its contract. The first loop's invariant: the groups held so far and the claims that are left give the holders, and likewise
+-- the units. The second's is `Written`: claims and tickets are done up to place i. That the test is that of the rules is `written-goes`.
+use mathlib.Core.Path.{sym, ◌∙◌, ap}
+use Prim.Native.Nat.{◌<◌}
 use native.Mathlib.Omega.{arith}
-use lib.ListN.{take, get_or}
-use Rattle.rules.specs.declared.Claim.{Claim}
-use Rattle.rules.specs.Granting.{goes}
-use Rattle.rules.specs.Tables.{vacant}
-use Rattle.plan.specs.Holders.{Held}
-use Rattle.plan.specs.Parts.{ruled_in}
-use Rattle.plan.proofs.Rows.{other-claims, these-claims, left-start, left_here, left-next, left_end}
-use Rattle.plan.proofs.GrantingLoop.{holding-start, holding-more, holding-end, freeing-start, freeing-covers, freeing-more, freeing-end, written_start, written-rest, written-goes, written-covers, written-gone, written-stay, written-end}
-use Rattle.plan.proofs.granting.grant.Goals.{After-goes, Joined-free-eq0, else-free-eq0+else-loop-i-else-free-eq0-test, else-goes, then-free-eq0+else-loop-i-test, then-goes}
+use lib.ListN.{length}
+use Rattle.plan.specs.Holders.{goes_at}
+use Rattle.plan.proofs.Rows.{row_step}
+use Rattle.plan.proofs.GrantingLoop.{holding-start, holding-covers, holding_on, holding_wait, holding-end, written_start, written-fewer, written-goes, written-next, written-gone, written-stay, written-end}
+use Rattle.plan.proofs.granting.grant.Goals.{then-is_on, else-is_on, then-goes, else-goes}
 use Rattle.plan.proofs.granting.grant.Goals as goal
 
--- ── groups and units ──
+pub loop-c-init : goal.loop-c-init
+loop-c-init c = rw c.as_slice-c-items.ensures (holding-start c.requires.0.stock)
+
 pub overflow_sub-free : goal.overflow_sub-free
-overflow_sub-free c = omega (arith, freeing-covers (left_here c.loop-i-else-free-eq0.invariant (omega arith)).1, c.units_held-free.ensures)
+overflow_sub-free c = holding-covers (rw (row_step c.as_slice-c-items.result.now c.loop-c.c-index (omega arith)) at c.loop-c.invariant) (sym c.is_on.ensures ∙ c.if-is_on.true)
 
-pub loop-i-else-free-eq0-preserved : goal.loop-i-else-free-eq0-preserved
-loop-i-else-free-eq0-preserved c =
-    rw c.units_held-free.ensures
-    (left-next c.loop-i-else-free-eq0.invariant (omega arith) (λ h. (holding-more h.0 c.held_with-held-in-loop-i-else-free-eq0.ensures, freeing-more h.1)))
-
--- The groups that are held, where the pool has no units and where it has some.
-held-is : (c : Joined-free-eq0) →
-    let t = c.args.t in
-    Held (take t.count t.claims) c.if-free-eq0.held
-held-is c =
-    elim c.if-free-eq0.branch [ then-free-eq0+else-loop-i-test w ↦ rw w.held-is (holding-end (left_end w.loop-i.invariant w.loop-i-test.false)) | else-free-eq0+else-loop-i-else-free-eq0-test w ↦ rw w.held-is (holding-end (left_end w.loop-i-else-free-eq0.invariant w.loop-i-else-free-eq0-test.false).0) ]
-
--- What is left of the pool, likewise.
-pub loop-j-init : goal.loop-j-init
-loop-j-init c =
-    let r = c.requires.0 in (
-      refl,
-      elim c.if-free-eq0.branch [ then-free-eq0+else-loop-i-test w ↦ rw w.free-is (written_start r _ (omega (arith, r.ranges.stock, w.if-free-eq0.true))) | else-free-eq0+else-loop-i-else-free-eq0-test w ↦ rw w.free-is (written_start r _ (freeing-end (left_end w.loop-i-else-free-eq0.invariant w.loop-i-else-free-eq0-test.false).1)) ],
-    )
-
--- ── the grants ──
-goes-is : (c : After-goes) →
-    let t = c.args.t in
-    goes (ruled_in t t.clock) (take t.count t.claims) (get_or t.claims c.loop-j.j vacant) ≡ c.goes.result
-goes-is c =
-    written-goes c.loop-j.invariant.1 (omega arith) c.requires.1 (held-is c.before.before.before.before) ∙ sym c.goes.ensures
-
-pub overflow_sub-free-then-goes : goal.overflow_sub-free-then-goes
-overflow_sub-free-then-goes c =
-    let w = c.loop-j.invariant.1 in
-    omega (arith, written-covers w (omega arith) (goes-is (goal.at.overflow_sub-free-then-goes c).After-goes ∙ c.if-goes.true), ap (λ (x : Claim). x.units) (written-rest w))
-
-pub loop-j-preserved : goal.loop-j-preserved
-loop-j-preserved c =
-    let w = c.loop-j.invariant.1 in
-    let g = goes-is (goal.at.loop-j-preserved c).After-goes in
-    elim c.if-goes.branch [ then-goes k ↦ rw (k.t-is, k.free-is, k.tickets-is, k.n-is) (other-claims c.loop-j.t c.args.t _ c.loop-j.invariant.0, written-gone w (omega arith) _ (g ∙ k.if-goes.true) k.on_since.ensures) | else-goes k ↦ rw (k.t-is, k.free-is, k.tickets-is, k.n-is) (c.loop-j.invariant.0, written-stay w (omega arith) (g ∙ k.if-goes.false)) ]
-
-pub returns : goal.returns
-returns c =
-    let e = written-end c.loop-j.invariant.1 c.loop-j-test.false in
-    cc (these-claims c.loop-j.t c.args.t _ c.loop-j.invariant.0 e.0, e.1, e.2)
+pub loop-c-preserved : goal.loop-c-preserved
+loop-c-preserved c =
+    let here = rw (row_step c.as_slice-c-items.result.now c.loop-c.c-index (omega arith)) at c.loop-c.invariant in
+    elim c.if-is_on.branch [
+      | then-is_on w ↦ rw (w.held-is, w.free-is, w.union-held.ensures) (holding_on here (sym c.is_on.ensures ∙ w.if-is_on.true))
+      | else-is_on w ↦ rw (w.held-is, w.free-is) (holding_wait here (sym c.is_on.ensures ∙ w.if-is_on.false))
+    ]
 
 pub loop-i-init : goal.loop-i-init
-loop-i-init c = left-start c.requires.0 holding-start
+loop-i-init c =
+    rw (c.new-tickets.ensures, ← c.as_slice-c-items.ensures) (written_start (holding-end (omega arith) c.loop-c.invariant))
+
+pub push-requires : goal.push-requires
+push-requires c = omega (arith, written-fewer c.loop-i.invariant)
 
 pub loop-i-preserved : goal.loop-i-preserved
-loop-i-preserved c = left-next c.loop-i.invariant (omega arith) (λ h. holding-more h c.held_with-held.ensures)
+loop-i-preserved c =
+    let w = c.loop-i.invariant in
+    let h : c.loop-i.i < length c.args.pending.now = omega (arith, c.len-i-end.ensures) in
+    let held = rw c.as_slice-c-items.ensures at (holding-end (omega arith) c.loop-c.invariant) in
+    let e = written-goes w h c.requires.0 c.requires.1 held ∙ ap (goes_at c.args.v.clock c.loop-c.held c.loop-i.free) (sym c.get-c.ensures) ∙ sym c.goes.ensures in
+    elim c.if-goes.branch [
+      | then-goes k ↦ rw (k.pending-is, k.free-is, k.tickets-is, k.set.ensures, k.push.ensures)
+          (written-gone w h c.requires.0 c.get-c.result _ (c.get-c.ensures ∙ written-next w h) (e ∙ k.if-goes.true) k.on_since.ensures)
+      | else-goes k ↦ rw (k.pending-is, k.free-is, k.tickets-is) (written-stay w h (e ∙ k.if-goes.false))
+    ]
 
-pub loop-i-else-free-eq0-init : goal.loop-i-else-free-eq0-init
-loop-i-else-free-eq0-init c = let r = c.requires.0 in left-start r (holding-start, freeing-start r.ranges.stock)
+pub returns-clause-granted : goal.returns-clause-granted
+returns-clause-granted c = (written-end c.loop-i.invariant (omega arith)).0
+
+pub returns-clause-tickets : goal.returns-clause-tickets
+returns-clause-tickets c = (written-end c.loop-i.invariant (omega arith)).1

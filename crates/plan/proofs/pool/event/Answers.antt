@@ -1,8 +1,7 @@
 -- `pool::event` meets its contract. Assumes nothing.
-use mathlib.Core.Path.{refl}
 use Rattle.plan.specs.Events.{event_word}
 use Rattle.plan.proofs.pool.event.Goals as goal
 
 pub returns : goal.returns
 unfolding event_word
-returns c = refl
+returns c = rw c.from.ensures

@@ -1,23 +1,24 @@
--- `sentences::put_chain` meets its contract: the tickets laid so far, with those left, are all of them.
+-- `put_chain` meets its contract: the tickets laid so far, with those left, are all of them.
+use mathlib.Core.List.{[]}
+use mathlib.Core.Path.{refl, sym, ap, ◌∙◌}
 use native.Mathlib.Omega.{arith}
-use Rattle.numerals.proofs.Going.{going_start, going_step, going-last, going-as}
-use Rattle.rules.specs.Tables.{model}
-use Rattle.question.specs.Told.{start_told}
-use Rattle.question.proofs.Told.{start-told, told_more, told-last}
-use borrow.Author.Rules.{rules}
+use Rattle.std.proofs.lemmas.List.{append-nil}
+use Rattle.numerals.proofs.Pages.{lays_as, lays_none, laying-start, laying-more, laying-end}
+use Rattle.question.specs.Told.{start_told, tickets_told}
+use Rattle.question.proofs.Told.{told_nothing, first_links, told_more, told-last, start-told}
 use Rattle.question.proofs.sentences.put_chain.Goals as goal
 
-pub loop-i-preserved : goal.loop-i-preserved
-loop-i-preserved c =
-    let a = c.args in
-    let starts = start-told (model a.t).pending _ _ _ c.lookup-s.ensures.0 c.start_of-end.ensures in
-    let e = told_more (start_told (model a.t).pending) c.loop-i.end a.tickets a.count c.loop-i.i (omega arith) (omega arith) _ starts in
-    (omega arith, c.loop-i.invariant.1, going_step _ _ _ _ _ _ _ _ _ (going-as _ _ _ _ _ _ _ e c.loop-i.invariant.2) c.put_waits-n.ensures)
+pub returns-in_default : goal.returns-in_default
+returns-in_default c = lays_as _ _ (told_nothing _ _ _ c.in_default.len_below) (lays_none _ (omega arith))
+
+pub loop-link-init : goal.loop-link-init
+loop-link-init c = laying-start (omega arith) (ap (tickets_told (start_told c.args.table.now.pending) 0) (first_links _ c.in-len1-up.len_at_least))
+
+pub loop-link-preserved : goal.loop-link-preserved
+loop-link-preserved c =
+    let starts = start-told c.args.table.now.pending _ _ _ c.lookup.ensures.0 c.start_of-end.ensures in
+    laying-more _ _ c.loop-link.invariant (told_more _ _ _ _ _ c.loop-link-test.true _ starts) c.put_waits.ensures
 
 pub returns : goal.returns
 returns c =
-    let a = c.args in
-    going-last _ _ _ _ _ _ _ _ (going-as _ _ _ _ _ _ _ (told-last (start_told (model a.t).pending) c.loop-i.end a.tickets a.count c.loop-i.i (omega arith) (omega arith)) c.loop-i.invariant.2) c.put_holds.ensures
-
-pub loop-i-init : goal.loop-i-init
-loop-i-init c = (omega arith, search rules, going_start _ _ _ (omega arith) (omega arith))
+    laying-end (laying-more _ [] c.loop-link.invariant (told-last _ _ _ _ _ c.loop-link-test.false ∙ sym (append-nil _)) c.put_holds.ensures) refl

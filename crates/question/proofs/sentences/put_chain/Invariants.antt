@@ -1,14 +1,9 @@
-use mathlib.Core.Path.{◌≡◌}
-use Prim.Native.Nat.{◌-◌, ◌≤◌}
-use lib.ListN.{length, take, drop}
-use Rattle.numerals.proofs.Going.{Going}
-use Rattle.rules.specs.Tables.{model}
+-- What is laid so far, with what is left, is the whole.
+use Rattle.std.proofs.Common.{◌∷◌, drop}
+use Rattle.numerals.proofs.Pages.{Laying}
 use Rattle.question.specs.Told.{start_told, tickets_told}
 use Rattle.question.proofs.sentences.put_chain.Given as goal
 
-abbrev pub invariant-loop-i : goal.invariant-loop-i
-invariant-loop-i l =
-    (l.i ≤ l.last) × (length l.tickets ≡ 64) × Going l.initial.out l.at (tickets_told (start_told (model l.t).pending) 0 (take l.count l.tickets)) l.out l.n (tickets_told (start_told (model l.t).pending) l.end (drop l.i (take l.count l.tickets)))
-
-abbrev pub decreases-loop-i : goal.decreases-loop-i
-decreases-loop-i l = l.last - l.i
+abbrev pub invariant-loop-link : goal.invariant-loop-link
+invariant-loop-link l =
+    Laying l.fn.page (tickets_told (start_told l.table.pending) 0 l.tickets) l.page (tickets_told (start_told l.table.pending) l.end (l.ticket ∷ drop l.link-index l.links))

@@ -1,53 +1,54 @@
--- The loop's invariant is `Counting`: what was counted and what is left make the whole, client by client.
-use mathlib.Core.List.{◌∷◌}
-use Prim.Native.Nat.{◌≤◌, ◌+◌}
-use native.Mathlib.Omega.{arith}
-use lib.ListN.{take, drop, get_or, length-map, length-take}
+use Rattle.std.proofs.Common.{◌∷◌, ◌≤◌, ◌+◌, length, drop, get_or, sym, ap, arith}
+use Rattle.std.proofs.lemmas.List.{drop_all, length-map}
 use Rattle.numbers.specs.Numbers.{most_clients}
 use Rattle.rules.specs.declared.Claim.{Claim}
-use Rattle.rules.specs.Tables.{vacant}
+use Rattle.rules.specs.Vacant.{vacant}
 use Rattle.rules.specs.Calls.{clients_of}
 use Rattle.rules.proofs.Lists.{map-i}
 use Rattle.rules.proofs.Shares.{declared-range}
-use Rattle.plan.proofs.Rows.{left-start, left_here, left-next, left_end, row-member}
-use Rattle.table.proofs.Formed.{formed-now, formed-few}
+use Rattle.plan.proofs.Rows.{row_step}
+use Rattle.rules.proofs.Places.{at-place}
 use Rattle.table.proofs.Counting.{Counting, counting-start, counting-small, counting_more, counting-end}
-use Rattle.table.proofs.shares.pending_each.Goals.{In-loop-i}
+use Rattle.table.proofs.shares.pending_each.Goals.{In-loop-c}
 use Rattle.table.proofs.shares.pending_each.Goals as goal
 
-pub loop-i-init : goal.loop-i-init
-loop-i-init c = left-start (formed-now _ c.requires.formed) (counting-start _)
+pub loop-c-init : goal.loop-c-init
+loop-c-init c = counting-start _
 
 -- The client of the claim at hand is one from 1 to 8.
-range : (c : In-loop-i) →
-    let d = get_or c.args.t.claims c.loop-i.i vacant in
+range : (c : In-loop-c) →
+    let d = get_or c.as_slice-c-items.result.now c.loop-c.c-index vacant in
     (1 ≤ d.client) × (d.client ≤ most_clients)
 range c =
     let v = c.requires in
-    declared-range _ v.booked.eight _ (v.booked.known _ (map-i (λ (x : Claim). x.client) (row-member (formed-now _ v.formed) _ (omega arith))))
+    let m = at-place vacant c.as_slice-c-items.result.now c.loop-c.c-index (omega arith) in
+    declared-range _ v.booked.eight _ (v.booked.known _ (rw (ap clients_of (sym c.as_slice-c-items.ensures)) (map-i (λ (x : Claim). x.client) m)))
 
-here : (c : In-loop-i) →
-    let t = c.args.t in
-    Counting (clients_of (take t.count t.claims)) (get_or t.claims c.loop-i.i vacant ∷ drop (c.loop-i.i + 1) (take t.count t.claims)) c.loop-i.each
-here c = left_here c.loop-i.invariant (omega arith)
+here : (c : In-loop-c) →
+    let l = c.as_slice-c-items.result.now in
+    let i = c.loop-c.c-index in
+    Counting (clients_of l) (get_or l i vacant ∷ drop (i + 1) l) c.loop-c.each
+here c = rw (row_step c.as_slice-c-items.result.now c.loop-c.c-index (omega arith)) at c.loop-c.invariant
 
 pub overflow_add-each : goal.overflow_add-each
 overflow_add-each c =
-    let r = range (goal.at.overflow_add-each c).In-loop-i in
-    let t = c.args.t in
-    omega (arith, counting-small (here (goal.at.overflow_add-each c).In-loop-i) r.0 r.1, length-map (take t.count t.claims) (λ (x : Claim). x.client), formed-few t c.requires.formed, length-take t.count t.claims)
+    let r = range (goal.at.overflow_add-each c).In-loop-c in
+    let l = c.as_slice-c-items.result.now in
+    rw c.from.ensures (omega (arith, counting-small (here (goal.at.overflow_add-each c).In-loop-c) r.0 r.1, length-map l (λ (x : Claim). x.client), c.requires.ranged.ranges.few, ap length c.as_slice-c-items.ensures))
 
-pub loop-i-preserved : goal.loop-i-preserved
-loop-i-preserved c = let r = range (goal.at.loop-i-preserved c).In-loop-i in left-next c.loop-i.invariant (omega arith) (λ h. counting_more h r.0 r.1)
+pub loop-c-preserved : goal.loop-c-preserved
+loop-c-preserved c = let r = range (goal.at.loop-c-preserved c).In-loop-c in rw c.from.ensures (counting_more (here (goal.at.loop-c-preserved c).In-loop-c) r.0 r.1)
 
 pub returns : goal.returns
-returns c = counting-end (left_end c.loop-i.invariant c.loop-i-test.false)
+returns c =
+    let l = c.as_slice-c-items.result.now in
+    rw (sym c.as_slice-c-items.ensures) (counting-end (rw (drop_all c.loop-c.c-index l c.loop-c-test.false) at c.loop-c.invariant))
 
-pub overflow_sub-k : goal.overflow_sub-k
-overflow_sub-k c = (range (goal.at.overflow_sub-k c).In-loop-i).0
+pub overflow_sub-c : goal.overflow_sub-c
+overflow_sub-c c = (range (goal.at.overflow_sub-c c).In-loop-c).0
 
-pub bounds-each-k : goal.bounds-each-k
-bounds-each-k c = let r = range (goal.at.bounds-each-k c).In-loop-i in omega (arith, r.0, r.1)
+pub bounds-each-from : goal.bounds-each-from
+bounds-each-from c = let r = range (goal.at.bounds-each-from c).In-loop-c in omega (arith, r.0, r.1, c.from.ensures)
 
-pub bounds-each-k-in-loop-i : goal.bounds-each-k-in-loop-i
-bounds-each-k-in-loop-i c = let r = range (goal.at.bounds-each-k-in-loop-i c).In-loop-i in omega (arith, r.0, r.1)
+pub bounds-each-from-in-loop-c : goal.bounds-each-from-in-loop-c
+bounds-each-from-in-loop-c c = let r = range (goal.at.bounds-each-from-in-loop-c c).In-loop-c in omega (arith, r.0, r.1, c.from.ensures)

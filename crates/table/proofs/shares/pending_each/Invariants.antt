@@ -1,13 +1,8 @@
-use Prim.Native.Nat.{◌-◌}
-use lib.ListN.{take}
+-- What was counted and what is left make the whole, client by client.
+use Rattle.std.proofs.Common.{drop}
 use Rattle.rules.specs.Calls.{clients_of}
-use Rattle.plan.specs.Parts.{ruled_in}
-use Rattle.plan.proofs.Rows.{Left}
 use Rattle.table.proofs.Counting.{Counting}
 use Rattle.table.proofs.shares.pending_each.Given as goal
 
-abbrev pub invariant-loop-i : goal.invariant-loop-i
-invariant-loop-i l = Left (λ r. Counting (clients_of (take l.count l.t.claims)) r l.each) (ruled_in l.t l.t.clock) l.t.claims l.count l.i
-
-abbrev pub decreases-loop-i : goal.decreases-loop-i
-decreases-loop-i l = l.count - l.i
+abbrev pub invariant-loop-c : goal.invariant-loop-c
+invariant-loop-c l = Counting (clients_of l.c-items) (drop l.c-index l.c-items) l.each

@@ -1,12 +1,8 @@
-use mathlib.Core.Path.{◌≡◌}
-use Prim.Native.Nat.{◌+◌, ◌*◌, ◌-◌, ◌≤◌}
-use Rattle.numbers.specs.Numbers.{most_clients}
+-- The sum so far and that from the place on make the whole.
+use Rattle.std.proofs.Common.{◌≡◌, ◌+◌, ◌*◌, ◌≤◌}
 use Rattle.rules.specs.Shares.{reserved_in_all}
 use Rattle.table.proofs.Counting.{sum_from, reserved_at}
 use Rattle.table.proofs.shares.reserved_in_all.Given as goal
 
-abbrev pub invariant-loop-i : goal.invariant-loop-i
-invariant-loop-i l = (l.i ≤ most_clients) × (l.sum ≤ l.i * 255) × (l.sum + sum_from (reserved_at l.shares) l.i ≡ reserved_in_all l.shares)
-
-abbrev pub decreases-loop-i : goal.decreases-loop-i
-decreases-loop-i l = most_clients - l.i
+abbrev pub invariant-loop-s : goal.invariant-loop-s
+invariant-loop-s l = (l.sum ≤ l.s-index * 255) × (l.sum + sum_from (reserved_at l.shares) l.s-index ≡ reserved_in_all l.shares)

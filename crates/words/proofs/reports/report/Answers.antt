@@ -5,5 +5,5 @@ use Rattle.words.proofs.reports.report.Goals as goal
 
 pub returns : goal.returns
 returns c =
-    let g = report-goes _ _ _ c.put_report-n.ensures in
-    (g.0, omega (arith, g.1, c.put_report-n.auto.out))
+    let g = report-goes _ _ _ c.put_report-length.ensures in
+    (g.0, omega (arith, g.1, c.put_report-length.auto.out))

@@ -1,9 +1,0 @@
--- `row_number` meets its contract.
-use borrow.Author.Tests.{eq-eqb, ne_eqb}
-use Rattle.frame_table.proofs.row_number.Goals as goal
-
-pub returns-then-row-eq0 : goal.returns-then-row-eq0
-returns-then-row-eq0 c = rw (eq-eqb _ 0 c.if-row-eq0.true)
-
-pub returns : goal.returns
-returns c = rw (ne_eqb _ 0 c.if-row-eq0.false)

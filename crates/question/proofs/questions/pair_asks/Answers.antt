@@ -1,0 +1,13 @@
+-- `pair_asks` meets its contract: the word is the name, or not.
+use mathlib.Core.Path.{◌∙◌}
+use Rattle.words.proofs.Names.{word_test}
+use Rattle.question.specs.Questions.{pair_asks}
+use Rattle.question.proofs.questions.pair_asks.Goals as goal
+
+pub returns-then-same : goal.returns-then-same
+unfolding pair_asks
+returns-then-same c = rw (word_test _ _ _ c.same.ensures ∙ c.if-same.true)
+
+pub returns : goal.returns
+unfolding pair_asks
+returns c = rw (word_test _ _ _ c.same.ensures ∙ c.if-same.false)

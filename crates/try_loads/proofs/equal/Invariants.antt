@@ -1,9 +1,0 @@
--- Both have the length that the index stays within.
-use Rattle.std.proofs.Common.{length, ◌-◌, ◌≡◌}
-use Rattle.try_loads.proofs.equal.Given as goal
-
-abbrev pub invariant-loop-i : goal.invariant-loop-i
-invariant-loop-i l = length l.a ≡ length l.b
-
-abbrev pub decreases-loop-i : goal.decreases-loop-i
-decreases-loop-i l = length l.a - l.i
