@@ -13,7 +13,7 @@ count 1 "fields that hold a flag or a refusal's number beside values" 'pub (decl
 count 1 "functions that answer 0 or a number" 'fn [a-z_]*(number|ending)[a-z_]*\(.*\) -> u8'
 count 1 "constants for refusals, reasons, kinds and fields" 'pub const [A-Z0-9_]+: u8 = [0-9]+;'
 count 3 "while" '^ *(.[a-z]+: )?while [^l]'
-count 3 "loop" '(^|= |: )loop \{'
+count 3 "loop" '(^ +|= |: )loop \{'
 count 4 "equality, order, copying and widening by hand" 'fn (same|equal|later|wide|is_on|start_or_grant|waiting_from|on_since|is_question|is_call|has_call|in_eight)\('
 count 4 "fields that are given their own name" '^ +([a-z_]+): \1,$'
 count 5 "clauses that say Valid of a table" 'Valid [(a-z]'

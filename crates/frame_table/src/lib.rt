@@ -8,7 +8,7 @@ ghost use Rattle.numbers.specs.Refusals.{number_in};
 ghost use Rattle.rules.specs.Tests.{first_number};
 ghost use Rattle.frames.specs.Rows.{on, named, row_for, turned, head_tickets, turned_on};
 ghost use Rattle.frames.specs.Calls.{Call, new, step, tests, lacking, admit};
-ghost use Rattle.frame_table.specs.Valid.{HasRoom};
+ghost use Rattle.frame_table.specs.Valid.{HasRoom, Valid};
 ghost use Rattle.frame_table.specs.Answers.{answer_of, accepted};
 ghost use Rattle.frame_table.specs.Parts.{WithRow, FreeRow, RivalsOf};
 
@@ -28,7 +28,7 @@ pub struct Accepted {
 }
 
 // A rig, how many tickets are issued, and the pending claims in ascending order of ticket.
-#[derive(Drop)]
+#[derive(Clone, Drop)]
 pub struct Table {
     rig: u64,
     issued: u16,
@@ -69,6 +69,28 @@ impl Table {
             grants: Tickets::new(),
         };
         (table, Ok(nothing))
+    }
+
+    // The rig's groups.
+    pub fn rig(&self) -> u64
+        ensures { result ≡ self.now.rig }
+    {
+        self.rig
+    }
+
+    // How many tickets are issued.
+    pub fn issued(&self) -> u16
+        ensures { result ≡ self.now.issued }
+    {
+        self.issued // the last ticket
+    }
+
+    // The pending claims, in ascending order of ticket; and what holds of every table.
+    pub fn pending(&self) -> &[Claim]
+        ensures claims { result.now ≡ self.now.pending }
+        ensures valid { Valid self.now }
+    {
+        self.pending.as_slice()
     }
 
     // Claims groups for a beat. Refused: 1, 2, 6, 7.

@@ -6,7 +6,7 @@ use crate::Claim;
 use std::marker::Model;
 
 // Up to 64 pending claims.
-#[derive(Drop)]
+#[derive(Clone, Drop)]
 pub struct Pending {
     count: usize,
     places: [Claim; 64],
@@ -41,7 +41,7 @@ impl Pending {
     pub fn len(&self) -> usize
         ensures { (result ≡ length self.now) × (result ≤ 64) }
     {
-        self.count
+        self.count // at most 64
     }
 
     pub fn is_empty(&self) -> bool
