@@ -8,7 +8,7 @@ use native.Mathlib.Omega.{arith}
 use native.Mathlib.Nat.{one-le-pow}
 use lib.Dec.{ltb, eqb}
 use borrow.Author.Tests.{eqb-true, eqb-false, eq-eqb, ne_eqb, lt-ltb, not-true}
-use lib.ListN.{length, drop, get_or, set, length-set, get_or-eq_default}
+use lib.ListN.{length, drop, get_or, set, length-set}
 use lib.Seq.{get_or-set_same, get_or-set_other, set_out, ext_get_or}
 use Rattle.format.specs.declared.Call.{Call}
 use Rattle.format.specs.Format.{the_client, format, field_widths, field_count, field_width, defaults, default, has_kind, fields_of}

@@ -151,6 +151,10 @@ edition3 =
 unfoldable pub format : List Row
 format = edition1 ++ edition2 ++ edition3
 
+-- The fields of all rows in a list of which each row is a part.
+abbrev pub laid_fields : List ℕ
+laid_fields = the_clock ∷ the_groups ∷ the_length ∷ the_units ∷ the_client ∷ the_reserved ∷ the_limit ∷ the_clock ∷ the_ticket ∷ the_groups ∷ the_pool ∷ the_grace ∷ []
+
 -- ── from the table ──
 -- The editions that there are.
 unfoldable pub known_in : List Row → ℕ → Bool

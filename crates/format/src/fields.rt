@@ -1,6 +1,6 @@
 // The fields of records, as in specs/Format.antt: their one home in code. The kind byte, which every record has, is none of them.
-ghost use Rattle.std.specs.Prelude.{◌≡◌, map};
-ghost use Rattle.format.specs.Format.{field_number, field_width, fields_of};
+ghost use Rattle.std.specs.Prelude.{◌≡◌, ◌≤◌, ◌-◌, map, take, drop};
+ghost use Rattle.format.specs.Format.{field_number, field_width, fields_of, laid_fields};
 
 use crate::kinds;
 
@@ -41,6 +41,32 @@ impl Field {
     }
 }
 
+// The fields of all rows: each row is a part of them.
+const LAID: [Field; 12] = [
+    Field::Clock,
+    Field::Groups,
+    Field::Length,
+    Field::Units,
+    Field::Client,
+    Field::Reserved,
+    Field::Limit,
+    Field::Clock,
+    Field::Ticket,
+    Field::Groups,
+    Field::Pool,
+    Field::Grace,
+];
+
+// A part of them by its places: a function of its own, so that what tells the rows apart is numbers and not addresses, and a library for C
+// has no data that is written.
+#[inline(never)]
+fn part(from: usize, to: usize) -> &'static [Field]
+    requires { (from ≤ to) × (to ≤ 12) }
+    ensures { map field_number result.now ≡ take (to - from) (drop from laid_fields) }
+{
+    &LAID[from..to]
+}
+
 // The fields of a kind of an edition in their order; none for a kind that the edition lacks. Every kind of an edition is listed, so that
 // they are one read of a table.
 #[tactic(auto, unfolding(crate::specs::Format::fields_of, crate::specs::Format::row_in, crate::specs::Format::format))]
@@ -49,37 +75,31 @@ pub fn fields_of(edition: u8, kind: u8) -> &'static [Field]
 {
     match edition {
         1 => match kind {
-            kinds::RIG => &[Field::Groups],
-            kinds::CLAIM => &[Field::Clock, Field::Groups, Field::Length],
-            kinds::RELEASE => &[Field::Clock, Field::Ticket],
-            kinds::WITHDRAW => &[Field::Clock, Field::Ticket],
-            kinds::CLOCK => &[Field::Clock],
+            kinds::RIG => part(1, 2),
+            kinds::CLAIM => part(0, 3),
+            kinds::RELEASE => part(7, 9),
+            kinds::WITHDRAW => part(7, 9),
+            kinds::CLOCK => part(0, 1),
             _ => &[],
         },
         // The rig has its pool and the claim its units at the end.
         2 => match kind {
-            kinds::RIG => &[Field::Groups, Field::Pool],
-            kinds::CLAIM => &[Field::Clock, Field::Groups, Field::Length, Field::Units],
-            kinds::RELEASE => &[Field::Clock, Field::Ticket],
-            kinds::WITHDRAW => &[Field::Clock, Field::Ticket],
-            kinds::CLOCK => &[Field::Clock],
+            kinds::RIG => part(9, 11),
+            kinds::CLAIM => part(0, 4),
+            kinds::RELEASE => part(7, 9),
+            kinds::WITHDRAW => part(7, 9),
+            kinds::CLOCK => part(0, 1),
             _ => &[],
         },
         // The claim has its client at the end, a client is declared, and there is a grace.
         3 => match kind {
-            kinds::RIG => &[Field::Groups, Field::Pool],
-            kinds::CLAIM => &[
-                Field::Clock,
-                Field::Groups,
-                Field::Length,
-                Field::Units,
-                Field::Client,
-            ],
-            kinds::RELEASE => &[Field::Clock, Field::Ticket],
-            kinds::WITHDRAW => &[Field::Clock, Field::Ticket],
-            kinds::CLOCK => &[Field::Clock],
-            kinds::DECLARATION => &[Field::Client, Field::Reserved, Field::Limit],
-            kinds::GRACE => &[Field::Grace],
+            kinds::RIG => part(9, 11),
+            kinds::CLAIM => part(0, 5),
+            kinds::RELEASE => part(7, 9),
+            kinds::WITHDRAW => part(7, 9),
+            kinds::CLOCK => part(0, 1),
+            kinds::DECLARATION => part(4, 7),
+            kinds::GRACE => part(11, 12),
             _ => &[],
         },
         _ => &[],
