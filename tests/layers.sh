@@ -46,7 +46,7 @@ judge() {
         # of a function, its module and what the checker makes of its contract; not `Proof` or `Tie`, and not what stands after its `.{`
         if (cited ~ /^proofs\/[a-z+]/) {
             sub(/\.(Statement|Symbol|Met|Reads)(\.\{)?$/, "", cited)
-            if (cited ~ /^[a-z0-9_+\/.]+(\.[A-Z][A-Za-z0-9]*\.[a-z0-9_]+)?$/) next
+            if (cited ~ /^[a-z0-9_+\/.]+$/) next
             sub(/\.\{$/, "", cited)
         } else {
             sub(/\..*/, "", cited)

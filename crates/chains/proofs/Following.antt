@@ -1,7 +1,7 @@
 -- Following a chain, a claim at a time: the first claim of the row that passes is the link; from a claim that waits the chain goes on at its
 -- link, and one that is on ends it.
-use Rattle.std.proofs.Common.{◌≡◌, ℕ, ◌+◌, ◌≤◌, ◌<◌, true, false, ◌&&◌, List, [], ◌∷◌, ◌++◌, map, eqb, length, drop, get_or, refl, sym, ◌∙◌, ap, arith, append_assoc, length-append}
-use Rattle.std.proofs.lemmas.List.{length-map, drop_all}
+use Rattle.std.proofs.Common.{◌≡◌, Bool, ℕ, ◌+◌, ◌≤◌, ◌<◌, true, false, ◌&&◌, List, [], ◌∷◌, ◌++◌, map, eqb, length, drop, get_or, refl, sym, ◌∙◌, ap, arith, append_assoc, length-append}
+use Rattle.std.proofs.lemmas.List.{drop_all}
 use Rattle.rules.specs.declared.Claim.{Claim}
 use Rattle.rules.specs.declared.Setting.{Setting}
 use Rattle.rules.specs.Lists.{◌∈◌, first_with}
@@ -10,9 +10,14 @@ use Rattle.rules.specs.Order.{meets}
 use Rattle.rules.specs.Vacant.{vacant}
 use Rattle.rules.specs.Chains.{counts_as, links, link, chain, chain_within}
 use Rattle.rules.specs.Invariants.{Settled}
-use Rattle.rules.proofs.Chains.{link-true, chain-on, chain-waits, chain_length}
-use Rattle.plan.specs.Rows.{InRange}
+use borrow.Author.Tests.{eqb-true, eqb-false}
+use Rattle.rules.proofs.Bools.{by-test}
+use Rattle.rules.proofs.Chains.{link-true, chain-on, chain-waits}
 use Rattle.plan.proofs.Rows.{row_step}
+
+-- One place more that fails.
+pub fails_more : (p : ℕ → Bool) (i : ℕ) → ((j : ℕ) → j < i → p j ≡ false) → p i ≡ false → (j : ℕ) → j < i + 1 → p j ≡ false
+fails_more p i h e j k = by-test (eqb j i) (λ q. rw (eqb-true j i q) e) (λ q. let z = eqb-false j i q in h j (omega arith))
 
 -- ── the link ──
 module _ (v : Setting) (ps : List Claim) (w : Claim) where
@@ -40,43 +45,28 @@ module _ (v : Setting) (ps : List Claim) (w : Claim) where
 abbrev pub told : List Claim → List ℕ
 told l = map (λ (c : Claim). c.ticket) l
 
--- The tickets so far end at the claim c; with the chain of c in its place they are those of the chain of w.
-pub record Followed (v : Setting) (ps : List Claim) (w : Claim) (tickets : List ℕ) (c : Claim) : Type 0 where
-  pub member : c ∈ ps
-  pub front : List ℕ
-  pub far : tickets ≡ front ++ (c.ticket ∷ [])
-  pub whole : front ++ told (chain v ps c) ≡ told (chain v ps w)
+-- Tickets, then those of the chain of w.
+abbrev pub with_chain : Setting → List Claim → Claim → List ℕ → List ℕ
+with_chain v ps w l = l ++ told (chain v ps w)
 
--- A chain has its claim.
-chain_first : (v : Setting) (ps : List Claim) (c : Claim) → 0 < length (chain v ps c)
+-- There is room for the claim itself.
+pub room_here : (v : Setting) (ps : List Claim) (w : Claim) (l : List ℕ) → length l + length (chain v ps w) ≤ 64 → length l < 64
 unfolding chain chain_within
-chain_first v ps c = omega arith
+room_here v ps w l h = omega arith
 
-module _ {q : ℕ} {v : Setting} {ps : List Claim} {w : Claim} (row : InRange v ps) (s : Settled q v ps) where
-  pub followed-start : w ∈ ps → Followed v ps w ([] ++ (w.ticket ∷ [])) w
-  followed-start m = record { member = m; front = []; far = refl; whole = refl }
+-- One that is on ends the chain.
+pub ruleset ends_here = (chain-on)
 
-  module _ {tickets : List ℕ} {c : Claim} (f : Followed v ps w tickets c) where
-    pub followed-end : on c ≡ true → tickets ≡ told (chain v ps w)
-    followed-end o = f.far ∙ ap (λ (l : List Claim). f.front ++ told l) (sym (chain-on v ps c o)) ∙ f.whole
+-- From one that waits it goes on at its link.
+module _ {q : ℕ} {v : Setting} {ps : List Claim} {w : Claim} (s : Settled q v ps) (m : w ∈ ps) (o : on w ≡ false) where
+  pub linked : link v ps w ∈ ps
+  linked = (link-true q v ps s w m o).pending
 
-    module _ (o : on c ≡ false) where
-      pub linked : link v ps c ∈ ps
-      linked = (link-true q v ps s c f.member o).pending
+  pub goes_on : (l : List ℕ) → with_chain v ps (link v ps w) (l ++ (w.ticket ∷ [])) ≡ with_chain v ps w l
+  goes_on l =
+      append_assoc l (w.ticket ∷ []) (told (chain v ps (link v ps w)))
+      ∙ ap (λ (r : List Claim). l ++ told r) (sym (chain-waits q v ps s w m o))
 
-      next : tickets ++ told (chain v ps (link v ps c)) ≡ told (chain v ps w)
-      next =
-          ap (λ (l : List ℕ). l ++ told (chain v ps (link v ps c))) f.far
-          ∙ append_assoc f.front (c.ticket ∷ []) (told (chain v ps (link v ps c)))
-          ∙ ap (λ (l : List Claim). f.front ++ told l) (sym (chain-waits q v ps s c f.member o))
-          ∙ f.whole
-
-      pub followed-more : Followed v ps w (tickets ++ ((link v ps c).ticket ∷ [])) (link v ps c)
-      followed-more = record { member = linked; front = tickets; far = refl; whole = next }
-
-      -- There is room for its link.
-      pub followed_room : w ∈ ps → length tickets < 64
-      followed_room m =
-          let a = chain_length q v ps s w m in
-          let b = chain_first v ps (link v ps c) in
-          omega (arith, ap length next, length-append tickets (told (chain v ps (link v ps c))), length-map (chain v ps (link v ps c)) (λ (d : Claim). d.ticket), length-map (chain v ps w) (λ (d : Claim). d.ticket), row.few)
+  -- There is room for the chain of the link.
+  pub room_on : (l : List ℕ) → length l + length (chain v ps w) ≤ 64 → length (l ++ (w.ticket ∷ [])) + length (chain v ps (link v ps w)) ≤ 64
+  room_on l h = omega (arith, ap length (chain-waits q v ps s w m o), length-append l (w.ticket ∷ []))

@@ -6,12 +6,12 @@ use mathlib.Core.Path.{◌≡◌, refl, ap, ◌∙◌}
 use native.Mathlib.Omega.{arith}
 use lib.Dec.{eqb}
 use borrow.Author.Tests.{ne_eqb}
-use Rattle.std.specs.Prelude.{Option, Some, None, Result, Ok, Err}
+use Rattle.std.specs.Prelude.{Option, Some, None, Result, Ok, Err, length}
 use Rattle.numbers.specs.Numbers.{most_tickets}
 use Rattle.words.specs.declared.reasons.Reason.{Reason}
 use Rattle.words.specs.declared.reasons.Reason.TheVariants.{NoTicket, TooLarge}
 use Rattle.words.specs.Answers.{WordValues, word_values}
-use Rattle.words.specs.Parts.{words_in, said}
+use Rattle.words.specs.Parts.{words_in, said, chomped, parts, bytes_before}
 use Rattle.words.specs.Reasons.{reason_number}
 use Rattle.words.specs.Sets.{groups_in}
 use Rattle.words.specs.Words.{number_in}
@@ -36,7 +36,7 @@ word-values : (n : Name) (w : List ℕ)
     → line_values (calling (word_says n w)) ≡ record { number = (word_as n w).number; calls = cond (eqb (word_as n w).number 0) (call_with n (word_as n w).value) [] }
 word-values NewRig w = call-values Rig (groups_in w) ∙ ap (called Rig) (groups-values w)
 word-values NewClaim w = call-values Claim (groups_in w) ∙ ap (called Claim) (groups-values w)
-word-values EndClaim w = call-values Release (number_in 10 most_tickets NoTicket TooLarge w) ∙ ap (called Release) (number-values _ _ _ _ w)
+word-values EndClaim w = call-values Release (number_in 10 most_tickets NoTicket TooLarge w) ∙ ap (called Release) (number-values reason_number _ _ _ _ w)
 
 words-values : (n : Name) (ws : List (List ℕ)) → line_values (calling (words_say n ws)) ≡ words_values n ws
 unfolding words_say words_values
@@ -52,6 +52,12 @@ line-values (k ∷ ws) = by (call_named k)
     by : (n : Option Name) → line_values (named_says n ws) ≡ values_named n ws
     by None = refl
     by (Some n) = words-values n ws
+
+-- An empty line says nothing.
+pub silent-empty : (l : List ℕ) → length l ≡ 0 → Ok None ≡ line_says l
+unfolding line_says call_said said chomped words_in parts bytes_before
+silent-empty [] e = refl
+silent-empty (b ∷ l) e = absurd (omega (arith, e))
 
 -- What a line says, with its number and call: what `parse_line` promises.
 pub with_values : (l : List ℕ) (r : Line) → r ≡ line_says l → (r ≡ line_says l) × (line_values r ≡ parse_values l)

@@ -81,6 +81,9 @@ fn words_say(name: Name, behind: &[u8]) -> Result<Call, Reason>
 pub fn parse_line(line: &[u8]) -> Result<Option<Call>, Reason>
     ensures { (result ≡ line_says line.now) × (line_values result ≡ parse_values line.now) }
 {
+    if line.is_empty() {
+        return Ok(None);
+    }
     let Some((word, behind)) = words::next_word(words::said(line)) else {
         return Ok(None);
     };

@@ -8,7 +8,7 @@ use native.Mathlib.Omega.{arith}
 use native.Mathlib.Nat.{one-le-pow}
 use lib.Dec.{ltb, eqb}
 use borrow.Author.Tests.{eqb-true, eqb-false, eq-eqb, ne_eqb, lt-ltb, not-true}
-use lib.ListN.{length, drop, get_or, set, length-set}
+use lib.ListN.{length, drop, get_or, set, length-set, get_or-eq_default}
 use lib.Seq.{get_or-set_same, get_or-set_other, set_out, ext_get_or}
 use Rattle.format.specs.declared.Call.{Call}
 use Rattle.format.specs.Format.{the_client, format, field_widths, field_count, field_width, defaults, default, has_kind, fields_of}
@@ -48,6 +48,10 @@ value_same f v c h = ap (λ (xs : List ℕ). get_or xs f 0) (with-numbers f v c)
 pub value-other : (f g v : ℕ) (c : Call) → eqb f g ≡ false → value_of f (with_value g v c) ≡ value_of f c
 unfolding value_of
 value-other f g v c h = ap (λ (xs : List ℕ). get_or xs f 0) (with-numbers g v c) ∙ get_or-set_other (numbers c) g f v 0 (eqb-false f g h)
+
+pub no_value : (f : ℕ) (c : Call) → field_count ≤ f → (0 ≡ value_of f c) × (0 < 256 ^ field_width f)
+unfolding value_of numbers field_widths
+no_value f c h = (sym (get_or-eq_default (numbers c) 0 h), one-le-pow (field_width f) 256 (omega arith))
 
 -- A value put into no field.
 pub with_none : (f w : ℕ) (c : Call) → field_count ≤ f → c ≡ with_value f w c

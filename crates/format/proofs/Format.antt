@@ -205,6 +205,13 @@ no_kind e k js t u =
     (λ h. let q = kind-tested (λ d j fs. not (eqb d e) || has j js) e k t h in absurd (false≢true (sym (unlisted js k u) ∙ rw (eq-eqb e e refl) at q)))
     (λ h. h)
 
+-- The keys of a match are all fields.
+pub no-such-field : (js : List ℕ) (f : ℕ) → all_below field_count (λ i. has i js) ≡ true → Unlisted js f → field_count ≤ f
+no-such-field js f t u =
+    either (ltb f field_count)
+    (λ h. absurd (false≢true (sym (unlisted js f u) ∙ below-passes field_count (λ i. has i js) t f (ltb-true f field_count h))))
+    (λ h. ltb-false f field_count h)
+
 pub no-width : (f : ℕ) → field_count ≤ f → field_width f ≡ 0
 unfolding field_width
 no-width f h = get_or-eq_default field_widths 0 h

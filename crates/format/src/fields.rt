@@ -1,6 +1,6 @@
 // The fields of records, as in specs/Format.antt: their one home in code. The kind byte, which every record has, is none of them.
-ghost use Rattle.std.specs.Prelude.{◌≡◌, ◌≤◌, ◌-◌, map, take, drop};
-ghost use Rattle.format.specs.Format.{field_number, field_width, fields_of, laid_fields};
+ghost use Rattle.std.specs.Prelude.{◌≡◌, ◌≤◌, ◌<◌, ◌-◌, map, take, drop, MatchOption};
+ghost use Rattle.format.specs.Format.{field_count, field_number, field_width, fields_of, laid_fields};
 
 use crate::kinds;
 
@@ -21,6 +21,26 @@ pub enum Field {
 }
 
 impl Field {
+    // The field of a number; none for the kind byte's, and from 11 on.
+    pub(crate) fn of_number(number: u8) -> Option<Field>
+        ensures { MatchOption result (0 < number → field_count ≤ number) (λ f. field_number f ≡ number) }
+    {
+        match number {
+            0 => None,
+            1 => Some(Field::Clock),
+            2 => Some(Field::Groups),
+            3 => Some(Field::Length),
+            4 => Some(Field::Ticket),
+            5 => Some(Field::Pool),
+            6 => Some(Field::Units),
+            7 => Some(Field::Client),
+            8 => Some(Field::Reserved),
+            9 => Some(Field::Limit),
+            10 => Some(Field::Grace),
+            _ => None,
+        }
+    }
+
     // Its width in bytes.
     #[tactic(auto, unfolding(crate::specs::Format::field_width, crate::specs::Format::field_widths))]
     pub fn width(self) -> usize

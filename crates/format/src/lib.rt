@@ -147,6 +147,32 @@ impl Call {
     }
 }
 
+// The value of a field by its number, 0 for the kind; 0 where there is no such field.
+#[tactic(auto, unfolding(crate::specs::Calls::value_of, crate::specs::Calls::numbers, crate::specs::Format::field_width, crate::specs::Format::field_widths))]
+pub fn value_of(call: Call, field: u8) -> u64
+    ensures { (result ≡ value_of field call) × (result < 256 ^ field_width field) }
+{
+    match Field::of_number(field) {
+        Some(named) => call.value_of(named),
+        None if field == 0 => u64::from(call.kind),
+        None => 0,
+    }
+}
+
+// The call with a value in a field, by its number: as much of it as goes into the field's width.
+#[tactic(auto, unfolding(crate::specs::Calls::with_value, crate::specs::Calls::made, crate::specs::Calls::numbers, crate::specs::Format::field_width, crate::specs::Format::field_widths))]
+pub fn with_value(call: Call, field: u8, value: u64) -> Call
+    ensures { result ≡ with_value field (value % 256 ^ field_width field) call }
+{
+    let mut made = call;
+    match Field::of_number(field) {
+        Some(named) => made.set(named, value),
+        None if field == 0 => made.kind = (value % 256) as u8,
+        None => {}
+    }
+    made
+}
+
 // What an edition keeps of a call: the fields that it lacks become as in `bare`. Cost: a few instructions for each field.
 fn kept(edition: u8, call: Call) -> Call
     ensures { result ≡ kept edition call }

@@ -85,7 +85,7 @@ fn stops_at(call: Call, answer: &Result<Accepted, Refusal>) -> bool
 
 // A part of a listing: its count of bytes; and where the next begins: the place in the text, the number of the next call, and the table. Where
 // the place is not before the text's end the listing has ended.
-#[derive(Clone, Drop)]
+#[derive(Clone, Copy)]
 pub struct Part {
     pub length: usize,
     pub at: usize,

@@ -1,6 +1,6 @@
 -- A release: its tests by the place of the ticket's claim, what is left without that place, and the head change.
 use Rattle.std.proofs.Common.{◌≡◌, ◌≢◌, refl, sym, ◌∙◌, ap, ℕ, zero, suc, ◌+◌, arith, Bool, true, false, not, ◌&&◌, List, [], ◌∷◌, ◌++◌, map, ◌≤◌, ◌<◌, nat_lt, length, get_or, set, take, drop, remove, position, append_assoc, append-nil, drop-cons, add-one, length-append}
-use Rattle.std.specs.List.{list_any, position_or_len}
+use Rattle.std.specs.List.{list_any, filter, position_or_len}
 use Rattle.std.proofs.Common.{Option, Some, None}
 use Rattle.std.proofs.lemmas.List.Quantifiers.{position-Some}
 use lib.ListN.{length-map, length-set, drop_of_length-le}
@@ -22,6 +22,12 @@ pub any_is : {A : Type 0} (p : A → Bool) (l : List A) → list_any p l ≡ any
 unfolding any
 any_is p [] = refl
 any_is p (x ∷ l) = by-test (p x) (λ e. rw e) (λ e. rw e (any_is p l))
+
+-- The elements that pass a test by std's word and by ours.
+pub kept_is : {A : Type 0} (p : A → Bool) (l : List A) → filter p l ≡ keep p l
+unfolding keep
+kept_is p [] = refl
+kept_is p (x ∷ l) = by-test (p x) (λ e. rw (e, kept_is p l)) (λ e. rw (e, kept_is p l))
 
 -- Without a ticket that no claim has they are all there.
 lacking-none : (k : ℕ) (ps : List Claim) → Each (λ c. c.ticket ≢ k) ps → lacking k ps ≡ ps

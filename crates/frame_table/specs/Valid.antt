@@ -11,6 +11,10 @@ use Rattle.frame_table.specs.declared.Table.TheInside.{Inside}
 abbrev pub model : Inside → Model
 model t = record { rig = t.rig; issued = t.issued; pending = t.pending }
 
+-- The parts of the table that a model means.
+abbrev pub inside : Model → Inside
+inside m = record { rig = m.rig; issued = m.issued; pending = m.pending }
+
 -- The limits of document 01, "A claim"; and as many rows behind the head as claims, at most.
 pub record Ranged (m : Model) : Type 0 where
   pub few : length m.pending ≤ most_pending

@@ -5,6 +5,7 @@
 ghost use Rattle.std.specs.Prelude.{◌≡◌, ◌≤◌, ◌<◌, length, remove, position, IfOk};
 ghost use Rattle.std.specs.List.{list_any};
 ghost use Rattle.numbers.specs.Refusals.{number_in};
+ghost use Rattle.rules.specs.Lists.{keep};
 ghost use Rattle.rules.specs.Tests.{first_number};
 ghost use Rattle.frames.specs.Rows.{on, named, row_for, turned, head_tickets, turned_on};
 ghost use Rattle.frames.specs.Calls.{Call, new, step, tests, lacking, admit};
@@ -19,7 +20,7 @@ use std::marker::Model;
 
 // What an accepted call answers: the claim's ticket, its row, counted from the head, its contention (the request's crowd), and the tickets
 // granted, in ascending order.
-#[derive(Drop)]
+#[derive(Clone, Copy)]
 pub struct Accepted {
     pub ticket: u16,
     pub row: u16,
@@ -28,7 +29,7 @@ pub struct Accepted {
 }
 
 // A rig, how many tickets are issued, and the pending claims in ascending order of ticket.
-#[derive(Clone, Drop)]
+#[derive(Clone, Copy)]
 pub struct Table {
     rig: u64,
     issued: u16,
@@ -40,11 +41,13 @@ impl Model for Table {
 
     ghost Value = { Model };
 
-    ghost use Rattle.frame_table.specs.Valid.{model, Valid};
+    ghost use Rattle.frame_table.specs.Valid.{model, inside, Valid};
 
     ghost view = { model };
 
     ghost invariant = { λ t. Valid (model t) };
+
+    ghost inverse = { inside };
 }
 
 impl Table {
@@ -71,6 +74,18 @@ impl Table {
         (table, Ok(nothing))
     }
 
+    // The table of such parts.
+    pub fn of(rig: u64, issued: u16, pending: Pending) -> Table
+        requires { Valid (record { rig = rig; issued = issued; pending = pending }) }
+        ensures { result ≡ record { rig = rig; issued = issued; pending = pending } }
+    {
+        Table {
+            rig,
+            issued,
+            pending,
+        }
+    }
+
     // The rig's groups.
     pub fn rig(&self) -> u64
         ensures { result ≡ self.now.rig }
@@ -83,6 +98,14 @@ impl Table {
         ensures { result ≡ self.now.issued }
     {
         self.issued // the last ticket
+    }
+
+    // How many claims are in the head row. Cost: one pass.
+    pub fn held(&self) -> usize
+        ensures { result ≡ length (keep on self.now.pending) }
+    {
+        let claims = self.pending.as_slice();
+        claims.iter().filter(|c| c.is_on()).count()
     }
 
     // The pending claims, in ascending order of ticket; and what holds of every table.
@@ -210,9 +233,9 @@ fn free_row(rows: u64) -> u16
 
 // The pending claims that share a group with a set: their rows behind the head, and how many they are.
 #[derive(Clone, Copy)]
-struct Rivals {
-    rows: u64,
-    count: u16,
+pub struct Rivals {
+    pub rows: u64,
+    pub count: u16,
 }
 
 // Cost: one pass. A word for the rows and not one for each row: nothing is cleared, and the first free row is found at once.

@@ -5,36 +5,53 @@ ghost use Rattle.frames.specs.Vacant.{vacant};
 use crate::Claim;
 use std::marker::Model;
 
-// Up to 64 pending claims.
-#[derive(Clone, Drop)]
+// What stands in a place without a claim.
+fn vacant() -> Claim
+    ensures { result ≡ vacant }
+{
+    Claim {
+        groups: 0,
+        ticket: 0,
+        row: 0,
+    }
+}
+
+// Up to 64 pending claims. The places behind them are vacant.
+#[derive(Clone, Copy)]
 pub struct Pending {
     count: usize,
     places: [Claim; 64],
 }
 
 impl Model for Pending {
-    ghost use Rattle.std.specs.Prelude.{List, ◌≡◌, ◌≤◌, length, take};
+    ghost use Rattle.std.specs.Prelude.{List, ◌≡◌, ◌++◌, ◌-◌, length, take, replicate};
     ghost use Rattle.frames.specs.declared.Claim.{Claim};
+    ghost use Rattle.frames.specs.Vacant.{vacant};
+    ghost use Rattle.rules.specs.Padding.{pad, IsPadded};
+    ghost use Rattle.std.proofs.Common.{sym, ◌∙◌, ap, arith};
+    ghost use Rattle.std.proofs.lemmas.List.{take-append-drop, length-take-le};
 
     ghost Value = { List Claim };
 
     ghost view = { λ t. take t.count t.places };
 
-    ghost invariant = { λ t. (t.count ≤ 64) × (length t.places ≡ 64) };
+    ghost invariant = { λ t. IsPadded vacant t.count t.places };
+
+    ghost inverse = { λ l. record { count = length l; places = pad vacant l } };
+
+    ghost inverse_ok = { λ t h i. record {
+      count = length-take-le t.count t.places (omega (arith, h.few, h.whole)) i;
+      places = (ap (λ k. take t.count t.places ++ replicate (64 - k) vacant) (length-take-le t.count t.places (omega (arith, h.few, h.whole))) ∙ ap (λ l. take t.count t.places ++ l) (sym h.rest) ∙ take-append-drop t.count t.places) i;
+    } };
 }
 
 impl Pending {
     pub fn new() -> Self
         ensures { result ≡ [] }
     {
-        let vacant = Claim {
-            groups: 0,
-            ticket: 0,
-            row: 0,
-        };
         Pending {
             count: 0,
-            places: [vacant; 64],
+            places: [vacant(); 64],
         }
     }
 
@@ -88,6 +105,7 @@ impl Pending {
     {
         let count = self.count;
         self.places.copy_within(i + 1..count, i);
+        self.places[count - 1] = vacant();
         self.count = count - 1;
     }
 }

@@ -33,7 +33,7 @@ pub struct Draws {
 }
 
 // What a load so far leaves: the table, and the clock of its last claim.
-#[derive(Drop)]
+#[derive(Clone, Copy)]
 pub struct Draft {
     pub table: Table,
     pub clock: u64,

@@ -18,3 +18,7 @@ module _ {A : Type 0} (f : ℕ → A) (a : A) where
   pub not-refused : (n : ℕ) (b : A) → ((k : ℕ) → f k ≡ b → ⊥) → unless_refused n f a ≡ b → (n ≡ 0) × (a ≡ b)
   not-refused zero b h e = (refl, e)
   not-refused (suc n) b h e = absurd (h (suc n) e)
+
+  pub was-refused : (n : ℕ) (b : A) → (a ≡ b → ⊥) → unless_refused n f a ≡ b → (n ≡ 0 → ⊥) × (f n ≡ b)
+  was-refused zero b h e = absurd (h e)
+  was-refused (suc n) b h e = ((λ z. omega arith), e)

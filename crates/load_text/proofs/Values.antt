@@ -36,7 +36,7 @@ none_said (suc k) n xs h = refl
 
 field-values : (f : ℕ) (w : List ℕ) → word_values (field_in f w) ≡ word_as f w
 unfolding field_in word_as
-field-values f w = either (eqb f the_groups) (λ e. rw e (groups-values w)) (λ e. rw e (number-values _ _ _ _ w))
+field-values f w = either (eqb f the_groups) (λ e. rw e (groups-values w)) (λ e. rw e (number-values reason_number _ _ _ _ w))
 
 filled-values : (fs : List ℕ) (ws : List (List ℕ)) (c : Call)
     → parsed_values (calling (filled_in fs ws (Ok c))) ≡ record { number = words_number fs ws; calls = unless_refused (words_number fs ws) (λ n. []) (filled fs (values_said fs ws) c ∷ []) }

@@ -88,7 +88,7 @@ fn put_stop(page: &mut Page<'_>, number: u8, k: u64)
     page.pair(number as u64, k, b'\n');
 }
 
-// The records of a load that opens, to its end or to the first that is refused.
+// The records that a reader gives of a load that opens, to its end or to the first that is refused.
 fn put_records(page: &mut Page<'_>, load: &[u8])
     requires { open_number load.now ≡ 0 }
     ensures laid { Lays page.old (rest_of (edition_of load.now) 1 (walk load.now 1)) page.new }
@@ -98,7 +98,7 @@ fn put_records(page: &mut Page<'_>, load: &[u8])
     let mut at = 1;
     let mut k: u64 = 1;
     loop {
-        match load::record_at(load, at) {
+        match reader::item_at(load, at) {
             Ok(Some(item)) => {
                 put_call(page, edition, item.call);
                 at = item.next;

@@ -3,7 +3,8 @@ use Prim.Native.Nat.{ℕ, zero, suc, ◌+◌, ◌*◌, ◌/◌, ◌%◌, ◌^◌
 use mathlib.Core.List.{List, [], ◌∷◌, ◌++◌}
 use mathlib.Core.Path.{◌≡◌, refl, sym, ap, ◌∙◌}
 use native.Mathlib.Omega.{arith}
-use native.Mathlib.Nat.{pow-suc}
+use native.Mathlib.Nat.{pow-suc, mul-le-mul_right}
+use lib.Pow.{pow-add}
 use lib.ListN.{length, take, drop, get_or, length-append, length-drop}
 use lib.Seq.{take-suc, take-add, take_all, drop-drop, drop-cons}
 use Rattle.std.specs.Int.{w64, from_be_bytes}
@@ -76,6 +77,13 @@ numeral-joined s at n m h =
     let t = take-add n m (drop at s) in
     let d = drop-drop n at s in
     ap (numeral 0) t ∙ numeral-parts 0 (take n (drop at s)) (take m (drop n (drop at s))) ∙ rw d (numeral-from (numeral 0 (take n (drop at s))) m (drop (at + n) s) (omega (arith, length-drop (at + n) s)))
+
+-- The same of two numbers that n bytes each say.
+pub joined : (n : ℕ) (s : List ℕ) (at x y : ℕ) → at + n + n ≤ length s → (x ≡ numeral 0 (take n (drop at s))) × (x < 256 ^ n) → (y ≡ numeral 0 (take n (drop (at + n) s))) × (y < 256 ^ n)
+    → (x * 256 ^ n + y ≡ numeral 0 (take (n + n) (drop at s))) × (x * 256 ^ n + y < 256 ^ (n + n))
+joined n s at x y h p q =
+    let m = mul-le-mul_right (256 ^ n) p.1 in
+    (sym (numeral-joined s at n n h ∙ rw (← p.0, ← q.0)), rw (pow-add 256 n n) (omega (arith, m, q.1)))
 
 -- One byte that is there.
 pub numeral-byte : (s : List ℕ) (at : ℕ) → at < length s → numeral 0 (take 1 (drop at s)) ≡ get_or s at 0

@@ -5,12 +5,13 @@ use mathlib.Core.List.{List, [], ◌∷◌, ◌++◌, append_assoc}
 use mathlib.Core.Path.{◌≡◌, refl, sym, ap, ◌∙◌}
 use native.Mathlib.Omega.{arith}
 use native.Mathlib.Nat.{add-zero, zero-add}
+use native.Mathlib.Numerals.{add-one}
 use lib.Dec.{ltb, leb}
 use borrow.Author.Tests.{leb-true, leb-false, le-leb, lt-leb}
 use mathlib.Core.Bool.{Bool, true, false, cond}
-use lib.ListN.{length, take, drop, set, length-append, length-take}
+use lib.ListN.{length, take, drop, get_or, set, length-append, length-take}
 use borrow.Rule.Slice.PartMut.{put_mid}
-use lib.Seq.{sets, length-sets, sets-eq, set_comm, set_out, drop-length, take_at, drop-drop}
+use lib.Seq.{sets, length-sets, sets-eq, set_comm, set_out, drop-length, take_at, drop-cons, drop-drop}
 use Rattle.std.proofs.Common.{take-append-drop}
 use Rattle.numerals.specs.Digits.{digits, decimal_of, width_of, width_up_to, column, pair}
 use Rattle.numerals.specs.Laid.{behind, laid, Put, space_number, lent_out}
@@ -28,6 +29,10 @@ laid_none o at = refl
 pub laid_one : (o : List ℕ) (at b : ℕ) → laid o at (b ∷ []) ≡ set o at b
 unfolding laid
 laid_one o at b = refl
+
+pub laid_cons : (o : List ℕ) (at b : ℕ) (xs : List ℕ) → laid o at (b ∷ xs) ≡ laid (set o at b) (suc at) xs
+unfolding laid
+laid_cons o at b xs = refl
 
 sets-append : (xs ys o : List ℕ) (at : ℕ) → sets o at (xs ++ ys) ≡ sets (sets o at xs) (at + length xs) ys
 sets-append [] ys o at = rw add-zero
@@ -69,6 +74,10 @@ stored-laid b z at n v o = stored-sets b z at n v o
 pub behind-small : (at n : ℕ) → at + n < 2 ^ 64 → behind at n ≡ at + n
 unfolding behind
 behind-small at n h = omega arith
+
+pub behind-stops : (at n : ℕ) → 18446744073709551615 - at < n → 18446744073709551615 ≡ behind at n
+unfolding behind
+behind-stops at n h = omega arith
 
 pub behind-none : (at : ℕ) → at < 2 ^ 64 → behind at 0 ≡ at
 unfolding behind
@@ -156,11 +165,17 @@ lent-known text out = go (leb (length text) (length out)) refl
 pub laid-first : (o xs : List ℕ) (n : ℕ) → length xs ≡ n → length xs ≤ length o → take n (laid o 0 xs) ≡ xs
 laid-first o xs n e h = ap (take n) (laid-fits o xs h) ∙ take_at xs (drop (length xs) o) n e
 
+-- One step of a copy.
+pub laid-turn : (o : List ℕ) (at i : ℕ) (s : List ℕ) → i < length s → laid (set o (at + i) (get_or s i 0)) (at + (i + 1)) (drop (i + 1) s) ≡ laid o (at + i) (drop i s)
+laid-turn o at i s h =
+    let e : at + (i + 1) ≡ suc (at + i) = omega arith in
+    rw (e, add-one, drop-cons s i 0 h) (sym (laid_cons o (at + i) (get_or s i 0) (drop (suc i) s)))
+
 laid_done : (o : List ℕ) (at i : ℕ) (s : List ℕ) → i ≡ length s → laid o (at + i) (drop i s) ≡ o
 laid_done o at i s h = rw (h, drop-length s) (laid_none o (at + length s))
 
 -- A copy ends where the bytes end, or the buffer.
-laid-copied : (o : List ℕ) (at i : ℕ) (s : List ℕ) → i ≡ min (length s) (length o - at) → laid o (at + i) (drop i s) ≡ o
+pub laid-copied : (o : List ℕ) (at i : ℕ) (s : List ℕ) → i ≡ min (length s) (length o - at) → laid o (at + i) (drop i s) ≡ o
 laid-copied o at i s h = go (leb (length s) i) refl
   where
     go : (b : Bool) → leb (length s) i ≡ b → laid o (at + i) (drop i s) ≡ o

@@ -1,14 +1,15 @@
 -- What the loops keep: a number read byte by byte, digits stored the last first, digits counted.
 use Prim.Native.Nat.{ℕ, zero, suc, ◌+◌, ◌-◌, ◌*◌, ◌/◌, ◌%◌, ◌^◌, ◌≤◌, ◌<◌, min}
 use mathlib.Core.Bool.{Bool, true, false}
-use mathlib.Core.List.{List}
+use mathlib.Core.List.{List, [], ◌∷◌}
 use mathlib.Core.Path.{◌≡◌, refl, sym, ap, ◌∙◌}
 use native.Mathlib.Omega.{arith}
 use native.Mathlib.Nat.{pow-le-pow_right, pow-suc}
+use native.Mathlib.Numerals.{add-one}
 use lib.Dec.{leb}
 use borrow.Author.Tests.{leb-true, leb-false, lt-ltb, le-ltb}
-use lib.ListN.{length, take, drop, set, length-take, length-drop, drop_of_length-le}
-use lib.Seq.{take_all, take-length, take-nil}
+use lib.ListN.{length, take, drop, get_or, set, length-take, length-drop, drop_of_length-le}
+use lib.Seq.{take_all, take-length, take-nil, drop-cons, get_or-take}
 use Rattle.numerals.specs.Digits.{bytes_at, numeral, width_up_to, width_of}
 
 -- ── a number read ──
@@ -21,6 +22,16 @@ fits8 i h = pow-le-pow_right {n = 256} (omega arith) {i = i} {j = 8} h
 
 below_more : (v m n : ℕ) → m ≤ n → v < 256 ^ m → v < 256 ^ n
 below_more v m n h k = omega (arith, pow-le-pow_right {n = 256} (omega arith) {i = m} {j = n} h)
+
+-- What is left of the first n elements at place i: the element there, and what is left after it.
+pub prefix-step : {X : Type 0} (d : X) (l : List X) (n i : ℕ) → i < n → n ≤ length l → drop i (take n l) ≡ get_or l i d ∷ drop (i + 1) (take n l)
+prefix-step d l n i h k =
+    let q : i < length (take n l) = simp (length-take) (omega arith) in
+    drop-cons (take n l) i d q ∙ rw (add-one, get_or-take)
+
+-- Behind them nothing is.
+pub prefix-end : {X : Type 0} (l : List X) (n i : ℕ) → n ≤ i → drop i (take n l) ≡ []
+prefix-end l n i h = drop_of_length-le (take n l) {i = i} (simp (length-take) (omega arith))
 
 take_min : (k : ℕ) (l : List ℕ) → take (min k (length l)) l ≡ take k l
 take_min k l = go (leb k (length l)) refl

@@ -5,7 +5,7 @@
 use mathlib.Core.Path.{◌≡◌, refl, sym, ◌∙◌, ap}
 use mathlib.Core.Logic.{⊎_elim, ◌≢◌}
 use mathlib.Core.Bool.{Bool, true, false, not, ◌&&◌, ◌||◌}
-use mathlib.Core.List.{List, [], ◌∷◌}
+use mathlib.Core.List.{List, [], ◌∷◌, ◌++◌}
 use Prim.Native.Nat.{ℕ, ◌+◌, ◌-◌, ◌*◌, ◌^◌, ◌≤◌, ◌<◌}
 use native.Mathlib.Omega.{arith}
 use lib.Dec.{eqb, leb}
@@ -18,8 +18,9 @@ use Rattle.groups.proofs.Words.{zero_has, others-less}
 use Rattle.rules.specs.declared.Claim.{Claim}
 use Rattle.rules.specs.Lists.{◌∈◌, sum, keep, all}
 use Rattle.rules.specs.declared.Reply.{Reply}
+use Rattle.rules.specs.declared.Phase.TheVariants.{Waiting}
 use Rattle.rules.specs.declared.Setting.{Setting}
-use Rattle.rules.specs.Claims.{on, at, rival, end_of, remaining}
+use Rattle.rules.specs.Claims.{on, at, rival, end_of, remaining, with_phase}
 use Rattle.rules.specs.Order.{rivals}
 use Rattle.rules.specs.Pool.{spare}
 use Rattle.rules.specs.Plans.{Sane}
@@ -185,3 +186,7 @@ pub reply-as : (v : Setting) (w : Claim) (ps : List Claim) {s n b : ℕ} → s �
     → ◌≡◌ {A = Reply} (record { ticket = w.ticket; start = s; contention = n; bound = b })
     (record { ticket = w.ticket; start = place v ps w; contention = contention ps w; bound = start_bound v ps w })
 reply-as v w ps e f g = rw (e, f, g) refl
+
+-- And what is entered.
+pub entered-as : (v : Setting) (w : Claim) (ps : List Claim) {s : ℕ} → s ≡ place v ps w → ps ++ (with_phase w (Waiting s) ∷ []) ≡ ps ++ (with_phase w (Waiting (place v ps w)) ∷ [])
+entered-as v w ps e = ap (λ (s : ℕ). ps ++ (with_phase w (Waiting s) ∷ [])) e

@@ -3,10 +3,18 @@
 ghost use Rattle.std.specs.Prelude.{◌≡◌};
 ghost use Rattle.rules.specs.Granting.{grant, grants};
 ghost use Rattle.rules.specs.Plans.{StartsFrom};
+ghost use Rattle.rules.specs.Pool.{held_by};
 ghost use Rattle.plan.specs.Rows.{InRange};
 ghost use Rattle.plan.specs.Holders.{goes_at};
 
 use rules::{Claim, Pending, Setting, Tickets};
+
+// The units that a claim holds. Cost: a few instructions.
+pub fn units_held(c: Claim) -> u16
+    ensures { result ≡ held_by c }
+{
+    if c.is_on() { c.units } else { 0 }
+}
 
 // Whether a claim waits, starts at the clock, has no group that is held and draws no more units than are free. Cost: a few instructions.
 fn goes(clock: u64, held: u64, free: u16, c: Claim) -> bool

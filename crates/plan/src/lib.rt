@@ -12,6 +12,6 @@ mod pool;
 mod sorted;
 
 pub use ends::{end_of, time_left};
-pub use granting::grant;
+pub use granting::{grant, units_held};
 pub use packing::pack;
 pub use placing::place;

@@ -1,8 +1,9 @@
 // Placing: the planned start of a new claim beside those of a row, and what its answer counts.
 // What is asked is defined in the rules' specs/Placing.antt.
-ghost use Rattle.std.specs.Prelude.{◌≡◌, ◌≤◌, ◌<◌, length};
+ghost use Rattle.std.specs.Prelude.{◌≡◌, ◌≤◌, ◌<◌, [], ◌∷◌, ◌++◌, length};
 ghost use Rattle.numbers.specs.Numbers.{most_clock, most_pending};
-ghost use Rattle.rules.specs.Claims.{at};
+ghost use Rattle.rules.specs.Claims.{at, with_phase};
+ghost use Rattle.rules.specs.declared.Phase.TheVariants.{Waiting};
 ghost use Rattle.rules.specs.Placing.{clear, place, contention, start_bound};
 ghost use Rattle.plan.specs.Rows.{Sized, InRange, Capped};
 ghost use Rattle.plan.specs.Barring.{bars_by};
@@ -105,10 +106,13 @@ fn start_with_units(pending: &[Claim], v: Setting, w: Claim) -> u64
     holds.enter_first_fit(v.pool, w.units, v.clock, w.length)
 }
 
-// The planned start of a new claim, the least that fits, and what it is answered.
-pub fn place(pending: &Pending, v: Setting, w: Claim) -> Reply
-    requires { InRange v pending.now × Sized v w × Capped pending.now × (length pending.now < most_pending) }
-    ensures { result ≡ record { ticket = w.ticket; start = place v pending.now w; contention = contention pending.now w; bound = start_bound v pending.now w } }
+// Enters a new claim behind the others at its planned start, the least that fits, and tells what it is answered.
+// Cost: one pass over n claims; then, for a claim that draws no units, n² / 2 tests of two holds at most, or else another pass, n² insertion
+// steps at most, a few for each claim where starts ascend, and one sweep over 2 × n events at most.
+pub fn place(pending: &mut Pending, v: Setting, w: Claim) -> Reply
+    requires { InRange v pending.old × Sized v w × Capped pending.old × (length pending.old < most_pending) }
+    ensures claims { pending.new ≡ pending.old ++ with_phase w (Waiting (place v pending.old w)) ∷ [] }
+    ensures reply { result ≡ record { ticket = w.ticket; start = place v pending.old w; contention = contention pending.old w; bound = start_bound v pending.old w } }
 {
     let claims = pending.as_slice();
     let rivals = rivals_of(claims, v, w);
@@ -117,6 +121,7 @@ pub fn place(pending: &Pending, v: Setting, w: Claim) -> Reply
     } else {
         start_with_units(claims, v, w)
     };
+    pending.push(w.waiting_from(start));
     let rest = u64::from(w.length) - 1;
     Reply {
         ticket: w.ticket,

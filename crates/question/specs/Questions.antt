@@ -3,8 +3,6 @@
 use Rattle.std.specs.Prelude.{cond, List, [], ◌∷◌, ℕ, Option, Some, None, Result, Ok, Err}
 use Rattle.numbers.specs.Numbers.{most_tickets}
 use Rattle.numerals.specs.Texts.{bytes}
-use Rattle.words.specs.declared.reasons.Reason.{Reason}
-use Rattle.words.specs.declared.reasons.Reason.TheVariants.{NoTicket, TooLarge}
 use Rattle.words.specs.Parts.{words_in}
 use Rattle.words.specs.Words.{is_word, number_in}
 use Rattle.question.specs.declared.questions.Question.{Question}
@@ -12,12 +10,12 @@ use Rattle.question.specs.declared.questions.Question.TheVariants.{Lookup, Why, 
 
 -- ── tickets ──
 -- What a word says as a ticket. (Why it says none is not told.)
-abbrev pub ticket_or_none : Result ℕ Reason → Option ℕ
+abbrev pub ticket_or_none : Result ℕ ℕ → Option ℕ
 ticket_or_none (Ok k) = Some k
 ticket_or_none (Err r) = None
 
 unfoldable pub ticket_in : List ℕ → Option ℕ
-ticket_in w = ticket_or_none (number_in 10 most_tickets NoTicket TooLarge w)
+ticket_in w = ticket_or_none (number_in 10 most_tickets 0 0 w)
 
 -- ── the questions by name: of nothing, of a ticket, of two ──
 unfoldable pub alone_asks : List ℕ → Option Question

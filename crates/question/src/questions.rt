@@ -2,8 +2,6 @@
 ghost use Rattle.std.specs.Prelude.{◌≡◌, Some};
 ghost use Rattle.question.specs.Questions.{alone_asks, pair_asks, question_of, ticket_asks, ticket_in};
 
-use words::Reason;
-
 // A question: how a ticket stands, why it waits, which group two tickets share, how many units are free.
 #[derive(Clone, Copy, Debug, PartialEq, Eq)]
 pub enum Question {
@@ -17,7 +15,7 @@ pub enum Question {
 fn ticket(word: &[u8]) -> Option<u16>
     ensures { result ≡ ticket_in word.now }
 {
-    match words::number(word, 10, 65535, Reason::NoTicket, Reason::TooLarge) {
+    match words::number(word, 10, 65535, 0u8, 0u8) {
         Ok(ticket) => Some(ticket as u16),
         Err(_) => None,
     }

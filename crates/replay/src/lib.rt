@@ -98,7 +98,7 @@ pub struct Stop {
 }
 
 // The table that a load leaves, and the stop of one that is not read to its end.
-#[derive(Drop)]
+#[derive(Clone, Copy)]
 pub struct Replayed {
     pub table: Table,
     pub stop: Option<Stop>,

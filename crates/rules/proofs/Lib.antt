@@ -27,3 +27,4 @@ pub mod NoUnits
 pub mod OneClient
 pub mod NoGrace
 pub mod InTime
+pub mod Padding

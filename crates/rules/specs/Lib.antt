@@ -18,3 +18,4 @@ pub mod InTime
 pub mod Chains
 pub mod Scenarios
 pub mod Vacant
+pub mod Padding

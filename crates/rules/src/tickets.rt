@@ -4,20 +4,30 @@ ghost use Rattle.std.specs.Prelude.{◌≡◌, [], ◌∷◌, ◌++◌, ◌≤�
 use std::marker::Model;
 
 // Up to 64 tickets: those of the claims that a call grants, or of a blocking chain.
-#[derive(Drop)]
+#[derive(Clone, Copy)]
 pub struct Tickets {
     count: usize,
     places: [u16; 64],
 }
 
 impl Model for Tickets {
-    ghost use Rattle.std.specs.Prelude.{List, ℕ, ◌≤◌, take};
+    ghost use Rattle.std.specs.Prelude.{List, ◌≡◌, ◌++◌, ℕ, ◌-◌, take, replicate, length};
+    ghost use Rattle.rules.specs.Padding.{pad, IsPadded};
+    ghost use Rattle.std.proofs.Common.{sym, ◌∙◌, ap, arith};
+    ghost use Rattle.std.proofs.lemmas.List.{take-append-drop, length-take-le};
 
     ghost Value = { List ℕ };
 
     ghost view = { λ t. take t.count t.places };
 
-    ghost invariant = { λ t. t.count ≤ 64 };
+    ghost invariant = { λ t. IsPadded 0 t.count t.places };
+
+    ghost inverse = { λ l. record { count = length l; places = pad 0 l } };
+
+    ghost inverse_ok = { λ t h i. record {
+      count = length-take-le t.count t.places (omega (arith, h.few, h.whole)) i;
+      places = (ap (λ k. take t.count t.places ++ replicate (64 - k) 0) (length-take-le t.count t.places (omega (arith, h.few, h.whole))) ∙ ap (λ l. take t.count t.places ++ l) (sym h.rest) ∙ take-append-drop t.count t.places) i;
+    } };
 }
 
 impl Tickets {

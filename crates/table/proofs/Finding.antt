@@ -145,3 +145,9 @@ module _ (ps : List Claim) (i pool free : ℕ) (stock : held_units ps ≤ pool) 
   pub free-end : length ps ≤ i → free ≡ free_units pool ps
   unfolding free_units held_units sum
   free-end h = let z : held_units (drop i ps) ≡ 0 = ap held_units (drop_all i ps h) in omega arith
+
+-- A claim of another ticket in front.
+module _ (k : ℕ) (c : Claim) (l : List Claim) where
+  pub passed-by : (c.ticket ≡ k → ⊥) → standing_of k l ≡ standing_of k (c ∷ l)
+  unfolding standing_of
+  passed-by e = rw (ne_eqb c.ticket k e)

@@ -2,18 +2,20 @@
 use Rattle.std.proofs.Common.{Some, is_some}
 use Rattle.rules.specs.declared.Share.{Share}
 use mathlib.Core.Path.{◌≡◌, refl, sym, ◌∙◌, ap}
+use mathlib.Core.Logic.{◌≢◌}
 use mathlib.Core.Bool.{true}
 use mathlib.Core.List.{List, [], ◌∷◌}
-use Prim.Native.Nat.{ℕ, ◌-◌, ◌<◌}
+use Prim.Native.Nat.{ℕ, ◌-◌, ◌≤◌, ◌<◌}
 use native.Mathlib.Omega.{arith}
 use lib.ListN.{length, length-map, get_or}
 use borrow.Author.Tests.{leb-true}
 use Rattle.numbers.specs.Numbers.{full_number}
 use Rattle.rules.specs.declared.Claim.{Claim}
 use Rattle.rules.specs.Shares.{reserved_of, share_of, pending_of, unfilled_by_others, unfilled_in_all}
-use Rattle.rules.specs.Tests.{first_number, full, full_for, over}
+use Rattle.rules.specs.Tests.{Test, first_number, full, full_for, over}
 use Rattle.rules.specs.Calls.{Model, clients_of, full_to, over_of}
-use Rattle.rules.proofs.Tests.{fails-here, front, swapped}
+use Rattle.rules.proofs.Bools.{by-test}
+use Rattle.rules.proofs.Tests.{fails-here, front, passes, past, swapped}
 use Rattle.rules.proofs.Shares.{declared-range, pending-few, full-by-all, full-for-all, below-not-full, below-not-over}
 use Rattle.table.specs.Counts.{pending_each, unfilled_each, number_counted}
 use Rattle.table.specs.Outcomes.{share_number}
@@ -61,3 +63,15 @@ below_none m c v l =
       below-not-full (share_of m.shares c) (pending_of (theirs m) c) (length m.pending) (unfilled_by_others m.shares (theirs m) c) few,
       below-not-over m.shares (theirs m) c v.booked few,
     ))
+
+-- ── two tests in front of others ──
+pub two-fail : (x y : Test) (ts : List Test) {n : ℕ} → n ≡ first_number (x ∷ y ∷ []) → n ≢ 0 → n ≡ first_number (x ∷ y ∷ ts)
+unfolding first_number
+two-fail x y ts e z =
+    by-test x.fails (λ a. e ∙ rw a) (λ a. by-test y.fails (λ b. e ∙ rw (a, b)) (λ b. absurd (z (e ∙ rw (a, b)))))
+
+pub two-pass : (x y : Test) (ts : List Test) {k : ℕ} → 1 ≤ x.number → 1 ≤ y.number → first_number (x ∷ y ∷ []) ≡ 0 → k ≡ first_number ts → k ≡ first_number (x ∷ y ∷ ts)
+two-pass x y ts p q e h =
+    let a = passes x (y ∷ []) p e in
+    let b = passes y [] q a.1 in
+    past x (y ∷ ts) a.0 (past y ts b.0 h)

@@ -265,12 +265,10 @@ asked_is m ask = ap (λ (k : ℕ). record { groups = ask.groups; phase = Waiting
 placed-is : (m : Model) (ask : Request) → with_phase (asked m ask) (Waiting (place (setting_of m) m.pending (asked m ask))) ≡ placed m ask
 placed-is m ask = cc (asked_is m ask)
 
-pub joined-is : (m : Model) (ask : Request) (r : Reply) (w : Claim) (ps : List Claim) → r ≡ placing m (asked m ask) → w ≡ with_phase (asked m ask) (Waiting r.start) → ps ≡ m.pending ++ (w ∷ [])
+pub joined-is : (m : Model) (ask : Request) (ps : List Claim) → ps ≡ m.pending ++ (with_phase (asked m ask) (Waiting (place (setting_of m) m.pending (asked m ask))) ∷ [])
     → with_pending (with_issued m (m.issued + 1)) ps ≡ join m (placed m ask)
 unfolding join
-joined-is m ask r w ps a b c =
-    let e : w ≡ placed m ask = b ∙ ap (λ (x : Reply). with_phase (asked m ask) (Waiting x.start)) a ∙ placed-is m ask in
-    rw (c, e, add-one m.issued)
+joined-is m ask ps e = rw (e, placed-is m ask, add-one m.issued)
 
 pub admit-is : (m : Model) (ask : Request) (r : Reply) → r ≡ placing m (asked m ask) → finish (join m (placed m ask)) r ≡ admit m ask
 unfolding admit

@@ -106,7 +106,7 @@ pub(crate) fn admitted(t: &mut State, ask: Request) -> Accepted
         units: ask.units,
         client: ask.client,
     };
-    let reply = plan::place(&t.pending, setting_of(t), claim);
-    t.pending.push(claim.waiting_from(reply.start));
+    let v = setting_of(t);
+    let reply = plan::place(&mut t.pending, v, claim);
     finished(t, reply)
 }

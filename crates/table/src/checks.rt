@@ -81,9 +81,10 @@ pub(crate) fn check_claim(t: &State, clock: u64, ask: Request) -> Result<(), Ref
     ensures { number_in result ≡ first_number (tests (model t.now) (timed clock (claims ask))) }
 {
     check_time(t.clock, clock)?;
-    let Some(share) = shares::share_of(&t.shares, ask.client) else {
+    let share = shares::share_of(&t.shares, ask.client);
+    if refusals::stranger(share) {
         return Err(Refusal::Stranger);
-    };
+    }
     if refusals::nothing_asked(ask.groups, ask.units) {
         return Err(Refusal::Dark);
     }
@@ -96,7 +97,7 @@ pub(crate) fn check_claim(t: &State, clock: u64, ask: Request) -> Result<(), Ref
     if refusals::bad_length(ask.length) {
         return Err(Refusal::BadLength);
     }
-    shares::check_share(t, ask.client, share)?;
+    shares::check_share(t, ask.client, share.unwrap())?;
     if refusals::ticketless(t.issued) {
         return Err(Refusal::Ticketless);
     }

@@ -12,11 +12,12 @@ mod state;
 mod table;
 
 use rules::{Reply, Tickets};
+pub use state::State;
 pub use table::Table;
 
 // What an accepted call answers: its reply, whose `contention` and `bound` are document 01's crowd and ceiling, and the tickets granted, in
 // ascending order.
-#[derive(Drop)]
+#[derive(Clone, Copy)]
 pub struct Accepted {
     pub reply: Reply,
     pub grants: Tickets,

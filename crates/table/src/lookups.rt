@@ -66,15 +66,12 @@ pub(crate) fn free(t: &State) -> u16
 {
     let mut units = t.pool;
     for c in t.pending.as_slice() {
-        if c.is_on() {
-            units -= c.units;
-        }
+        units -= plan::units_held(*c);
     }
     units
 }
 
-// The blocking chain of a ticket that waits. Cost: one pass at most to find it, one to gather what is compared, and one at most for each
-// waiting claim of the chain.
+// The blocking chain of a ticket that waits. Cost: one pass at most to find it, and one at most for each waiting claim of the chain.
 pub(crate) fn why(t: &State, ticket: u16) -> Result<Tickets, Refusal>
     requires { Valid (model t.now) }
     ensures { chain_told result ≡ chain_of (setting_of (model t.now)) ticket t.now.pending }

@@ -5,7 +5,7 @@ ghost use Rattle.table.specs.States.{model};
 
 use rules::{Pending, Setting, Share};
 
-#[derive(Clone, Drop)]
+#[derive(Clone, Copy)]
 pub struct State {
     pub rig: u64,
     pub clock: u64,

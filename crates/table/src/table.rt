@@ -3,6 +3,7 @@ ghost use Rattle.std.specs.Prelude.{◌≡◌, ◌≤◌, length};
 ghost use Rattle.rules.specs.Calls.{claims, releases, withdraws, moves_clock, at_pool, declares, sets_grace, timed, looks, sets_up, step, blank, new, standing_values, standing_of, lookup_gives, common_values, common_of, common_gives, free_of, setting_of};
 ghost use Rattle.rules.specs.Chains.{chain_of};
 ghost use Rattle.table.specs.Outcomes.{answer_of, chain_told, leaving};
+ghost use Rattle.table.specs.States.{model};
 ghost use Rattle.table.specs.Valid.{Valid};
 
 use crate::calls::{accepted, admitted, at_clock, finished, pulled, removed};
@@ -13,14 +14,14 @@ use numbers::Refusal;
 use rules::{Claim, Common, Pending, Reply, Request, Share, Standing, Tickets};
 use std::marker::Model;
 
-#[derive(Clone, Drop)]
+#[derive(Clone, Copy)]
 pub struct Table {
     state: State,
 }
 
 impl Model for Table {
     ghost use Rattle.rules.specs.Calls.{Model};
-    ghost use Rattle.table.specs.States.{model};
+    ghost use Rattle.table.specs.States.{model, parts};
     ghost use Rattle.table.specs.Valid.{Valid};
 
     ghost Value = { Model };
@@ -28,6 +29,8 @@ impl Model for Table {
     ghost view = { λ t. model t.state };
 
     ghost invariant = { λ t. Valid (model t.state) };
+
+    ghost inverse = { λ m. record { state = parts m } };
 }
 
 impl Table {
@@ -43,6 +46,14 @@ impl Table {
             return (Table::blank(0, 0, alone), Err(Refusal::Dark));
         }
         (Table::blank(rig, pool, alone), Ok(accepted()))
+    }
+
+    // The table of such parts.
+    pub fn of(state: State) -> Table
+        requires { Valid (model state) }
+        ensures { result ≡ model state }
+    {
+        Table { state }
     }
 
     fn blank(rig: u64, pool: u16, alone: bool) -> Table
@@ -169,13 +180,20 @@ impl Table {
         lookups::free(&self.state)
     }
 
-    // The blocking chain of a ticket that waits: 8 if it is not pending, 10 if it is on. Cost: one pass at most to find it, one to gather what
-    // is compared, and one at most for each waiting claim of the chain.
+    // The blocking chain of a ticket that waits: 8 if it is not pending, 10 if it is on. Cost: one pass at most to find it, and one at most for
+    // each waiting claim of the chain.
     pub fn why(&self, ticket: u16) -> Result<Tickets, Refusal>
         ensures told { chain_told result ≡ chain_of (setting_of self.now) ticket self.now.pending }
         ensures few { length (chain_told result).tickets ≤ 64 }
     {
         lookups::why(&self.state, ticket)
+    }
+
+    // The groups of the rig.
+    pub fn rig(&self) -> u64
+        ensures { result ≡ self.now.rig }
+    {
+        self.state.rig
     }
 
     // The units in the pool.
@@ -197,6 +215,20 @@ impl Table {
         ensures { result ≡ self.now.clock }
     {
         self.state.clock
+    }
+
+    // The grace.
+    pub fn grace(&self) -> u32
+        ensures { result ≡ self.now.grace }
+    {
+        self.state.grace
+    }
+
+    // The shares of clients 1 to 8: none where one is not declared.
+    pub fn shares(&self) -> &[Option<Share>]
+        ensures { result.now ≡ self.now.shares }
+    {
+        &self.state.shares
     }
 
     // The pending claims, in ascending order of ticket; and what holds of every table.

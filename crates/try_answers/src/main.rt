@@ -4,50 +4,70 @@
 #![tactic(auto)]
 
 use numbers::Refusal;
+use numerals::Page;
 use rules::{Common, Standing};
-use std::io;
 use table::{Accepted, Table};
 
-// ---- the answer and how the tickets stand
-fn print_answer(
-    rt: &impl Print,
-    record: u64,
-    answer: &Result<Accepted, Refusal>,
-) -> io::Result<()> {
-    match answer {
-        Ok(accepted) => {
-            let reply = accepted.reply;
-            println!(rt;
-                "{record} 0 {} {} {} {}",
-                reply.ticket, reply.start, reply.contention, reply.bound
-            )
-        }
-        Err(refusal) => println!(rt; "{record} {} 0 0 0 0", u8::from(*refusal)),
+// What is laid, in one write. A write that fails is not told.
+fn print(rt: &impl Print, page: &Page<'_>) {
+    if let Some(text) = page.out.get(..page.at) {
+        let _ = rt.write_all(text);
     }
 }
 
-fn print_standing(rt: &impl Print, ticket: u16, standing: Standing) -> io::Result<()> {
+// ---- the answer and how the tickets stand
+fn put_answer(page: &mut Page<'_>, record: u64, answer: &Result<Accepted, Refusal>) {
+    page.pair(record, u64::from(numbers::number(answer)), b' ');
+    match answer {
+        Ok(accepted) => {
+            let reply = accepted.reply;
+            page.pair(u64::from(reply.ticket), reply.start, b' ');
+            page.pair(reply.contention, reply.bound, b'\n');
+        }
+        Err(_) => page.bytes(b"0 0 0 0\n"),
+    }
+}
+
+fn put_standing(page: &mut Page<'_>, ticket: u16, standing: Standing) {
     match standing {
-        Standing::NotPending => Ok(()),
-        Standing::Waits(start) => println!(rt; "waits {ticket} {start}"),
-        Standing::Holds(end) => println!(rt; "holds {ticket} {end}"),
+        Standing::NotPending => {}
+        Standing::Waits(start) => {
+            page.bytes(b"waits ");
+            page.pair(u64::from(ticket), start, b'\n');
+        }
+        Standing::Holds(end) => {
+            page.bytes(b"holds ");
+            page.pair(u64::from(ticket), end, b'\n');
+        }
     }
 }
 
 // Every ticket issued so far is looked up.
-fn print_standings(rt: &impl Print, table: &Table) -> io::Result<()> {
+fn put_standings(page: &mut Page<'_>, table: &Table) {
     for ticket in 1..=table.issued() {
-        print_standing(rt, ticket, table.lookup(ticket))?;
+        put_standing(page, ticket, table.lookup(ticket));
     }
-    Ok(())
+}
+
+// A record's answer, the units free, and its tickets: at most 64 are pending, so they go into this room.
+fn print_answer(rt: &impl Print, record: u64, answer: &Result<Accepted, Refusal>, table: &Table) {
+    let mut room = [0; 4096];
+    let mut page = Page::new(&mut room);
+    put_answer(&mut page, record, answer);
+    page.bytes(b"free ");
+    page.column(u64::from(table.free()), b'\n');
+    put_standings(&mut page, table);
+    print(rt, &page);
 }
 
 // ---- shared groups
-fn print_pair(rt: &impl Print, table: &Table, first: u16, second: u16) -> io::Result<()> {
+fn put_pair(page: &mut Page<'_>, table: &Table, first: u16, second: u16) {
+    page.bytes(b"common ");
+    page.pair(u64::from(first), u64::from(second), b' ');
     match table.common(first, second) {
-        Common::Unknown => println!(rt; "common {first} {second} unknown"),
-        Common::Shared(group) => println!(rt; "common {first} {second} {group}"),
-        Common::Apart => println!(rt; "common {first} {second} none"),
+        Common::Unknown => page.bytes(b"unknown\n"),
+        Common::Shared(group) => page.column(group as u64, b'\n'),
+        Common::Apart => page.bytes(b"none\n"),
     }
 }
 
@@ -56,63 +76,61 @@ fn asked(count: usize, i: usize, j: usize) -> bool {
     count <= 8 || i == 0 || (i <= j && j - i <= 1)
 }
 
-// A ticket that is never pending, before, after and with itself; then every claim.
-fn print_pairs(rt: &impl Print, table: &Table) -> io::Result<()> {
+// A ticket that is never pending, before, after and with itself; then every claim. At most 193 pairs, a line of 23 bytes for each, go into
+// this room.
+fn print_pairs(rt: &impl Print, table: &Table) {
+    let mut room = [0; 8192];
+    let mut page = Page::new(&mut room);
     let last = table.issued();
-    print_pair(rt, table, 0, last)?;
-    print_pair(rt, table, last, 0)?;
-    print_pair(rt, table, 0, 0)?;
+    put_pair(&mut page, table, 0, last);
+    put_pair(&mut page, table, last, 0);
+    put_pair(&mut page, table, 0, 0);
     let pending = table.pending();
     for (i, first) in pending.iter().enumerate() {
         for (j, second) in pending.iter().enumerate() {
             if asked(pending.len(), i, j) {
-                print_pair(rt, table, first.ticket, second.ticket)?;
+                put_pair(&mut page, table, first.ticket, second.ticket);
             }
         }
     }
-    Ok(())
+    print(rt, &page);
 }
 
 // ---- chains
 // A ticket's chain: its number, how many tickets are in it, and these.
-fn print_chain(rt: &impl Print, table: &Table, ticket: u16) -> io::Result<()> {
+fn put_chain(page: &mut Page<'_>, table: &Table, ticket: u16) {
+    page.bytes(b"why ");
     match table.why(ticket) {
         Ok(tickets) => {
-            print!(rt; "why {ticket} 0 {}", tickets.len())?;
+            page.pair(u64::from(ticket), 0, b' ');
+            page.decimal(tickets.len() as u64);
             for link in tickets.as_slice() {
-                print!(rt; " {link}")?;
+                page.byte(b' ');
+                page.decimal(u64::from(*link));
             }
-            println!(rt)
+            page.byte(b'\n');
         }
-        Err(refusal) => println!(rt; "why {ticket} {} 0", u8::from(refusal)),
+        Err(refusal) => {
+            page.pair(u64::from(ticket), u64::from(u8::from(refusal)), b' ');
+            page.bytes(b"0\n");
+        }
     }
 }
 
-// Every claim; then a ticket that is never pending.
-fn print_chains(rt: &impl Print, table: &Table) -> io::Result<()> {
+// Every claim; then a ticket that is never pending. At most 65 chains, a line of 399 bytes for each, go into this room.
+fn print_chains(rt: &impl Print, table: &Table) {
+    let mut room = [0; 32768];
+    let mut page = Page::new(&mut room);
     for claim in table.pending() {
-        print_chain(rt, table, claim.ticket)?;
+        put_chain(&mut page, table, claim.ticket);
     }
-    print_chain(rt, table, 0)
-}
-
-// ---- the records
-fn print_record(
-    rt: &impl Print,
-    record: u64,
-    answer: &Result<Accepted, Refusal>,
-    table: &Table,
-) -> io::Result<()> {
-    print_answer(rt, record, answer)?;
-    println!(rt; "free {}", table.free())?;
-    print_standings(rt, table)?;
-    print_pairs(rt, table)?;
-    print_chains(rt, table)
+    put_chain(&mut page, table, 0);
+    print(rt, &page);
 }
 
 // The records to the load's end or the first refusal of the reader; a rig without groups and a declaration that comes late end them too. A
 // load has fewer records than bytes.
-fn print_records(rt: &impl Print, load: &[u8]) -> io::Result<()> {
+fn print_records(rt: &impl Print, load: &[u8]) {
     let alone = replay::alone_in(load);
     let mut table = replay::unrigged();
     let mut at = 1;
@@ -121,13 +139,14 @@ fn print_records(rt: &impl Print, load: &[u8]) -> io::Result<()> {
             break;
         };
         let answer = replay::act(&mut table, alone, item.call);
-        print_record(rt, record, &answer, &table)?;
+        print_answer(rt, record, &answer, &table);
+        print_pairs(rt, &table);
+        print_chains(rt, &table);
         if replay::ending_of(record, numbers::number(&answer)) != 0 {
             break;
         }
         at = item.next;
     }
-    Ok(())
 }
 
 fn run(rt: &(impl Input + Print + Eprint + Alloc), mut room: [u8; 65537]) {
@@ -136,7 +155,7 @@ fn run(rt: &(impl Input + Print + Eprint + Alloc), mut room: [u8; 65537]) {
     };
     let load = &room[..n];
     if load::check_open(load).is_ok() {
-        let _ = print_records(rt, load);
+        print_records(rt, load);
     }
 }
 

@@ -291,17 +291,6 @@ fn looks(rt: &impl Print, t: &Table) {
     end(rt);
 }
 
-// S with a grace of 5, at clock 14 by way of clock 12.
-fn at_14(rt: &impl Print) {
-    let mut t = rig(0xF);
-    let _ = t.set_grace(5);
-    three_on(&mut t);
-    let _ = t.clock(12);
-    say(rt, "at clock 14:");
-    clock(rt, &mut t, 14);
-    looks(rt, &t);
-}
-
 // S with a grace of 5: no grace at the promised end of ticket 1, then a grace after the clock, until its release.
 fn graces(rt: &impl Print) {
     let mut t = rig(0xF);
@@ -317,7 +306,10 @@ fn graces(rt: &impl Print) {
     say(rt, "at clock 12:");
     clock(rt, &mut t, 12);
     looks(rt, &t);
-    at_14(rt);
+    let mut later = t;
+    say(rt, "at clock 14:");
+    clock(rt, &mut later, 14);
+    looks(rt, &later);
     say(rt, "a grace of 5:");
     set_grace(rt, &mut t, 5);
     end(rt);

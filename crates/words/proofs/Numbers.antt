@@ -71,7 +71,7 @@ pub record Summing (base most : ℕ) (w : List ℕ) (v i : ℕ) : Type 0 where
   pub is : value_in base v (drop i w) ≡ value_in base 0 w
 
 module _ (base most : ℕ) (w : List ℕ) (v i : ℕ) (s : Summing base most w v i) where
-  pub sum-end : (large : Reason) → length w ≤ i → Ok v ≡ up_to_most most large (value_in base 0 w)
+  pub sum-end : {E : Type 0} (large : E) → length w ≤ i → Ok v ≡ up_to_most most large (value_in base 0 w)
   unfolding value_in
   sum-end large h = rw (← s.is, drop_of_length-le w h, le-leb v most s.room)
 
@@ -87,29 +87,29 @@ module _ (base most : ℕ) (w : List ℕ) (v i : ℕ) (s : Summing base most w v
     sum-next = rw add-one (rw (drop-cons w i 0 h) at s.is)
 
     -- The next digit, as the code adds it: the number is too large, or it is not.
-    pub sum_over : (large r : Reason) → ok_or (and_digit base most v (get_or w i 0)) large ≡ Err r → Err r ≡ up_to_most most large (value_in base 0 w)
-    sum_over large r e =
+    pub sum_over : {E : Type 0} (large r : E) → ok_or (and_digit base most v (get_or w i 0)) large ≡ Err r → Err r ≡ up_to_most most large (value_in base 0 w)
+    sum_over {E} large r e =
         let n = v * base + digit_of (get_or w i 0) in
         below most n
         (λ k.
-        let q : ◌≡◌ {A = Result ℕ Reason} (Err large) (Err r) = rw (lt-leb n most k) at e in
+        let q : ◌≡◌ {A = Result ℕ E} (Err large) (Err r) = rw (lt-leb n most k) at e in
         let z : large ≡ r = cc in
         rw (← z, lt-leb (value_in base 0 w) most (omega (arith, k, sum-next, value_grows base n (drop (i + 1) w) (omega (arith, held.0))))))
-        (λ k. let q : ◌≡◌ {A = Result ℕ Reason} (Ok n) (Err r) = rw (le-leb n most k) at e in absurd (cc))
+        (λ k. let q : ◌≡◌ {A = Result ℕ E} (Ok n) (Err r) = rw (le-leb n most k) at e in absurd (cc))
 
-    pub sum-on : (large : Reason) (x : ℕ) → ok_or (and_digit base most v (get_or w i 0)) large ≡ Ok x → Summing base most w x (i + 1)
-    sum-on large x e =
+    pub sum-on : {E : Type 0} (large : E) (x : ℕ) → ok_or (and_digit base most v (get_or w i 0)) large ≡ Ok x → Summing base most w x (i + 1)
+    sum-on {E} large x e =
         let n = v * base + digit_of (get_or w i 0) in
         below most n
-        (λ k. let q : ◌≡◌ {A = Result ℕ Reason} (Err large) (Ok x) = rw (lt-leb n most k) at e in absurd (cc))
+        (λ k. let q : ◌≡◌ {A = Result ℕ E} (Err large) (Ok x) = rw (lt-leb n most k) at e in absurd (cc))
         (λ k.
-        let q : ◌≡◌ {A = Result ℕ Reason} (Ok n) (Ok x) = rw (le-leb n most k) at e in
+        let q : ◌≡◌ {A = Result ℕ E} (Ok n) (Ok x) = rw (le-leb n most k) at e in
         let z : n ≡ x = cc in
         record { room = omega arith; digits = held.1; is = rw (← z) sum-next })
 
 -- ── a word ──
 -- It says a number, if it has a byte and each is a digit.
-module _ (base most : ℕ) (none large : Reason) (w : List ℕ) where
+module _ {E : Type 0} (base most : ℕ) (none large : E) (w : List ℕ) where
   pub number-empty : length w ≡ 0 → Err none ≡ number_in base most none large w
   unfolding number_in
   number-empty h = rw h
@@ -122,20 +122,21 @@ module _ (base most : ℕ) (none large : Reason) (w : List ℕ) where
   unfolding number_in
   number-good h d = rw (lt-ltb 0 (length w) h, d)
 
--- The value of a number that a word says is at most the most allowed.
-abbrev pub Under : ℕ → Result ℕ Reason → Type 0
-Under most (Ok v) = v ≤ most
-Under most (Err r) = Unit {0}
+-- The value of a number that a word says is at most the most allowed, and a reason one of two.
+module _ {E : Type 0} (told : E → ℕ) where
+  abbrev pub Under : ℕ → ℕ → Result ℕ E → Type 0
+  Under least most (Ok v) = v ≤ most
+  Under least most (Err r) = least ≤ told r
 
-module _ (base most : ℕ) (none large : Reason) (w : List ℕ) where
-  pub number-under : Under most (number_in base most none large w)
+  pub number-under : (least base most : ℕ) (none large : E) (w : List ℕ) → least ≤ told none → least ≤ told large → Under least most (number_in base most none large w)
   unfolding number_in
-  number-under =
+  number-under least base most none large w n l =
       let v = value_in base 0 w in
-      either (is_number base w) (λ e. rw e (either (leb v most) (λ q. rw q (leb-true v most q)) (λ q. rw q tt))) (λ e. rw e tt)
+      either (is_number base w) (λ e. rw e (either (leb v most) (λ q. rw q (leb-true v most q)) (λ q. rw q l))) (λ e. rw e n)
 
+module _ {E : Type 0} (base most : ℕ) (none large : E) (w : List ℕ) where
   pub number-most : (v : ℕ) → number_in base most none large w ≡ Ok v → v ≤ most
-  number-most v e = rw e at number-under
+  number-most v e = rw e at (number-under (λ r. 0) 0 base most none large w (omega arith) (omega arith))
 
 -- ── reasons ──
 refusal-some : (r : Refusal) → 0 < number_of r

@@ -135,6 +135,17 @@ module _ (p : ℕ → Bool) (l : List ℕ) (h : 0 < length l) where
         parts = parts-of p l h ∙ rw (e, f, add-one);
       }
 
+-- The first part is empty where the byte that ends it comes first.
+pub none_before : (p : ℕ → Bool) (l : List ℕ) → 1 ≤ length l → p (get_or l 0 0) ≡ true → bytes_before p l ≡ 0
+unfolding bytes_before
+none_before p [] h e = elim h [ ]
+none_before p (b ∷ l) h e = rw e refl
+
+pub empty_part : (p : ℕ → Bool) (l : List ℕ) → 1 ≤ length l → p (get_or l 0 0) ≡ true → FirstPart p l [] (take (length l - 1) (drop 1 l))
+empty_part p l h e =
+    let z = none_before p l h e in
+    first_part p l h [] (take (length l - 1) (drop 1 l)) (rw z) (rw z (take_all (length l - 1) (drop 1 l) (omega (arith, length-drop 1 l))))
+
 -- What stands behind the byte that ends it, where there is none, and where there is one.
 module _ (n : ℕ) (l e : List ℕ) (q : e ≡ drop n l) where
   pub behind_end : length e < 1 → e ≡ drop (n + 1) l

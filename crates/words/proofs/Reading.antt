@@ -1,5 +1,5 @@
 -- Laws of the words of a line, as the code finds them.
-use Prim.Native.Nat.{ℕ, suc, ◌+◌, ◌≤◌, ◌<◌}
+use Prim.Native.Nat.{ℕ, suc, ◌+◌, ◌-◌, ◌≤◌, ◌<◌}
 use mathlib.Core.Path.{◌≡◌, refl, sym, ap, ◌∙◌}
 use mathlib.Core.Bool.{true, false, false≢true}
 use mathlib.Core.List.{List, [], ◌∷◌}
@@ -7,12 +7,12 @@ use native.Mathlib.Nat.{add-zero}
 use native.Mathlib.Numerals.{add-one}
 use native.Mathlib.Omega.{arith}
 use lib.ListN.{length, get_or, take, drop, drop_of_length-le, length-take, length-drop}
-use lib.Seq.{drop-cons, get_or-drop}
+use lib.Seq.{drop-cons, get_or-drop, take_all}
 use borrow.Author.Tests.{not-true}
 use Rattle.std.proofs.Common.{Bor}
 use Rattle.std.specs.Option.{MatchOption, is_some}
 use Rattle.std.specs.Prelude.{Option, Some, None}
-use Rattle.words.specs.Parts.{bytes_before, until, since, parts, not_empty, is_blank, is_full, words_in, FirstWord}
+use Rattle.words.specs.Parts.{bytes_before, until, since, parts, not_empty, is, is_blank, is_full, words_in, FirstWord, carriage_return, chomped}
 use Rattle.words.proofs.Cases.{either, below}
 use Rattle.words.proofs.Parts.{before-length, before-passes, parts-of}
 
@@ -90,3 +90,13 @@ module _ (l : List ℕ) (r : Option (Bor (List ℕ) × Bor (List ℕ))) (m : Mat
       go : (r : Option (Bor (List ℕ) × Bor (List ℕ))) → MatchOption r (words_in l ≡ []) (λ p. FirstWord l p.0.now p.1.now) → is_some r ≡ false → words_in l ≡ []
       go None m e = m
       go (Some p) m e = absurd (false≢true (sym e))
+
+-- A line before the carriage return that ends it.
+chomped-is : (l : List ℕ) → take (length (chomped l)) l ≡ chomped l
+unfolding chomped
+chomped-is l =
+    let n : length (take (length l - 1) l) ≡ length l - 1 = omega (arith, length-take (length l - 1) l) in
+    either (is carriage_return (get_or l (length l - 1) 0)) (λ e. rw (e, n)) (λ e. rw e (take_all (length l) l (omega arith)))
+
+pub chomped-within : (l : List ℕ) → length (chomped l) ≤ length l
+chomped-within l = omega (arith, ap length (chomped-is l), length-take (length (chomped l)) l)

@@ -10,7 +10,7 @@ use Rattle.numbers.specs.Numbers.{or_else}
 use Rattle.groups.specs.Groups.{union}
 use Rattle.std.specs.Prelude.{Result, Ok, Err}
 use Rattle.words.specs.declared.reasons.Reason.{Reason}
-use Rattle.words.specs.Answers.{WordValues, word_values}
+use Rattle.words.specs.Answers.{WordValues, values_by, word_values}
 use Rattle.words.specs.Parts.{until, since, is_dash, items_in}
 use Rattle.words.specs.Reasons.{backward_reason, reason_number}
 use Rattle.words.specs.Sets.{one_group_in, span, and_then, range_to, range_in, item_of_word, with_items, is_list, groups_in, first_group, behind_dash, last_group, item_number, list_number, list_set, unless_wrong, groups_values}
@@ -18,16 +18,17 @@ use Rattle.words.specs.Words.{is_number, value_in, number_in, number_values}
 use Rattle.words.proofs.Cases.{either}
 use Rattle.words.proofs.Numbers.{reason-some}
 
-pub number-values : (base most : ℕ) (none large : Reason) (w : List ℕ)
-    → word_values (number_in base most none large w) ≡ number_values base most (reason_number none) (reason_number large) w
-unfolding number_in number_values
-number-values base most none large w =
-    either (is_number base w) (λ e. either (leb (value_in base 0 w) most) (λ l. rw (e, l) refl) (λ l. rw (e, l) refl)) (λ e. rw e refl)
+module _ {E : Type 0} where
+  pub number-values : (told : E → ℕ) (base most : ℕ) (none large : E) (w : List ℕ)
+      → values_by told (number_in base most none large w) ≡ number_values base most (told none) (told large) w
+  unfolding number_in number_values
+  number-values told base most none large w =
+      either (is_number base w) (λ e. either (leb (value_in base 0 w) most) (λ l. rw (e, l) refl) (λ l. rw (e, l) refl)) (λ e. rw e refl)
 
--- A number that a word says, with its values: what `number` promises.
-pub number-with-values : (base most : ℕ) (none large : Reason) (w : List ℕ) (f : Result ℕ Reason) → f ≡ number_in base most none large w
-    → (f ≡ number_in base most none large w) × (word_values f ≡ number_values base most (reason_number none) (reason_number large) w)
-number-with-values base most none large w f e = (e, ap word_values e ∙ number-values base most none large w)
+  -- A number that a word says, with its values: what `number` promises.
+  pub number-with-values : (base most : ℕ) (none large : E) (w : List ℕ) (f : Result ℕ E) → f ≡ number_in base most none large w
+      → (f ≡ number_in base most none large w) × ((told : E → ℕ) → values_by told f ≡ number_values base most (told none) (told large) w)
+  number-with-values base most none large w f e = (e, λ told. ap (values_by told) e ∙ number-values told base most none large w)
 
 -- By the groups before and behind an item's dash.
 abbrev range_values : WordValues → WordValues → WordValues
@@ -41,7 +42,7 @@ stopped (suc k) m v h = refl
 range-values : (l : List ℕ) (x : Result ℕ Reason) → word_values (and_then x (range_in l)) ≡ range_values (word_values x) (behind_dash l (word_values x))
 range-values l (Err r) = stopped (reason_number r) _ _ (reason-some r)
 range-values [] (Ok v) = rw (le-ltb v v (omega arith))
-range-values (b ∷ l) (Ok v) = go (one_group_in l) ∙ ap (range_values (word_values (Ok v))) (number-values _ _ _ _ l)
+range-values (b ∷ l) (Ok v) = go (one_group_in l) ∙ ap (range_values (word_values (Ok v))) (number-values reason_number _ _ _ _ l)
   where
     go : (x : Result ℕ Reason) → word_values (and_then x (range_to v)) ≡ range_values (word_values (Ok v)) (word_values x)
     go (Err r) = stopped (reason_number r) _ _ (reason-some r)
@@ -51,7 +52,7 @@ item-values : (w : List ℕ) → word_values (item_of_word w) ≡ unless_wrong (
 unfolding item_of_word item_number
 item-values w =
     range-values (since is_dash w) (one_group_in (until is_dash w))
-    ∙ ap (λ (x : WordValues). range_values x (behind_dash (since is_dash w) x)) (number-values _ _ _ _ (until is_dash w))
+    ∙ ap (λ (x : WordValues). range_values x (behind_dash (since is_dash w) x)) (number-values reason_number _ _ _ _ (until is_dash w))
 
 list-values : (s : ℕ) (ws : List (List ℕ)) → word_values (with_items s ws) ≡ unless_wrong (list_number ws) (list_set s ws)
 unfolding with_items list_number list_set
@@ -71,7 +72,7 @@ list-values s (w ∷ ws) = by (item_number w) (item_of_word w) (item-values w) (
 
 pub groups-values : (w : List ℕ) → word_values (groups_in w) ≡ groups_values w
 unfolding groups_in groups_values
-groups-values w = either (is_list w) (λ q. rw q (list-values 0 (items_in w))) (λ q. rw q (number-values _ _ _ _ w))
+groups-values w = either (is_list w) (λ q. rw q (list-values 0 (items_in w))) (λ q. rw q (number-values reason_number _ _ _ _ w))
 
 -- The set that a word says, with its values: what `groups_of` promises.
 pub groups-with-values : (w : List ℕ) (f : Result ℕ Reason) → f ≡ groups_in w → (f ≡ groups_in w) × (word_values f ≡ groups_values w)

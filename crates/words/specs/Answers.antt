@@ -10,14 +10,18 @@ abbrev pub value_unless : ℕ → ℕ → ℕ
 value_unless zero v = v
 value_unless (suc k) v = 0
 
--- What a word says.
+-- What a word says; each reason by its number.
 pub record WordValues : Type 0 where
   pub number : ℕ
   pub value : ℕ
 
+module _ {E : Type 0} where
+  abbrev pub values_by : (E → ℕ) → Result ℕ E → WordValues
+  values_by told (Ok v) = record { number = 0; value = v }
+  values_by told (Err r) = record { number = told r; value = 0 }
+
 abbrev pub word_values : Result ℕ Reason → WordValues
-word_values (Ok v) = record { number = 0; value = v }
-word_values (Err r) = record { number = reason_number r; value = 0 }
+word_values f = values_by reason_number f
 
 -- What a text comes to: the line that is wrong, counted from 1; the length of what stands in the lent buffer.
 pub record TextValues : Type 0 where

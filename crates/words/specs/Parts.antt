@@ -1,5 +1,5 @@
 -- The parts of a text: its lines, a line's words, the items of a list; and what a line says before its comment.
-use Rattle.std.specs.Prelude.{ℕ, suc, ◌+◌, ◌-◌, ◌<◌, ◌≡◌, Bool, true, not, ◌&&◌, ◌||◌, cond, List, [], ◌∷◌, eqb, length, take, drop, get_or}
+use Rattle.std.specs.Prelude.{ℕ, suc, ◌+◌, ◌-◌, ◌≤◌, ◌<◌, ◌≡◌, Bool, true, not, ◌&&◌, ◌||◌, cond, List, [], ◌∷◌, eqb, length, take, drop, get_or}
 use Prim.Native.Char.{code}
 use Rattle.numerals.specs.Texts.{space, line_feed}
 
@@ -102,6 +102,27 @@ pub record FirstWord (l word rest : List ℕ) : Type 0 where
   pub some : 0 < length word
   pub shorter : length rest < length l
   pub words : words_in l ≡ word ∷ words_in rest
+
+-- The bytes from one place to another.
+abbrev pub word_at : List ℕ → ℕ → ℕ → List ℕ
+word_at l from to = take (to - from) (drop from l)
+
+-- The last bytes of a text.
+abbrev pub IsLast : List ℕ → List ℕ → Type 0
+IsLast l w = (length w ≤ length l) × (w ≡ drop (length l - length w) l)
+
+-- A part of a text: these bytes, from its first to after its last.
+pub record IsPart (l : List ℕ) (from to : ℕ) (w : List ℕ) : Type 0 where
+  pub order : from ≤ to
+  pub high : to ≤ length l
+  pub is : word_at l from to ≡ w
+
+-- A part that lies in the text: a pointer is a block of memory and a count of bytes from its start. p is the text's, q the part's.
+pub record LiesIn (p : ℕ × ℕ) (l : List ℕ) (q : ℕ × ℕ) (w : List ℕ) : Type 0 where
+  pub from : ℕ
+  pub to : ℕ
+  pub part : IsPart l from to w
+  pub there : q ≡ (p.0, p.1 + from)
 
 -- A line without the carriage return that ends it, and of that what stands before its comment.
 unfoldable pub chomped : List ℕ → List ℕ

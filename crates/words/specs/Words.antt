@@ -1,7 +1,6 @@
 -- What a word says: a name among names, or a number.
 use Rattle.std.specs.Prelude.{ℕ, ◌+◌, ◌-◌, ◌*◌, Bool, true, false, ◌&&◌, cond, List, [], ◌∷◌, eqb, leb, ltb, length, Option, Some, None, Result, Ok, Err}
 use Prim.Native.Char.{code}
-use Rattle.words.specs.declared.reasons.Reason.{Reason}
 use Rattle.words.specs.Answers.{WordValues}
 use Rattle.words.specs.Parts.{none}
 
@@ -44,13 +43,15 @@ digits_in base w = none (is_no_digit base) w
 abbrev pub is_number : ℕ → List ℕ → Bool
 is_number base w = ltb 0 (length w) && digits_in base w
 
--- A number, `large` where it is over `most`.
-abbrev pub up_to_most : ℕ → Reason → ℕ → Result ℕ Reason
-up_to_most most large v = cond (leb v most) (Ok v) (Err large)
+-- Whatever tells that a word says no number, such as a reason or its number.
+module _ {E : Type 0} where
+  -- A number, `large` where it is over `most`.
+  abbrev pub up_to_most : ℕ → E → ℕ → Result ℕ E
+  up_to_most most large v = cond (leb v most) (Ok v) (Err large)
 
--- The number that a word says: `none` where it says none, `large` where it is over `most`.
-unfoldable pub number_in : ℕ → ℕ → Reason → Reason → List ℕ → Result ℕ Reason
-number_in base most none large w = cond (is_number base w) (up_to_most most large (value_in base 0 w)) (Err none)
+  -- The number that a word says: `none` where it says none, `large` where it is over `most`.
+  unfoldable pub number_in : ℕ → ℕ → E → E → List ℕ → Result ℕ E
+  number_in base most none large w = cond (is_number base w) (up_to_most most large (value_in base 0 w)) (Err none)
 
 -- ── in numbers ──
 -- By the bytes and the numbers of reasons alone: the number that a word says, `none` where it says none, `large` where it is over `most`.

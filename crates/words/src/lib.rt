@@ -3,10 +3,9 @@
 // specs/Words.antt (what a word says).
 #![tactic(auto)]
 
-ghost use Rattle.std.specs.Prelude.{◌≡◌, true, ◌-◌, ◌≤◌, ◌<◌, max, [], length, drop, MatchOption};
-ghost use Rattle.words.specs.Answers.{word_values};
-ghost use Rattle.words.specs.Parts.{FirstPart, FirstWord, bytes_before, chomped, first_said, is, is_blank, is_full, is_feed, line_at, lines_in, place_of, said, words_in};
-ghost use Rattle.words.specs.Reasons.{reason_number};
+ghost use Rattle.std.specs.Prelude.{◌≡◌, ℕ, true, ◌-◌, ◌≤◌, ◌<◌, max, [], length, drop, MatchOption};
+ghost use Rattle.words.specs.Answers.{values_by};
+ghost use Rattle.words.specs.Parts.{FirstPart, FirstWord, IsLast, LiesIn, bytes_before, chomped, first_said, is, is_blank, is_full, is_feed, line_at, lines_in, place_of, said, words_in};
 ghost use Rattle.words.specs.Words.{and_digit, digit_of, digits_in, number_in, number_values, up_to_most, value_in};
 
 mod reasons;
@@ -38,7 +37,7 @@ fn and_digit(base: u64, most: u64, v: u64, b: u8) -> Option<u64>
 }
 
 // The number that digits say, if it is at most `most`, else the reason `large`.
-fn value(word: &[u8], base: u64, most: u64, large: Reason) -> Result<u64, Reason>
+fn value<E: Copy>(word: &[u8], base: u64, most: u64, large: E) -> Result<u64, E>
     requires { digits_in base word.now ≡ true }
     ensures { result ≡ up_to_most most large (value_in base 0 word.now) }
 {
@@ -49,10 +48,11 @@ fn value(word: &[u8], base: u64, most: u64, large: Reason) -> Result<u64, Reason
     Ok(v)
 }
 
-// The number that a word says: `none` where it says none, which goes before `large`, where it is over `most`.
-pub fn number(word: &[u8], base: u64, most: u64, none: Reason, large: Reason) -> Result<u64, Reason>
+// The number that a word says: `none` where it says none, which goes before `large`, where it is over `most`. The two are reasons, numbers, or
+// of any other type; by whatever numbers they are told, these are the values.
+pub fn number<E: Copy>(word: &[u8], base: u64, most: u64, none: E, large: E) -> Result<u64, E>
     ensures { (result ≡ number_in base most none large word.now)
-        × (word_values result ≡ number_values base most (reason_number none) (reason_number large) word.now) }
+        × ((told : E → ℕ) → values_by told result ≡ number_values base most (told none) (told large) word.now) }
 {
     if word.is_empty() || word.iter().any(|b| base <= digit(*b)) {
         return Err(none);
@@ -109,11 +109,14 @@ pub(crate) fn next_part(text: &[u8], b: u8) -> Option<(&[u8], &[u8])>
     }
 }
 
-// The first line of a text, and what stands behind its line feed.
+// The first line of a text, and what stands behind its line feed. An empty line is found without a search.
 pub fn next_line(text: &[u8]) -> Option<(&[u8], &[u8])>
     ensures { MatchOption result (text.now ≡ []) (λ p. FirstPart is_feed text.now p.0.now p.1.now) }
 {
-    next_part(text, b'\n')
+    match text {
+        [first, rest @ ..] if *first == b'\n' => Some((&text[..0], rest)),
+        _ => next_part(text, b'\n'),
+    }
 }
 
 // A line before the carriage return that ends it.
@@ -138,7 +141,8 @@ pub fn said(line: &[u8]) -> &[u8]
 // ---- lines
 // A text from one of its lines on, counted from 1. Cost: one pass over the lines before it.
 fn from_line(text: &[u8], line: u64) -> &[u8]
-    ensures { lines_in result.now ≡ drop (line - 1) (lines_in text.now) }
+    ensures lines { lines_in result.now ≡ drop (line - 1) (lines_in text.now) }
+    ensures last { IsLast text.now result.now }
 {
     let mut rest = text;
     for _ in 1..line {
@@ -150,19 +154,24 @@ fn from_line(text: &[u8], line: u64) -> &[u8]
     rest
 }
 
-// The first word that a line of a text says, lines counted from 1; empty where it says none. Cost: one pass over the lines before it, up to
-// three over the line.
+// The first word that a line of a text says, as that part of the text, lines counted from 1; empty where it says none. Cost: one pass over the
+// lines before it, up to three over the line.
 pub fn first_said(text: &[u8], line: u64) -> &[u8]
-    ensures { result.now ≡ first_said (line_at text.now line) }
+    ensures word { result.now ≡ first_said (line_at text.now line) }
+    ensures part { LiesIn text.entry.ref_ptr text.now result.ref_ptr (first_said (line_at text.now line)) }
 {
+    let none = &text[..0];
     if line == 0 {
-        return b"";
+        return none;
     }
-    let Some((line, _)) = next_line(from_line(text, line)) else {
-        return b"";
+    let rest = from_line(text, line);
+    let Some((line, _)) = next_line(rest) else {
+        return none;
     };
-    match next_word(said(line)) {
-        Some((word, _)) => word,
-        None => b"",
-    }
+    let said = said(line);
+    let Some((word, behind)) = next_word(said) else {
+        return none;
+    };
+    let from = text.len() - rest.len() + said.len() - behind.len() - word.len();
+    &text[from..from + word.len()]
 }

@@ -12,5 +12,5 @@ returns-then-not-wants_form c =
 pub returns : goal.returns
 returns c =
     let e = c.with_form.ensures in
-    let f = form-found _ _ _ (sym c.wants_form.ensures ∙ c.if-not-wants_form.false) _ c.first_said.ensures _ c.call_named-name.ensures in
+    let f = form-found _ _ _ (sym c.wants_form.ensures ∙ c.if-not-wants_form.false) _ c.first_said.ensures.word _ c.call_named-name.ensures in
     (e.0 ∙ ap (reported _ _) (sym f), e.1)

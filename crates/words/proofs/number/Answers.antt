@@ -11,7 +11,7 @@ use Rattle.words.proofs.number.Goals.{then-is_empty-via-then-is_empty, then-is_e
 use Rattle.words.proofs.number.Goals as goal
 
 pub returns-then-is_empty : goal.returns-then-is_empty
-returns-then-is_empty c =
+returns-then-is_empty g c =
     number-with-values _ _ _ _ _ _
     (elim c.then-is_empty.branch [
       | then-is_empty-via-then-is_empty w ↦ number-empty _ _ _ _ _ (search rules)
@@ -21,12 +21,12 @@ returns-then-is_empty c =
     ])
 
 pub value-requires : goal.value-requires
-value-requires c =
+value-requires g c =
     all_digits _ _ _
     (any_from_yields_List (is_no_digit c.args.base) _ _ c.any.result c.any.ensures.ran (YieldsList-from_slice c.args.word.now cc) (λ x b q k. search (rules, tests))) c.if-any.false
 
 pub returns : goal.returns
-returns c =
+returns g c =
     let d = all_digits _ _ _
     (any_from_yields_List (is_no_digit c.args.base) _ _ c.any.result c.any.ensures.ran (YieldsList-from_slice c.args.word.now cc) (λ x b q k. search (rules, tests))) c.if-any.false in
     number-with-values _ _ _ _ _ _ (c.value.ensures ∙ number-good _ _ _ _ _ (search rules) d)

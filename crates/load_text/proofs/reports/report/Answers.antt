@@ -16,4 +16,4 @@ returns c =
     let e = c.with_form.ensures in
     let i : c.match-heading.edition ≡ (heading c.args.text.now).edition =
     elim c.match-heading.branch [ in-Ok w ↦ w.edition-is ∙ w.in-Ok.ensures.edition | in-Err w ↦ w.edition-is ∙ w.in-Err.ensures.edition ] in
-    (e.0 ∙ ap (reported _ _) (sym (form-found _ _ _ (sym c.wants_form.ensures ∙ c.if-not-wants_form.false) _ i _ c.first_said.ensures)), e.1)
+    (e.0 ∙ ap (reported _ _) (sym (form-found _ _ _ (sym c.wants_form.ensures ∙ c.if-not-wants_form.false) _ i _ c.first_said.ensures.word)), e.1)

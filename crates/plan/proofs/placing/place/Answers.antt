@@ -5,7 +5,7 @@ use Prim.Native.Nat.{◌+◌, ◌-◌, ◌*◌, ◌≤◌}
 use native.Mathlib.Omega.{arith}
 use Rattle.rules.specs.Placing.{place, contention, start_bound}
 use Rattle.plan.specs.Bounds.{most_start}
-use Rattle.plan.proofs.PlacingLoop.{rivals-told, reply-as}
+use Rattle.plan.proofs.PlacingLoop.{rivals-told, reply-as, entered-as}
 use Rattle.plan.proofs.Ranges.{bound-small}
 use Rattle.plan.proofs.placing.place.Goals.{Joined-w-eq0, then-w-eq0, else-w-eq0}
 use Rattle.plan.proofs.placing.place.Goals as goal
@@ -37,7 +37,11 @@ overflow_mul-result c = rw c.from-rest.ensures (omega (arith, whole (goal.at.ove
 pub overflow_add-result-2 : goal.overflow_add-result-2
 overflow_add-result-2 c = rw c.from-rest.ensures (omega (arith, whole (goal.at.overflow_add-result-2 c).Joined-w-eq0))
 
-pub returns : goal.returns
-returns c =
-    let j = (goal.at.returns c).Joined-w-eq0 in
+pub returns-clause-claims : goal.returns-clause-claims
+returns-clause-claims c =
+    rw c.waiting_from.ensures at c.push.ensures ∙ entered-as c.args.v c.args.w c.args.pending.now (start_is (goal.at.returns-clause-claims c).Joined-w-eq0)
+
+pub returns-clause-reply : goal.returns-clause-reply
+returns-clause-reply c =
+    let j = (goal.at.returns-clause-reply c).Joined-w-eq0 in
     rw c.from-rest.ensures (reply-as _ _ _ (start_is j) (whole j).0 (whole j).1)

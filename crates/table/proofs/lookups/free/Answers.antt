@@ -1,7 +1,7 @@
-use Rattle.std.proofs.Common.{◌≤◌, sym, ◌∙◌, arith}
+use Rattle.std.proofs.Common.{◌≤◌, sym, arith}
 use Rattle.rules.specs.Pool.{held_units}
 use Rattle.table.proofs.Finding.{free-covers, free-more, free-end}
-use Rattle.table.proofs.lookups.free.Goals.{After-as_slice-c-items, then-is_on, else-is_on}
+use Rattle.table.proofs.lookups.free.Goals.{After-as_slice-c-items}
 use Rattle.table.proofs.lookups.free.Goals as goal
 
 stock : (c : After-as_slice-c-items) → held_units c.as_slice-c-items.result.now ≤ c.args.t.now.pool
@@ -9,16 +9,11 @@ stock c = rw c.as_slice-c-items.ensures c.requires.ranged.ranges.stock
 
 pub overflow_sub-units : goal.overflow_sub-units
 overflow_sub-units c =
-    let h = free-covers _ _ _ _ (stock (goal.at.overflow_sub-units c).After-as_slice-c-items) c.loop-c.invariant (omega arith) in
-    rw (sym c.is_on.ensures ∙ c.if-is_on.true) at h
+    rw c.units_held-units.ensures (free-covers _ _ _ _ (stock (goal.at.overflow_sub-units c).After-as_slice-c-items) c.loop-c.invariant (omega arith))
 
 pub loop-c-preserved : goal.loop-c-preserved
 loop-c-preserved c =
-    let h = free-more _ _ _ _ (stock (goal.at.loop-c-preserved c).After-as_slice-c-items) c.loop-c.invariant (omega arith) in
-    elim c.if-is_on.branch [
-      | then-is_on w ↦ rw w.units-is (rw (sym c.is_on.ensures ∙ w.if-is_on.true) at h)
-      | else-is_on w ↦ rw w.units-is (omega (arith, rw (sym c.is_on.ensures ∙ w.if-is_on.false) at h))
-    ]
+    rw c.units_held-units.ensures (free-more _ _ _ _ (stock (goal.at.loop-c-preserved c).After-as_slice-c-items) c.loop-c.invariant (omega arith))
 
 pub returns : goal.returns
 returns c =
