@@ -10,12 +10,13 @@ use Rattle.question.specs.declared.questions.Question.TheVariants.{Lookup, Why, 
 
 -- ── tickets ──
 -- What a word says as a ticket. (Why it says none is not told.)
-abbrev pub ticket_or_none : Result ℕ ℕ → Option ℕ
-ticket_or_none (Ok k) = Some k
-ticket_or_none (Err r) = None
+module _ {E : Type 0} where
+  abbrev pub ticket_or_none : Result ℕ E → Option ℕ
+  ticket_or_none (Ok k) = Some k
+  ticket_or_none (Err r) = None
 
 unfoldable pub ticket_in : List ℕ → Option ℕ
-ticket_in w = ticket_or_none (number_in 10 most_tickets 0 0 w)
+ticket_in w = ticket_or_none {E = ℕ} (number_in 10 most_tickets 0 0 w)
 
 -- ── the questions by name: of nothing, of a ticket, of two ──
 unfoldable pub alone_asks : List ℕ → Option Question
